@@ -38,14 +38,19 @@ TITLES = {
     "Parameter": "PAD parameters",
     "Field": "Fields of the report",
     "Header": "Words of the header",
+    "ClearingCause": "Causes of clears",
+    "ResettingCause": "Causes of resets",
+    "RestartingCause": "Causes of restarts",
+    "Term": "Terms",
 }
-HEAD = """# The words of the report, of a header and of the refusals
+HEAD = """# The words of the report, of a header and of the refusals, causes and terms
 
 `x25scan --explain WORD` prints what stands here of a word, and `x25scan --explain` the list of all words. A word is known
 by its name too: `--explain echo` prints what `--explain "parameter 2"` does. A word with several meanings stands in
 several tables: `--explain 22` prints all three of that one, `--explain "kind 22"` the one of a faulty line, and
 `--explain kind` all kinds; so it is with `line`, `field`, `side`, `direction`, `end`, `setting`, `absent`, `state`,
-`code`, `message`, `header`, `kind`, `refusal`, `status` and `parameter`.
+`code`, `message`, `header`, `kind`, `refusal`, `status`, `cause`, `term` and `parameter`. A cause of a clear, a reset and
+a restart may have one number: `--explain "cause 1"` prints all three.
 
 A line that the program prints can be pasted: `--explain "F 5 T d1 1"` explains the line and each of its words by its
 field, `--explain "x25scan: line 3: kind 24"` the kind, and `--explain "write failed"` the refusal.

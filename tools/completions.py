@@ -1,9 +1,9 @@
 """Completions of the programs for bash, zsh and fish, written from the tables of their options."""
 from __future__ import annotations
 
-from collections.abc import Iterable
+from collections.abc import Iterable, Sequence
 
-from option_tables import OPTIONS, Option
+from option_tables import Option
 
 BASH = """\
 # Completion of {program} in bash, written by tools/completions.py from the table of its options.
@@ -41,10 +41,9 @@ def bash_cases(options: Iterable[Option]) -> str:
     return "".join(f"        {line}\n" for line in lines)
 
 
-def bash(program: str) -> str:
+def bash(program: str, options: Sequence[Option]) -> str:
     """The completion in bash."""
-    options = [it for it in OPTIONS[program]() if it.names]
-    cases = bash_cases([it for it in options if it.value and not it.is_file and not it.is_value_free])
+    cases = bash_cases([it for it in options if it.names and it.value and not it.is_file and not it.is_value_free])
     return BASH.format(program=program, cases=cases, names=" ".join(name for it in options for name in it.names))
 
 
@@ -69,9 +68,9 @@ def zsh_line(option: Option) -> str:
     return f"  '{repeated}{option.names[0]}[{help_text}]{message}'"
 
 
-def zsh(program: str) -> str:
+def zsh(program: str, options: Sequence[Option]) -> str:
     """The completion in zsh."""
-    return ZSH.format(program=program, lines=" \\\n".join(map(zsh_line, OPTIONS[program]())))
+    return ZSH.format(program=program, lines=" \\\n".join(map(zsh_line, options)))
 
 
 def fish_line(program: str, option: Option) -> str:
@@ -83,6 +82,6 @@ def fish_line(program: str, option: Option) -> str:
     return f"complete -c {program} {names}{value}{choices} -d '{text}'"
 
 
-def fish(program: str) -> str:
+def fish(program: str, options: Sequence[Option]) -> str:
     """The completion in fish."""
-    return FISH.format(program=program, lines="\n".join(fish_line(program, it) for it in OPTIONS[program]() if it.names))
+    return FISH.format(program=program, lines="\n".join(fish_line(program, it) for it in options if it.names))

@@ -1,10 +1,10 @@
 #!/usr/bin/env python3
-"""manual_page.py [--check]: writes docs/x25scan.1, docs/x25trace.1 and docs/x25page.1.
+"""manual_page.py [--check] [X25SCAN]: writes docs/x25scan.1, docs/x25trace.1 and docs/x25page.1.
 
-It makes the page of x25scan from its help in crates/command_line and the table of crates/explanations, and those of
-x25trace and x25page from their help. With --check it writes nothing. It says where a page differs, where the help has other
-options than are read or other exit statuses than the table, and where the version names another logic than `rt version`. The
-last line is 'N passed, M failed'.
+It makes the page of x25scan from the help that X25SCAN prints, by default crates/x25scan/out/x25scan, and the table of
+crates/explanations, and those of x25trace and x25page from their help. With --check it writes nothing. It says where a page
+differs, where the help has other options than are read or other exit statuses than the table, and where the version names
+another logic than `rt version`. The last line is 'N passed, M failed'.
 """
 from __future__ import annotations
 
@@ -14,10 +14,12 @@ import re
 import subprocess
 import sys
 from collections.abc import Iterable, Iterator
+from dataclasses import dataclass
 
 sys.dont_write_bytecode = True
+from build_program import PROGRAM  # noqa: E402
 from codes_document import rows  # noqa: E402
-from option_tables import OPTIONS, ROOT, Option, section, texts_of_scan  # noqa: E402
+from option_tables import ROOT, Option, options_of, printed, section  # noqa: E402
 from x25page_lib import words as page_words  # noqa: E402
 from x25trace_lib import words as trace_words  # noqa: E402
 
@@ -25,6 +27,14 @@ WORDS = ROOT / "crates" / "command_line" / "src" / "options.rt"
 NAME = re.compile(r'(?:flag\(alloc, |\.long\()"([\w-]+)"')
 STATUS = re.compile(r"^  (\d+) +(.*)$", re.MULTILINE)
 DOCUMENTS = "/usr/share/doc/x25scan/"
+
+
+@dataclass(frozen=True)
+class Scan:
+    """What x25scan prints of itself: its help, and the lines of its version."""
+
+    help: str
+    version: list[str]
 
 
 def troff(text: str) -> str:
@@ -48,9 +58,9 @@ def head(option: Option) -> str:
     return f"{names} {value}" if option.value else names
 
 
-def synopsis(program: str) -> str:
+def synopsis(options: Iterable[Option]) -> str:
     """The lines of a synopsis: the options except those that print a text, and what stands without a name."""
-    shown = [it for it in OPTIONS[program]() if len(it.names) < 2]
+    shown = [it for it in options if len(it.names) < 2]
     ordered = sorted(shown, key=lambda it: not it.names)
     return "".join(head(it) + " ..." * it.is_repeated + "\n" if it.is_needed else f"[{head(it)}]\n" for it in ordered)
 
@@ -60,10 +70,10 @@ def entry(title: str, text: str) -> str:
     return f".TP\n{title}\n{troff(text)}\n"
 
 
-def options(program: str) -> str:
+def entries(options: Iterable[Option]) -> str:
     """All options, those of a group below its title."""
     text, group = "", ""
-    for it in OPTIONS[program]():
+    for it in options:
         if it.group != group:
             group = it.group
             text += f".SS {troff(capital(group))}\n"
@@ -72,12 +82,12 @@ def options(program: str) -> str:
     return text
 
 
-def beginning(program: str, summary: str, description: str) -> str:
+def beginning(program: str, scan: Scan, summary: str, description: str) -> str:
     """The parts of a page that come first."""
-    version = texts_of_scan()["VERSION"].split("\n")[0]
-    text = f'.TH {program.upper()} 1 "" "{version}"\n.SH NAME\n{program} \\- {summary}\n'
-    text += f".SH SYNOPSIS\n.B {program}\n" + synopsis(program)
-    return text + ".SH DESCRIPTION\n" + troff(description) + "\n.SH OPTIONS\n" + options(program)
+    options = options_of(program, scan.help)
+    text = f'.TH {program.upper()} 1 "" "{scan.version[0]}"\n.SH NAME\n{program} \\- {summary}\n'
+    text += f".SH SYNOPSIS\n.B {program}\n" + synopsis(options)
+    return text + ".SH DESCRIPTION\n" + troff(description) + "\n.SH OPTIONS\n" + entries(options)
 
 
 def examples(text: str) -> str:
@@ -88,11 +98,11 @@ def statuses(pairs: Iterable[tuple[str, str]]) -> str:
     return ".SH EXIT STATUS\n" + "".join(entry(f"\\fB{status}\\fR", text) for status, text in pairs)
 
 
-def scan_page() -> str:
+def scan_page(scan: Scan) -> str:
     """The page of x25scan."""
-    helped, table = texts_of_scan()["HELP"], rows()
-    text = '.\\" Written by tools/manual_page.py from crates/command_line and crates/explanations.\n'
-    text += beginning("x25scan", "what an observer of an X.25 interface finds in a trace", helped.split("\n")[0] + ".")
+    helped, table = scan.help, rows()
+    text = '.\\" Written by tools/manual_page.py from the help of x25scan and crates/explanations.\n'
+    text += beginning("x25scan", scan, "what an observer of an X.25 interface finds in a trace", helped.split("\n")[0] + ".")
     text += examples(section(helped, "Examples"))
     text += statuses((it["word"], it["meaning"]) for it in table if it["topic"] == "Status")
     text += ".SH DIAGNOSTICS\nOn standard error, after \\fBx25scan:\\fR.\n"
@@ -106,27 +116,28 @@ def see_also(program: str, text: str) -> str:
     return ".SH SEE ALSO\n" + " ,\n".join(others) + "\n.PP\n" + troff(text) + "\n"
 
 
-def python_page(program: str, summary: str, words: argparse.ArgumentParser, more: str, documents: str) -> str:
+def python_page(words: argparse.ArgumentParser, scan: Scan, summary: str, more: str, documents: str) -> str:
     """The page of a program whose words are those of a parser."""
+    program = words.prog
     text = f'.\\" Written by tools/manual_page.py from the help of tools/{program}.\n'
-    text += beginning(program, summary, words.description or "")
+    text += beginning(program, scan, summary, words.description or "")
     text += ".PP\n" + troff(more) + "\n"
     text += examples(section(words.epilog or "", "examples"))
     text += statuses((status, capital(meaning) + ".") for status, meaning in STATUS.findall(section(words.epilog or "", "exit status")))
     return text + see_also(program, documents)
 
 
-def trace_page() -> str:
+def trace_page(scan: Scan) -> str:
     """The page of x25trace."""
     words = trace_words.parser()
     documents = f"{DOCUMENTS}CAPTURES.md says which captures are read and how, and {DOCUMENTS}TRACE.md how a trace is written."
-    return python_page("x25trace", "the trace of the X.25 packets in a capture", words, trace_words.FOLLOWING, documents)
+    return python_page(words, scan, "the trace of the X.25 packets in a capture", trace_words.FOLLOWING, documents)
 
 
-def page_page() -> str:
+def page_page(scan: Scan) -> str:
     """The page of x25page."""
     documents = f"{DOCUMENTS}GUIDE.md shows a page, {DOCUMENTS}CAPTURES.md says which captures are read, and {DOCUMENTS}REPORT.md what the numbers mean."
-    return python_page("x25page", "a page of HTML of an X.25 capture or trace", page_words.parser(), page_words.NAMES_OF_PAGES, documents)
+    return python_page(page_words.parser(), scan, "a page of HTML of an X.25 capture or trace", page_words.NAMES_OF_PAGES, documents)
 
 
 PAGES = {"x25scan": scan_page, "x25trace": trace_page, "x25page": page_page}
@@ -136,28 +147,27 @@ def path_of(program: str) -> pathlib.Path:
     return ROOT / "docs" / f"{program}.1"
 
 
-def complaints() -> Iterator[tuple[str, list[str]]]:
+def complaints(scan: Scan) -> Iterator[tuple[str, list[str]]]:
     """What is wrong, by what it is about."""
-    texts = texts_of_scan()
     for program, page in PAGES.items():
         path = path_of(program)
-        current = path.exists() and path.read_text() == page()
+        current = path.exists() and path.read_text() == page(scan)
         yield str(path.relative_to(ROOT)), [] if current else ["it is not what tools/manual_page.py writes"]
-    helped = [number for number, _ in STATUS.findall(section(texts["HELP"], "Exit status"))]
+    helped = [number for number, _ in STATUS.findall(section(scan.help, "Exit status"))]
     table = [it["word"] for it in rows() if it["topic"] == "Status"]
     yield "exit statuses", [] if helped == table else [f"help has {helped}, the table {table}"]
-    shown = {name.removeprefix("--") for it in OPTIONS["x25scan"]() if len(it.names) == 1 for name in it.names}
+    shown = {name.removeprefix("--") for it in options_of("x25scan", scan.help) if len(it.names) == 1 for name in it.names}
     read = set(NAME.findall(WORDS.read_text()))
     yield "options", [] if shown == read else [f"help has {sorted(shown)}, and {sorted(read)} are read"]
     kit = subprocess.run(["rt", "version"], capture_output=True, text=True, check=False).stdout.strip()
-    logic, named = kit.rpartition(" ")[2], texts["VERSION"].split("\n")[1]
+    logic, named = kit.rpartition(" ")[2], scan.version[1]
     yield "version", [] if named == f"proved with Rattle, logic {logic}" else [f"it says {named!r}, and this is {kit!r}"]
 
 
-def check() -> int:
+def check(scan: Scan) -> int:
     """Checks the pages and the words, and returns the exit status."""
     passed, failed = 0, 0
-    for name, said in complaints():
+    for name, said in complaints(scan):
         passed, failed = passed + (not said), failed + bool(said)
         for it in said:
             print(f"{name}: {it}")
@@ -165,10 +175,18 @@ def check() -> int:
     return 1 if failed else 0
 
 
+def main(arguments: list[str]) -> int:
+    words = argparse.ArgumentParser(description=__doc__.split("\n")[0], allow_abbrev=False)
+    words.add_argument("--check", action="store_true", help="write nothing, and say what differs")
+    words.add_argument("program", metavar="X25SCAN", type=pathlib.Path, nargs="?", default=PROGRAM)
+    asked = words.parse_args(arguments)
+    scan = Scan(printed(asked.program, "--help"), printed(asked.program, "--version").split("\n"))
+    if asked.check:
+        return check(scan)
+    for name, page in PAGES.items():
+        path_of(name).write_text(page(scan))
+    return 0
+
+
 if __name__ == "__main__":
-    if sys.argv[1:] == ["--check"]:
-        sys.exit(check())
-    if sys.argv[1:]:
-        sys.exit(__doc__)
-    for name, write in PAGES.items():
-        path_of(name).write_text(write())
+    sys.exit(main(sys.argv[1:]))

@@ -1,10 +1,14 @@
 """The options of the programs that a package installs, as their help has them.
 
-Those of x25scan are read from its help in crates/command_line, and those of x25trace and x25page from the parsers of their words.
+Those of x25scan are read from the help that it prints, and those of x25trace and x25page from the parsers of their words.
 The manual pages (manual_page.py) and the completions (completions.py) are written from these tables.
 """
+from __future__ import annotations
+
+import argparse
 import pathlib
 import re
+import subprocess
 from dataclasses import dataclass
 
 from x25page_lib import words as page_words
@@ -12,8 +16,7 @@ from x25tools_lib.choices import KINDS
 from x25trace_lib import words as trace_words
 
 ROOT = pathlib.Path(__file__).resolve().parent.parent
-HELP = ROOT / "crates" / "command_line" / "src" / "help.rt"
-CONSTANT = re.compile(r'pub const (\w+): &str = "((?:[^"\\]|\\.)*)";', re.DOTALL)
+NAMES = ("x25scan", "x25trace", "x25page")
 OPTION = re.compile(r"^ +(?:(-\w), )?(--[\w-]+)(?: (\[?)<(\w+)>\]?)? {2,}(.+)$", re.MULTILINE)
 OPERAND = re.compile(r"^  \[(\w+)\] {2,}(.+)$", re.MULTILINE)
 FILES = ("FILE", "CAPTURE", "OUT", "PROGRAM")
@@ -26,31 +29,26 @@ TITLES_OF_ARGPARSE = ("positional arguments", "options")
 class Option:
     """An option, or an argument without a name: what it does, and its value if it has one."""
 
-    names: tuple
+    names: tuple[str, ...]
     help: str
     value: str = ""
     default: str = ""
-    choices: tuple = ()
+    choices: tuple[str, ...] = ()
     group: str = ""
     is_value_free: bool = False
     is_needed: bool = False
     is_repeated: bool = False
 
     @property
-    def is_file(self):
+    def is_file(self) -> bool:
         """Whether its value is the name of a file."""
         return self.value in FILES
 
 
-def plain(text):
-    """The text that a literal of the source writes."""
-    text = re.sub(r"\\\n\s*", "", text)
-    return text.replace("\\n", "\n").replace('\\"', '"').replace("\\\\", "\\")
-
-
-def texts_of_scan():
-    """The help and the version of x25scan."""
-    return {name: plain(text) for name, text in CONSTANT.findall(HELP.read_text())}
+def printed(program: pathlib.Path, option: str) -> str:
+    """What a program prints of an option, such as --help."""
+    done = subprocess.run([program.resolve(), option], stdin=subprocess.DEVNULL, capture_output=True, text=True, check=True)
+    return done.stdout
 
 
 def section(text: str, title: str) -> str:
@@ -61,34 +59,33 @@ def section(text: str, title: str) -> str:
     return found[1]
 
 
-def options_of_scan():
+def options_of_help(helped: str) -> list[Option]:
     """The options of x25scan in the order of its help, and the name of the trace before those that have a letter."""
-    helped = texts_of_scan()["HELP"]
     found = OPTION.findall(section(helped, "Options"))
     named = [Option((name,), text, value, is_value_free=bool(free)) for letter, name, free, value, text in found if not letter]
     operands = [Option((), text, value) for value, text in OPERAND.findall(section(helped, "Arguments"))]
     return named + operands + [Option((letter, name), text) for letter, name, _, _, text in found if letter]
 
 
-def option_of_action(action, group):
+def option_of_action(action: argparse.Action, group: str) -> Option:
     """The option that an action of a parser is."""
-    choices = tuple(map(str, action.choices or SUGGESTED.get(action.dest, ())))
+    suggested = SUGGESTED.get(action.dest, ()) if action.choices is None else action.choices
+    choices = tuple(map(str, suggested))
     has_value = action.nargs != 0
-    value = (action.metavar or "|".join(choices)) if has_value else ""
-    option = Option(tuple(action.option_strings), action.help, value, choices=choices, group=group)
+    value = str(action.metavar or "|".join(choices)) if has_value else ""
+    option = Option(tuple(action.option_strings), action.help or "", value, choices=choices, group=group)
     option.is_needed, option.is_repeated = action.required, isinstance(action.default, list) or action.nargs == "+"
     return option
 
 
-def options_of_parser(parser):
+def options_of_parser(parser: argparse.ArgumentParser) -> list[Option]:
     """The options of a parser in the order of its help."""
-    groups = [(it.title, it._group_actions) for it in parser._action_groups]
+    groups = [(it.title or "", it._group_actions) for it in parser._action_groups]
     named = [("" if title in TITLES_OF_ARGPARSE else title, actions) for title, actions in groups]
     return [option_of_action(action, title) for title, actions in named for action in actions]
 
 
-OPTIONS = {
-    "x25scan": options_of_scan,
-    "x25trace": lambda: options_of_parser(trace_words.parser()),
-    "x25page": lambda: options_of_parser(page_words.parser()),
-}
+def options_of(name: str, scan_help: str) -> list[Option]:
+    """The options of a program, those of x25scan by the help that it prints."""
+    parsers = {"x25trace": trace_words.parser, "x25page": page_words.parser}
+    return options_of_parser(parsers[name]()) if name in parsers else options_of_help(scan_help)

@@ -10,7 +10,7 @@ from collections.abc import Iterator, Sequence
 from dataclasses import dataclass
 
 import completions
-from option_tables import OPTIONS, ROOT
+from option_tables import NAMES, ROOT, options_of
 
 DOCUMENTS = "share/doc/x25scan"
 # What is installed below the folder of the documents, by its place in the repository.
@@ -19,7 +19,7 @@ READ |= {"CHANGELOG.md": "CHANGELOG.md", "docs/rows.schema.json": "rows.schema.j
 # Folders of which the documents name files; what is installed of them keeps its place in the repository.
 EXAMPLES, CAPTURES, TRACES = "examples", "tests/captures/files", "tests/traces"
 LINK = re.compile(r"\[([^\]\n]*)\]\(([^)#\s]*)(#[^)\s]*)?\)")
-INSTALLED_PROGRAM = re.compile(rf"(?<![\w/])(?:bin|tools)/({'|'.join(OPTIONS)})(?![\w/])")
+INSTALLED_PROGRAM = re.compile(rf"(?<![\w/])(?:bin|tools)/({'|'.join(NAMES)})(?![\w/])")
 # The other programs, their libraries and a link to x25scan stand as in the repository; links lead to the launchers.
 SHARED = "share/x25scan"
 LAUNCHED = ("x25trace", "x25page")
@@ -33,12 +33,13 @@ class Refusal(Exception):
 
 @dataclass(frozen=True)
 class Release:
-    """What is released: the bytes of the program, its version, the kit that proved it, and the commit with its date.
+    """What is released: the bytes of the program, its help, its version, the kit that proved it, and the commit with its date.
 
     Of a program that was named it is not known whether it was proved of this commit.
     """
 
     program: bytes
+    help: str
     is_named: bool
     version: str
     kit: str
@@ -107,14 +108,15 @@ def programs(release: Release) -> Iterator[File]:
             yield File(f"{SHARED}/{file.relative_to(ROOT)}", file.read_bytes())
 
 
-def pages_and_completions(zsh_folder: str) -> Iterator[File]:
+def pages_and_completions(release: Release, zsh_folder: str) -> Iterator[File]:
     """The manual pages and the completions of each program."""
-    for name in OPTIONS:
+    for name in NAMES:
+        options = options_of(name, release.help)
         page = (ROOT / "docs" / f"{name}.1").read_bytes()
         yield File(f"share/man/man1/{name}.1.gz", gzip.compress(page, 9, mtime=0))
-        yield File(f"share/bash-completion/completions/{name}", completions.bash(name).encode())
-        yield File(f"{zsh_folder}/_{name}", completions.zsh(name).encode())
-        yield File(f"share/fish/vendor_completions.d/{name}.fish", completions.fish(name).encode())
+        yield File(f"share/bash-completion/completions/{name}", completions.bash(name, options).encode())
+        yield File(f"{zsh_folder}/_{name}", completions.zsh(name, options).encode())
+        yield File(f"share/fish/vendor_completions.d/{name}.fish", completions.fish(name, options).encode())
 
 
 def documents() -> Iterator[File]:
@@ -138,6 +140,6 @@ def proved(release: Release, files: Sequence[File]) -> File:
 
 def files_of(release: Release, zsh_folder: str) -> list[File]:
     """All files of a package, in the order of their paths, which are below the folder that has bin and share."""
-    found = [*programs(release), *pages_and_completions(zsh_folder), *documents()]
+    found = [*programs(release), *pages_and_completions(release, zsh_folder), *documents()]
     found.sort(key=lambda it: it.path)
     return sorted([*found, proved(release, found)], key=lambda it: it.path)

@@ -75,7 +75,7 @@ def label_cases():
 def file_cases():
     frames = [ethernet(one) for one in conversation()]
     yield carried("snoop", snoop(4, frames), ending="snoop")
-    times = Case("snoop-times", snoop(0, frames), ROWS, "--times", report=REPORT, ending="snoop", times=MICROSECONDS,
+    times = Case("snoop-times", snoop(0, frames), ROWS, report=REPORT, ending="snoop", times=MICROSECONDS,
                  tshark=None)
     yield times
     damaged = snoop(4, frames) + struct.pack(">IIIIII", 60, 60, 80, 0, 0, 0) + bytes(60)

@@ -4,9 +4,9 @@ from dataclasses import dataclass, field
 
 @dataclass
 class Case:
-    """The rows are the header and the rows of the trace, without its comments; the times are its comments of time.
+    """The rows are the header and the rows of the trace, without its comments; the report is that on the trace.
 
-    The report is that on the trace.
+    The times are its comments with times and frames, of cases that are about these.
     """
 
     name: str

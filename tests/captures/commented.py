@@ -12,7 +12,7 @@ TIMEOUT = 60
 END = option(0, b"")
 MICROSECONDS = option(9, b"\6") + END
 CALL_WORDS = (
-    "x25scan: Call 1, outgoing on logical channel 1: called -, calling -; opened by packet {0}, up with {1}, open at "
+    "x25scan: Call 1, outgoing on logical channel 1: called -, calling -; opened by frame {0}, up with frame {1}, open at "
     "the end; from the DTE 0 data packets with 0 octets, from the DCE 0 data packets with 0 octets; 0 segments"
 )
 FINDING = (

@@ -69,15 +69,15 @@ class Rows(unittest.TestCase):
         steps = [(pcap(1, []) + b"".join(frames[:3]), []), (frames[3], start), (frames[4], ["5 N 10010F"]),
                  (frames[5], ["6 T 100100AA"]), (frames[6][:20], []), (frames[6][20:], ["7 N 100121"]),
                  (frames[7], ["8 T 1001130000"]), (frames[8], ["9 N 100117"]), (b"".join(frames[9:]), [])]
-        self.assertEqual(self.follow([], steps), ["# left out: TCP segments without octets: 4"])
+        self.assertEqual(self.follow(["--no-times"], steps), ["# left out: TCP segments without octets: 4"])
 
     def test_pcapng_and_times(self):
         frames = [enhanced(one, flags=2 if side == "T" else 1, time=at) for at, (side, one) in enumerate(packets_of())]
         start = ["# from standard input by x25trace, as its frames come; a row has the number of its frame",
-                 "X25 1 MOD 8 WIN 2 SIZE 128 PVC 0 SVC 4", "#@ 0", "1 T 1000FB0700"]
-        steps = [(section() + interface(147), []), (frames[0], start), (frames[1], ["#@ 0.000001", "2 N 1000FF"]),
-                 (frames[2], ["#@ 0.000002", "3 T 10010B0000"])]
-        self.assertEqual(self.follow(["--as", "147=x25", "--times"], steps), [])
+                 "X25 1 MOD 8 WIN 2 SIZE 128 PVC 0 SVC 4", "#@ 0 1", "1 T 1000FB0700"]
+        steps = [(section() + interface(147), []), (frames[0], start), (frames[1], ["#@ 0.000001 2", "2 N 1000FF"]),
+                 (frames[2], ["#@ 0.000002 3", "3 T 10010B0000"])]
+        self.assertEqual(self.follow(["--as", "147=x25"], steps), [])
 
     def test_no_packet(self):
         self.assertEqual(self.follow([], [(pcap(1, []), [])], 2), [])

@@ -161,9 +161,9 @@ class Captures(unittest.TestCase):
 
         with subprocess.Popen([PROGRAM, *GIVEN, "-"], **STREAMS) as running:
             write(pcap(1, []) + b"".join(frames[:4]))
-            self.assertEqual(said_by(running.stdout, 4)[3], "4 T 10010B0000")
+            self.assertEqual(said_by(running.stdout, 5)[3:], ["#@ 1700000003.000003 4", "4 T 10010B0000"])
             write(frames[4])
-            self.assertEqual(said_by(running.stdout, 1), ["5 N 10010F"])
+            self.assertEqual(said_by(running.stdout, 2), ["#@ 1700000004.000004 5", "5 N 10010F"])
             running.communicate(packer.flush(), timeout=SECONDS)
         self.assertEqual(running.returncode, 0)
 
@@ -198,7 +198,7 @@ class Traces(unittest.TestCase):
     def test_refused(self):
         lines = (
             (64, b"x25trace: --win is of captures, and ", ["--win", "2", TRACE]),
-            (64, b"x25trace: --times is of captures, and ", ["--times", TRACE]),
+            (64, b"x25trace: --no-times is of captures, and ", ["--no-times", TRACE]),
             (2, b"x25trace: UnknownFormat: ", [FILES / "ethernet.pcap", TRACE]),
             (2, b"is a trace, which stands alone; docs/GUIDE.md says how several become one", [TRACE, TRACE]),
         )

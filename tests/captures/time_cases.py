@@ -1,20 +1,20 @@
-"""Times: a comment before each row, of the frame that holds its last octet, from all that has timestamps."""
+"""Times and frames: a comment before each row, of the frame that holds its last octet, from all that has timestamps."""
 from case import Case, text
 from forms import *
 from link_cases import ACCEPTED, CALL, LINE_REPORT, LINE_ROWS, REPORT, ROWS, conversation, line
 from tcp_cases import SENT, file_of, header, report
 
 # Frames 4 to 9 of a conversation have the packets; each comes a second, and a unit, after the one before.
-MICROSECONDS = "".join(f"#@ {SECONDS + at}.00000{at}\n" for at in range(3, 9))
-NANOSECONDS = "".join(f"#@ {SECONDS + at}.00000000{at}\n" for at in range(3, 9))
+MICROSECONDS = "".join(f"#@ {SECONDS + at}.00000{at} {at + 1}\n" for at in range(3, 9))
+NANOSECONDS = "".join(f"#@ {SECONDS + at}.00000000{at} {at + 1}\n" for at in range(3, 9))
 
 
 def pcap_cases():
     frames = [ethernet(one) for one in conversation()]
     for order, name in (("<", "little"), (">", "big")):
-        yield Case(f"times-{name}-endian-microseconds", pcap(1, frames, order), ROWS, "--times", report=REPORT,
+        yield Case(f"times-{name}-endian-microseconds", pcap(1, frames, order), ROWS, report=REPORT,
                    tshark=None, times=MICROSECONDS)
-        yield Case(f"times-{name}-endian-nanoseconds", pcap(1, frames, order, True), ROWS, "--times", report=REPORT,
+        yield Case(f"times-{name}-endian-nanoseconds", pcap(1, frames, order, True), ROWS, report=REPORT,
                    tshark=None, times=NANOSECONDS)
 
 
@@ -22,7 +22,7 @@ def ng(name, options, stamps, times, kind=enhanced, order="<"):
     """A conversation in a pcapng file whose interface has options; the time of each frame in its units."""
     blocks = [kind(ethernet(one), order=order, time=stamp) for one, stamp in zip(conversation(), stamps)]
     octets = section(order) + interface(1, order=order, options=options) + b"".join(blocks)
-    return Case(name, octets, ROWS, "--times", report=REPORT, ending="pcapng", tshark=None, times=times)
+    return Case(name, octets, ROWS, report=REPORT, ending="pcapng", tshark=None, times=times)
 
 
 def pcapng_cases():
@@ -40,23 +40,24 @@ def pcapng_cases():
     binary = [at * 2**20 + 2**18 * (at % 4) for at in range(12)]
     offset = option(14, struct.pack("<q", -21))
     times = text("""
-        #@ -17.25
-        #@ -17
-        #@ -15.75
-        #@ -14.5
-        #@ -13.25
-        #@ -13
+        #@ -17.25 4
+        #@ -17 5
+        #@ -15.75 6
+        #@ -14.5 7
+        #@ -13.25 8
+        #@ -13 9
     """)
     yield ng("times-pcapng-binary-and-before-1970", option(9, b"\x94") + offset, binary, times)
 
 
 def without_times():
-    """Simple blocks and hex dumps have none: their rows have no such comment."""
+    """Simple blocks and hex dumps have none: the comments of their rows have frames alone."""
     frames = [ethernet(one) for one in conversation()]
     octets = section() + interface(1) + b"".join(map(simple, frames))
-    yield Case("times-that-no-block-has", octets, ROWS, "--times", report=REPORT, ending="pcapng", tshark=None)
-    yield Case("times-that-no-dump-has", dump([(frame, "") for _, frame in line()]), LINE_ROWS, "--as lapb --times",
-               report=LINE_REPORT, ending="txt", tshark=None)
+    yield Case("times-that-no-block-has", octets, ROWS, report=REPORT, ending="pcapng", tshark=None,
+               times="".join(f"#@ - {at}\n" for at in range(4, 10)))
+    yield Case("times-that-no-dump-has", dump([(frame, "") for _, frame in line()]), LINE_ROWS, "--as lapb",
+               report=LINE_REPORT, ending="txt", tshark=None, times="".join(f"#@ - {at}\n" for at in range(1, 9)))
 
 
 def frames_of_packets():
@@ -73,20 +74,20 @@ def frames_of_packets():
         7 T 100102A1
         8 T 100104A2
         9 N 100161
-    """), "--times", report=report(4, 5, None, 3, 6), tshark=None, times=text("""
-        #@ 1700000003.000003
-        #@ 1700000004.000004
-        #@ 1700000005.000005
-        #@ 1700000005.000005
-        #@ 1700000007.000007
-        #@ 1700000006.000006
+    """), report=report(4, 5, None, 3, 6), tshark=None, times=text("""
+        #@ 1700000003.000003 4
+        #@ 1700000004.000004 5
+        #@ 1700000005.000005 6
+        #@ 1700000005.000005 6
+        #@ 1700000007.000007 8
+        #@ 1700000006.000006 7
     """))
 
 
 def link_times():
     frames = [frame for _, frame in line()]
-    yield Case("times-of-lapb", pcap(147, frames), LINE_ROWS, "--as 147=lapb --times", report=LINE_REPORT, tshark=None,
-               times="#@ 1700000000\n" + "".join(f"#@ {SECONDS + at}.00000{at}\n" for at in range(1, 8)))
+    yield Case("times-of-lapb", pcap(147, frames), LINE_ROWS, "--as 147=lapb", report=LINE_REPORT, tshark=None,
+               times="#@ 1700000000 1\n" + "".join(f"#@ {SECONDS + at}.00000{at} {at + 1}\n" for at in range(1, 8)))
 
 
 def cases():

@@ -106,7 +106,7 @@ class Numbers(unittest.TestCase):
     """Rows are numbered by frames while these are at most 999,999,999, else they count from 1."""
 
     def lines(self, frames, last):
-        spool = Spool(False, last)
+        spool = Spool(True, last)
         for frame in frames:
             spool.add(Packet(frame, Side.T, b"\x10\x01\x0f"), 0)
         lines = "".join(spool.replay([])).splitlines(keepends=True)
@@ -114,12 +114,11 @@ class Numbers(unittest.TestCase):
         return lines
 
     def test_by_frames(self):
-        want = ["8 T 10010F\n", "# 9 is of frame 8\n", "9 T 10010F\n", "10 T 10010F\n"]
+        want = ["#@ - 8\n", "8 T 10010F\n", "#@ - 8\n", "9 T 10010F\n", "#@ - 10\n", "10 T 10010F\n"]
         self.assertEqual(self.lines([8, 8, 10], 10), want)
 
     def test_too_many_frames(self):
-        want = ["# 1 is of frame 8\n", "1 T 10010F\n", "# 2 is of frame 8\n", "2 T 10010F\n", "# 3 is of frame 11\n",
-                "3 T 10010F\n"]
+        want = ["#@ - 8\n", "1 T 10010F\n", "#@ - 8\n", "2 T 10010F\n", "#@ - 11\n", "3 T 10010F\n"]
         self.assertEqual(self.lines([8, 8, 11], 10), want)
 
     def test_numbers_that_went_on_too_far(self):
@@ -172,16 +171,17 @@ class Comments(unittest.TestCase):
         lines = [
             "# connection 1 is channel 1: 192.0.2.1 port 1025 (T) and 192.0.2.2 port 1998 (N)",
             "X25 1 MOD 8 WIN 2 SIZE 128 PVC 0 SVC 1",
-            "6 T 10010B0000", "# DTE, logical channel 1: call request, called -, calling -",
-            "# 7 is of frame 6", "7 T 100104AA", "#! F 7 T p2 20: Invalid packet type for state p2: words",
-            "9 T 100104AA", "#! F 9 T p2 20: Invalid packet type for state p2: other words",
-            "# Call 1, outgoing on logical channel 1: called -, calling -; opened by packet 6, never up, open",
+            "#@ - 6", "6 T 10010B0000", "# DTE, logical channel 1: call request, called -, calling -",
+            "#@ 17.5 6", "7 T 100104AA", "#! F 7 T p2 20: Invalid packet type for state p2: words",
+            "#@ 18 9", "9 T 100104AA", "#! F 9 T p2 20: Invalid packet type for state p2: other words",
+            "# Call 1, outgoing on logical channel 1: called -, calling -; opened by packet 6, up with 7, ended with 9 by a restart",
             "# Call 2, incoming on logical channel 1: called -, calling -; opened by packet 7, never up, open",
         ]
-        call = "x25scan: Call {} on logical channel 1: called -, calling -; opened by packet {}, never up, open"
+        call = "x25scan: Call {} on logical channel 1: called -, calling -; opened by {}"
         self.assertEqual(dict(comments_of((f"{line}\n" for line in lines), Halves(Head()))), {
-            6: ["x25scan: F 7 T p2 20: Invalid packet type for state p2: words", call.format("1, outgoing", 6),
-                call.format("2, incoming", 7)],
+            6: ["x25scan: frame 6 (packet 7): F 7 T p2 20: Invalid packet type for state p2: words",
+                call.format("1, outgoing", "frame 6, up with frame 6 (packet 7), ended with frame 9 by a restart"),
+                call.format("2, incoming", "frame 6 (packet 7), never up, open")],
             9: ["x25scan: F 9 T p2 20: Invalid packet type for state p2: other words"],
         })
 

@@ -8,23 +8,23 @@ import subprocess
 PROGRAM = shutil.which("tshark")
 SECONDS = 60
 AT_A_TIME = 3
-FRAME = re.compile(r"# (\d+) is of frame (\d+)")
+FRAME = re.compile(r"#@ \S+ (\d+)")
 CIRCUIT = re.compile(r"# connection \d+ is channel (\d+)\b.*, logical channel (\d+) in the capture")
 OTHER_FRAMES = "tcp.reassemble_out_of_order:TRUE"
 
 
 def packets_of_trace(trace):
     """Frame, channel in the capture, and octets without the channel, of each row."""
-    frames, channels = {}, {}
+    frame, channels = 0, {}
     for line in trace.splitlines():
         if match := FRAME.match(line):
-            frames[match[1]] = int(match[2])
+            frame = int(match[1])
         elif match := CIRCUIT.match(line):
             channels[int(match[1])] = int(match[2])
         elif line[0].isdigit():
-            number, _, octets = line.split(" ")
+            octets = line.split(" ")[2]
             channel = int(octets[1:4], 16)
-            yield frames.get(number, int(number)), channels.get(channel, channel), (octets[0] + octets[4:]).lower()
+            yield frame, channels.get(channel, channel), (octets[0] + octets[4:]).lower()
 
 
 def listed(value):

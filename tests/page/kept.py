@@ -9,9 +9,10 @@ sys.path.insert(0, str(pathlib.Path(__file__).resolve().parents[2] / "tools"))
 
 from x25page_lib.calls import COLUMNS, MEMBERS, Calls  # noqa: E402
 from x25page_lib.facts import Thinned, Times  # noqa: E402
-from x25page_lib.ladders import Ladders, Run  # noqa: E402
+from x25page_lib.ladders import LEVELS, Ladders, Run  # noqa: E402
 from x25page_lib.rows import Kept as KeptRow, Row, RowForms, microseconds  # noqa: E402
 from x25page_lib.suspicions import Debts, warnings  # noqa: E402
+from x25tools_lib.frames import Frames  # noqa: E402
 
 FINDING = {"code": "1", "name": "Invalid P(S)", "wrong": "<b>", "then": "", "clause": "X.25"}
 CALLS, LONGEST = 40, 60
@@ -129,16 +130,29 @@ class Kept(unittest.TestCase):
 
     def test_quiet_rows(self):
         """A quiet row has the same array by both ways to write it, and its text has what sums need."""
-        for more in ({"time": 1_700_000_000.25}, {"frame": 152}, {"octets": 0}, {"octets": 300}, {"kind": "rr", "receive": 7}):
+        for more in ({"time": 1_700_000_000.25}, {"frame": 152}, {"frame": 7}, {"octets": 0}, {"octets": 300}, {"kind": "rr", "receive": 7}):
             forms, kind = RowForms(), more.pop("kind", "data")
             forms.begin(1_700_000_000_000_000)
             row = row_of(7, kind, forms=forms, **more)
             self.assertTrue(row.is_quiet)
             self.assertEqual(json.loads(forms.quiet(row, 64)), json.loads(forms.text(row, 64)), more)
             kept, same = KeptRow(forms.quiet(row, 64)), KeptRow(forms.text(row, 64), row)
-            for name in ("packet", "side", "octets", "code", "is_data", "is_marked"):
+            for name in ("packet", "side", "octets", "code", "is_data", "is_marked", "frame"):
                 self.assertEqual(getattr(kept, name), getattr(same, name), (name, more))
         self.assertFalse(FAULTY.is_quiet or row_of(3, "call_request").is_quiet or row_of(3, "rr", before="d3", after="d3").is_quiet)
+
+    def test_frames_of_sums(self):
+        """Rows that are left out name the frames of the first and the last of them, where these are other numbers."""
+        forms = RowForms()
+        for frames, wanted in ((lambda it: it, None), (lambda it: it - 1, [9, 19]), (lambda it: None, None)):
+            run = Run()
+            for packet in range(10, 21):
+                run.add(row_of(packet, forms=forms, frame=frames(packet)))
+            whole = Run()
+            for _ in range(2):
+                whole.join(run)
+            self.assertEqual(json.loads(whole.kept(LEVELS[0]).text).get("frames"), wanted)
+            forms = RowForms()
 
     def test_no_markup(self):
         ladders = Ladders(10_000)
@@ -194,7 +208,7 @@ class Doubts(unittest.TestCase):
     HEADER = {"MOD": "8", "WIN": "1", "SIZE": "128", "SVC": "4"}
 
     def seen(self, rows):
-        debts = Debts()
+        debts = Debts(Frames())
         for row in rows:
             debts.see(row)
         return debts
@@ -226,6 +240,6 @@ class Doubts(unittest.TestCase):
 
     def test_both_sides(self):
         codes = [["39", "Packet too long", "", [5, 9], None], ["20", "", "", [5, 9], None], ["1", "", "", [9, 0], None]]
-        (sentence, name, values), = warnings(self.HEADER, codes, Debts())
+        (sentence, name, values), = warnings(self.HEADER, codes, Debts(Frames()))
         self.assertIn("SIZE 128", sentence)
         self.assertEqual((name, values), ("SIZE", [256, 512]))

@@ -9,6 +9,8 @@ class Line:
 
     def __init__(self, header=HEADER, begun=1_700_038_800):
         self.header, self.time, self.packets = header, begun * MICROS, []
+        # The number of the first row, and the frames of the rows, where comments say them.
+        self.first, self.frames = 1, ()
 
     def wait(self, seconds):
         self.time += round(seconds * MICROS)
@@ -46,8 +48,9 @@ class Line:
     def text(self, has_times=True):
         """The trace."""
         lines = [self.header]
-        for number, (time, side, octets) in enumerate(self.packets, 1):
-            lines += [f"#@ {time // MICROS}.{time % MICROS:06}"] * has_times + [f"{number} {side} {octets}"]
+        for at, (time, side, octets) in enumerate(self.packets):
+            words = [f"{time // MICROS}.{time % MICROS:06}"] * has_times + [str(frame) for frame in self.frames[at:at + 1]]
+            lines += [f"#@ {' '.join(words)}"] * bool(words) + [f"{self.first + at} {side} {octets}"]
         return "\n".join(lines) + "\n"
 
 

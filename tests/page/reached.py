@@ -5,6 +5,7 @@ import pathlib
 import sys
 from unittest import mock
 
+import framed
 import lines
 import waited
 from pages import ROOT, Page, run
@@ -174,17 +175,37 @@ def found(shown, folder, scanner):
     find(shown, "call 9")
     shown.is_so(note, "The page has no call 9.")
     find(shown, "frame 9")
-    shown.is_so(note, "No packet of the page is of frame 9.")
+    shown.is_so(note, "The trace says no frames.")
     find(shown, "nine")
     shown.is_so(note, "Give the number of a packet, or call 4, or channel 3.")
     shown.browser.key("Escape")
     shown.is_so(note, "")
-    # Rows that have frames are found by them, where a number stands alone.
-    shown.browser.value("everyPacket().forEach((it) => { it.item[8] = { ...it.item[8], frame: it.number + 100 }; })")
-    find(shown, "123")
-    shown.is_so("location.hash", "#call-2/23")
-    find(shown, "packet 27")
-    shown.is_so("location.hash", "#call-3/27")
+
+
+def named(shown, folder, scanner):
+    """Where the trace says frames, packets are named and found by them, and links still lead to packets."""
+    open_page(shown, folder, scanner, framed.framed(), "#call-1/7")
+    note = "document.querySelector('#find-note').textContent"
+    shown.is_so("document.querySelector('#detail h3').textContent.startsWith('Frame 6 (packet 7): data')")
+    shown.is_so("[...document.querySelectorAll('.ladder .row .packet')].map((it) => it.textContent).join()", "4,5,6,6,9,10,11,12")
+    shown.is_so("document.querySelector('.ladder-head .column').textContent", "frame")
+    shown.is_so("document.querySelector('.codes a').textContent", "frame 6 (packet 7)")
+    shown.is_so("document.querySelector('.codes a').getAttribute('href')", "#call-1/7")
+    shown.is_so("document.querySelector('.call-facts').textContent.includes('frame 4 to frame 11 (packet 10)')")
+    if (cells := shown.texts("#finding-table tbody tr:first-child td"))[0] != "6 (packet 7)":
+        shown.said.append(f"the first finding is of {cells[0]}")
+    numbers = "[...document.querySelectorAll('#packet-lines tr td:first-child')].map((it) => it.textContent).join()"
+    shown.is_so(numbers, "4,5,6,6 (packet 7),9 (packet 8),10 (packet 9),11 (packet 10),12 (packet 11)")
+    for text, part in (("6", "#call-1/6"), ("packet 7", "#call-1/7"), ("frame 9", "#call-1/8")):
+        find(shown, text)
+        shown.is_so("location.hash", part)
+        shown.is_so(note, "")
+    find(shown, "7")
+    shown.is_so(note, "No packet of the trace is of frame 7.")
+    find(shown, "ten")
+    shown.is_so(note, "Give the number of a frame, or call 4, or channel 3.")
+    type_in(shown, "#packet-filter", "frame 6")
+    shown.is_so("document.querySelectorAll('#packet-lines tr').length", 2)
 
 
 def listed(shown, folder, scanner):
@@ -293,7 +314,7 @@ def page_parts(folder):
 CASES = {
     "headings and skip link": headings, "what Tab reaches": tabbed, "keys in a ladder": ladder_keys,
     "keys in a long ladder": long_ladder_keys, "keys in the strip": strip_keys, "the way back": way_back,
-    "the find box": found, "the list of all packets": listed, "the filter of calls": filtered,
+    "the find box": found, "names by frames": named, "the list of all packets": listed, "the filter of calls": filtered,
     "findings by channel": channels_counted, "waits and use in the browser": waits_shown, "ladders that are left out": ladders_left_out,
 }
 

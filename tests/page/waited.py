@@ -193,7 +193,7 @@ class Waited(unittest.TestCase):
         self.assertEqual(use["closed"], [
             ["call-1", 1, 1, 10.0, 7, 9], ["call-2", 2, 0, 7.0, 17, None], ["call-1", 1, 0, 3.5, 4, 5],
         ])
-        self.assertIn("call 1, channel 1, DCE: 10 s, from packet 7 to 9", summary)
+        self.assertIn("call 1, channel 1, DCE: 10 s, from packet 7 to packet 9", summary)
         self.assertIn("call 2, channel 2, DTE: 7 s, from packet 17 on", summary)
 
     def test_acknowledgements(self):

@@ -37,6 +37,12 @@ HEADINGS = (
     ("TWO", "TWO (word of the header): two-way channels"),
     ("OUT", "OUT (word of the header): outgoing calls only"),
     ("JOIN", "JOIN (word of the header): recording that begins in the middle"),
+    ("cause 19", "19 (cause of a clear): local procedure error"),
+    ("cause 29", "29 (cause of a reset): network out of order"),
+    ("cause 127", "127 (cause of a restart): registration or cancellation confirmed"),
+    ("ship absent", "57 (cause of a clear): ship absent"),
+    ("window", "window (term): window"),
+    ("frame", "frame (term): frame"),
     ("out of memory", "memory (refusal): out of memory"),
     ("write failed", "write (refusal): write failed"),
     ("x25scan: read failed", "read (refusal): read failed"),
@@ -78,12 +84,17 @@ SEVERAL = (
     ("header", 10, "beginning of the header"),
     ("field", 28, "number of a row"),
     ("call", 2, "call"),
+    ("cause", 28, "DTE originated"),
+    ("cause 9", 2, "out of order"),
+    ("cause 1", 3, "number busy"),
+    ("local procedure error", 3, "local procedure error"),
+    ("term", 2, "window"),
     ("restart", 1, "restart"),
     ("x25scan: piece 3 posted twice", 3, "piece I posted twice"),
 )
 
 # Words that have none.
-UNKNOWN = ("d4", "42", "x1", "Invalid", "kind 30", "22 kind", "kind  22", "line 3", "Q 1 2", "f 5 T d1 1", "x25scan:", "no" + " word" * 60)
+UNKNOWN = ("d4", "42", "cause 2", "cause 128", "x1", "Invalid", "kind 30", "22 kind", "kind  22", "line 3", "Q 1 2", "f 5 T d1 1", "x25scan:", "no" + " word" * 60)
 
 TWENTY_SIX = b"""26 (diagnostic code): Packet type invalid for state p7
   The DCE sent its clear indication and then another packet on the channel, in place of waiting for the DTE.
@@ -126,5 +137,5 @@ def explain_cases():
         errors = f"x25scan: no such word: {word} (x25scan --explain lists them)\n".encode()
         yield RunCase(f"{word!r} is not explained", ("--explain", word), status=64, errors=errors)
     first = rb"F \(line of the report\): finding\nC \(line of the report\): call\n"
-    listed = re.compile(first + rb"(?:[^\n]+\n){151}22 \(PAD parameter\): page wait\n")
+    listed = re.compile(first + rb"(?:[^\n]+\n){181}22 \(PAD parameter\): page wait\n")
     yield RunCase("all words are listed", ("--explain",), output=listed)

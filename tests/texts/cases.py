@@ -15,6 +15,7 @@ MISSING, HEADER_FORM, HEADER_RANGE, LINE_FORM, NUMBER, SIDE, HEX, LINE_LONG, TEX
 CARRIAGE_RETURN = "The line ends in a carriage return, and a line feed alone ends a line: tr -d '\\r' < FILE | x25scan reads the text."
 LONG_LINE = "The line has more than 8,500 bytes without its line feed, comments too."
 EMPTY = "The line is empty: sed '/^$/d' FILE | x25scan reads the text without empty lines."
+NO_TRACE = 'This is no trace: it begins with "{}"; x25trace reads captures.'
 LAST_EMPTY = "The last line that was read is empty: sed '/^$/d' FILE | x25scan reads the text without empty lines."
 SECOND_HEADER = "A second header stands here, as in joined traces. Where the row numbers go on, awk '!/^X25 / || !n++' FILE.. | x25scan reads them as one trace."
 CAPTURE = "This is a capture: x25page FILE shows it, and x25trace FILE | x25scan prints its report."
@@ -138,6 +139,15 @@ HEADERS = [
     (b"\xef\xbb\xbfX25 1", 1, HEADER_FORM, "The text begins with a byte order mark: tail -c +4 FILE | x25scan reads it."),
     (b"\x04\x22\x4d\x18\x64", 1, HEADER_FORM, "This is an lz4 file: lz4 -dc FILE | x25scan reads what is in it."),
     (b"\x1f\x8b\x08\x00", 1, HEADER_FORM, "This is a gzip file: gzip -dc FILE | x25scan reads what is in it."),
+    (b"# x25scan\n\n`x25scan` reads a recording of one X.25 interface.\n" + HEADER, 2, HEADER_FORM, NO_TRACE.format("# x25scan")),
+    (b"\nText.\n", 1, HEADER_FORM, NO_TRACE.format("Text.")),
+    (b"\xff\xd8\xff\xe0\x00\x10JFIF\n" + HEADER, 1, HEADER_FORM, NO_TRACE.format("\\xff\\xd8\\xff\\xe0\\x00\\x10JFIF")),
+    (b"%PDF-1.4\n1 T 10\n", 1, HEADER_FORM, NO_TRACE.format("%PDF-1.4")),
+    (b"\n" + HEADER, 1, HEADER_FORM, EMPTY),
+    (b"  \n  x25 1\n", 1, HEADER_FORM, "The line begins with a space."),
+    (b" X25 1 MOD 8\n", 1, HEADER_FORM, "The line begins with a space."),
+    (b"x25 1 MOD 8\n", 1, HEADER_FORM, 'The header\'s words are in capitals: "x25" is written X25.'),
+    (b"MOD 8 WIN 2\n", 1, HEADER_FORM, 'In the header stands "MOD" where X25 belongs.'),
     (b"\xd4\xc3\xb2\xa1\x02\x00\x04\x00\n", 1, HEADER_FORM, CAPTURE),
     (b"\x0a\x0d\x0d\x0a\x1c\x00\x00\x00", 1, HEADER_FORM, CAPTURE),
 ]
@@ -162,7 +172,8 @@ TAKEN = [
 LONG = [
     (HEADER + b"#" + b"a" * 8500, 2, LINE_LONG, LONG_LINE),
     (HEADER + b"1 T " + b"00" * 4201, 2, HEX, None),
-    (b"x" * 9000, 1, LINE_LONG, LONG_LINE),
+    (b"x" * 9000, 1, LINE_LONG, NO_TRACE.format("x" * 24 + "..")),
+    (b"\xff\xd8\xff\xe0" + bytes(9000), 1, LINE_LONG, NO_TRACE.format("\\xff\\xd8\\xff\\xe0" + "\\x00" * 20 + "..")),
     (b"1" * 8500 + b"\n", 1, HEADER_FORM, None),
     (b"1" * 8501 + b"\n", 1, LINE_LONG, LONG_LINE),
 ]

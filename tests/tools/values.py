@@ -22,7 +22,7 @@ FILES = pathlib.Path(__file__).resolve().parents[1] / "captures" / "files"
 def heads(*words):
     """What the trace of a capture says besides its rows: as values, and as its text has it."""
     line = parsed(words)
-    with file_of(gathered(line, Ledger(), Waiting(), False), line.captures) as (file, head):
+    with file_of(gathered(line, Ledger(), Waiting(), True), line.captures) as (file, head):
         return head, inputs.head_of(io.BytesIO(file.read().encode()))
 
 
@@ -65,9 +65,10 @@ class Notes(unittest.TestCase):
             self.assertIsNone(notes.channel_of_circuit(words), words)
 
     def test_frames(self):
-        self.assertEqual(notes.frame_of(notes.frame_text(9, 8)), (9, 8))
-        for words in ("x is of frame 8", "9 is of frame y", "frame 9: a packet", ""):
-            self.assertIsNone(notes.frame_of(words), words)
+        for time in (None, 0, 1_700_000_003_000_003_000, -17_250_000_000):
+            self.assertEqual(notes.frame_of(notes.recorded_line(notes.time_text(time), 8)), 8)
+        for line in ("#@ 17.5\n", "#@ 17.5 x\n", "#@ 17.5 8 9\n", "# 17.5 8\n", "#@\n", "\n"):
+            self.assertIsNone(notes.frame_of(line), line)
 
 
 class Json(unittest.TestCase):

@@ -2,6 +2,7 @@
 from __future__ import annotations
 
 import heapq
+from collections.abc import Iterator
 from typing import Any
 
 from .rows import Table
@@ -11,6 +12,7 @@ MEMBERS = ("call", "epoch", "channel", "direction", "called", "calling", "opened
            "data_t", "octets_t", "data_n", "octets_n", "segments")
 FACTS = ("pays", "payer", "cleared_by", "cause", "diagnostic", "findings", "start", "seconds")
 COLUMNS = (*MEMBERS, *FACTS)
+PACKETS = tuple(map(MEMBERS.index, ("opened", "up", "ended")))
 # What the array of a call has at most, mostly.
 BYTES = 130
 # Multiples of the one, modulo the other, lie evenly over the range: the golden section of 2^32.
@@ -59,6 +61,10 @@ class Calls:
     def named(self, value: dict[str, Any] | None) -> int | None:
         """The place of a cause or a diagnostic code with its name."""
         return None if value is None else self.names.place((value["value"], value["name"]))
+
+    def packets(self) -> Iterator[int | None]:
+        """The packets that opened the calls, brought them up and ended them."""
+        return (array[place] for array in self.kept.values() for place in PACKETS)
 
     def text(self) -> str:
         """The arrays of the calls in their order, without more than the budget allows."""

@@ -1,7 +1,7 @@
 """What a page shows of a trace: gathered from the objects of x25scan, each of which is looked at once."""
 from __future__ import annotations
 
-from collections.abc import Callable, Iterable
+from collections.abc import Callable, Iterable, Iterator
 from dataclasses import dataclass, field
 from typing import Any
 
@@ -62,6 +62,10 @@ class Thinned:
         if self.size > self.budget:
             self.texts, self.step = self.texts[::2], self.step * 2
             self.size = sum(map(len, self.texts)) + len(self.texts)
+
+    def numbers(self) -> Iterator[int]:
+        """The numbers that the values begin with."""
+        return (int(text[1:].partition(",")[0]) for text in self.texts)
 
     @property
     def left_out(self) -> int:
@@ -126,7 +130,7 @@ class Facts:
         self.rows_of, self.half_counts, self.half_rows = [0, 0], [0, 0], 0
         self.unrecorded_ends: list[int] = []
         self.forms, self.ladders, self.calls = RowForms(), Ladders(PAGE - WORDS), Calls(CALLS)
-        self.times, self.debts, self.use = Times(), Debts(), Use()
+        self.times, self.debts, self.use = Times(), Debts(self.forms.frames), Use()
         self.broken: dict[str, Broken] = {}
         self.marks, self.restarts = Thinned(MARKS), Thinned(MARKS // 4)
         self.accounts, self.settings = Budgeted(ACCOUNTS), Budgeted(SETTINGS)
@@ -138,7 +142,7 @@ class Facts:
         self.peak: list[int] = []
         self.last_calls: dict[int | None, LastCall] = {}
         self.channels: set[int] = set()
-        self.first, self.last, self.begun_calls, self.call_text = 0, 0, 0, ""
+        self.first, self.last, self.begun_calls, self.call_text, self.frame_text = 0, 0, 0, "", ""
         self.takers: dict[str, Callable[[dict[str, Any]], object]] = {
             "call": self.call,
             "setting": lambda it: self.settings.add([it[name] for name in SETTING]),
@@ -165,9 +169,29 @@ class Facts:
         self.call_text = self.calls.text()
         for channel, counts, first in sorted(self.by_channel.values(), key=lambda it: -sum(it[1])):
             self.found_channels.add([channel, *counts, *first])
+        self.frame_text = encoded(self.other_frames())
         thinned, budgeted = (self.marks, self.restarts), (self.accounts, self.settings, self.found_channels)
-        parts = len(self.call_text) + sum(it.size for it in thinned) + sum(it.size for it in budgeted)
+        parts = len(self.call_text) + len(self.frame_text)
+        parts += sum(it.size for it in thinned) + sum(it.size for it in budgeted)
         self.ladders.limit(PAGE - WORDS - parts)
+
+    def packets(self) -> Iterator[int | None]:
+        """The packets that the page names outside of its ladders."""
+        yield from (self.first, self.last, self.peak[1] if self.peak else None)
+        yield from (first[0] for it in self.broken.values() for first in it.first if first)
+        yield from (first[0] for *_, first in self.by_channel.values())
+        yield from self.calls.packets()
+        yield from (*self.marks.numbers(), *self.restarts.numbers())
+        yield from self.use.packets()
+
+    def other_frames(self) -> dict[str, int]:
+        """The frames of the packets that the page names, except those with the packet's number; 0 where one is not known."""
+        frames = self.forms.frames
+        begun = frames.begun
+        if begun is None:
+            return {}
+        named = {it for it in self.packets() if it is not None and it >= begun}
+        return {str(it): frames.of(it) or 0 for it in sorted(named) if frames.of(it) != it}
 
     def reserve(self) -> None:
         """Leaves room for the parts of the page that are known so far."""

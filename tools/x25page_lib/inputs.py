@@ -20,6 +20,8 @@ from x25trace_lib.source import Source
 from x25trace_lib.trace import LARGEST_TEXT
 
 MOST_COMMENTS, LONGEST_COMMENT = 20, 300
+# How the comment with the time and the frame of a row begins.
+RECORDED_AT = notes.RECORDED_AT.encode()
 
 
 def take_pipe(words: argparse.Namespace) -> None:
@@ -56,7 +58,7 @@ def head_of(trace: BinaryIO) -> Head:
             words = shown(line[1:])
             channel = notes.channel_of_circuit(words)
             circuit = (channel, words) if channel is not None else circuit
-        elif half := notes.half_of(shown(line[1:])):
+        elif not line.startswith(RECORDED_AT) and (half := notes.half_of(shown(line[1:]))):
             head.halves.append(half)
     trace.seek(0)
     return head

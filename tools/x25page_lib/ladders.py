@@ -54,12 +54,15 @@ class Run:
     data: list[int] = field(default_factory=lambda: [0, 0])
     octets: list[int] = field(default_factory=lambda: [0, 0])
     findings: dict[str, int] = field(default_factory=dict)
+    # The frames of the first and the last row, as the page has them.
+    frames: list[int | None] = field(default_factory=lambda: [None, None])
     text: str = ""
 
     def add(self, row: Row | Kept) -> None:
         """Takes a row."""
-        self.first = self.first or row.packet
-        self.last = row.packet
+        if not self.first:
+            self.first, self.frames[0] = row.packet, row.frame
+        self.last, self.frames[1] = row.packet, row.frame
         self.packets += 1
         if row.is_data:
             self.data[row.side] += 1
@@ -69,8 +72,9 @@ class Run:
 
     def join(self, other: Run) -> None:
         """Takes the sums of a run that follows."""
-        self.first = self.first or other.first
-        self.last = other.last
+        if not self.first:
+            self.first, self.frames[0] = other.first, other.frames[0]
+        self.last, self.frames[1] = other.last, other.frames[1]
         self.packets += other.packets
         for side in range(len(SIDES)):
             self.data[side] += other.data[side]
@@ -80,7 +84,9 @@ class Run:
 
     def kept(self, _level: Level) -> Run:
         """The same with its text."""
-        names = ("first", "last", "packets", "data", "octets", "findings")
+        names = ["first", "last", "packets", "data", "octets", "findings"]
+        if self.frames != [None, None]:
+            names.append("frames")
         self.text = encoded({name: getattr(self, name) for name in names})
         return self
 

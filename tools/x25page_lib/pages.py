@@ -47,6 +47,7 @@ class Page:
         """The names of the object's members, each with the parts of its text."""
         facts = self.read.facts
         yield from ((name, [encoded(value)]) for name, value in self.small().items())
+        yield "frames", [facts.frame_text]
         yield "calls", [facts.call_text]
         yield "marks", [facts.marks.text]
         yield "restarts", [facts.restarts.text]
@@ -82,6 +83,8 @@ class Page:
             "warnings": self.warnings,
             "not_counted": facts.not_counted,
             "rows": [facts.first, facts.last],
+            # The first packet whose frame is known: from there on a frame is the packet's number, or another one.
+            "framed": facts.forms.frames.begun,
             "channels": sorted(facts.channels),
             "times": facts.times.all(facts.forms),
             # In nanoseconds, as a text: a script has no whole number so great.

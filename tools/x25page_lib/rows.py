@@ -6,6 +6,8 @@ from functools import lru_cache
 from operator import itemgetter
 from typing import Any, Protocol
 
+from x25tools_lib.frames import Frames
+
 from .texts import encoded
 
 SIDES = "TN"
@@ -13,10 +15,10 @@ SIDES = "TN"
 FLOWING = {"data", "rr", "rnr", "interrupt", "interrupt_confirmation"}
 SHORT = {"send": "s", "receive": "r", "octets": "o", "more": "m", "qualified": "q", "delivery": "d"}
 BITS = (("more", '"m":true,'), ("qualified", '"q":true,'), ("delivery", '"d":true,'))
-OCTETS = '"o":'
+OCTETS, FRAME = '"o":', '"frame":'
 # The members that each row has, and that a page has in other places than the others.
 EACH = ("packet", "side", "channel", "before", "after", "counted", "finding", "owed", "call", "time", "type", "hex")
-BASE, APART = itemgetter(*EACH), frozenset((*EACH, "line", "epoch"))
+BASE, APART = itemgetter(*EACH), frozenset((*EACH, "line", "epoch", "frame"))
 SECOND = 1_000_000
 # No clock of a recorder is so late, and a number of seconds before it has whole microseconds.
 LATEST = 1 << 32
@@ -47,7 +49,7 @@ class Row:
 
     __slots__ = (
         "packet", "side", "channel", "before", "after", "segments", "finding", "code", "owed", "call", "time", "kind",
-        "hex", "members", "octets", "receive", "is_data", "is_marked", "is_quiet", "forms",
+        "hex", "frame", "members", "octets", "receive", "is_data", "is_marked", "is_quiet", "forms",
     )
 
     def __init__(self, it: dict[str, Any], forms: RowForms) -> None:
@@ -69,6 +71,7 @@ class Row:
         self.code: str | None = None if self.finding is None else self.finding["code"]
         self.time = microseconds(time)
         self.members, self.forms = it, forms
+        self.frame = forms.frame_of(self.packet, it.get("frame"))
         self.octets: int = it.get("octets", 0)
         self.receive: int | None = it.get("receive")
         self.is_data = self.kind == "data"
@@ -100,19 +103,21 @@ def cut(text: str, digits: int) -> str:
 class Kept:
     """A row that a page keeps: its text, and its place in sums."""
 
-    __slots__ = ("packet", "side", "octets", "code", "is_data", "is_marked", "text")
+    __slots__ = ("packet", "side", "octets", "code", "is_data", "is_marked", "frame", "text")
 
     def __init__(self, text: str, row: Row | None = None) -> None:
         """Of a quiet row the text alone is known."""
         self.text = text
         if row is not None:
             self.packet, self.side, self.octets, self.code = row.packet, row.side, row.octets, row.code
-            self.is_data, self.is_marked = row.is_data, row.is_marked
+            self.is_data, self.is_marked, self.frame = row.is_data, row.is_marked, row.frame
             return
         packet, side, _ = text[1:].split(",", 2)
         _, found, octets = text.rpartition(OCTETS)
         self.packet, self.side, self.code, self.is_marked = int(packet), int(side), None, False
         self.octets, self.is_data = int(octets.split(",")[0]) if found else 0, bool(found)
+        _, is_other, frame = text.rpartition(FRAME)
+        self.frame = int(frame.rstrip("}]")) if is_other else None
 
     def kept(self, level: Level) -> Kept:
         """The same with as many digits as a level keeps."""
@@ -143,6 +148,7 @@ class RowForms:
 
     def __init__(self) -> None:
         self.types, self.states, self.faults = Table(), Table(), Table()
+        self.frames = Frames()
         # The first time of the trace.
         self.begun: int | None = None
         self.step = lru_cache(REMEMBERED)(self.places)
@@ -152,6 +158,16 @@ class RowForms:
         """Takes the first time of the trace."""
         if self.begun is None:
             self.begun = time
+
+    def frame_of(self, packet: int, frame: int | None) -> int | None:
+        """Takes the frame of the next packet; returns it as the page has it.
+
+        That is nothing where it is the packet's number, or no packet so far has one; and 0 where it is not known.
+        """
+        self.frames.add(packet, frame)
+        if frame is None:
+            return None if self.frames.begun is None else 0
+        return frame if frame != packet else None
 
     def since_begin(self, time: int) -> float:
         """A time after the first one, in seconds."""
@@ -180,8 +196,8 @@ class RowForms:
         if row.is_data:
             bits = bits_of(it) if it["more"] or it["qualified"] or it["delivery"] else ""
             more = f'"s":{it["send"]},{more},{bits}{OCTETS}{row.octets},"c":{row.segments}'
-        if "frame" in it:
-            more += f',"frame":{encoded(it["frame"])}'
+        if row.frame is not None:
+            more += f",{FRAME}{row.frame}"
         return f'[{row.packet},{row.side},{step},{seconds},"{shown}",{len(row.hex) // 2},{{{more}}}]'
 
     def quiet_step(self, kind: str) -> str:
@@ -195,6 +211,8 @@ class RowForms:
         for name, value in row.members.items():
             if (value or value == 0 and value is not False) and name not in APART:
                 found[SHORT.get(name, name)] = value
+        if row.frame is not None:
+            found["frame"] = row.frame
         if row.segments is not None:
             found["c"] = row.segments
         if row.finding is not None:

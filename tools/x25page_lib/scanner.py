@@ -25,6 +25,7 @@ TOPICS = {
     "parameter": "PAD parameter",
     "field": "field of the report",
     "header": "word of the header",
+    "term": "term",
 }
 HEADING = re.compile(r"(\S.*?) \(([^()]*)\): (.*)")
 PARTS_LEFT_OUT = ("Example: ", "See: ")

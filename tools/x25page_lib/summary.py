@@ -55,6 +55,7 @@ class Summary:
 
     def __init__(self, name: str, head: Head, facts: Facts) -> None:
         self.name, self.head, self.facts = name, head, facts
+        self.named = facts.forms.frames.name
         self.use = facts.use.facts()
 
     def text(self) -> str:
@@ -70,7 +71,7 @@ class Summary:
         if span:
             lines.append(f"  in {length(span[1] - span[0])}, from {moment(span[0])}")
         many, packet = facts.peak
-        lines += [f"  {number(many, 'call')} at once at most, first at packet {packet:,}"] if packet else []
+        lines += [f"  {number(many, 'call')} at once at most, first at {self.named(packet)}"] if packet else []
         lost = sum(it[1] for it in facts.not_counted)
         lines += [f"  {number(lost, 'data packet')} not counted"] if lost else []
         doubts = [] if facts.halves else warnings(self.head.numbers, facts.codes(), facts.debts)
@@ -82,7 +83,8 @@ class Summary:
             for side, many in enumerate(counts):
                 if many:
                     packet, key = first[side]
-                    lines.append(f"  {NAMES[side]}, code {code} ({name}): {many:,}, first at packet {packet:,}, {place(key)}")
+                    where = f"{self.named(packet)}, {place(key)}"
+                    lines.append(f"  {NAMES[side]}, code {code} ({name}): {many:,}, first at {where}")
         return ["findings", *lines] if lines else []
 
     def requests(self) -> list[str]:
@@ -92,7 +94,7 @@ class Summary:
             unanswered = many - ends[ANSWERED]
             text += f", {unanswered:,} without an answer" if unanswered else ", all answered"
             text += f", {late:,} longer than {name}" if late else ""
-            text += f"; the longest wait {length(longest)}, packet {packet:,}" if longest is not None else ""
+            text += f"; the longest wait {length(longest)}, {self.named(packet)}" if longest is not None else ""
             lines.append(text)
         return ["requests and their time-outs (X.25 Annex D)", *lines] if lines else []
 
@@ -102,7 +104,7 @@ class Summary:
             waited = "" if seconds is None else f", {length(seconds)}"
             again = f", sent {times(sent)}" if sent > 1 else ""
             where = place(key) + ("" if channel is None or key.startswith("channel") else f", channel {channel}")
-            lines.append(f"  packet {packet:,}, {where}{again}{waited} ({name}): {ENDS[how]}")
+            lines.append(f"  {self.named(packet)}, {where}{again}{waited} ({name}): {ENDS[how]}")
         rest = len(self.use["waits"]) - len(lines) + self.use["waits_left_out"]
         lines += [f"  and {rest:,} more"] if rest else []
         return ["requests without an answer, or with a late one", *lines] if lines else []
@@ -110,9 +112,9 @@ class Summary:
     def closed(self) -> list[str]:
         lines = []
         for key, channel, side, seconds, first, last in self.use["closed"][:MOST_LINES]:
-            end = f"to {last:,}" if last else "on"
+            end = f"to {self.named(last)}" if last else "on"
             where = place(key) + ("" if key.startswith("channel") else f", channel {channel}")
-            lines.append(f"  {where}, {NAMES[side]}: {length(seconds)}, from packet {first:,} {end}")
+            lines.append(f"  {where}, {NAMES[side]}: {length(seconds)}, from {self.named(first)} {end}")
         rest = len(self.use["closed"]) - len(lines) + self.use["closed_left_out"]
         lines += [f"  and {rest:,} more"] if rest else []
         return ["the longest time that a window was closed", *lines] if lines else []
@@ -123,7 +125,7 @@ class Summary:
             if it:
                 many, median, most, longest, packet, key = it
                 lines.append(f"  data of the {NAMES[side]}: {number(many, 'packet')}, median {length(median)}, 95th percentile "
-                             f"{length(most)}, longest {length(longest)} (packet {packet:,}, {place(key)})")
+                             f"{length(most)}, longest {length(longest)} ({self.named(packet)}, {place(key)})")
         return ["from data to its acknowledgement", *lines] if lines else []
 
     def segments(self) -> list[str]:

@@ -5,6 +5,8 @@ from collections.abc import Iterator
 from dataclasses import dataclass
 from typing import Any
 
+from x25tools_lib.frames import Frames
+
 from .rows import SIDES, Row
 
 DTE = SIDES.index("T")
@@ -39,7 +41,8 @@ class Debts:
     All are of codes that a wrong header gives or hides.
     """
 
-    def __init__(self) -> None:
+    def __init__(self, frames: Frames) -> None:
+        self.frames = frames
         self.open: dict[int, Debt] = {}
         self.unpaid: dict[str, int] = {}
         self.first = 0
@@ -146,7 +149,7 @@ def of_debts(debts: Debts) -> Iterator[tuple[str, str]]:
         return
     code = max(debts.unpaid, key=lambda it: debts.unpaid[it])
     yield NUMBERS[code], (
-        f"After {number(many, 'finding')} of the DTE (the first is packet {debts.first:,}) the DCE did not do what it "
+        f"After {number(many, 'finding')} of the DTE (the first is {debts.frames.name(debts.first)}) the DCE did not do what it "
         "had to: it went on as if nothing was wrong. Then the DTE was probably right, and the header is not that of "
         "the interface. Data after such a finding is not counted, so the sums are too low."
     )
@@ -157,7 +160,7 @@ def of_unseen(header: Numbers, debts: Debts) -> Iterator[tuple[str, str]]:
     for code, (first, many) in debts.unseen.items():
         words = words_of(header, HIDDEN[code])
         yield HIDDEN[code], (
-            f"By diagnostic code {code} the DCE says {number(many, 'time')} (the first is packet {first:,}) that the "
+            f"By diagnostic code {code} the DCE says {number(many, 'time')} (the first is {debts.frames.name(first)}) that the "
             f"DTE broke a rule, and the trace shows no such error. Then {words} of the header is probably too great."
         )
 

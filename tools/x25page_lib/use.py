@@ -2,6 +2,7 @@
 from __future__ import annotations
 
 from array import array
+from collections.abc import Iterator
 from typing import Any
 
 from .rows import SECOND, SIDES, Row
@@ -170,6 +171,13 @@ class Use:
         self.waits.finish(self.time)
         self.windows.finish(self.time)
         self.parts.finish()
+
+    def packets(self) -> Iterator[int | None]:
+        """The packets that the waits and the windows name."""
+        yield from (it.packet for it in self.waits.sums())
+        yield from (packet for _, packet, *_ in self.waits.lines())
+        yield from (packet for *_, first, last in self.windows.lines() for packet in (first, last))
+        yield from (it.longest[1] for it in self.windows.spreads if it.longest)
 
     def facts(self) -> dict[str, Any]:
         """What a page has of it."""

@@ -13,6 +13,8 @@ LONGEST_COMMENT = 8_000
 # So many circuits are kept.
 MOST_CIRCUITS = 2000
 ESTIMATED = "estimated from what was seen: "
+# How the comment with the time and the frame of the next row begins.
+RECORDED_AT = "#@ "
 RECORDED = {"T": "only the DTE was recorded", "N": "only the DCE was recorded"}
 # So many runs of connections are in a sentence.
 MOST_RUNS = 20
@@ -96,11 +98,24 @@ def comment(words: str) -> str:
     return "# " + "".join(letter if " " <= letter <= "~" else "?" for letter in words[:LONGEST_COMMENT]) + "\n"
 
 
-def time_line(time: int) -> str:
-    """The comment with the time of a row, in seconds with as many decimals as they need."""
+def time_text(time: int | None) -> str:
+    """A time in seconds, with as many decimals as it needs; - where there is none."""
+    if time is None:
+        return "-"
     seconds, part = divmod(abs(time), SECOND)
     decimals = f".{part:09}".rstrip("0") if part else ""
-    return f"#@ {'-' if time < 0 else ''}{seconds}{decimals}\n"
+    return f"{'-' if time < 0 else ''}{seconds}{decimals}"
+
+
+def recorded_line(time: str, frame: int) -> str:
+    """The comment before a row: the text of its time, and the frame that holds its last octet."""
+    return f"{RECORDED_AT}{time} {frame}\n"
+
+
+def frame_of(line: str) -> int | None:
+    """The frame that a line says the next row is of; None where it says none."""
+    words = line.removeprefix(RECORDED_AT).split()
+    return int(words[1]) if line.startswith(RECORDED_AT) and len(words) == 2 and words[1].isdecimal() else None
 
 
 def estimates_text(estimates: Iterable[Estimate]) -> str:
@@ -134,17 +149,6 @@ def channel_of_circuit(words: str) -> int | None:
     if not is_circuit or kind != "connection" or not number.isdecimal() or not channel.isdecimal():
         return None
     return int(channel)
-
-
-def frame_text(row: int, frame: int) -> str:
-    """The words for the frame of a row whose number is another one."""
-    return f"{row} is of frame {frame}"
-
-
-def frame_of(words: str) -> tuple[int, int] | None:
-    """The row and the frame that a comment is of; None where it is another comment."""
-    row, is_frame, frame = words.partition(" is of frame ")
-    return (int(row), int(frame)) if is_frame and row.isdecimal() and frame.isdecimal() else None
 
 
 def ranges_text(numbers: Sequence[int]) -> str:

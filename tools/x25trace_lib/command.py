@@ -74,15 +74,15 @@ def write_captures(
         write_comments(words, ledger, waiting)
     elif is_live(words, wishes, waiting):
         captures = Captures(words.captures, choices.kinds, ledger, waiting, first)
-        live = Live(ledger, Reading(ledger, choices), wishes, words.times)
+        live = Live(ledger, Reading(ledger, choices), wishes, words.has_comments)
         live.write(captures.frames(), title_of(words.captures), out)
     else:
-        gathered(words, ledger, waiting, words.times, first).write(title_of(words.captures), out)
+        gathered(words, ledger, waiting, words.has_comments, first).write(title_of(words.captures), out)
 
 
 def write_comments(words: argparse.Namespace, ledger: Ledger, waiting: Waiting) -> None:
     """Has x25scan read the trace, and writes the captures again with what it says."""
-    trace = gathered(words, ledger, waiting, words.times)
+    trace = gathered(words, ledger, waiting, True)
     # The first reading reported what is damaged.
     again = [Captures(words.captures, dict(words.kinds), Ledger(), Waiting()) for _ in range(2)]
     comments.check(again[0])

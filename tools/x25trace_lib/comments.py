@@ -10,6 +10,7 @@ from collections.abc import Callable, Generator, Iterable
 from typing import IO, Any, BinaryIO
 
 from x25tools_lib import notes
+from x25tools_lib.frames import Frames
 from x25tools_lib.halves import Halves
 from x25tools_lib.refusals import Refusal, Why
 from x25tools_lib.scanner import SCANNER
@@ -24,6 +25,7 @@ from .snoop import Snoop
 Comments = dict[int, list[str]]
 FINDING = re.compile(r"#! (F (\d+) .*)")
 CALL = re.compile(r"# (Call \d+, \w+ on logical channel (\d+): .*\bopened by packet (\d+)\b.*)")
+PACKET = re.compile(r"(?:\bpacket |(?<=\bup with )|(?<=\bended with ))(\d+)\b")
 LEFT_OUT = "what x25scan finds of it is left out"
 # A comment's length has two octets.
 LONGEST = 60_000
@@ -49,27 +51,34 @@ def found(trace: IO[str], scanner: str | None, halves: Halves) -> Comments:
     return comments
 
 
+def named(words: str, frames: Frames) -> str:
+    """The words with the frames of the packets that they name."""
+    return PACKET.sub(lambda packet: frames.name(int(packet[1]), ""), words)
+
+
 def comments_of(lines: Iterable[str], halves: Halves) -> Comments:
     """The comments by frame, from the lines of an annotated trace."""
-    frames: dict[int, int] = {}
-    comments: Comments = defaultdict(list)
-    first, channel = 0, 0
+    frames, comments = Frames(), defaultdict[int, list[str]](list)
+    first, channel, frame = 0, 0, None
 
-    def add(row: int, words: str) -> None:
-        comments[frames.get(row, row)].append(f"x25scan: {words}")
+    def add(packet: int, words: str) -> None:
+        comments[frames.of(packet) or packet].append(f"x25scan: {words}")
 
     for line in lines:
         if line[0].isdigit():
             number, _, octets = line.split(" ")
             first, channel = first or int(number), int(octets[1:4], 16) if len(octets) > 4 else 0
+            frames.add(int(number), frame)
         elif match := FINDING.match(line):
-            if not halves.side(channel, int(match[2])):
-                add(int(match[2]), match[1])
+            packet = int(match[2])
+            if not halves.side(channel, packet):
+                is_other = frames.of(packet) != packet
+                add(packet, f"{frames.name(packet, '')}: {match[1]}" if is_other else match[1])
         elif match := CALL.match(line):
             if not halves.side(int(match[2]), int(match[3])):
-                add(int(match[3]), match[1])
-        elif line.startswith("# ") and (pair := notes.frame_of(line[2:].rstrip())):
-            frames[pair[0]] = pair[1]
+                add(int(match[3]), named(match[1], frames))
+        elif line.startswith(notes.RECORDED_AT):
+            frame = notes.frame_of(line)
     for row, words in halves.sentences(first):
         add(row, f"{words}: {LEFT_OUT}")
     return comments

@@ -7,7 +7,7 @@ from typing import TextIO
 from x25tools_lib.choices import Carrier
 from x25tools_lib.header import Wishes
 from x25tools_lib.ledger import Ledger, Reason
-from x25tools_lib.notes import comment
+from x25tools_lib.notes import comment, time_text
 from x25tools_lib.sides import Side
 
 from .channels import Channels
@@ -24,11 +24,11 @@ from .xot import Circuit
 class Live:
     """A trace on its way out. Comments before the first packet wait for it: without one there is no trace."""
 
-    def __init__(self, ledger: Ledger, reading: Reading, wishes: Wishes, times: bool) -> None:
-        self.ledger, self.reading, self.wishes, self.times = ledger, reading, wishes, times
+    def __init__(self, ledger: Ledger, reading: Reading, wishes: Wishes, has_comments: bool) -> None:
+        self.ledger, self.reading, self.wishes = ledger, reading, wishes
         self.header = header_of(wishes, Estimator(), 0, 0, False)
         self.channels = Channels(self.header)
-        self.rows = Rows()
+        self.rows = Rows(True, has_comments)
         self.carrier: Carrier | None = None
         self.out: TextIO | None = None
         self.waiting: list[str] = []
@@ -109,8 +109,7 @@ class Live:
             self.ledger.left_out(Reason.LATE_ROW)
             return
         self.rows.by_frames = packet.frame <= LAST_NUMBER
-        time = packet.time if self.times else None
-        self.put(self.rows.row(packet.frame, words, time))
+        self.put(self.rows.row(packet.frame, words, time_text(packet.time)))
 
     def give_channel(self, circuit: Circuit) -> None:
         """Gives a circuit its channel before its first row, and says which."""

@@ -19,12 +19,12 @@ from .trace import Trace
 
 
 def gathered(
-    words: argparse.Namespace, ledger: Ledger, waiting: Waiting, has_times: bool, first: Source | None = None,
+    words: argparse.Namespace, ledger: Ledger, waiting: Waiting, has_comments: bool, first: Source | None = None,
 ) -> Trace:
     """What the trace of the captures that are named is made of; the first one may be open, and looked at."""
     choices, wishes = chosen(words)
     captures = Captures(words.captures, choices.kinds, ledger, waiting, first)
-    trace = Trace(ledger, Reading(ledger, choices), wishes, has_times)
+    trace = Trace(ledger, Reading(ledger, choices), wishes, has_comments)
     trace.gather(captures.frames())
     return trace
 

@@ -4,7 +4,7 @@ from __future__ import annotations
 import tempfile
 from collections.abc import Iterator, Sequence
 
-from x25tools_lib.notes import MOST_CIRCUITS, Circuit, comment, frame_text, time_line
+from x25tools_lib.notes import MOST_CIRCUITS, Circuit, comment, recorded_line, time_text
 
 from . import xot
 from .packets import Packet
@@ -15,20 +15,15 @@ LAST_NUMBER = 999_999_999
 class Rows:
     """Numbers rows: by their frames, or on from the row before where that number is taken, or frames are too many."""
 
-    def __init__(self, by_frames: bool = True) -> None:
-        self.by_frames = by_frames
+    def __init__(self, by_frames: bool, has_comments: bool) -> None:
+        self.by_frames, self.has_comments = by_frames, has_comments
         self.number = 0
 
-    def row(self, frame: int, words: str, time: int | None) -> str:
-        """The line of a row, after comments with its time and with the frame that its number does not say.
-
-        The words are those after the number.
-        """
+    def row(self, frame: int, words: str, time: str) -> str:
+        """The line of a row, after a comment with its time and its frame. The words are those after the number."""
         self.number = number = frame if self.by_frames and frame > self.number else self.number + 1
         line = f"{number} {words}"
-        if time is not None:
-            line = time_line(time) + line
-        return line if number == frame else comment(frame_text(number, frame)) + line
+        return recorded_line(time, frame) + line if self.has_comments else line
 
 
 class Spool:
@@ -36,11 +31,11 @@ class Spool:
 
     MOST_LINES = 1000
 
-    def __init__(self, has_times: bool = False, last_number: int = LAST_NUMBER) -> None:
+    def __init__(self, has_comments: bool, last_number: int = LAST_NUMBER) -> None:
         self.file = tempfile.TemporaryFile("w+", encoding="ascii", newline="\n", buffering=1 << 16)
         self.lines: list[str] = []
         self.rows = 0
-        self.has_times, self.last_number = has_times, last_number
+        self.has_comments, self.last_number = has_comments, last_number
         self.number = 0
         # The first circuits of the rows that were written.
         self.circuits: list[Circuit] = []
@@ -50,12 +45,12 @@ class Spool:
         self.lines.append(comment(words))
 
     def add(self, packet: Packet, circuit: int) -> None:
-        """Keeps a row: its circuit, 0 on a line, perhaps its time, its frame, and what stands behind its number."""
+        """Keeps a row: its circuit, 0 on a line, its time, its frame, and what stands after its number."""
         self.rows += 1
         frame, lines = packet.frame, self.lines
         self.number = frame if frame > self.number else self.number + 1
-        key = f"{circuit}@{packet.time}" if self.has_times and packet.time is not None else str(circuit)
-        lines.append(f"{key} {frame} {packet.side.letter} {packet.octets.hex().upper() or '-'}\n")
+        time = time_text(packet.time) if self.has_comments else "-"
+        lines.append(f"{circuit} {time} {frame} {packet.side.letter} {packet.octets.hex().upper() or '-'}\n")
         if len(lines) > self.MOST_LINES:
             self.write()
 
@@ -69,17 +64,16 @@ class Spool:
         return self.number <= self.last_number
 
     def replay(self, circuits: Sequence[xot.Circuit]) -> Iterator[str]:
-        """The text of the trace behind its header, in parts."""
+        """The text of the trace after its header, in parts."""
         self.write()
         self.file.seek(0)
-        rows, lines = Rows(self.by_frames), list[str]()
+        rows, lines = Rows(self.by_frames, self.has_comments), list[str]()
         row, channels = rows.row, dict[str, int | None]({"0": None})
         for line in self.file:
             if line[0] == "#":
                 lines.append(line)
                 continue
-            key, frame, words = line.split(" ", 2)
-            which, _, time = key.partition("@") if self.has_times else (key, "", "")
+            which, time, frame, words = line.split(" ", 3)
             circuit = None
             if which not in channels:
                 circuit = circuits[int(which) - 1]
@@ -91,7 +85,7 @@ class Spool:
                 if channel is None:
                     continue
                 words = on_channel(words, channel)
-            lines.append(row(int(frame), words, int(time) if time else None))
+            lines.append(row(int(frame), words, time))
             if circuit:
                 self.keep(circuit, rows.number)
             if len(lines) > self.MOST_LINES:

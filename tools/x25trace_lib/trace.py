@@ -27,9 +27,9 @@ LARGEST_TEXT = 1 << 30
 class Trace:
     """What is gathered of a capture until its trace can be written."""
 
-    def __init__(self, ledger: Ledger, reading: Reading, wishes: Wishes, has_times: bool) -> None:
+    def __init__(self, ledger: Ledger, reading: Reading, wishes: Wishes, has_comments: bool) -> None:
         self.ledger, self.reading, self.wishes = ledger, reading, wishes
-        self.spool = Spool(has_times)
+        self.spool = Spool(has_comments)
         self.estimator = Estimator()
         reading.xot.on_end = self.estimator.forget
         self.carriers: Counter[Carrier] = Counter()

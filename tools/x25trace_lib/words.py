@@ -54,8 +54,9 @@ def parser() -> Words:
     words.add_argument("--follow", dest="is_followed", action="store_true",
                        help="have x25scan read the trace while it is written: print its findings as they come, and after "
                        "Ctrl-C the whole report")
-    words.add_argument("--times", action="store_true",
-                       help="write a comment '#@ SECONDS' before each row: the time of its frame, since 1970 (UTC)")
+    words.add_argument("--no-times", dest="has_comments", action="store_false",
+                       help="leave out the comment '#@ SECONDS FRAME' before each row: the time of its frame since 1970 "
+                       "(UTC), or -, and the number of the frame")
     words.add_argument("--comments", metavar="OUT",
                        help="write this pcapng file in place of the trace: the capture, with what x25scan finds as "
                        "comments of its frames")

@@ -7,8 +7,8 @@ use Rattle.line_model.specs.declared.totals.Summary.{Summary}
 use Rattle.line_model.proofs.DeviceLemmas.{with_more-nil}
 use Rattle.line_model.proofs.TextLemmas.{early-nothing}
 use Rattle.trace_text.specs.Sources.{HasFailed, IsFedAll, IsFedUpTo}
-use Rattle.trace_text.proofs.DecidedLemmas.{decided_before}
-use Rattle.trace_text.proofs.SourceLemmas.{all_sound, sound_before}
+use Rattle.trace_text.proofs.DecidedLemmas.{all_sound, decided_before, none_sound}
+use Rattle.trace_text.proofs.SourceLemmas.{all_sound as sound_at_end, sound_before}
 use Rattle.annotated_trace.specs.Printers.{HasFirstPrint, HasPrintBefore, HasPrinted, IsEndRefusal, IsPrinterFault, IsRefusalOf, WasFed}
 use Rattle.annotated_trace.specs.Printing.{HasPassed, HasWritten, IsPrintingFault, IsReadRefusal, IsRefusedAfter, StopsPrinting, StopsReading}
 use Rattle.annotated_trace.specs.declared.printing.TracePrinter.{TracePrinter}
@@ -59,9 +59,9 @@ chunk_reads (Err f) h = no_read f h
 -- ---- where reading stopped
 
 read_refusal : (given bytes : List ℕ) (f : Fault) → early given ≡ None → length bytes ≤ 2 ^ 16 → IsRefusalOf (early (given ++ bytes)) f → IsReadRefusal (given ++ bytes) f
-read_refusal given bytes Memory sound few h = decided_before given bytes sound few
-read_refusal given bytes (Trace line kind) sound few h = (decided_before given bytes sound few, h)
-read_refusal given bytes Write sound few h = decided_before given bytes sound few
+read_refusal given bytes Memory sound few h = decided_before 0 given bytes (all_sound 0 given sound) few
+read_refusal given bytes (Trace line kind) sound few h = (decided_before 0 given bytes (all_sound 0 given sound) few, h)
+read_refusal given bytes Write sound few h = decided_before 0 given bytes (all_sound 0 given sound) few
 read_refusal given bytes _ sound few h = absurd h
 
 -- what stops a printer: the source failed, or it refused what the source gave last
@@ -80,15 +80,15 @@ stop_is S size F before taken x z t fed last f sound few (inr why) = record { re
 
 -- by what a reader of the source says
 abbrev pub IsWrittenUpTo : {A O P : Type 0} (S : O → P → List ℕ → Type 0) (size : O → ℕ) (F : List Line → List ℕ → Type 0) (left after asked before taken : Option (List ℕ)) (x z : ℕ) (t : TracePrinter A O P) → Fault → Type 0
-IsWrittenUpTo S size F left after asked before taken x z t f = IsFedUpTo left after asked (λ text. HasWritten S size F before taken x z text t) (IsRefusedAfter F before taken x z) f
+IsWrittenUpTo S size F left after asked before taken x z t f = IsFedUpTo 0 left after asked (λ text. HasWritten S size F before taken x z text t) (IsRefusedAfter F before taken x z) f
 
 pub reading_stops : {A O P : Type 0} (S : O → P → List ℕ → Type 0) (size : O → ℕ) (F : List Line → List ℕ → Type 0) (has_first : List ℕ → Option (List ℕ) → Option (List ℕ) → Type 0) (left after asked before taken : Option (List ℕ)) (x z : ℕ) (t : TracePrinter A O P) (f : Fault)
     → IsWrittenUpTo S size F left after asked before taken x z t f → StopsPrinting F has_first left after asked before taken (z ≡ x) f
 reading_stops S size F has_first left after asked before taken x z t f u = record {
   given = u.fed ++ u.last;
   source = u.given;
-  order = λ text told. sound_before left after asked (λ y. HasWritten S size F before taken x z y t) (IsRefusedAfter F before taken x z) f text u told;
-  why = inl (stop_is S size F before taken x z t u.fed u.last f u.sound u.few u.why);
+  order = λ text told. sound_before 0 left after asked (λ y. HasWritten S size F before taken x z y t) (IsRefusedAfter F before taken x z) f text u told;
+  why = inl (stop_is S size F before taken x z t u.fed u.last f (none_sound u.fed u.sound) u.few u.why);
 }
 
 printing_fault : (f : Fault) → IsPrinterFault f → IsPrintingFault f
@@ -107,7 +107,7 @@ stop_write S size F before taken x z t fed last f (inr why) w = why.failed w
 
 -- ---- at the end
 
-pub end_prints : (whole : List ℕ → Option (List ℕ) → Option (List ℕ) → Summary → Type 0) (left after asked before taken : Option (List ℕ)) (was_fed : List ℕ → Type 0) (r : Result Summary Fault) → (w : IsFedAll left after asked was_fed) → IfOk r (whole w.text before taken) → IfOk r (HasPassed whole left after asked before taken)
+pub end_prints : (whole : List ℕ → Option (List ℕ) → Option (List ℕ) → Summary → Type 0) (left after asked before taken : Option (List ℕ)) (was_fed : List ℕ → Type 0) (r : Result Summary Fault) → (w : IsFedAll 0 left after asked was_fed) → IfOk r (whole w.text before taken) → IfOk r (HasPassed whole left after asked before taken)
 end_prints whole left after asked before taken was_fed (Ok sums) w h = record { given = w.text; source = w.source; printed = h }
 end_prints whole left after asked before taken was_fed (Err f) w h = tt
 
@@ -119,16 +119,16 @@ end_first F has_first given before taken taken2 (Trace line kind) h kept part r 
 end_first F has_first given before taken taken2 Write h kept part r = inr (part refl)
 end_first F has_first given before taken taken2 _ h kept part r = absurd r
 
-pub end_stops : {K : Type 0} → (F : List Line → List ℕ → Type 0) (has_first : List ℕ → Option (List ℕ) → Option (List ℕ) → Type 0) (left after asked before : Option (List ℕ)) (well : Type 0) (was_fed : List ℕ → Type 0) (took : K → Option (List ℕ)) (old new : K) (r : Result Summary Fault) → (w : IsFedAll left after asked was_fed)
+pub end_stops : {K : Type 0} → (F : List Line → List ℕ → Type 0) (has_first : List ℕ → Option (List ℕ) → Option (List ℕ) → Type 0) (left after asked before : Option (List ℕ)) (well : Type 0) (was_fed : List ℕ → Type 0) (took : K → Option (List ℕ)) (old new : K) (r : Result Summary Fault) → (w : IsFedAll 0 left after asked was_fed)
     → HasPrinted F before (took old) [] (ended_lines w.text) → IfErr r (IsEndRefusal w.text) → IfErr r (λ fault. fault ≢ Write → new ≡ old) → (r ≡ Err Write → has_first w.text before (took new)) → IfErr r (StopsPrinting F has_first left after asked before (took new) well)
 end_stops F has_first left after asked before well was_fed took old new (Ok sums) w h refusal kept part = tt
 end_stops F has_first left after asked before well was_fed took old new (Err f) w h refusal kept part = record {
   given = w.text;
   source = λ x told. let all = w.source x told in ([], all.0 ∙ sym (append-nil w.text), all.1);
-  order = λ x told. all_sound left after asked was_fed x w told;
+  order = λ x told. sound_at_end 0 left after asked was_fed x w told;
   why = inr (record {
     source = w.source;
-    sound = w.sound;
+    sound = none_sound w.text w.sound;
     refusal = refusal;
     first = end_first F has_first w.text before (took old) (took new) f h (λ n. ap took (kept n)) (λ e. part (ap Err e)) refusal;
   });

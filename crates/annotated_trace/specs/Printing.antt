@@ -1,5 +1,5 @@
 -- What a scan that prints a trace answers, and what its sink took.
-use Rattle.std.specs.Prelude.{◌≡◌, ◌⊎◌, ℕ, ◌<◌, ◌≤◌, List, [], ◌++◌, length, Option, Some, None}
+use Rattle.std.specs.Prelude.{◌≡◌, ◌⊎◌, ℕ, ◌<◌, ◌≤◌, ◌^◌, List, [], ◌++◌, length, Option, Some, None}
 use Rattle.trace_text.specs.Decided.{NoneDecidedButLast}
 use Rattle.trace_text.specs.Sources.{IsAllGiven, IsGiven, NoneDecided}
 use Rattle.line_model.specs.text.Text.{Line, early, ended_lines}
@@ -44,10 +44,10 @@ pub record HasPassed (whole : (x : List ℕ) (before after : Option (List ℕ)) 
 -- why a text is refused while it is read: a line is faulty however the text goes on; or the source failed, and what was given shows no faulty
 -- line; or the sink failed or memory ran out, and all but at most the last 65,536 bytes show none
 abbrev pub IsReadRefusal : (given : List ℕ) → Fault → Type 0
-IsReadRefusal given Memory = NoneDecidedButLast given
-IsReadRefusal given (Trace line kind) = NoneDecidedButLast given × (early given ≡ Some (line, kind))
+IsReadRefusal given Memory = NoneDecidedButLast (2 ^ 16) given
+IsReadRefusal given (Trace line kind) = NoneDecidedButLast (2 ^ 16) given × (early given ≡ Some (line, kind))
 IsReadRefusal given Read = early given ≡ None
-IsReadRefusal given Write = NoneDecidedButLast given
+IsReadRefusal given Write = NoneDecidedButLast (2 ^ 16) given
 IsReadRefusal given _ = ⊥
 
 -- the bytes that were given are refused while they are read, and the sink has a first part of the print of their lines, at a faulty line that
@@ -69,5 +69,5 @@ pub record StopsAtEnd (is_print : List Line → List ℕ → Type 0) (has_first 
 pub record StopsPrinting (is_print : List Line → List ℕ → Type 0) (has_first : (x : List ℕ) (before after : Option (List ℕ)) → Type 0) (left after asked before taken : Option (List ℕ)) (well : Type 0) (told : Fault) : Type 0 where
   pub given : List ℕ
   pub source : IsGiven left after given
-  pub order : (text : List ℕ) → left ≡ Some text → NoneDecided text asked
+  pub order : (text : List ℕ) → left ≡ Some text → NoneDecided 0 text asked
   pub why : StopsReading is_print given before taken well told ⊎ StopsAtEnd is_print has_first left after asked given before taken told

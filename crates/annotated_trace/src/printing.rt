@@ -1,5 +1,7 @@
 //! A trace that is printed line by line as it grows.
 
+ghost use Rattle.trace_text.proofs.DecidedLemmas.{all_sound};
+ghost use Rattle.trace_text.proofs.SourceLemmas.{few_bytes};
 ghost use Rattle.std.specs.Prelude.{◌≡◌, ◌≢◌, ℕ, ◌+◌, ◌<◌, ◌≤◌, ◌^◌, ◌++◌, ◌∷◌, [], List, Option, Err, IfErr, IfOk, OnOk};
 ghost use Rattle.line_model.specs.text.Text.{Line, begun_line, early, ended_lines};
 ghost use Rattle.line_model.specs.declared.fault.Fault.TheVariants.{Memory};
@@ -282,15 +284,19 @@ impl<A: Allocator + Copy, O: TraceObserver<A>, P: Printer<A, O>, K: Sink> Consum
 
     ghost expects = { λ text. Unit {0} };
 
+    ghost lag = { 0 };
+
     ghost size = { λ now. O.size now.trace };
 
     fn feed(&mut self, chunk: &[u8], sink: &mut K) -> Result<(), Fault> {
         TracePrinter::feed(self, chunk, sink)
     }
 
-    ghost sound = { λ first start now sink text fed. fed.sound };
+    ghost sound = { λ first start now sink text fed. all_sound 0 text fed.sound };
 
     ghost sized = { λ first start now sink text fed. fed.sized };
+
+    ghost few = { λ first start now sink text fed. few_bytes text fed.sound };
 }
 
 /// Prints a trace that a source gives, each line as soon as its LF was read, and what comes after the last line; returns

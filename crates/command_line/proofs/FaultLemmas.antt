@@ -9,7 +9,7 @@ use Rattle.trace_scan.specs.Follow.{IsFollowRefusal}
 use Rattle.trace_scan.specs.Readings.{IsRefusal}
 use Rattle.command_line.specs.Faults.{IsSaid, SaysFault, fault_line}
 use Rattle.command_line.specs.Program.{IsAskedTextTaken, fault_status}
-use Rattle.command_line.proofs.StatusLemmas.{small}
+use Rattle.command_line.proofs.StatusLemmas.{small, wider_refusal}
 
 -- all of a text was taken, or the sink failed and took a first part of it
 text_taken : {T E : Type 0} (r : Result T E) (text : List ℕ) (before after : Option (List ℕ)) (x y : ℕ) → OnOk r (after ≡ with_more before text) → OnErr r (HasFront before after text) → OnErr r (x < y) → IsAskedTextTaken (Some text) before after (y ≡ x)
@@ -21,26 +21,28 @@ pub asked_taken : {T E : Type 0} {asked : Option (List ℕ)} (r : Result T E) (t
 asked_taken r text before after x y same whole part failed = subst (λ o. IsAskedTextTaken o before after (y ≡ x)) same (text_taken r text before after x y whole part failed)
 
 -- a scan was refused by a faulty line, which was printed
-pub says_fault : (f : Fault) (status : ℕ) (trace left asked before after : Option (List ℕ)) (well : Type 0) → status ≡ fault_status f → (f ≢ Write → IsSaid (fault_line f) before after well) → ((text : List ℕ) → trace ≡ Some text → IsRefusedBy IsRefusal text left asked f)
-    → status ≡ 2 → SaysFault trace left asked before after well
-says_fault (Trace line kind) status trace left asked before after well s said refused two = record { line = line; kind = kind; said = said (λ e. cc); refusal = refused }
-says_fault _ status trace left asked before after well s said refused two = absurd (omega (arith, s, two))
+pub says_fault : (lag : ℕ) (f : Fault) (status : ℕ) (trace left asked before after : Option (List ℕ)) (well : Type 0) → status ≡ fault_status f → (f ≢ Write → IsSaid (fault_line f) before after well) → ((text : List ℕ) → trace ≡ Some text → IsRefusedBy lag (IsRefusal lag) text left asked f)
+    → status ≡ 2 → SaysFault lag trace left asked before after well
+says_fault lag (Trace line kind) status trace left asked before after well s said refused two = record { line = line; kind = kind; said = said (λ e. cc); refusal = refused }
+says_fault lag _ status trace left asked before after well s said refused two = absurd (omega (arith, s, two))
 
 -- the same of a trace that was followed
-pub says_followed : (f : Fault) (status : ℕ) (trace left asked before after : Option (List ℕ)) (well : Type 0) → status ≡ fault_status f → (f ≢ Write → IsSaid (fault_line f) before after well) → ((text : List ℕ) → trace ≡ Some text → IsRefusedBy IsFollowRefusal text left asked f)
-    → status ≡ 2 → SaysFault trace left asked before after well
-says_followed (Trace line kind) status trace left asked before after well s said refused two = record {
+pub says_followed : (lag : ℕ) (f : Fault) (status : ℕ) (trace left asked before after : Option (List ℕ)) (well : Type 0) → status ≡ fault_status f → (f ≢ Write → IsSaid (fault_line f) before after well) → ((text : List ℕ) → trace ≡ Some text → IsRefusedBy 0 IsFollowRefusal text left asked f)
+    → status ≡ 2 → SaysFault lag trace left asked before after well
+says_followed lag (Trace line kind) status trace left asked before after well s said refused two = record {
   line = line;
   kind = kind;
   said = said (λ e. cc);
-  refusal = λ text shows. let r = refused text shows in record { given = r.given; rest = r.rest; whole = r.whole; left = r.left; order = r.order; refusal = r.refusal };
+  refusal = λ text shows.
+      let r = refused text shows in
+      wider_refusal lag text left asked (Trace line kind) (record { given = r.given; rest = r.rest; whole = r.whole; left = r.left; order = r.order; refusal = r.refusal });
 }
-says_followed _ status trace left asked before after well s said refused two = absurd (omega (arith, s, two))
+says_followed lag _ status trace left asked before after well s said refused two = absurd (omega (arith, s, two))
 
 -- nothing of it where the status is that of sums
 pub says_none : (findings status : ℕ) (A : Type 0) → status ≡ cond {A = ℕ} (findings == 0) 0 1 → status ≡ 2 → A
 says_none findings status A s two = let few = small findings status s in absurd (omega (arith, few, two))
 
 -- the trace by another name
-pub says_of : {trace trace′ : Option (List ℕ)} (left asked before after : Option (List ℕ)) (well : Type 0) → trace ≡ trace′ → SaysFault trace left asked before after well → SaysFault trace′ left asked before after well
-says_of left asked before after well same said = subst (λ t. SaysFault t left asked before after well) same said
+pub says_of : (lag : ℕ) {trace trace′ : Option (List ℕ)} (left asked before after : Option (List ℕ)) (well : Type 0) → trace ≡ trace′ → SaysFault lag trace left asked before after well → SaysFault lag trace′ left asked before after well
+says_of lag left asked before after well same said = subst (λ t. SaysFault lag t left asked before after well) same said

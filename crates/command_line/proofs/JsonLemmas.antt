@@ -8,21 +8,21 @@ use Rattle.json_lines.specs.Json.{json_text}
 use Rattle.command_line.specs.Program.{IsReportStatus, IsScanned, IsScannedAsJson, IsStatus, IsFollowStatus}
 
 -- what a scan says, by whether it follows
-pub scanned_by : (well : Type 0) (followed : Bool) (text : List ℕ) (left asked before after : Option (List ℕ)) (status : ℕ) →
-    (followed ≡ false → IsStatus text left asked before after well status) → (followed ≡ true → IsFollowStatus text left asked before after well status) →
-    IsScanned followed text left asked before after well status
-scanned_by well false text left asked before after status plain follow = plain refl
-scanned_by well true text left asked before after status plain follow = follow refl
+pub scanned_by : (lag : ℕ) (well : Type 0) (followed : Bool) (text : List ℕ) (left asked before after : Option (List ℕ)) (status : ℕ) →
+    (followed ≡ false → IsStatus lag text left asked before after well status) → (followed ≡ true → IsFollowStatus text left asked before after well status) →
+    IsScanned lag followed text left asked before after well status
+scanned_by lag well false text left asked before after status plain follow = plain refl
+scanned_by lag well true text left asked before after status plain follow = follow refl
 
 -- the same of a sink that had taken nothing and not failed
-pub scanned_afresh : (followed : Bool) (text : List ℕ) (left asked before after : Option (List ℕ)) (failed failures status : ℕ) →
+pub scanned_afresh : (lag : ℕ) (followed : Bool) (text : List ℕ) (left asked before after : Option (List ℕ)) (failed failures status : ℕ) →
     before ≡ Some [] → failed ≡ 0 →
-    (followed ≡ false → IsStatus text left asked before after (failures ≡ failed) status) → (followed ≡ true → IsFollowStatus text left asked before after (failures ≡ failed) status) →
-    IsScanned followed text left asked (Some []) after (failures ≡ 0) status
-scanned_afresh followed text left asked before after failed failures status fresh well plain follow =
-    subst (λ f. IsScanned followed text left asked (Some []) after (failures ≡ f) status) well
-    (subst (λ b. IsScanned followed text left asked b after (failures ≡ failed) status) fresh
-    (scanned_by (failures ≡ failed) followed text left asked before after status plain follow))
+    (followed ≡ false → IsStatus lag text left asked before after (failures ≡ failed) status) → (followed ≡ true → IsFollowStatus text left asked before after (failures ≡ failed) status) →
+    IsScanned lag followed text left asked (Some []) after (failures ≡ 0) status
+scanned_afresh lag followed text left asked before after failed failures status fresh well plain follow =
+    subst (λ f. IsScanned lag followed text left asked (Some []) after (failures ≡ f) status) well
+    (subst (λ b. IsScanned lag followed text left asked b after (failures ≡ failed) status) fresh
+    (scanned_by lag (failures ≡ failed) followed text left asked before after status plain follow))
 
 -- no refusal
 abbrev IsFine : {U : Type 0} → Result U Fault → Type 0
@@ -35,11 +35,11 @@ none_failed zero answer u fine failed = refl
 none_failed (suc n) answer u fine failed = absurd (subst (λ r. IsFine r) (failed (omega (arith))) (subst (λ r. IsFine r) (sym fine) tt))
 
 -- the same of a lent sink that came back
-pub told_back : (followed : Bool) (text : List ℕ) (left asked before taken after : Option (List ℕ)) (failed failures was status : ℕ) → after ≡ taken → failures ≡ failed →
-    IsScannedAsJson followed text left asked before taken (failed ≡ was) status → IsScannedAsJson followed text left asked before after (failures ≡ was) status
-told_back followed text left asked before taken after failed failures was status same well told =
-    subst (λ f. IsScannedAsJson followed text left asked before after (f ≡ was) status) (sym well)
-    (subst (λ t. IsScannedAsJson followed text left asked before t (failed ≡ was) status) (sym same) told)
+pub told_back : (lag : ℕ) (followed : Bool) (text : List ℕ) (left asked before taken after : Option (List ℕ)) (failed failures was status : ℕ) → after ≡ taken → failures ≡ failed →
+    IsScannedAsJson lag followed text left asked before taken (failed ≡ was) status → IsScannedAsJson lag followed text left asked before after (failures ≡ was) status
+told_back lag followed text left asked before taken after failed failures was status same well told =
+    subst (λ f. IsScannedAsJson lag followed text left asked before after (f ≡ was) status) (sym well)
+    (subst (λ t. IsScannedAsJson lag followed text left asked before t (failed ≡ was) status) (sym same) told)
 
 -- the objects of a report that was taken
 pub reported_json : (lines : List ℕ) (before after : Option (List ℕ)) (status : ℕ) → IsReportStatus false (Some []) (Some lines) status → after ≡ with_more before (json_text lines) → IsReportStatus true before after status

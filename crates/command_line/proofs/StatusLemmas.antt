@@ -1,12 +1,13 @@
 -- The exit status of a scan.
-use Rattle.std.proofs.Common.{◌≡◌, ◌∙◌, sym, ap, refl, subst, inl, inr, ◌⊎◌, ℕ, zero, suc, ◌<◌, Bool, false, List, ◌++◌, Option, None, arith, append-nil, cond, ◌==◌}
+use Rattle.std.proofs.Common.{◌≡◌, ◌∙◌, sym, ap, refl, subst, inl, inr, ◌⊎◌, ℕ, zero, suc, ◌+◌, ◌<◌, ◌≤◌, ◌^◌, Bool, false, List, [], ◌++◌, Option, None, arith, append-nil, cond, ◌==◌}
 use Rattle.std.proofs.lemmas.Bool.Decides.{nat_tests}
 use Rattle.line_model.specs.text.Text.{fault}
 use Rattle.line_model.specs.declared.totals.Summary.{Summary}
 use Rattle.line_model.specs.declared.fault.Fault.{Fault}
 use Rattle.line_model.specs.declared.fault.Fault.TheVariants.{Memory, Trace, Read, Write, Start, Double, Stranger, Missing}
 use Rattle.command_line.specs.Program.{IsCutShort, IsFollowStatus, IsReportStatus, IsStatus, fault_status, summary_status}
-use Rattle.trace_text.specs.Sources.{IsRefusedBy}
+use Rattle.trace_text.specs.Decided.{NoneDecidedButLast}
+use Rattle.trace_text.specs.Sources.{IsRefusedBy, NoneDecided}
 use Rattle.trace_scan.specs.Readings.{IsRefusal}
 use Rattle.live_report.specs.Reports.{IsReported, IsTaken}
 use Rattle.trace_scan.specs.Follow.{IsFollowRefusal, IsToldOf}
@@ -15,15 +16,15 @@ use Rattle.line_model.specs.traces.Traces.{trace_report, trace_summary}
 some_status : (m : ℕ) → cond {A = ℕ} (suc m == 0) 0 1 ≡ 1
 some_status m = grind (arith, nat_tests)
 
-counted : (text : List ℕ) (left asked before after : Option (List ℕ)) (well : Type 0) (n status : ℕ) → IsReported text before after (trace_summary text) → n ≡ (trace_summary text).findings → status ≡ summary_status (trace_summary text) → IsStatus text left asked before after well status
-counted text left asked before after well zero status r n s = record {
+counted : (lag : ℕ) (text : List ℕ) (left asked before after : Option (List ℕ)) (well : Type 0) (n status : ℕ) → IsReported text before after (trace_summary text) → n ≡ (trace_summary text).findings → status ≡ summary_status (trace_summary text) → IsStatus lag text left asked before after well status
+counted lag text left asked before after well zero status r n s = record {
   clean = λ e. (r, sym n);
   found = λ e. absurd (let is : status ≡ 0 = rw (← n) at s in omega (arith, is, e));
   faulty = λ e. absurd (let is : status ≡ 0 = rw (← n) at s in omega (arith, is, e));
   other = λ e. absurd (let is : status ≡ 0 = rw (← n) at s in omega (arith, is, e));
   range = let is : status ≡ 0 = rw (← n) at s in omega (arith, is);
 }
-counted text left asked before after well (suc m) status r n s = record {
+counted lag text left asked before after well (suc m) status r n s = record {
   clean = λ e. absurd (let is : status ≡ 1 = (rw (← n) at s) ∙ some_status m in omega (arith, is, e));
   found = λ e. (r, omega (arith, n));
   faulty = λ e. absurd (let is : status ≡ 1 = (rw (← n) at s) ∙ some_status m in omega (arith, is, e));
@@ -31,14 +32,14 @@ counted text left asked before after well (suc m) status r n s = record {
   range = let is : status ≡ 1 = (rw (← n) at s) ∙ some_status m in omega (arith, is);
 }
 
-pub reported_status : (text : List ℕ) (left asked before after : Option (List ℕ)) (well : Type 0) (sums : Summary) (status : ℕ) → IsReported text before after sums → status ≡ summary_status sums → IsStatus text left asked before after well status
-reported_status text left asked before after well sums status r s =
+pub reported_status : (lag : ℕ) (text : List ℕ) (left asked before after : Option (List ℕ)) (well : Type 0) (sums : Summary) (status : ℕ) → IsReported text before after sums → status ≡ summary_status sums → IsStatus lag text left asked before after well status
+reported_status lag text left asked before after well sums status r s =
     let whole : IsReported text before after (trace_summary text) = record { sound = r.sound; taken = r.taken; counted = refl } in
-    counted text left asked before after well (trace_summary text).findings status whole refl (s ∙ ap summary_status r.counted)
+    counted lag text left asked before after well (trace_summary text).findings status whole refl (s ∙ ap summary_status r.counted)
 
-other_status : (text : List ℕ) (left asked before after : Option (List ℕ)) (well : Type 0) (f : Fault) (status : ℕ) → status ≡ 3 → status ≡ fault_status f → IsRefusedBy IsRefusal text left asked f → ((after ≡ before) ⊎ IsCutShort text before after well)
-    → IsStatus text left asked before after well status
-other_status text left asked before after well f status is s r part = record {
+other_status : (lag : ℕ) (text : List ℕ) (left asked before after : Option (List ℕ)) (well : Type 0) (f : Fault) (status : ℕ) → status ≡ 3 → status ≡ fault_status f → IsRefusedBy lag (IsRefusal lag) text left asked f → ((after ≡ before) ⊎ IsCutShort text before after well)
+    → IsStatus lag text left asked before after well status
+other_status lag text left asked before after well f status is s r part = record {
   clean = λ e. absurd (omega (arith, e, is));
   found = λ e. absurd (omega (arith, e, is));
   faulty = λ e. absurd (omega (arith, e, is));
@@ -47,28 +48,28 @@ other_status text left asked before after well f status is s r part = record {
 }
 
 -- a sink failed on the report of a text that was read whole, which has no fault
-cut_short : (text : List ℕ) (left asked before after : Option (List ℕ)) (well : Type 0) → IsRefusedBy IsRefusal text left asked Write → IsTaken before after (trace_report text) Write → (¬ well) → IsCutShort text before after well
-cut_short text left asked before after well r taken failed =
+cut_short : (lag : ℕ) (text : List ℕ) (left asked before after : Option (List ℕ)) (well : Type 0) → IsRefusedBy lag (IsRefusal lag) text left asked Write → IsTaken before after (trace_report text) Write → (¬ well) → IsCutShort text before after well
+cut_short lag text left asked before after well r taken failed =
     let whole : text ≡ r.given = r.whole ∙ ap (λ xs. r.given ++ xs) r.refusal.0 ∙ append-nil r.given in
     record { failed = failed; sound = subst (λ t. fault t ≡ None) (sym whole) r.refusal.1; count = taken.0; part = taken.1 }
 
-pub refused_status : (text : List ℕ) (left asked before after : Option (List ℕ)) (well : Type 0) (f : Fault) (status : ℕ) → IsRefusedBy IsRefusal text left asked f → IsTaken before after (trace_report text) f → (f ≡ Write → ¬ well) → status ≡ fault_status f
-    → IsStatus text left asked before after well status
-refused_status text left asked before after well (Trace line kind) status r taken failed s = record {
+pub refused_status : (lag : ℕ) (text : List ℕ) (left asked before after : Option (List ℕ)) (well : Type 0) (f : Fault) (status : ℕ) → IsRefusedBy lag (IsRefusal lag) text left asked f → IsTaken before after (trace_report text) f → (f ≡ Write → ¬ well) → status ≡ fault_status f
+    → IsStatus lag text left asked before after well status
+refused_status lag text left asked before after well (Trace line kind) status r taken failed s = record {
   clean = λ e. absurd (omega (arith, e, s));
   found = λ e. absurd (omega (arith, e, s));
   faulty = λ e. (record { line = line; kind = kind; refusal = r }, taken);
   other = λ e. absurd (omega (arith, e, s));
   range = omega (arith, s);
 }
-refused_status text left asked before after well Write status r taken failed s =
-    other_status text left asked before after well Write status s s r (inr (cut_short text left asked before after well r taken (failed refl)))
-refused_status text left asked before after well Memory status r taken failed s = other_status text left asked before after well Memory status s s r (inl taken)
-refused_status text left asked before after well Read status r taken failed s = other_status text left asked before after well Read status s s r (inl taken)
-refused_status text left asked before after well Start status r taken failed s = other_status text left asked before after well Start status s s r (inl taken)
-refused_status text left asked before after well (Double i) status r taken failed s = other_status text left asked before after well (Double i) status s s r (inl taken)
-refused_status text left asked before after well (Stranger i) status r taken failed s = other_status text left asked before after well (Stranger i) status s s r (inl taken)
-refused_status text left asked before after well (Missing i) status r taken failed s = other_status text left asked before after well (Missing i) status s s r (inl taken)
+refused_status lag text left asked before after well Write status r taken failed s =
+    other_status lag text left asked before after well Write status s s r (inr (cut_short lag text left asked before after well r taken (failed refl)))
+refused_status lag text left asked before after well Memory status r taken failed s = other_status lag text left asked before after well Memory status s s r (inl taken)
+refused_status lag text left asked before after well Read status r taken failed s = other_status lag text left asked before after well Read status s s r (inl taken)
+refused_status lag text left asked before after well Start status r taken failed s = other_status lag text left asked before after well Start status s s r (inl taken)
+refused_status lag text left asked before after well (Double i) status r taken failed s = other_status lag text left asked before after well (Double i) status s s r (inl taken)
+refused_status lag text left asked before after well (Stranger i) status r taken failed s = other_status lag text left asked before after well (Stranger i) status s s r (inl taken)
+refused_status lag text left asked before after well (Missing i) status r taken failed s = other_status lag text left asked before after well (Missing i) status s s r (inl taken)
 
 pub status_range : (f : Fault) (status : ℕ) → status ≡ fault_status f → status < 4
 status_range (Trace line kind) status s = omega (arith, s)
@@ -82,7 +83,7 @@ small (suc m) status s = omega (arith, s, some_status m)
 
 pub reported_follow : (text : List ℕ) (left asked before after : Option (List ℕ)) (well : Type 0) (sums : Summary) (status : ℕ) → IsReported text before after sums → status ≡ summary_status sums → IsFollowStatus text left asked before after well status
 reported_follow text left asked before after well sums status r s =
-    let is = reported_status text left asked before after well sums status r s in
+    let is = reported_status 0 text left asked before after well sums status r s in
     let few = small sums.findings status s in
     record {
       clean = is.clean;
@@ -92,7 +93,7 @@ reported_follow text left asked before after well sums status r s =
       range = is.range;
     }
 
-other_follow : (text : List ℕ) (left asked before after : Option (List ℕ)) (well : Type 0) (f : Fault) (status : ℕ) → status ≡ 3 → status ≡ fault_status f → IsRefusedBy IsFollowRefusal text left asked f → IsRefusedBy (IsToldOf before after well) text left asked f
+other_follow : (text : List ℕ) (left asked before after : Option (List ℕ)) (well : Type 0) (f : Fault) (status : ℕ) → status ≡ 3 → status ≡ fault_status f → IsRefusedBy 0 IsFollowRefusal text left asked f → IsRefusedBy 0 (IsToldOf before after well) text left asked f
     → (f ≡ Write → ¬ well) → IsFollowStatus text left asked before after well status
 other_follow text left asked before after well f status is s r told failed = record {
   clean = λ e. absurd (omega (arith, e, is));
@@ -102,7 +103,7 @@ other_follow text left asked before after well f status is s r told failed = rec
   range = omega (arith, is);
 }
 
-pub refused_follow : (text : List ℕ) (left asked before after : Option (List ℕ)) (well : Type 0) (f : Fault) (status : ℕ) → IsRefusedBy IsFollowRefusal text left asked f → IsRefusedBy (IsToldOf before after well) text left asked f → (f ≡ Write → ¬ well)
+pub refused_follow : (text : List ℕ) (left asked before after : Option (List ℕ)) (well : Type 0) (f : Fault) (status : ℕ) → IsRefusedBy 0 IsFollowRefusal text left asked f → IsRefusedBy 0 (IsToldOf before after well) text left asked f → (f ≡ Write → ¬ well)
     → status ≡ fault_status f → IsFollowStatus text left asked before after well status
 refused_follow text left asked before after well (Trace line kind) status r told failed s = record {
   clean = λ e. absurd (omega (arith, e, s));
@@ -135,3 +136,23 @@ other_any json before after status s = record { reported = λ e. absurd (omega (
 pub refused_any : (json : Bool) (before after : Option (List ℕ)) (f : Fault) (status : ℕ) → status ≡ fault_status f → IsReportStatus json before after status
 refused_any json before after (Trace line kind) status s = record { reported = λ e. absurd (omega (arith, e, s)); range = omega (arith, s) }
 refused_any json before after _ status s = other_any json before after status s
+
+-- ---- a refusal with no lag is one with any
+
+wider_sound : (few most : ℕ) (given : List ℕ) → few ≤ most → NoneDecidedButLast few given → NoneDecidedButLast most given
+wider_sound few most given le s = record { before = s.before; last = s.last; whole = s.whole; few = omega (arith, le, s.few); sound = s.sound }
+
+wider_fault : (lag : ℕ) (given rest : List ℕ) (f : Fault) → IsRefusal 0 given rest f → IsRefusal lag given rest f
+wider_fault lag given rest Memory r = wider_sound (0 + 2 ^ 16) (lag + 2 ^ 16) given (omega arith) r
+wider_fault lag given rest (Trace line kind) r = (wider_sound (0 + 2 ^ 16) (lag + 2 ^ 16) given (omega arith) r.0, r.1)
+wider_fault lag given rest Read r = r
+wider_fault lag given rest Write r = r
+wider_fault lag given rest Start r = r
+wider_fault lag given rest _ r = absurd r
+
+wider_order : (lag : ℕ) (given text : List ℕ) (asked : Option (List ℕ)) → (given ≡ []) ⊎ NoneDecided 0 text asked → (given ≡ []) ⊎ NoneDecided lag text asked
+wider_order lag given text asked (inl none) = inl none
+wider_order lag given text asked (inr n) = inr (record { before = n.before; last = n.last; whole = n.whole; left = n.left; sound = wider_sound 0 lag n.before (omega arith) n.sound })
+
+pub wider_refusal : (lag : ℕ) (text : List ℕ) (left asked : Option (List ℕ)) (f : Fault) → IsRefusedBy 0 (IsRefusal 0) text left asked f → IsRefusedBy lag (IsRefusal lag) text left asked f
+wider_refusal lag text left asked f r = record { given = r.given; rest = r.rest; whole = r.whole; left = r.left; order = wider_order lag r.given text asked r.order; refusal = wider_fault lag r.given r.rest f r.refusal }

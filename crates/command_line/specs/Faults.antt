@@ -39,8 +39,8 @@ pub record IsSaid (line : List ℕ) (before after : Option (List ℕ)) (well : T
 
 -- the line of the fault by which a trace was refused was printed first; where the source shows its bytes, it is that of their first faulty
 -- line
-pub record SaysFault (trace left asked before after : Option (List ℕ)) (well : Type 0) : Type 0 where
+pub record SaysFault (lag : ℕ) (trace left asked before after : Option (List ℕ)) (well : Type 0) : Type 0 where
   pub line : ℕ
   pub kind : Kind
   pub said : IsSaid (fault_line (Trace line kind)) before after well
-  pub refusal : (text : List ℕ) → trace ≡ Some text → IsRefusedBy IsRefusal text left asked (Trace line kind)
+  pub refusal : (text : List ℕ) → trace ≡ Some text → IsRefusedBy lag (IsRefusal lag) text left asked (Trace line kind)

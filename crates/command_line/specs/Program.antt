@@ -11,7 +11,7 @@ use Rattle.line_model.specs.declared.fault.Fault.{Fault}
 use Rattle.line_model.specs.declared.fault.Fault.TheVariants.{Trace, Write}
 use Rattle.line_model.specs.declared.totals.Summary.{Summary}
 use Rattle.trace_text.specs.Sources.{IsRefusedBy}
-use Rattle.trace_scan.specs.Readings.{IsRefusal}
+use Rattle.trace_scan.specs.Readings.{IsRefusal, in_flight}
 use Rattle.live_report.specs.Reports.{IsReported}
 use Rattle.trace_scan.specs.Follow.{IsFollowRefusal, IsToldOf}
 use Rattle.json_lines.specs.Json.{json_text}
@@ -51,11 +51,17 @@ IsWordsAnswer kinds before after well status =
     ((status ≡ 3) × (after ≡ before))
     ⊎ ((kind : ErrorKind) × IsAmong kind kinds × (status ≡ words_status kind) × IsAskedTextTaken (asked_text kind) before after well)
 
+-- how many of the last bytes that were given before the last call may show a faulty line: none in one thread, else those of the blocks in
+-- flight
+abbrev pub lag_by : (alone : Bool) → ℕ
+lag_by true = 0
+lag_by false = in_flight
+
 -- a text is refused by a faulty line
-pub record IsFaulty (text : List ℕ) (left asked : Option (List ℕ)) : Type 0 where
+pub record IsFaulty (lag : ℕ) (text : List ℕ) (left asked : Option (List ℕ)) : Type 0 where
   pub line : ℕ
   pub kind : Kind
-  pub refusal : IsRefusedBy IsRefusal text left asked (Trace line kind)
+  pub refusal : IsRefusedBy lag (IsRefusal lag) text left asked (Trace line kind)
 
 -- the sink failed on the report of a text without a fault, and took a first part of it
 pub record IsCutShort (text : List ℕ) (before after : Option (List ℕ)) (well : Type 0) : Type 0 where
@@ -66,33 +72,33 @@ pub record IsCutShort (text : List ℕ) (before after : Option (List ℕ)) (well
 
 -- a fault other than the text's ended a scan: what it says of the bytes that were given; and the sink is as it was, or it failed on the
 -- report
-pub record IsStoppedBy (text : List ℕ) (left asked before after : Option (List ℕ)) (well : Type 0) : Type 0 where
+pub record IsStoppedBy (lag : ℕ) (text : List ℕ) (left asked before after : Option (List ℕ)) (well : Type 0) : Type 0 where
   pub cause : Fault
   pub other : fault_status cause ≡ 3
-  pub refusal : IsRefusedBy IsRefusal text left asked cause
+  pub refusal : IsRefusedBy lag (IsRefusal lag) text left asked cause
   pub taken : (after ≡ before) ⊎ IsCutShort text before after well
 
 -- what the status says of a text, of which the source has `left`, and had `asked` before its last call: the sink had `before` and has `after`, and `well` says that it did not fail
-pub record IsStatus (text : List ℕ) (left asked before after : Option (List ℕ)) (well : Type 0) (status : ℕ) : Type 0 where
+pub record IsStatus (lag : ℕ) (text : List ℕ) (left asked before after : Option (List ℕ)) (well : Type 0) (status : ℕ) : Type 0 where
   pub clean : status ≡ 0 → IsReported text before after (trace_summary text) × ((trace_summary text).findings ≡ 0)
   pub found : status ≡ 1 → IsReported text before after (trace_summary text) × (0 < (trace_summary text).findings)
-  pub faulty : status ≡ 2 → IsFaulty text left asked × (after ≡ before)
-  pub other : status ≡ 3 → IsStoppedBy text left asked before after well
+  pub faulty : status ≡ 2 → IsFaulty lag text left asked × (after ≡ before)
+  pub other : status ≡ 3 → IsStoppedBy lag text left asked before after well
   pub range : status < 4
 
 -- a text is refused by a faulty line, behind the lines of what was found before it
 pub record IsFaultyBehind (text : List ℕ) (left asked before after : Option (List ℕ)) (well : Type 0) : Type 0 where
   pub line : ℕ
   pub kind : Kind
-  pub refusal : IsRefusedBy IsFollowRefusal text left asked (Trace line kind)
-  pub told : IsRefusedBy (IsToldOf before after well) text left asked (Trace line kind)
+  pub refusal : IsRefusedBy 0 IsFollowRefusal text left asked (Trace line kind)
+  pub told : IsRefusedBy 0 (IsToldOf before after well) text left asked (Trace line kind)
 
 -- a fault other than the text's ended a scan that followed it: what it says of the bytes that were given, and what the sink took
 pub record IsEndedBy (text : List ℕ) (left asked before after : Option (List ℕ)) (well : Type 0) : Type 0 where
   pub cause : Fault
   pub other : fault_status cause ≡ 3
-  pub refusal : IsRefusedBy IsFollowRefusal text left asked cause
-  pub told : IsRefusedBy (IsToldOf before after well) text left asked cause
+  pub refusal : IsRefusedBy 0 IsFollowRefusal text left asked cause
+  pub told : IsRefusedBy 0 (IsToldOf before after well) text left asked cause
   pub failed : cause ≡ Write → ¬ well
 
 -- what the status says of a text that was followed; `well` says that the sink did not fail
@@ -104,9 +110,9 @@ pub record IsFollowStatus (text : List ℕ) (left asked before after : Option (L
   pub range : status < 4
 
 -- what the status says of a text that was scanned, by whether it was followed
-abbrev pub IsScanned : (followed : Bool) → (text : List ℕ) → (left asked before after : Option (List ℕ)) → (well : Type 0) → (status : ℕ) → Type 0
-IsScanned false text left asked before after well status = IsStatus text left asked before after well status
-IsScanned true text left asked before after well status = IsFollowStatus text left asked before after well status
+abbrev pub IsScanned : (lag : ℕ) → (followed : Bool) → (text : List ℕ) → (left asked before after : Option (List ℕ)) → (well : Type 0) → (status : ℕ) → Type 0
+IsScanned lag false text left asked before after well status = IsStatus lag text left asked before after well status
+IsScanned lag true text left asked before after well status = IsFollowStatus text left asked before after well status
 
 -- a sink that had `before` took a first part of the objects of the lines that were told
 pub record HasFirstObjects (told : List ℕ) (before after : Option (List ℕ)) : Type 0 where
@@ -122,22 +128,22 @@ AreObjects told failures plain before after well status =
 
 -- what the status says of a text whose report is told as JSON lines: lines were told as to a sink that takes all, unless
 -- the sink failed, and the sink took their objects
-pub record IsScannedAsJson (followed : Bool) (text : List ℕ) (left asked before after : Option (List ℕ)) (well : Type 0) (status : ℕ) : Type 0 where
+pub record IsScannedAsJson (lag : ℕ) (followed : Bool) (text : List ℕ) (left asked before after : Option (List ℕ)) (well : Type 0) (status : ℕ) : Type 0 where
   pub told : List ℕ
   pub failures : ℕ
   pub plain : ℕ
-  pub scanned : IsScanned followed text left asked (Some []) (Some told) (failures ≡ 0) plain
+  pub scanned : IsScanned lag followed text left asked (Some []) (Some told) (failures ≡ 0) plain
   pub objects : AreObjects told failures plain before after well status
 
 -- what the status says of a text, by whether its report is told as JSON lines and whether it was followed
-abbrev pub IsTold : (json followed : Bool) → (text : List ℕ) → (left asked before after : Option (List ℕ)) → (well : Type 0) → (status : ℕ) → Type 0
-IsTold false followed text left asked before after well status = IsScanned followed text left asked before after well status
-IsTold true followed text left asked before after well status = IsScannedAsJson followed text left asked before after well status
+abbrev pub IsTold : (lag : ℕ) → (json followed : Bool) → (text : List ℕ) → (left asked before after : Option (List ℕ)) → (well : Type 0) → (status : ℕ) → Type 0
+IsTold lag false followed text left asked before after well status = IsScanned lag followed text left asked before after well status
+IsTold lag true followed text left asked before after well status = IsScannedAsJson lag followed text left asked before after well status
 
 -- what it says of a trace whose text the source tells
-abbrev pub TellsOf : (json followed : Bool) → (trace left asked before after : Option (List ℕ)) → (well : Type 0) → (status : ℕ) → Type 0
-TellsOf json followed trace left asked before after well status =
-    (text : List ℕ) → trace ≡ Some text → IsTold json followed text left asked before after well status
+abbrev pub TellsOf : (lag : ℕ) → (json followed : Bool) → (trace left asked before after : Option (List ℕ)) → (well : Type 0) → (status : ℕ) → Type 0
+TellsOf lag json followed trace left asked before after well status =
+    (text : List ℕ) → trace ≡ Some text → IsTold lag json followed text left asked before after well status
 
 -- the report of a text, or the objects of its lines
 abbrev pub report_in : (json : Bool) → (text : List ℕ) → List ℕ

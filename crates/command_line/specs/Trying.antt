@@ -17,14 +17,14 @@ pub record HasTriedWith (text : List ℕ) (before after : Option (List ℕ)) : T
 pub record IsTryStopped (text : List ℕ) (left asked before after : Option (List ℕ)) (well : Type 0) : Type 0 where
   pub cause : Fault
   pub other : fault_status cause ≡ 3
-  pub refusal : IsRefusedBy IsRefusal text left asked cause
+  pub refusal : IsRefusedBy 0 (IsRefusal 0) text left asked cause
   pub taken : (after ≡ before) ⊎ ((¬ well) × HasTriedPart before after)
 
 -- what the status says of a text: `well` says that the sink did not fail
 pub record IsTryStatus (text : List ℕ) (left asked before after : Option (List ℕ)) (well : Type 0) (status : ℕ) : Type 0 where
   pub clean : status ≡ 0 → HasTried text before after 0
   pub found : status ≡ 1 → HasTriedWith text before after
-  pub faulty : status ≡ 2 → IsFaulty text left asked × (after ≡ before)
+  pub faulty : status ≡ 2 → IsFaulty 0 text left asked × (after ≡ before)
   pub other : status ≡ 3 → IsTryStopped text left asked before after well
   pub range : status < 4
 

@@ -2,7 +2,7 @@
 
 ghost use Rattle.std.specs.Prelude.{◌≡◌, ℕ, ◌<◌, ◌≤◌, ◌+◌, ◌^◌, List, Some, true};
 ghost use Rattle.command_line.specs.Faults.{SaysFault};
-ghost use Rattle.command_line.specs.Program.{IsReportStatus, IsScannedAsJson};
+ghost use Rattle.command_line.specs.Program.{IsReportStatus, IsScannedAsJson, lag_by};
 
 use crate::options::Options;
 use crate::program::{Host, OTHER_FAULT, scan};
@@ -30,10 +30,10 @@ fn scan_to<'a, S: Input, K: Output, E: Sink, R: Threads + Wait + Clock + Sync, B
     requires before { (K.taken sink.now, K.failures sink.now) ≡ B.before }
     ensures name { result.0.ghost_name ≡ B.name }
     ensures told { (text : List ℕ) → S.left source.old ≡ Some text
-        → IsScannedAsJson options.entry.follow text (S.left source.new) (S.before source.new) B.before.0
+        → IsScannedAsJson (lag_by options.entry.alone) options.entry.follow text (S.left source.new) (S.before source.new) B.before.0
         (K.taken result.0.now) (K.failures result.0.now ≡ B.before.1) result.1 }
     ensures reported { IsReportStatus true B.before.0 (K.taken result.0.now) result.1 }
-    ensures said { result.1 ≡ 2 → SaysFault (S.left source.old) (S.left source.new) (S.before source.new)
+    ensures said { result.1 ≡ 2 → SaysFault (lag_by options.entry.alone) (S.left source.old) (S.left source.new) (S.before source.new)
         (E.taken errors.old) (E.taken errors.new) (E.failures errors.new ≡ E.failures errors.old) }
     ensures range { result.1 < 4 }
     ensures asked { S.calls source.new ≤ S.calls source.old + (2 ^ 30 + 1) }
@@ -62,10 +62,10 @@ pub(crate) fn scan_json<S: Input, K: Output, E: Sink, R: Threads + Wait + Clock 
     errors: &mut E,
 ) -> u8
     ensures told { (text : List ℕ) → S.left source.old ≡ Some text
-        → IsScannedAsJson options.entry.follow text (S.left source.new) (S.before source.new) (K.taken sink.old)
+        → IsScannedAsJson (lag_by options.entry.alone) options.entry.follow text (S.left source.new) (S.before source.new) (K.taken sink.old)
         (K.taken sink.new) (K.failures sink.new ≡ K.failures sink.old) result }
     ensures reported { IsReportStatus true (K.taken sink.old) (K.taken sink.new) result }
-    ensures said { result ≡ 2 → SaysFault (S.left source.old) (S.left source.new) (S.before source.new)
+    ensures said { result ≡ 2 → SaysFault (lag_by options.entry.alone) (S.left source.old) (S.left source.new) (S.before source.new)
         (E.taken errors.old) (E.taken errors.new) (E.failures errors.new ≡ E.failures errors.old) }
     ensures range { result < 4 }
     ensures asked { S.calls source.new ≤ S.calls source.old + (2 ^ 30 + 1) }

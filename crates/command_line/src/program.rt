@@ -2,14 +2,15 @@
 
 ghost use Rattle.std.specs.Prelude.{◌≡◌, ◌≢◌, ℕ, ◌<◌, ◌≤◌, ◌+◌, ◌^◌, ◌⊎◌, IfSome, List, [], None, Some, false, map, option_map, true, is_some};
 ghost use Rattle.clap.specs.Words.{kind_of};
-ghost use Rattle.command_line.specs.Options.{AreAskedRows, annotates, as_json, asked_word, follows, has_comments, named_trace, prints_rows, tries_headers, words_fault};
+ghost use Rattle.trace_scan.specs.Readings.{in_flight};
+ghost use Rattle.command_line.specs.Options.{AreAskedRows, alone, annotates, as_json, asked_word, follows, has_comments, named_trace, prints_rows, tries_headers, words_fault};
 ghost use Rattle.command_line.specs.Explaining.{IsAnswered};
 ghost use Rattle.command_line.specs.Faults.{SaysFault};
 ghost use Rattle.command_line.specs.Notes.{notes_refused, refused_in};
 ghost use Rattle.annotated_trace.specs.declared.rows.Rows.{Rows as AnyRows};
 ghost use Rattle.command_line.specs.Printing.{IsAnnotateAnswer, IsPrintAnswer, IsRefused, IsRowsAnswer, is_refused, printing_of};
 ghost use Rattle.command_line.specs.Trying.{IsTryAnswer, cannot_try};
-ghost use Rattle.command_line.specs.Program.{IsAskedTextTaken, IsFollowStatus, IsReportStatus, IsStatus, IsUnread, IsWordsAnswer, TellsOf, asked_text, fault_status, summary_status, trace_of, words_status};
+ghost use Rattle.command_line.specs.Program.{IsAskedTextTaken, IsFollowStatus, IsReportStatus, IsStatus, IsUnread, IsWordsAnswer, TellsOf, asked_text, fault_status, lag_by, summary_status, trace_of, words_status};
 
 use crate::explaining::explain_word;
 use crate::help::{HELP, VERSION};
@@ -18,7 +19,7 @@ use crate::notes::{print_note, refuse_notes, refuses_notes};
 use crate::opening::open_trace;
 use crate::options::{Form, Options, Printing, parse};
 use crate::printing::{AskedRows, print_trace};
-use crate::refusing::{refuse, refuse_scan};
+use crate::refusing::{ScannedSource, refuse, refuse_scan};
 use crate::trying::try_trace;
 use annotated_trace::rows::Rows;
 use clap::Error;
@@ -100,11 +101,11 @@ fn run_alone<S: Input, K: Output, E: Sink>(
     sink: &mut K,
     errors: &mut E,
 ) -> u8
-    ensures status { (text : List ℕ) → S.left source.old ≡ Some text
-        → IsStatus text (S.left source.new) (S.before source.new) (K.taken sink.old) (K.taken sink.new)
+    ensures status { (lag : ℕ) (text : List ℕ) → S.left source.old ≡ Some text
+        → IsStatus lag text (S.left source.new) (S.before source.new) (K.taken sink.old) (K.taken sink.new)
         (K.failures sink.new ≡ K.failures sink.old) result }
     ensures reported { IsReportStatus false (K.taken sink.old) (K.taken sink.new) result }
-    ensures said { result ≡ 2 → SaysFault (S.left source.old) (S.left source.new) (S.before source.new)
+    ensures said { (lag : ℕ) → result ≡ 2 → SaysFault lag (S.left source.old) (S.left source.new) (S.before source.new)
         (E.taken errors.old) (E.taken errors.new) (E.failures errors.new ≡ E.failures errors.old) }
     ensures range { result < 4 }
     ensures asked { S.calls source.new ≤ S.calls source.old + (2 ^ 30 + 1) }
@@ -115,7 +116,13 @@ fn run_alone<S: Input, K: Output, E: Sink>(
             print_note(alloc, notes, &uncounted, errors);
             summary_status(&summary)
         }
-        Err(fault) => refuse_scan(alloc, source, sink, errors, fault),
+        Err(fault) => refuse_scan(
+            alloc,
+            ScannedSource::new(source, false),
+            sink,
+            errors,
+            fault,
+        ),
     }
 }
 
@@ -131,7 +138,7 @@ fn run_follow<S: Input, K: Output, E: Sink>(
         → IsFollowStatus text (S.left source.new) (S.before source.new) (K.taken sink.old) (K.taken sink.new)
         (K.failures sink.new ≡ K.failures sink.old) result }
     ensures reported { IsReportStatus false (K.taken sink.old) (K.taken sink.new) result }
-    ensures said { result ≡ 2 → SaysFault (S.left source.old) (S.left source.new) (S.before source.new)
+    ensures said { (lag : ℕ) → result ≡ 2 → SaysFault lag (S.left source.old) (S.left source.new) (S.before source.new)
         (E.taken errors.old) (E.taken errors.new) (E.failures errors.new ≡ E.failures errors.old) }
     ensures range { result < 4 }
     ensures asked { S.calls source.new ≤ S.calls source.old + (2 ^ 30 + 1) }
@@ -142,7 +149,13 @@ fn run_follow<S: Input, K: Output, E: Sink>(
             print_note(alloc, notes, &uncounted, errors);
             summary_status(&summary)
         }
-        Err(fault) => refuse_scan(alloc, source, sink, errors, fault),
+        Err(fault) => refuse_scan(
+            alloc,
+            ScannedSource::new(source, false),
+            sink,
+            errors,
+            fault,
+        ),
     }
 }
 
@@ -156,10 +169,10 @@ fn run_with<S: Input, K: Output, E: Sink, R: Threads + Wait + Clock + Sync>(
 ) -> u8
     requires workers { (0 < workers) × (workers ≤ 64) }
     ensures status { (text : List ℕ) → S.left source.old ≡ Some text
-        → IsStatus text (S.left source.new) (S.before source.new) (K.taken sink.old) (K.taken sink.new)
+        → IsStatus in_flight text (S.left source.new) (S.before source.new) (K.taken sink.old) (K.taken sink.new)
         (K.failures sink.new ≡ K.failures sink.old) result }
     ensures reported { IsReportStatus false (K.taken sink.old) (K.taken sink.new) result }
-    ensures said { result ≡ 2 → SaysFault (S.left source.old) (S.left source.new) (S.before source.new)
+    ensures said { result ≡ 2 → SaysFault in_flight (S.left source.old) (S.left source.new) (S.before source.new)
         (E.taken errors.old) (E.taken errors.new) (E.failures errors.new ≡ E.failures errors.old) }
     ensures range { result < 4 }
     ensures asked { S.calls source.new ≤ S.calls source.old + (2 ^ 30 + 1) }
@@ -175,7 +188,7 @@ fn run_with<S: Input, K: Output, E: Sink, R: Threads + Wait + Clock + Sync>(
         &OpenGate,
     ) {
         Ok(scan) => summary_status(&scan.summary),
-        Err(fault) => refuse_scan(alloc, source, sink, errors, fault),
+        Err(fault) => refuse_scan(alloc, ScannedSource::new(source, true), sink, errors, fault),
     }
 }
 
@@ -198,6 +211,13 @@ fn has_note<S: Input>(options: &Options<'_>, source: &S) -> bool {
     options.notes || (is_alone && source.shows_terminal())
 }
 
+/// Whether one thread scans the trace: where it is asked for, and where a note is printed.
+fn is_alone(options: &Options<'_>, notes: bool) -> bool
+    ensures { result ≡ false → options.now.alone ≡ false }
+{
+    options.alone || notes
+}
+
 /// Scans the trace as the options ask, in one thread where a note is printed, and answers the exit status.
 pub(crate) fn scan<S: Input, K: Output, E: Sink, R: Threads + Wait + Clock + Sync>(
     host: Host<'_, R>,
@@ -207,13 +227,13 @@ pub(crate) fn scan<S: Input, K: Output, E: Sink, R: Threads + Wait + Clock + Syn
     errors: &mut E,
 ) -> u8
     ensures status { options.entry.follow ≡ false → (text : List ℕ) → S.left source.old ≡ Some text
-        → IsStatus text (S.left source.new) (S.before source.new) (K.taken sink.old) (K.taken sink.new)
+        → IsStatus (lag_by options.entry.alone) text (S.left source.new) (S.before source.new) (K.taken sink.old) (K.taken sink.new)
         (K.failures sink.new ≡ K.failures sink.old) result }
     ensures followed { options.entry.follow ≡ true → (text : List ℕ) → S.left source.old ≡ Some text
         → IsFollowStatus text (S.left source.new) (S.before source.new) (K.taken sink.old) (K.taken sink.new)
         (K.failures sink.new ≡ K.failures sink.old) result }
     ensures reported { IsReportStatus false (K.taken sink.old) (K.taken sink.new) result }
-    ensures said { result ≡ 2 → SaysFault (S.left source.old) (S.left source.new) (S.before source.new)
+    ensures said { result ≡ 2 → SaysFault (lag_by options.entry.alone) (S.left source.old) (S.left source.new) (S.before source.new)
         (E.taken errors.old) (E.taken errors.new) (E.failures errors.new ≡ E.failures errors.old) }
     ensures range { result < 4 }
     ensures asked { S.calls source.new ≤ S.calls source.old + (2 ^ 30 + 1) }
@@ -222,7 +242,7 @@ pub(crate) fn scan<S: Input, K: Output, E: Sink, R: Threads + Wait + Clock + Syn
     let notes = has_note(&options, source);
     if options.follow {
         run_follow(host.alloc, notes, source, sink, errors)
-    } else if options.alone || notes {
+    } else if is_alone(&options, notes) {
         run_alone(host.alloc, notes, source, sink, errors)
     } else {
         run_with(host, options.workers, source, sink, errors)
@@ -237,10 +257,10 @@ fn scan_in_form<S: Input, K: Output, E: Sink, R: Threads + Wait + Clock + Sync>(
     sink: &mut K,
     errors: &mut E,
 ) -> u8
-    ensures told { TellsOf options.entry.json options.entry.follow (S.left source.old) (S.left source.new) (S.before source.new)
+    ensures told { TellsOf (lag_by options.entry.alone) options.entry.json options.entry.follow (S.left source.old) (S.left source.new) (S.before source.new)
         (K.taken sink.old) (K.taken sink.new) (K.failures sink.new ≡ K.failures sink.old) result }
     ensures reported { IsReportStatus options.entry.json (K.taken sink.old) (K.taken sink.new) result }
-    ensures said { result ≡ 2 → SaysFault (S.left source.old) (S.left source.new) (S.before source.new)
+    ensures said { result ≡ 2 → SaysFault (lag_by options.entry.alone) (S.left source.old) (S.left source.new) (S.before source.new)
         (E.taken errors.old) (E.taken errors.new) (E.failures errors.new ≡ E.failures errors.old) }
     ensures range { result < 4 }
     ensures asked { S.calls source.new ≤ S.calls source.old + (2 ^ 30 + 1) }
@@ -263,12 +283,12 @@ fn scan_trace<S: Input, K: Output, E: Sink, R: Threads + Wait + Clock + Sync>(
     ensures told { let name = option_map (λ name. name.now) options.entry.trace in
         let trace = trace_of name (S.left source.old) (S.named source.old) in
         IsUnread source.old source.new sink.old sink.new result
-        ⊎ TellsOf options.entry.json options.entry.follow trace (S.left source.new) (S.before source.new)
+        ⊎ TellsOf (lag_by options.entry.alone) options.entry.json options.entry.follow trace (S.left source.new) (S.before source.new)
         (K.taken sink.old) (K.taken sink.new) (K.failures sink.new ≡ K.failures sink.old) result }
     ensures reported { IsReportStatus options.entry.json (K.taken sink.old) (K.taken sink.new) result }
     ensures said { let name = option_map (λ name. name.now) options.entry.trace in
         let trace = trace_of name (S.left source.old) (S.named source.old) in
-        result ≡ 2 → SaysFault trace (S.left source.new) (S.before source.new)
+        result ≡ 2 → SaysFault (lag_by options.entry.alone) trace (S.left source.new) (S.before source.new)
         (E.taken errors.old) (E.taken errors.new) (E.failures errors.new ≡ E.failures errors.old) }
     ensures range { result < 4 }
     ensures asked { S.calls source.new ≤ S.calls source.old + (2 ^ 30 + 1) }
@@ -315,7 +335,7 @@ fn run<S: Input, K: Output, E: Sink, R: Threads + Wait + Clock + Sync>(
         → refused_in options.entry ≡ false
         → printing_of options.entry.rows options.entry.annotate ≡ None
         → IsUnread source.old source.new sink.old sink.new result
-        ⊎ TellsOf options.entry.json options.entry.follow trace (S.left source.new) (S.before source.new)
+        ⊎ TellsOf (lag_by options.entry.alone) options.entry.json options.entry.follow trace (S.left source.new) (S.before source.new)
         (K.taken sink.old) (K.taken sink.new) (K.failures sink.new ≡ K.failures sink.old) result }
     ensures reported { option_map (λ word. word.now) options.entry.explain ≡ None
         → options.entry.try_headers ≡ false → refused_in options.entry ≡ false
@@ -326,7 +346,7 @@ fn run<S: Input, K: Output, E: Sink, R: Threads + Wait + Clock + Sync>(
         option_map (λ word. word.now) options.entry.explain ≡ None → options.entry.try_headers ≡ false
         → refused_in options.entry ≡ false
         → printing_of options.entry.rows options.entry.annotate ≡ None
-        → result ≡ 2 → SaysFault trace (S.left source.new) (S.before source.new)
+        → result ≡ 2 → SaysFault (lag_by options.entry.alone) trace (S.left source.new) (S.before source.new)
         (E.taken errors.old) (E.taken errors.new) (E.failures errors.new ≡ E.failures errors.old) }
     ensures printed { let name = option_map (λ name. name.now) options.entry.trace in
         let trace = trace_of name (S.left source.old) (S.named source.old) in
@@ -434,7 +454,7 @@ pub fn program<S: Input, K: Output, E: Sink, R: Threads + Wait + Clock + Sync>(
         → annotates asked ≡ false → prints_rows asked ≡ false
         → notes_refused asked ≡ false
         → IsUnread source.old source.new sink.old sink.new result
-        ⊎ TellsOf (as_json asked) (follows asked) trace (S.left source.new) (S.before source.new)
+        ⊎ TellsOf (lag_by (alone asked)) (as_json asked) (follows asked) trace (S.left source.new) (S.before source.new)
         (K.taken sink.old) (K.taken sink.new) (K.failures sink.new ≡ K.failures sink.old) result }
     // Where they ask so, whatever the source shows: status 0 or 1 says that the sink took the report of some text without a
     // fault, or its objects, and is that of its findings. No status is above 3.
@@ -449,7 +469,7 @@ pub fn program<S: Input, K: Output, E: Sink, R: Threads + Wait + Clock + Sync>(
         words_fault asked ≡ [] → asked_word asked ≡ None → tries_headers asked ≡ false
         → annotates asked ≡ false → prints_rows asked ≡ false
         → notes_refused asked ≡ false
-        → result ≡ 2 → SaysFault trace (S.left source.new) (S.before source.new)
+        → result ≡ 2 → SaysFault (lag_by (alone asked)) trace (S.left source.new) (S.before source.new)
         (E.taken errors.old) (E.taken errors.new) (E.failures errors.new ≡ E.failures errors.old) }
     // Where they ask for an annotation, of each row or of exactly those that they choose, the sink took one of that trace,
     // or it was refused. Where they ask for JSON with it, they are refused.

@@ -1,5 +1,5 @@
 -- What was counted of a row's data.
-use Rattle.std.proofs.Common.{◌≡◌, ◌∙◌, sym, ap, subst, refl, ℕ, ◌+◌, ◌<◌, List, [], ◌∷◌, ◌++◌, take, drop, length, get_or, Option, Some, None, Bool, cond, true, false, true≢false}
+use Rattle.std.proofs.Common.{◌≡◌, ◌∙◌, sym, ap, subst, refl, ℕ, ◌+◌, ◌<◌, List, [], ◌∷◌, ◌++◌, take, drop, length, get_or, Option, Some, None, true, true≢false}
 use Rattle.std.proofs.lemmas.List.{take_more, take-append-drop}
 use Rattle.std.proofs.lemmas.List.Elements.{filter_map-append}
 use Rattle.line_model.specs.basics.Records.{Item}
@@ -11,15 +11,15 @@ use Rattle.line_model.specs.declared.event.What.TheVariants.{Found, Open, Up, En
 use Rattle.line_model.specs.declared.state.Side.{Side}
 use Rattle.line_model.specs.declared.interface.Interface.{Interface}
 use Rattle.line_model.specs.observer.Calls.{all_lengths, segments_of}
-use Rattle.line_model.specs.observer.Machine.{Observer, routed}
-use Rattle.line_model.specs.observer.Observer.{x25}
+use Rattle.line_model.specs.observer.Machine.{Observer}
 use Rattle.channel_run.specs.Run.{row_events}
 use Rattle.restart_epochs.specs.Cutting.{observer}
-use Rattle.live_report.specs.LastRows.{IsLastRow}
-use Rattle.live_report.specs.Uncounted.{counts_data, has_finding, is_data, reason_at, reason_by, reason_of_state, reason_on}
-use Rattle.live_report.specs.declared.last_row.LastRow.{LastRow}
-use Rattle.live_report.specs.declared.uncounted.Reason.{Reason}
-use Rattle.live_report.specs.declared.uncounted.Reason.TheVariants.{Finding}
+use Rattle.live_report.specs.JudgedRows.{IsJudgedRow, taker}
+use Rattle.live_report.specs.Uncounted.{counts_data, reason_at}
+use Rattle.live_report.specs.declared.judged_row.Judge.{Judge}
+use Rattle.live_report.specs.declared.judged_row.Judge.TheVariants as judge
+use Rattle.live_report.specs.declared.judged_row.JudgedRow.{JudgedRow}
+use Rattle.live_report.proofs.UncountedLemmas.{was_counted}
 use Rattle.descriptions.specs.Facts.{IsFateOf}
 use Rattle.descriptions.specs.RowObjects.{events_at}
 use Rattle.descriptions.specs.declared.facts.Fate.TheVariants.{Counted}
@@ -59,27 +59,16 @@ none_next es i e lt is other none = lengths_next es i e lt is ∙ (λ t. none t 
 
 -- the events of the logical channel that takes a row
 pub events_are : (i : Interface) (o : Observer LineState Channel) (r : Item) (channel taker : Option ℕ) (told events : List Event) → channel ≡ taker → ((k : ℕ) → channel ≡ Some k → events ≡ told) → (channel ≡ None → events ≡ [])
-    → ((k : ℕ) → channel ≡ Some k → told ≡ row_events i o.epoch k (o.states k) r) → events ≡ events_at i taker o r
+    → ((k : ℕ) → taker ≡ Some k → told ≡ row_events i o.epoch k (o.states k) r) → events ≡ events_at i taker o r
 events_are i o r channel None told events is taken untaken came = untaken is
-events_are i o r channel (Some k) told events is taken untaken came = taken k is ∙ came k is
+events_are i o r channel (Some k) told events is taken untaken came = taken k is ∙ came k refl
 
 -- ---- data that was counted is not left out
 
-counted_on : (c : Channel) (es : List Event) → counts_data es ≡ true → None ≡ reason_on c es
-counted_on c es h = ap (λ b. cond b None (cond (has_finding es) (Some Finding) (Some (reason_of_state c.state c.owed)))) (sym h)
-
-counted_by : (i : Interface) (o : Observer LineState Channel) (r : Item) (events : List Event) (taker : Option ℕ) → (taker ≡ None → events ≡ [])
-    → ((k : ℕ) → taker ≡ Some k → events ≡ row_events i o.epoch k (o.states k) r) → counts_data events ≡ true → None ≡ reason_by i taker o r
-counted_by i o r events None untaken came counts = absurd (true≢false (sym counts ∙ ap counts_data (untaken refl)))
-counted_by i o r events (Some k) untaken came counts = counted_on (o.states k) events counts ∙ ap (reason_on (o.states k)) (came k refl)
-
-none_if : (b : Bool) (why : Option Reason) → None ≡ why → None ≡ cond b why None
-none_if true why h = h
-none_if false why h = refl
-
-pub counted_reason : (i : Interface) (earlier : List Item) (r : Item) (last : LastRow) (events : List Event) → IsLastRow i earlier r last events → (last.channel ≡ None → events ≡ [])
+pub counted_reason : (i : Interface) (earlier : List Item) (r : Item) (row : JudgedRow) (events : List Event) → IsJudgedRow i earlier r row events → (taker row.judge ≡ None → events ≡ [])
     → counts_data events ≡ true → None ≡ reason_at i (observer i earlier) r
-counted_reason i earlier r last events l untaken counts =
-    let o = observer i earlier in
-    let taker = routed (x25 i) o.line r in
-    none_if (is_data (r.packet)) (reason_by i taker o r) (counted_by i o r events taker (λ e. untaken (l.channel ∙ e)) (λ k e. l.came k (l.channel ∙ e)) counts)
+counted_reason i earlier r row events l untaken counts = at row.judge refl
+  where
+    at : (j : Judge) → row.judge ≡ j → None ≡ reason_at i (observer i earlier) r
+    at (judge.Restart before after) is = absurd (true≢false (sym counts ∙ ap counts_data (untaken (ap taker is))))
+    at (judge.Channel k before after accepted) is = was_counted i earlier r row events k before after accepted l is counts

@@ -11,8 +11,6 @@ use Rattle.line_model.specs.basics.Records.{Item}
 use Rattle.line_model.specs.declared.event.Event.{Event}
 use Rattle.line_model.specs.declared.finding.Finding.{Finding}
 use Rattle.line_model.specs.declared.interface.Interface.{Interface}
-use Rattle.line_model.specs.declared.packet.Packet.{Packet}
-use Rattle.line_model.specs.declared.packet.Packet.TheVariants as packet
 use Rattle.line_model.specs.declared.state.ChannelState.{ChannelState}
 use Rattle.line_model.specs.declared.state.ChannelState.TheVariants.{Setup, Transfer, Unknown}
 use Rattle.line_model.specs.declared.state.DState.TheVariants.{D1, D2, D3}
@@ -24,23 +22,23 @@ use Rattle.line_model.specs.observer.Observer.{x25}
 use Rattle.line_model.specs.observer.Report.{report_of}
 use Rattle.line_model.specs.text.Text.{Line, ended_lines, is_lf}
 use Rattle.restart_epochs.specs.Cutting.{observer}
-use Rattle.live_report.specs.LastRows.{IsKnown, IsLastRow}
-use Rattle.live_report.specs.QuietRows.{is_d1, is_quiet, is_settled, quiet_of, quiet_on}
-use Rattle.live_report.specs.declared.last_row.Known.{Known}
-use Rattle.live_report.specs.declared.last_row.Known.TheVariants as known
-use Rattle.live_report.specs.declared.last_row.LastRow.{LastRow}
-use Rattle.live_report.specs.declared.last_row.QuietRow.{QuietRow}
+use Rattle.data_transfer.specs.Packed.{Packed}
+use Rattle.channel_run.specs.StatusWord.{view_in}
+use Rattle.live_report.specs.JudgedRows.{IsJudge, IsJudgedRow}
+use Rattle.live_report.specs.declared.judged_row.Judge.{Judge}
+use Rattle.live_report.specs.declared.judged_row.Judge.TheVariants as judge
+use Rattle.live_report.specs.declared.judged_row.JudgedRow.{JudgedRow}
 use Rattle.annotated_trace.specs.Annotation.{IsOneLine}
 use Rattle.annotated_trace.proofs.WordingLemmas.{both_one}
 use Rattle.annotated_trace.proofs.LinesOfText.{AreLines, ended_are_lines}
 use Rattle.annotated_trace.specs.Printed.{HasAppended}
 use Rattle.descriptions.specs.Facts.{IsFateOf}
 use Rattle.descriptions.specs.Lines.{Puts, PutsPlain}
-use Rattle.descriptions.specs.RowObjects.{IsObjectWhere, IsRowObject, channel_word, counted_word, events_at, finding_word, known_word, named_channel, row_head, state_at, state_members}
-use Rattle.descriptions.specs.UsualObjects.{IsUsualObject, amount_word, usual_head}
+use Rattle.descriptions.specs.RowObjects.{IsObjectWhere, IsRowObject, channel_word, counted_word, events_at, finding_word, named_channel, row_head, state_at, state_members, word_after, word_before}
+use Rattle.descriptions.specs.UsualObjects.{IsUsualObject, amount_word, is_d1, is_quiet, is_settled, leaves_settled, usual_head}
 use Rattle.descriptions.specs.declared.facts.Fate.{Fate}
 use Rattle.descriptions.specs.declared.facts.Fate.TheVariants.{Counted, NoData, NotCounted}
-use Rattle.descriptions.proofs.ObjectLemmas.{known_is}
+use Rattle.descriptions.proofs.ObjectLemmas.{words_are}
 
 -- ---- bytes before others
 
@@ -49,13 +47,6 @@ same_line a b h = cc
 
 no_line : (a : List ℕ) → None ≡ Some a → ⊥
 no_line a h = cc
-
-pub put_fits : (fits : Bool) (bytes old now : List ℕ) → now ≡ bytes ++ old → Puts bytes (cond fits (Some old) None) (cond fits (Some now) None)
-put_fits true bytes old now e = record { whole = λ line is. (old, refl, sym (same_line now line is) ∙ e) }
-put_fits false bytes old now e = record { whole = λ line is. absurd (no_line line is) }
-
-pub put_none : (bytes : List ℕ) (before : Option (List ℕ)) → Puts bytes before None
-put_none bytes before = record { whole = λ line is. absurd (no_line line is) }
 
 pub puts_then : (v w : List ℕ) (a b c : Option (List ℕ)) → Puts w a b → Puts v b c → Puts (v ++ w) a c
 puts_then v w a b c first later = record {
@@ -121,14 +112,15 @@ headed a n b s c k d x =
 
 -- ---- a whole line
 
-pub usual_line : (row : QuietRow) (events : List Event) (a b c d : Option (List ℕ)) (bytes : List ℕ) → a ≡ Some [] → Puts (codes "}\n") a b → PutsPlain b c → Puts (usual_head row (all_lengths events)) c d
+pub usual_line : (row : JudgedRow) (events : List Event) (a b c d : Option (List ℕ)) (bytes : List ℕ) → is_quiet row ≡ true → a ≡ Some [] → Puts (codes "}\n") a b → PutsPlain b c → Puts (usual_head row (all_lengths events)) c d
     → d ≡ Some bytes → IsUsualObject row events bytes
-usual_line row events a b c d bytes empty end plain head is =
+usual_line row events a b c d bytes quiet empty end plain head is =
     let h = head.whole bytes is in
     let p = plain.whole h.0 h.1 in
     let e = end.whole p.0 p.2 in
     let none : e.0 ≡ [] = same_line e.0 [] (sym e.1 ∙ empty) in
     record {
+      quiet = quiet;
       rest = p.1;
       one = p.4;
       written = h.2 ∙ ap (λ xs. usual_head row (all_lengths events) ++ xs) (p.3 ∙ ap (λ xs. p.1 ++ xs) (e.2 ∙ ap (λ xs. codes "}\n" ++ xs) none));
@@ -149,10 +141,6 @@ both_right : (a b : Bool) → (a && b) ≡ true → b ≡ true
 both_right true b h = h
 both_right false b h = cc
 
-if_some : (b : Bool) (o : Option QuietRow) (q : QuietRow) → cond b o None ≡ Some q → (b ≡ true) × (o ≡ Some q)
-if_some true o q h = (refl, h)
-if_some false o q h = absurd (let bad : None ≡ Some q = h in cc)
-
 no_finding : (o : Option Finding) → is_none o ≡ true → o ≡ None
 no_finding None h = refl
 no_finding (Some f) h = cc
@@ -164,49 +152,37 @@ d1_word (Transfer D2) h = cc
 d1_word (Transfer D3) h = cc
 d1_word Unknown h = cc
 
-settled_word : (k : Known) → is_settled k ≡ true → known_word k ≡ codes "d1"
-settled_word (known.Restart s) h = cc
-settled_word (known.Channel v) h = d1_word v.state (both_left (is_d1 v.state) _ h)
+settled_word : (word : Packed) → is_settled word ≡ true → channel_word (view_in word).state ≡ codes "d1"
+settled_word word h = d1_word (view_in word).state (both_left (is_d1 (view_in word).state) _ h)
 
-taker_of : (i : Interface) (taker : Option ℕ) (o : Observer LineState Channel) (k : Known) → IsKnown i taker o k → is_settled k ≡ true → (n : ℕ) × (taker ≡ Some n)
-taker_of i None o (known.Restart s) h settled = absurd (let bad : false ≡ true = settled in cc)
-taker_of i None o (known.Channel v) h settled = absurd h
-taker_of i (Some n) o k h settled = (n, refl)
+settled_words : (j : Judge) → leaves_settled j ≡ true → (word_before j ≡ codes "d1") × (word_after j ≡ codes "d1")
+settled_words (judge.Restart before after) h = absurd (let bad : false ≡ true = h in cc)
+settled_words (judge.Channel k before after accepted) h =
+    (settled_word before (both_left (is_settled before) (is_settled after) h), settled_word after (both_right (is_settled before) (is_settled after) h))
 
-same_row : (a b : QuietRow) → Some a ≡ Some b → a ≡ b
-same_row a b h = cc
+taker_of : (i : Interface) (taker : Option ℕ) (o more : Observer LineState Channel) (j : Judge) → IsJudge i taker o more j → leaves_settled j ≡ true → (n : ℕ) × (taker ≡ Some n)
+taker_of i None o more (judge.Restart before after) h settled = absurd (let bad : false ≡ true = settled in cc)
+taker_of i None o more (judge.Channel k before after accepted) h settled = absurd h
+taker_of i (Some n) o more j h settled = (n, refl)
 
-said_on : (last : LastRow) (p : Packet) (q : QuietRow) → quiet_on last p ≡ Some q → (last.number ≡ q.number) × (last.side ≡ q.side) × (named_channel p ≡ Some q.channel)
-said_on last (packet.Channel k kind) q h =
-    let e = same_row _ q h in
-    (ap (λ x. x.number) e, ap (λ x. x.side) e, ap (λ x. Some x.channel) e)
-said_on last p q h = absurd (let bad : None ≡ Some q = h in cc)
-
-pub usual_object : (i : Interface) (earlier : List Item) (r : Item) (last : LastRow) (events : List Event) (q : QuietRow) (bytes : List ℕ) → IsLastRow i earlier r last events → quiet_of last ≡ Some q
-    → IsUsualObject q events bytes → IsRowObject i earlier r bytes
-usual_object i earlier r last events q bytes l quiet line =
+usual_object : (i : Interface) (earlier : List Item) (r : Item) (row : JudgedRow) (events : List Event) (bytes : List ℕ) → IsJudgedRow i earlier r row events → IsUsualObject row events bytes → IsRowObject i earlier r bytes
+usual_object i earlier r row events bytes l line =
     let o : Observer LineState Channel = observer i earlier in
-    let after : Observer LineState Channel = observer i (earlier ++ r ∷ []) in
+    let more : Observer LineState Channel = observer i (earlier ++ r ∷ []) in
     let taker : Option ℕ = routed (x25 i) o.line r in
-    let so = if_some (is_quiet last) (quiet_on last last.packet) q quiet in
-    let none : last.finding ≡ None = no_finding last.finding (both_left (is_none last.finding) _ so.0) in
-    let both : (is_settled last.before && is_settled last.after) ≡ true = both_right (is_none last.finding) _ so.0 in
-    let first : is_settled last.before ≡ true = both_left (is_settled last.before) (is_settled last.after) both in
-    let then : is_settled last.after ≡ true = both_right (is_settled last.before) (is_settled last.after) both in
-    let said = said_on last last.packet q so.1 in
-    let on = taker_of i last.channel o last.before l.before first in
-    let known_before : known_word last.before ≡ state_at last.channel o = known_is i last.channel o last.before l.before in
-    let known_after : known_word last.after ≡ state_at last.channel after = known_is i last.channel after last.after l.after in
-    let before : codes "d1" ≡ state_at taker o = sym (settled_word last.before first) ∙ known_before ∙ ap (λ k. state_at k o) l.channel in
-    let end : codes "d1" ≡ state_at taker after = sym (settled_word last.after then) ∙ known_after ∙ ap (λ k. state_at k after) l.channel in
-    let number : q.number ≡ r.number = sym said.0 ∙ l.number in
-    let side : q.side ≡ r.side = sym said.1 ∙ l.side in
-    let channel : Some q.channel ≡ named_channel r.packet = sym said.2 ∙ ap named_channel l.packet in
-    let came : events ≡ events_at i taker o r = l.came on.0 on.1 ∙ ap (λ k. events_at i k o r) (sym on.1 ∙ l.channel) in
-    let members : state_members q.number q.side (Some q.channel) (codes "d1") (codes "d1")
-    ≡ state_members r.number r.side (named_channel r.packet) (state_at taker o) (state_at taker after) =
-    (λ t. state_members (number t) (side t) (channel t) (before t) (end t)) in
-    let head : usual_head q (all_lengths events) ≡ row_head i earlier r None =
+    let none : row.finding ≡ None = no_finding row.finding (both_left (is_none row.finding) (leaves_settled row.judge) line.quiet) in
+    let settled = both_right (is_none row.finding) (leaves_settled row.judge) line.quiet in
+    let d1 = settled_words row.judge settled in
+    let on = taker_of i taker o more row.judge l.judge settled in
+    let words = words_are i taker o more row.judge l.judge in
+    let before : codes "d1" ≡ state_at taker o = sym d1.0 ∙ words.0 in
+    let after : codes "d1" ≡ state_at taker more = sym d1.1 ∙ words.1 in
+    let channel : named_channel row.packet ≡ named_channel r.packet = ap named_channel l.packet in
+    let came : events ≡ events_at i taker o r = l.came on.0 on.1 ∙ ap (λ k. events_at i k o r) (sym on.1) in
+    let members : state_members row.number row.side (named_channel row.packet) (codes "d1") (codes "d1")
+    ≡ state_members r.number r.side (named_channel r.packet) (state_at taker o) (state_at taker more) =
+    (λ t. state_members (l.number t) (l.side t) (channel t) (before t) (after t)) in
+    let head : usual_head row (all_lengths events) ≡ row_head i earlier r None =
     (λ t. members t ++ (counted_word (all_lengths (came t)) ++ (codes ",\"finding\":" ++ finding_word None))) in
     record {
       found = None;
@@ -219,10 +195,10 @@ usual_object i earlier r last events q bytes l quiet line =
 pub told_object : (told : Bool) (i : Interface) (earlier : List Item) (r : Item) (bytes : List ℕ) → told ≡ true → IsRowObject i earlier r bytes → IsObjectWhere told i earlier r bytes
 told_object told i earlier r bytes is h = subst (λ b. IsObjectWhere b i earlier r bytes) (sym is) h
 
-pub lent_object : {X : Type 0} (f : X → List ℕ) (o : Option X) (told : Bool) (i : Interface) (earlier : List Item) (r : Item) (last : LastRow) (events : List Event) (q : QuietRow) (digits : List ℕ) → told ≡ true
-    → IsLastRow i earlier r last events → quiet_of last ≡ Some q → IsOneLine digits → IfSome o (λ x. IsOneLine digits → IsUsualObject q events (f x)) → IfSome o (λ x. IsObjectWhere told i earlier r (f x))
-lent_object f None told i earlier r last events q digits is l quiet one h = tt
-lent_object f (Some x) told i earlier r last events q digits is l quiet one h = told_object told i earlier r (f x) is (usual_object i earlier r last events q (f x) l quiet (h one))
+pub lent_object : {X : Type 0} (f : X → List ℕ) (o : Option X) (told : Bool) (i : Interface) (earlier : List Item) (r : Item) (row : JudgedRow) (events : List Event) (digits : List ℕ) → told ≡ true
+    → IsJudgedRow i earlier r row events → IsOneLine digits → IfSome o (λ x. IsOneLine digits → IsUsualObject row events (f x)) → IfSome o (λ x. IsObjectWhere told i earlier r (f x))
+lent_object f None told i earlier r row events digits is l one h = tt
+lent_object f (Some x) told i earlier r row events digits is l one h = told_object told i earlier r (f x) is (usual_object i earlier r row events (f x) l (h one))
 
 -- ---- its line
 

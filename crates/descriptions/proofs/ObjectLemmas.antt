@@ -13,9 +13,9 @@ use Rattle.line_model.specs.observer.Calls.{all_lengths}
 use Rattle.line_model.specs.observer.Report.{state_word}
 use Rattle.line_model.specs.packets.Says.{item_of, items_of}
 use Rattle.restart_epochs.specs.Cutting.{observer}
-use Rattle.live_report.specs.LastRows.{IsKnown}
-use Rattle.live_report.specs.declared.last_row.Known.{Known}
-use Rattle.live_report.specs.declared.last_row.Known.TheVariants as known
+use Rattle.live_report.specs.JudgedRows.{IsJudge}
+use Rattle.live_report.specs.declared.judged_row.Judge.{Judge}
+use Rattle.live_report.specs.declared.judged_row.Judge.TheVariants as judge
 use Rattle.annotated_trace.specs.Printed.{HasAppended}
 use Rattle.annotated_trace.specs.Rows.{is_chosen, is_chosen_if}
 use Rattle.annotated_trace.specs.Wording.{plain}
@@ -23,7 +23,7 @@ use Rattle.annotated_trace.specs.declared.rows.Rows.{Rows}
 use Rattle.annotated_trace.proofs.WordingLemmas.{plain_one}
 use Rattle.descriptions.specs.Choosing.{told_where}
 use Rattle.descriptions.specs.Facts.{AreFactsOf}
-use Rattle.descriptions.specs.RowObjects.{IsObjectOf, IsObjectWhere, IsRowObject, channel_word, counted_word, events_at, finding_word, joined, known_word, named_channel, row_head, state_at, state_members}
+use Rattle.descriptions.specs.RowObjects.{IsObjectOf, IsObjectWhere, IsRowObject, channel_word, counted_word, events_at, finding_word, joined, named_channel, row_head, state_at, state_members, word_after, word_before}
 use Rattle.descriptions.specs.declared.facts.RowFacts.{RowFacts}
 
 -- ---- words, one after the other
@@ -35,13 +35,13 @@ joined_next f xs i x out o1 o2 lt e1 e2 =
     ∙ ap (λ ys. joined (map f (take i xs)) ++ ys) (append-nil (f (get_or xs i x))) in
     e2 ∙ ap (λ ys. ys ++ f (get_or xs i x)) e1 ∙ append_assoc out (joined (map f (take i xs))) (f (get_or xs i x)) ∙ ap (λ ys. out ++ ys) (sym one)
 
--- ---- the state that is known
+-- ---- the states before and after a row
 
-pub known_is : (i : Interface) (taker : Option ℕ) (o : Observer LineState Channel) (k : Known) → IsKnown i taker o k → known_word k ≡ state_at taker o
-known_is i None o (known.Restart s) h = ap (λ x. state_word (restart_name x)) h
-known_is i None o (known.Channel v) h = absurd h
-known_is i (Some n) o (known.Restart s) h = absurd h
-known_is i (Some n) o (known.Channel v) h = ap channel_word h.state
+pub words_are : (i : Interface) (taker : Option ℕ) (o more : Observer LineState Channel) (j : Judge) → IsJudge i taker o more j → (word_before j ≡ state_at taker o) × (word_after j ≡ state_at taker more)
+words_are i None o more (judge.Restart before after) h = (ap (λ x. state_word (restart_name x)) h.0, ap (λ x. state_word (restart_name x)) h.1)
+words_are i None o more (judge.Channel k before after accepted) h = absurd h
+words_are i (Some n) o more (judge.Restart before after) h = absurd h
+words_are i (Some n) o more (judge.Channel k before after accepted) h = (ap channel_word h.1.state, ap channel_word h.2.state)
 
 -- ---- the beginning of an object
 
@@ -50,17 +50,16 @@ four_parts out a b c d =
     append_assoc ((out ++ a) ++ b) c d ∙ append_assoc (out ++ a) b (c ++ d) ∙ append_assoc out a (b ++ (c ++ d))
 
 pub head_put : (i : Interface) (earlier : List Item) (r : Item) (facts : RowFacts) (out o1 o2 o3 o4 : List ℕ) → AreFactsOf i earlier r facts
-    → o1 ≡ out ++ state_members r.number r.side (named_channel facts.last.now.packet) (known_word facts.last.now.before) (known_word facts.last.now.after)
+    → o1 ≡ out ++ state_members r.number r.side (named_channel facts.last.now.packet) (word_before facts.last.now.judge) (word_after facts.last.now.judge)
     → o2 ≡ o1 ++ counted_word (all_lengths (events_at i (routed (x25 i) (observer i earlier).line r) (observer i earlier) r))
     → o3 ≡ o2 ++ codes ",\"finding\":" → o4 ≡ o3 ++ finding_word facts.last.now.finding → o4 ≡ out ++ row_head i earlier r facts.last.now.finding
 head_put i earlier r facts out o1 o2 o3 o4 h e1 e2 e3 e4 =
     let taker : Option ℕ = routed (x25 i) (observer i earlier).line r in
     let counted : List ℕ = counted_word (all_lengths (events_at i taker (observer i earlier) r)) in
-    let before : known_word facts.last.now.before ≡ state_at taker (observer i earlier) = known_is i taker (observer i earlier) facts.last.now.before h.before in
-    let after : known_word facts.last.now.after ≡ state_at taker (observer i (earlier ++ r ∷ [])) = known_is i taker (observer i (earlier ++ r ∷ [])) facts.last.now.after h.after in
-    let members : state_members r.number r.side (named_channel facts.last.now.packet) (known_word facts.last.now.before) (known_word facts.last.now.after)
+    let words = words_are i taker (observer i earlier) (observer i (earlier ++ r ∷ [])) facts.last.now.judge h.judge in
+    let members : state_members r.number r.side (named_channel facts.last.now.packet) (word_before facts.last.now.judge) (word_after facts.last.now.judge)
     ≡ state_members r.number r.side (named_channel r.packet) (state_at taker (observer i earlier)) (state_at taker (observer i (earlier ++ r ∷ []))) =
-    (λ t. state_members r.number r.side (named_channel (h.packet t)) (before t) (after t)) in
+    (λ t. state_members r.number r.side (named_channel (h.packet t)) (words.0 t) (words.1 t)) in
     e4 ∙ ap (λ xs. xs ++ finding_word facts.last.now.finding) (e3 ∙ ap (λ xs. xs ++ codes ",\"finding\":") (e2 ∙ ap (λ xs. xs ++ counted) (e1 ∙ ap (λ xs. out ++ xs) members)))
     ∙ four_parts out (state_members r.number r.side (named_channel r.packet) (state_at taker (observer i earlier)) (state_at taker (observer i (earlier ++ r ∷ [])))) counted (codes ",\"finding\":") (finding_word facts.last.now.finding)
 

@@ -7,7 +7,7 @@ use Rattle.line_model.specs.observer.Machine.{routed}
 use Rattle.line_model.specs.observer.Observer.{x25}
 use Rattle.line_model.specs.observer.Report.{report_of}
 use Rattle.restart_epochs.specs.Cutting.{observer}
-use Rattle.live_report.specs.LastRows.{IsKnown}
+use Rattle.live_report.specs.JudgedRows.{IsJudge}
 use Rattle.live_report.specs.Uncounted.{reason_at}
 use Rattle.live_report.specs.declared.uncounted.Reason.{Reason}
 use Rattle.descriptions.specs.RowObjects.{events_at}
@@ -27,13 +27,12 @@ abbrev pub reason_told : Fate → Option Reason
 reason_told (NotCounted reason) = Some reason
 reason_told _ = None
 
--- a row after others, what was known before and after it by the machine that judged it, what it found, what it counted, and why it did not
+-- a row after others, the machine that judged it, what it found, what it counted, and why it did not
 pub record AreFactsOf (i : Interface) (earlier : List Item) (r : Item) (facts : RowFacts) : Type 0 where
   pub number : facts.last.now.number ≡ r.number
   pub side : facts.last.now.side ≡ r.side
   pub packet : facts.last.now.packet ≡ r.packet
-  pub before : IsKnown i (routed (x25 i) (observer i earlier).line r) (observer i earlier) facts.last.now.before
-  pub after : IsKnown i (routed (x25 i) (observer i earlier).line r) (observer i (earlier ++ r ∷ [])) facts.last.now.after
+  pub judge : IsJudge i (routed (x25 i) (observer i earlier).line r) (observer i earlier) (observer i (earlier ++ r ∷ [])) facts.last.now.judge
   pub finding : (report_of i (earlier ++ r ∷ [])).findings ≡ (report_of i earlier).findings ++ option_to_list facts.last.now.finding
   pub fate : IsFateOf (all_lengths (events_at i (routed (x25 i) (observer i earlier).line r) (observer i earlier) r)) facts.fate
   pub reason : reason_told facts.fate ≡ reason_at i (observer i earlier) r

@@ -21,8 +21,9 @@ use Rattle.line_model.specs.packets.Says.{item_of, items_of}
 use Rattle.line_model.specs.text.Text.{Line, head_of, rows_in}
 use Rattle.channel_run.specs.Run.{row_events}
 use Rattle.restart_epochs.specs.Cutting.{observer}
-use Rattle.live_report.specs.declared.last_row.Known.{Known}
-use Rattle.live_report.specs.declared.last_row.Known.TheVariants as known
+use Rattle.channel_run.specs.StatusWord.{view_in}
+use Rattle.live_report.specs.declared.judged_row.Judge.{Judge}
+use Rattle.live_report.specs.declared.judged_row.Judge.TheVariants as judge
 use Rattle.annotated_trace.specs.Annotation.{IsOneLine}
 use Rattle.annotated_trace.specs.Rows.{is_chosen, row_written}
 use Rattle.annotated_trace.specs.declared.rows.Rows.{Rows}
@@ -37,10 +38,15 @@ channel_word (Setup s) = state_word (setup_name s)
 channel_word (Transfer s) = state_word (transfer_name s)
 channel_word Unknown = codes "unknown"
 
--- the state that is known
-abbrev pub known_word : Known → List ℕ
-known_word (known.Restart s) = state_word (restart_name s)
-known_word (known.Channel v) = channel_word v.state
+-- the state before a row of the machine that judged it
+abbrev pub word_before : Judge → List ℕ
+word_before (judge.Restart before after) = state_word (restart_name before)
+word_before (judge.Channel k before after accepted) = channel_word (view_in before).state
+
+-- the state after it
+abbrev pub word_after : Judge → List ℕ
+word_after (judge.Restart before after) = state_word (restart_name after)
+word_after (judge.Channel k before after accepted) = channel_word (view_in after).state
 
 -- the state of the logical channel that takes a row; of the restart machine where none does
 abbrev pub state_at : (taker : Option ℕ) → Observer LineState Channel → List ℕ

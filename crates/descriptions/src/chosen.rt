@@ -4,7 +4,7 @@ ghost use Rattle.std.specs.Prelude.{◌≡◌, ℕ, ◌++◌, ◌∷◌, [], Lis
 ghost use Rattle.line_model.specs.declared.interface.Interface.{Interface};
 ghost use Rattle.line_model.specs.basics.Records.{Item};
 ghost use Rattle.line_model.specs.text.Text.{Line, ended_lines};
-ghost use Rattle.live_report.specs.LastRows.{IsLastRow};
+ghost use Rattle.live_report.specs.JudgedRows.{IsJudgedRow};
 ghost use Rattle.live_report.specs.Lives.{KeepsRowsOf};
 ghost use Rattle.live_report.specs.Observing.{HasKept, HasWalked};
 ghost use Rattle.annotated_trace.specs.Rows.{asked_call, is_of_call, is_chosen};
@@ -14,7 +14,7 @@ ghost use Rattle.descriptions.specs.Choosing.{HasChosen, told_of_line};
 use crate::call_rows::CallRows;
 use annotated_trace::rows::Rows;
 use channel_run::run::Channel;
-use live_report::last_row::KeptRow;
+use live_report::judged_row::JudgedRow;
 use live_report::live::Live;
 use live_report::observer::Observer;
 use std::alloc::Allocator;
@@ -24,15 +24,15 @@ use std::alloc::Allocator;
 fn judge_call<A: Allocator + Copy, C: Channel<A>>(
     call: &mut CallRows,
     observer: &Observer<A, C>,
-    last: &KeptRow,
+    last: &JudgedRow,
 ) -> bool
     ensures told { (i : Interface) (before : List Item) (r : Item) → Follows i before call.old
         → HasWalked C.Channel i (before ++ r ∷ []) observer.now
-        → IsLastRow i before r last.now observer.now.events.items
+        → IsJudgedRow i before r last.now observer.now.events.items
         → result ≡ is_of_call i before r call.old.number }
     ensures follows { (i : Interface) (before : List Item) (r : Item) → Follows i before call.old
         → HasWalked C.Channel i (before ++ r ∷ []) observer.now
-        → IsLastRow i before r last.now observer.now.events.items
+        → IsJudgedRow i before r last.now observer.now.events.items
         → Follows i (before ++ r ∷ []) call.new }
     ensures number { call.new.number ≡ call.old.number }
 {
@@ -86,11 +86,11 @@ impl Chosen {
         ensures rows { self.new.rows ≡ self.old.rows }
         ensures packets { self.new.packets ≡ self.old.packets }
     {
-        let Some(last) = observer.kept_row() else {
+        let Some(last) = observer.last_row() else {
             return false;
         };
         let of_call = judge_call(&mut self.call, observer, last);
-        self.rows.chooses(last.packet(), of_call)
+        self.rows.chooses(&last.packet, of_call)
     }
 
     /// Judges the last line of a trace, the next one: whether it writes a row that is told of; none where it writes no

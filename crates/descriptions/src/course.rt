@@ -5,7 +5,7 @@ ghost use Rattle.line_model.specs.basics.Records.{Item};
 ghost use Rattle.line_model.specs.declared.interface.Interface.{Interface as AnyInterface};
 ghost use Rattle.line_model.specs.observer.Calls.{all_lengths};
 ghost use Rattle.restart_epochs.specs.Cutting.{observer};
-ghost use Rattle.live_report.specs.LastRows.{IsLastRow};
+ghost use Rattle.live_report.specs.JudgedRows.{IsJudgedRow, taker};
 ghost use Rattle.live_report.specs.Uncounted.{reason_at};
 ghost use Rattle.descriptions.specs.Facts.{AreFactsOf, IsFateOf, reason_told};
 
@@ -13,13 +13,15 @@ use crate::facts::{
     CallMove, EndedCall, Fate, RowFacts, counted_in, data_header, is_clear, user_data,
 };
 use channel_run::run::Channel;
+use channel_run::status_word::{state_in, view_in};
 use data_transfer::assembler::Assembler;
+use data_transfer::packed::FlowWord;
 use data_transfer::sequence::{DataField, Put, UserData};
 use line_model::event::{Event, How, What};
 use line_model::interface::Interface;
 use line_model::row::ReadRow;
 use line_model::state::{ChannelState, DState, RState, Side};
-use live_report::last_row::{Known, LastRow};
+use live_report::judged_row::{Judge, JudgedRow};
 use live_report::observer::Observer;
 use live_report::uncounted::reason_of;
 use restart_epochs::channel_table::ChannelTable;
@@ -70,22 +72,20 @@ impl<A: Allocator + Copy> Lane<A> {
     }
 
     /// Forgets the sequences that were begun where a row didn't leave the channel in d1.
-    fn settle(&mut self, last: &LastRow) {
-        let Known::Channel(after) = last.after else {
+    fn settle(&mut self, last: &JudgedRow) {
+        let Judge::Channel { before, after, .. } = &last.judge else {
             return;
         };
-        if !is_d1(&last.before) || !is_d1(&last.after) {
-            self.sequences.renew(after.size_t, after.size_n);
+        if !is_d1(before) || !is_d1(after) {
+            let view = view_in(after);
+            self.sequences.renew(view.size_t, view.size_n);
         }
     }
 }
 
-/// Whether a channel was known to be in d1.
-fn is_d1(known: &Known) -> bool {
-    match known {
-        Known::Channel(view) => view.state == ChannelState::Transfer(DState::D1),
-        Known::Restart(_) => false,
-    }
+/// Whether a channel is in d1, by its word.
+fn is_d1(word: &FlowWord) -> bool {
+    state_in(word.owner_bits()) == ChannelState::Transfer(DState::D1)
 }
 
 /// How many calls were opened, and which of them the last row ended.
@@ -100,7 +100,7 @@ impl<A: Allocator + Copy> CallCount<A> {
     fn take(
         &mut self,
         lane: &mut Lane<A>,
-        last: &LastRow,
+        last: &JudgedRow,
         events: &[Event],
     ) -> Result<CallMove, AllocError> {
         let mut calls = CallMove::none();
@@ -173,7 +173,7 @@ impl<A: Allocator + Copy> Course<A> {
         &mut self,
         interface: &Interface,
         octets: &[u8],
-        last: &LastRow,
+        last: &JudgedRow,
         observer: &Observer<A, C>,
     ) -> Result<(), AllocError> {
         self.epoch = self.next_epoch;
@@ -181,7 +181,7 @@ impl<A: Allocator + Copy> Course<A> {
         self.calls.ended.clear();
         self.moved = CallMove::none();
         self.message = None;
-        match last.channel {
+        match last.channel() {
             Some(channel) => {
                 let mut lane = self.lane(channel, interface.size)?;
                 let events = observer.events();
@@ -202,11 +202,11 @@ impl<A: Allocator + Copy> Course<A> {
         &'a self,
         interface: &'a Interface,
         row: &'a ReadRow<A>,
-        last: &'a LastRow,
+        last: &'a JudgedRow,
         observer: &'a Observer<A, C>,
     ) -> RowFacts<'a>
         ensures { (i : AnyInterface) (earlier : List Item) (r : Item)
-            → IsLastRow i earlier r last.now observer.now.events.items
+            → IsJudgedRow i earlier r last.now observer.now.events.items
             → AreFactsOf i earlier r result }
     {
         let events = events_of(last, observer);
@@ -245,7 +245,7 @@ impl<A: Allocator + Copy> Course<A> {
     }
 
     /// Takes a row that the restart machine judged.
-    fn on_interface(&mut self, last: &LastRow) -> Result<(), AllocError> {
+    fn on_interface(&mut self, last: &JudgedRow) -> Result<(), AllocError> {
         if leaves_ready(last) {
             self.end_all()?;
         }
@@ -284,23 +284,23 @@ impl<A: Allocator + Copy> Course<A> {
 
 /// The events of the channel that took a row.
 fn events_of<'a, A: Allocator + Copy, C: Channel<A>>(
-    last: &LastRow,
+    last: &JudgedRow,
     observer: &'a Observer<A, C>,
 ) -> &'a [Event]
-    ensures taken { (k : ℕ) → last.now.channel ≡ Some k → result.now ≡ observer.now.events.items }
-    ensures untaken { last.now.channel ≡ None → result.now ≡ [] }
+    ensures taken { (k : ℕ) → taker last.now.judge ≡ Some k → result.now ≡ observer.now.events.items }
+    ensures untaken { taker last.now.judge ≡ None → result.now ≡ [] }
 {
-    match last.channel {
+    match last.channel() {
         Some(_) => observer.events(),
         None => &[],
     }
 }
 
 /// What became of the data of a row with these events.
-fn fate(last: &LastRow, events: &[Event]) -> Fate
+fn fate(last: &JudgedRow, events: &[Event]) -> Fate
     ensures counted { IsFateOf (all_lengths events.now) result }
     ensures reason { (i : AnyInterface) (earlier : List Item) (r : Item)
-        → IsLastRow i earlier r last.now events.now → (last.now.channel ≡ None → events.now ≡ [])
+        → IsJudgedRow i earlier r last.now events.now → (taker last.now.judge ≡ None → events.now ≡ [])
         → reason_told result ≡ reason_at i (observer i earlier) r }
 {
     match counted_in(events) {
@@ -310,10 +310,10 @@ fn fate(last: &LastRow, events: &[Event]) -> Fate
 }
 
 /// What became of the data of a row that was not counted.
-fn passed_over(last: &LastRow, events: &[Event]) -> Fate
+fn passed_over(last: &JudgedRow, events: &[Event]) -> Fate
     ensures counted { IsFateOf [] result }
     ensures reason { (i : AnyInterface) (earlier : List Item) (r : Item)
-        → IsLastRow i earlier r last.now events.now
+        → IsJudgedRow i earlier r last.now events.now
         → reason_told result ≡ reason_at i (observer i earlier) r }
 {
     match reason_of(last, events) {
@@ -323,12 +323,10 @@ fn passed_over(last: &LastRow, events: &[Event]) -> Fate
 }
 
 /// Whether a row took the restart machine out of r1, so all calls end.
-fn leaves_ready(last: &LastRow) -> bool {
-    match (last.before, last.after) {
-        (Known::Restart(before), Known::Restart(after)) => {
-            before == RState::R1 && after != RState::R1
-        }
-        _ => false,
+fn leaves_ready(last: &JudgedRow) -> bool {
+    match last.judge {
+        Judge::Restart { before, after } => before == RState::R1 && after != RState::R1,
+        Judge::Channel { .. } => false,
     }
 }
 
@@ -337,13 +335,13 @@ fn leaves_ready(last: &LastRow) -> bool {
 fn pad_data<'a>(
     interface: &Interface,
     octets: &'a [u8],
-    last: &LastRow,
+    last: &JudgedRow,
     events: &[Event],
 ) -> Option<DataField<'a>> {
-    let Known::Channel(before) = last.before else {
+    let Judge::Channel { before, .. } = &last.judge else {
         return None;
     };
-    if !before.pad_call || counted_in(events).is_none() {
+    if !view_in(before).pad_call || counted_in(events).is_none() {
         return None;
     }
     let header = data_header(&last.packet)?;

@@ -51,8 +51,8 @@ impl<A: Allocator + Copy> Past<A> {
             return Ok(());
         };
         self.course
-            .take(&interface, read.octets.as_slice(), &last, observer)?;
-        let facts = self.course.facts(&interface, read, &last, observer);
+            .take(&interface, read.octets.as_slice(), last, observer)?;
+        let facts = self.course.facts(&interface, read, last, observer);
         if facts.last.finding.is_some() {
             self.before = Some(Before::of_row(&facts));
         }

@@ -7,10 +7,11 @@ ghost use Rattle.descriptions.specs.Facts.{IsFateOf, reason_told};
 
 use call_accounts::so_far::segments_in;
 use channel_run::run::View;
+use channel_run::status_word::view_in;
 use line_model::event::{Event, How, What};
 use line_model::interface::Interface;
 use line_model::packet::{DataHeader, Packet, PacketKind};
-use live_report::last_row::{Known, LastRow};
+use live_report::judged_row::{Judge, JudgedRow};
 use live_report::uncounted::Reason;
 use packet_decode::decode::header_length;
 
@@ -80,7 +81,7 @@ pub struct RowFacts<'a> {
     /// The octets that are kept of it: of data with Q 0 its header, else all.
     pub octets: &'a [u8],
     /// The row as the observer judged it.
-    pub last: &'a LastRow,
+    pub last: &'a JudgedRow,
     /// The stretch between restarts that it stands in.
     pub epoch: u32,
     /// The events of the logical channel that took it.
@@ -96,17 +97,17 @@ pub struct RowFacts<'a> {
 impl RowFacts<'_> {
     /// What was known before it of the logical channel that took it.
     pub fn view_before(&self) -> Option<View> {
-        match self.last.before {
-            Known::Channel(view) => Some(view),
-            Known::Restart(_) => None,
+        match &self.last.judge {
+            Judge::Channel { before, .. } => Some(view_in(before)),
+            Judge::Restart { .. } => None,
         }
     }
 
     /// Whether the call that was open before it asked fast select.
     pub fn was_fast(&self) -> bool {
-        match self.last.before {
-            Known::Channel(view) => view.fast,
-            Known::Restart(_) => false,
+        match self.view_before() {
+            Some(view) => view.fast,
+            None => false,
         }
     }
 }

@@ -5,14 +5,15 @@ ghost use Rattle.line_model.specs.basics.Records.{Item};
 ghost use Rattle.line_model.specs.declared.interface.Interface.{Interface};
 ghost use Rattle.line_model.specs.observer.Report.{code_word};
 ghost use Rattle.descriptions.specs.Facts.{AreFactsOf, IsFateOf};
-ghost use Rattle.descriptions.specs.RowObjects.{channel_word, counted_word, finding_word, joined, known_word, named_channel, number_word, row_head, state_members};
+ghost use Rattle.descriptions.specs.RowObjects.{channel_word, counted_word, finding_word, joined, named_channel, number_word, row_head, state_members, word_after, word_before};
 
 use crate::facts::{Fate, RowFacts};
+use channel_run::status_word::state_in;
 use itoa::Buffer;
 use line_model::finding::{Code, Finding};
 use line_model::packet::Packet;
 use line_model::state::ChannelState;
-use live_report::last_row::Known;
+use live_report::judged_row::Judge;
 use report_merge::words::{pad_word, side_word, state_word};
 use std::alloc::{AllocError, Allocator};
 
@@ -38,13 +39,17 @@ fn channel_word(state: ChannelState) -> &'static [u8]
     }
 }
 
-/// The name of the state that is known.
-fn known_word(known: &Known) -> &'static [u8]
-    ensures { result.now ≡ known_word known.now }
+/// The names of the states before and after a row.
+fn state_words(judge: &Judge) -> (&'static [u8], &'static [u8])
+    ensures before { result.0.now ≡ word_before judge.now }
+    ensures after { result.1.now ≡ word_after judge.now }
 {
-    match known {
-        Known::Restart(state) => state_word(state.name()),
-        Known::Channel(view) => channel_word(view.state),
+    match judge {
+        Judge::Restart { before, after } => (state_word(before.name()), state_word(after.name())),
+        Judge::Channel { before, after, .. } => (
+            channel_word(state_in(before.owner_bits())),
+            channel_word(state_in(after.owner_bits())),
+        ),
     }
 }
 
@@ -62,11 +67,12 @@ fn channel_digits<'a>(packet: &Packet, buffer: &'a mut Buffer) -> &'a [u8]
 fn append_states<A: Allocator>(facts: &RowFacts<'_>, out: &mut Vec<u8, A>) -> Result<(), AllocError>
     ensures { (r : Item) → facts.now.last.now.number ≡ r.number → facts.now.last.now.side ≡ r.side
         → OnOk result (out.new.items ≡ out.old.items ++ state_members r.number r.side
-        (named_channel facts.now.last.now.packet) (known_word facts.now.last.now.before)
-        (known_word facts.now.last.now.after)) }
+        (named_channel facts.now.last.now.packet) (word_before facts.now.last.now.judge)
+        (word_after facts.now.last.now.judge)) }
 {
     let mut number = Buffer::new();
     let mut channel = Buffer::new();
+    let (before, after) = state_words(&facts.last.judge);
     append_words(
         &[
             b"{\"line\":\"row\",\"packet\":",
@@ -76,9 +82,9 @@ fn append_states<A: Allocator>(facts: &RowFacts<'_>, out: &mut Vec<u8, A>) -> Re
             b"\",\"channel\":",
             channel_digits(&facts.last.packet, &mut channel),
             b",\"before\":\"",
-            known_word(&facts.last.before),
+            before,
             b"\",\"after\":\"",
-            known_word(&facts.last.after),
+            after,
             b"\",\"counted\":",
         ],
         out,

@@ -6,11 +6,12 @@ use crate::json::{Json, Out};
 use crate::packet_members::{packet_members, settings_member};
 use crate::packet_types::packet_type;
 use crate::prose::Prose;
-use crate::times::{BILLIONTHS, Time};
+use crate::times::{BILLIONTHS, Recorded, Time};
+use channel_run::status_word::view_in;
 use explanations::lookup::code_row;
 use line_model::event::{Event, How, What};
 use line_model::finding::Finding;
-use live_report::last_row::Known;
+use live_report::judged_row::Judge;
 use live_report::uncounted::Reason;
 
 /// The members of a row's object after its finding's code.
@@ -18,7 +19,7 @@ pub fn row_members<O: Out>(
     json: &mut Json<O>,
     facts: &RowFacts<'_>,
     ended: &[EndedCall],
-    time: Option<Time>,
+    recorded: Recorded,
     digits: Option<&[u8]>,
 ) {
     if let Some(finding) = &facts.last.finding {
@@ -29,10 +30,7 @@ pub fn row_members<O: Out>(
     call_members(json, facts);
     ends_member(json, ended);
     not_counted_member(json, facts);
-    match time {
-        Some(_) => time_member(json, ",\"time\":", time),
-        None => json.member(",\"time\":null"),
-    }
+    recorded_members(json, recorded);
     json.word_member(
         ",\"type\":",
         packet_type(facts.last.side, &facts.last.packet),
@@ -61,9 +59,9 @@ fn finding_members<O: Out>(json: &mut Json<O>, facts: &RowFacts<'_>, finding: &F
 
 /// Whether the DCE owes an indication on the channel after the row.
 fn is_owed(facts: &RowFacts<'_>) -> bool {
-    match facts.last.after {
-        Known::Channel(view) => view.owed,
-        Known::Restart(_) => false,
+    match &facts.last.judge {
+        Judge::Channel { after, .. } => view_in(after).owed,
+        Judge::Restart { .. } => false,
     }
 }
 
@@ -140,6 +138,17 @@ fn not_counted_member<O: Out>(json: &mut Json<O>, facts: &RowFacts<'_>) {
     match facts.fate {
         Fate::NotCounted(reason) => json.word_member(",\"not_counted\":", reason_word(reason)),
         _ => json.member(",\"not_counted\":null"),
+    }
+}
+
+/// When a row was recorded, and its frame where that is known.
+fn recorded_members<O: Out>(json: &mut Json<O>, recorded: Recorded) {
+    match recorded.time {
+        Some(_) => time_member(json, ",\"time\":", recorded.time),
+        None => json.member(",\"time\":null"),
+    }
+    if let Some(frame) = recorded.frame {
+        json.number_member(",\"frame\":", frame);
     }
 }
 

@@ -22,7 +22,7 @@ use crate::line_room::LineRoom;
 use crate::report_objects::write_report_objects;
 use crate::row_head::append_head;
 use crate::row_members::row_members;
-use crate::times::Time;
+use crate::times::Recorded;
 use crate::usual_objects::{UsualRow, usual_object};
 use annotated_trace::notes::append_plain;
 use annotated_trace::printer::Printer;
@@ -55,8 +55,8 @@ fn append_object<A: Allocator>(
 struct Past<A: Allocator> {
     course: Course<A>,
     rest: Rest<A>,
-    /// The time of the next row.
-    time: Option<Time>,
+    /// When and where the next row was recorded.
+    recorded: Option<Recorded>,
     /// Room for the members of an object.
     members: Vec<u8, A>,
 }
@@ -70,13 +70,13 @@ impl<A: Allocator + Copy> Past<A> {
                 calls: Calls::new(alloc),
                 uncounted: Uncounted::none(),
             },
-            time: None,
+            recorded: None,
             members: Vec::new(alloc),
         }
     }
 
-    /// The object of the last row of a trace, where it is told of, is as most are, and has no time. Such a row changes nothing
-    /// that is remembered.
+    /// The object of the last row of a trace, where it is printed, is of the common case, and no comment says when or where
+    /// it was recorded. Such a row changes nothing that is remembered.
     #[inline(always)]
     fn usual_object<'r, C: Channel<A>>(
         &self,
@@ -97,23 +97,23 @@ impl<A: Allocator + Copy> Past<A> {
         let Some(observer) = trace.observer() else {
             return None;
         };
-        let Some(last) = observer.kept_row() else {
+        let Some(row) = observer.last_row() else {
             return None;
         };
-        let Some(row) = last.quiet() else {
+        let Some(channel) = row.channel() else {
             return None;
         };
         let Some(digits) = last_digits(line, trace.row().length) else {
             return None;
         };
-        if self.time.is_some() {
+        if self.recorded.is_some() {
             return None;
         }
         let usual = UsualRow {
             row,
             events: observer.events(),
             epoch: observer.epoch(),
-            call: self.course.call_on(row.channel),
+            call: self.course.call_on(channel),
             digits,
         };
         usual_object(room, &usual)
@@ -134,7 +134,7 @@ impl<A: Allocator + Copy> Past<A> {
             (HasAppended (IsObjectWhere told i (items_of i (rows_in before)) (item_of i r)) out.old.items out.new.items) }
         ensures untold { told ≡ false → out.new.items ≡ out.old.items }
     {
-        let time = self.time.take();
+        let recorded = self.recorded.take().unwrap_or(Recorded::UNKNOWN);
         let Some(observer) = trace.observer() else {
             return Ok(());
         };
@@ -146,15 +146,17 @@ impl<A: Allocator + Copy> Past<A> {
             return Ok(());
         };
         self.course
-            .take(&interface, row.octets.as_slice(), &last, observer)?;
-        let facts = self.course.facts(&interface, row, &last, observer);
-        self.rest.calls.take(&facts, self.course.ended(), time)?;
+            .take(&interface, row.octets.as_slice(), last, observer)?;
+        let facts = self.course.facts(&interface, row, last, observer);
+        self.rest
+            .calls
+            .take(&facts, self.course.ended(), recorded.time)?;
         self.rest.uncounted = observer.uncounted();
         if !told {
             return Ok(());
         }
         let ended = self.course.ended();
-        write_members(&facts, ended, time, line, &mut self.members)?;
+        write_members(&facts, ended, recorded, line, &mut self.members)?;
         append_object(&facts, self.members.as_slice(), out)
     }
 }
@@ -163,7 +165,7 @@ impl<A: Allocator + Copy> Past<A> {
 fn write_members<A: Allocator>(
     facts: &RowFacts<'_>,
     ended: &[EndedCall],
-    time: Option<Time>,
+    recorded: Recorded,
     line: &[u8],
     members: &mut Vec<u8, A>,
 ) -> Result<(), AllocError> {
@@ -172,7 +174,7 @@ fn write_members<A: Allocator>(
         out: Growing::new(members),
     };
     let digits = last_digits(line, facts.length);
-    row_members(&mut json, facts, ended, time, digits);
+    row_members(&mut json, facts, ended, recorded, digits);
     json.out.answer()
 }
 
@@ -280,8 +282,8 @@ impl<A: Allocator + Copy, C: Channel<A>> Printer<A, Live<A, C>> for RowObjects<A
         match self.chosen.judge_line(trace) {
             Some(told) => self.print_row(trace, line, told, out),
             None => {
-                if let Some(time) = Time::of_comment(line) {
-                    self.past.time = Some(time);
+                if let Some(recorded) = Recorded::of_comment(line) {
+                    self.past.recorded = Some(recorded);
                 }
                 Ok(())
             }

@@ -5,8 +5,9 @@ use crate::facts::{Fate, RowFacts};
 use crate::messages::message;
 use crate::packets::packet;
 use crate::prose::Page;
+use channel_run::status_word::state_in;
 use line_model::event::What;
-use live_report::last_row::Known;
+use live_report::judged_row::Judge;
 use live_report::uncounted::Reason;
 
 /// Says what a row is, and on a further line what it did.
@@ -23,12 +24,13 @@ pub fn row<P: Page>(facts: &RowFacts<'_>, notes: &mut P) {
 
 /// Says how the state changed.
 fn moved<P: Page>(facts: &RowFacts<'_>, notes: &mut P) {
-    match (facts.last.before, facts.last.after) {
-        (Known::Restart(before), Known::Restart(after)) => restart_move(notes, before, after),
-        (Known::Channel(before), Known::Channel(after)) => {
-            channel_move(notes, before.state, after.state)
-        }
-        _ => {}
+    match &facts.last.judge {
+        Judge::Restart { before, after } => restart_move(notes, *before, *after),
+        Judge::Channel { before, after, .. } => channel_move(
+            notes,
+            state_in(before.owner_bits()),
+            state_in(after.owner_bits()),
+        ),
     }
 }
 

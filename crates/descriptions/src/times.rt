@@ -1,4 +1,4 @@
-//! Times of rows, which stand in comments before them.
+//! Times and frames of rows, which stand in comments before them.
 
 use trace_text::cuts::split_at_byte;
 
@@ -24,20 +24,51 @@ pub const BILLIONTHS: [u32; 9] = [
     1,
 ];
 
-impl Time {
-    /// The time that a line says which is a comment `#@ SECONDS`: at most twelve digits, and at most nine more after a
-    /// point. Another comment says none.
-    pub fn of_comment(line: &[u8]) -> Option<Time> {
+/// When and where a row was recorded, as the comment before it says.
+#[derive(Clone, Copy)]
+pub struct Recorded {
+    /// The time.
+    pub time: Option<Time>,
+    /// The number of the frame that holds the last octet, from 1.
+    pub frame: Option<u64>,
+}
+
+impl Recorded {
+    /// No comment says when or where.
+    pub const UNKNOWN: Recorded = Recorded {
+        time: None,
+        frame: None,
+    };
+
+    /// Reads a comment `#@ SECONDS` or `#@ SECONDS FRAME`, where another word than a time in place of SECONDS says none.
+    /// Returns `None` for any other line.
+    pub fn of_comment(line: &[u8]) -> Option<Recorded> {
         let [b'#', b'@', b' ', words @ ..] = line else {
             return None;
         };
-        let digits = match words {
-            [digits @ .., b'\r', b'\n'] => digits,
-            [digits @ .., b'\n'] => digits,
-            digits => digits,
+        let words = match words {
+            [words @ .., b'\r', b'\n'] => words,
+            [words @ .., b'\n'] => words,
+            words => words,
         };
-        let (whole, part) = split_at_point(digits);
-        let seconds = whole_seconds(whole)?;
+        match split_at_byte(words, b' ') {
+            Some((time, frame)) => Some(Recorded {
+                time: Time::of_word(time),
+                frame: Some(frame_number(frame)?),
+            }),
+            None => Some(Recorded {
+                time: Some(Time::of_word(words)?),
+                frame: None,
+            }),
+        }
+    }
+}
+
+impl Time {
+    /// Reads a time: one to twelve digits, and perhaps a point with one to nine more.
+    fn of_word(word: &[u8]) -> Option<Time> {
+        let (whole, part) = split_at_point(word);
+        let seconds = whole_number(whole)?;
         let billionths = match part {
             Some(part) => part_of_second(part)?,
             None => 0,
@@ -84,17 +115,25 @@ fn digit(byte: u8) -> Option<u8> {
     }
 }
 
-/// A number of one to twelve digits.
-fn whole_seconds(digits: &[u8]) -> Option<u64> {
+/// Reads a number of one to twelve digits.
+fn whole_number(digits: &[u8]) -> Option<u64> {
     if digits.is_empty() || digits.len() > 12 {
         return None;
     }
-    let mut seconds: u64 = 0;
+    let mut number: u64 = 0;
     for byte in digits {
         let value = digit(*byte)?;
-        seconds = seconds.saturating_mul(10).saturating_add(u64::from(value));
+        number = number.saturating_mul(10).saturating_add(u64::from(value));
     }
-    Some(seconds)
+    Some(number)
+}
+
+/// Reads the number of a frame: one to twelve digits, not 0.
+fn frame_number(digits: &[u8]) -> Option<u64> {
+    match whole_number(digits)? {
+        0 => None,
+        number => Some(number),
+    }
 }
 
 /// Up to nine digits after the point.

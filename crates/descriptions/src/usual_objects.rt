@@ -1,27 +1,29 @@
 //! The objects of the rows that are as most are: data with Q 0 and receive ready in d1, with which nothing is wrong.
 
-ghost use Rattle.std.specs.Prelude.{◌≡◌, ℕ, ◌++◌, List, IfSome, codes};
+ghost use Rattle.std.specs.Prelude.{◌≡◌, ℕ, ◌++◌, List, IfSome, Some, codes};
 ghost use Rattle.std.specs.Bool.{OnTrue};
 ghost use Rattle.line_model.specs.observer.Calls.{all_lengths};
 ghost use Rattle.line_model.specs.observer.Report.{side_word};
 ghost use Rattle.annotated_trace.specs.Annotation.{IsOneLine};
 ghost use Rattle.descriptions.specs.Facts.{IsFateOf};
 ghost use Rattle.descriptions.specs.Lines.{Puts, PutsPlain};
-ghost use Rattle.descriptions.specs.RowObjects.{counted_word};
-ghost use Rattle.descriptions.specs.UsualObjects.{IsUsualObject, amount_word, usual_head};
+ghost use Rattle.descriptions.specs.RowObjects.{counted_word, named_channel};
+ghost use Rattle.descriptions.specs.UsualObjects.{IsUsualObject, amount_word, is_quiet, is_settled, usual_head};
 
 use crate::facts::{Fate, counted_in};
 use crate::line_room::LineRoom;
+use channel_run::status_word::{bit, state_in};
+use data_transfer::packed::FlowWord;
 use line_model::event::Event;
-use line_model::packet::{DataHeader, PacketKind};
-use line_model::state::Side;
-use live_report::last_row::QuietRow;
+use line_model::packet::{DataHeader, Packet, PacketKind};
+use line_model::state::{ChannelState, DState, Side};
+use live_report::judged_row::{Judge, JudgedRow};
 
-/// A row that found nothing in d1, and what its object says of it.
+/// A row on a logical channel, and what its object says of it.
 #[derive(Clone, Copy)]
 pub struct UsualRow<'a> {
     /// The row.
-    pub row: QuietRow,
+    pub row: &'a JudgedRow,
     /// The events of its channel.
     pub events: &'a [Event],
     /// The stretch between restarts that it stands in.
@@ -30,6 +32,31 @@ pub struct UsualRow<'a> {
     pub call: u32,
     /// The hex digits of its octets, as its line has them.
     pub digits: &'a [u8],
+}
+
+/// The bit of a channel's word that is set where the DCE owes an indication.
+const OWED: u32 = 5;
+
+/// Whether a channel is in d1, and the DCE owes no indication, by its word.
+#[inline(always)]
+fn is_settled(word: &FlowWord) -> bool
+    ensures { result ≡ is_settled word.now }
+{
+    let owner_bits = word.owner_bits();
+    state_in(owner_bits) == ChannelState::Transfer(DState::D1) && !bit(owner_bits, OWED)
+}
+
+/// Whether a row found nothing and left its channel in d1, where the DCE owed no indication before and after it.
+#[inline(always)]
+fn is_quiet(row: &JudgedRow) -> bool
+    ensures { result ≡ is_quiet row.now }
+{
+    match &row.judge {
+        Judge::Restart { .. } => false,
+        Judge::Channel { before, after, .. } => {
+            row.finding.is_none() && is_settled(before) && is_settled(after)
+        }
+    }
 }
 
 /// The members from the call of a data packet to its digits.
@@ -148,14 +175,14 @@ fn side_member(side: Side) -> &'static [u8]
 }
 
 /// Puts the beginning of the object of a row.
-fn put_head(line: &mut LineRoom, row: &QuietRow, fate: Fate)
-    ensures { (lengths : List ℕ) → IsFateOf lengths fate
+fn put_head(line: &mut LineRoom, row: &JudgedRow, channel: u16, fate: Fate)
+    ensures { (lengths : List ℕ) → IsFateOf lengths fate → named_channel row.now.packet ≡ Some channel
         → Puts (usual_head row.now lengths) line.old line.new }
 {
     line.put(b",\"finding\":null");
     put_counted(line, fate);
     line.put(b",\"before\":\"d1\",\"after\":\"d1\",\"counted\":");
-    line.number(u64::from(row.channel));
+    line.number(u64::from(channel));
     line.put(side_member(row.side));
     line.number(u64::from(row.number));
     line.put(b"{\"line\":\"row\",\"packet\":");
@@ -175,19 +202,22 @@ fn usual_fate(events: &[Event]) -> Fate
 #[inline(always)]
 pub fn usual_object<'r>(room: &'r mut LineRoom, usual: &UsualRow<'_>) -> Option<&'r [u8]>
     ensures { IfSome result (λ object. IsOneLine usual.now.digits.now
-        → IsUsualObject usual.now.row usual.now.events.now object.now) }
+        → IsUsualObject usual.now.row.now usual.now.events.now object.now) }
 {
-    if usual.events.len() > 1 {
+    let Packet::Channel { channel, kind } = &usual.row.packet else {
+        return None;
+    };
+    if !is_quiet(usual.row) || usual.events.len() > 1 {
         return None;
     }
     let fate = usual_fate(usual.events);
     room.clear();
     room.put(b"}\n");
-    let is_usual = put_packet(room, &usual.row.kind, fate, usual.digits);
+    let is_usual = put_packet(room, kind, fate, usual.digits);
     if !is_usual {
         return None;
     }
     put_place(room, usual.epoch, usual.call);
-    put_head(room, &usual.row, fate);
+    put_head(room, usual.row, *channel, fate);
     room.line()
 }

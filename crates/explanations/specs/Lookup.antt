@@ -20,6 +20,10 @@ keys_for (Pad x) = message_keys
 abbrev pub code_key : Code → Option Key
 code_key c = with_word (code_word c) (keys_for c)
 
+-- what the row of a cause of a clear, a reset or a restart explains
+abbrev pub cause_key : List Key → ℕ → Option Key
+cause_key keys n = with_word (decimal n) keys
+
 -- what the row of a parameter explains
 abbrev pub parameter_key : ℕ → Option Key
 parameter_key n = with_word (decimal n) parameter_keys

@@ -127,11 +127,26 @@ status_keys = all_of topic.TheVariants.Status (map decimal (0 ∷ 1 ∷ 2 ∷ 3 
 abbrev pub parameter_keys : List Key
 parameter_keys = all_of topic.TheVariants.Parameter (map decimal (range_with_len 1 22))
 
+-- the causes of clears, of resets and of restarts
+abbrev pub clearing_cause_keys : List Key
+clearing_cause_keys = all_of topic.TheVariants.ClearingCause (map decimal (0 ∷ 1 ∷ 3 ∷ 5 ∷ 9 ∷ 11 ∷ 13 ∷ 17 ∷ 19 ∷ 21 ∷ 25 ∷ 33 ∷ 41 ∷ 57 ∷ []))
+
+abbrev pub resetting_cause_keys : List Key
+resetting_cause_keys = all_of topic.TheVariants.ResettingCause (map decimal (0 ∷ 1 ∷ 3 ∷ 5 ∷ 7 ∷ 9 ∷ 15 ∷ 17 ∷ 29 ∷ []))
+
+abbrev pub restarting_cause_keys : List Key
+restarting_cause_keys = all_of topic.TheVariants.RestartingCause (map decimal (0 ∷ 1 ∷ 3 ∷ 7 ∷ 127 ∷ []))
+
+-- the terms
+abbrev pub term_keys : List Key
+term_keys = all_of topic.TheVariants.Term (codes "window" ∷ codes "frame" ∷ [])
+
 -- all words that are explained, in the order of the table; a word may stand more than once
 abbrev pub table_keys : List Key
 table_keys =
     field_keys ++ report_field_keys ++ state_keys ++ flow_code_keys ++ packet_code_keys ++ message_keys ++ header_word_keys
-    ++ kind_keys ++ refusal_keys ++ status_keys ++ parameter_keys
+    ++ kind_keys ++ refusal_keys ++ status_keys ++ clearing_cause_keys ++ resetting_cause_keys ++ restarting_cause_keys ++ term_keys
+    ++ parameter_keys
 
 -- the rows of the table, section after section
 abbrev pub rows : List (Bor (List Explanation)) → List Explanation
@@ -154,6 +169,10 @@ topic_name topic.TheVariants.Status = codes "status"
 topic_name topic.TheVariants.Parameter = codes "parameter"
 topic_name topic.TheVariants.Field = codes "field"
 topic_name topic.TheVariants.Header = codes "header"
+topic_name topic.TheVariants.ClearingCause = codes "cause"
+topic_name topic.TheVariants.ResettingCause = codes "cause"
+topic_name topic.TheVariants.RestartingCause = codes "cause"
+topic_name topic.TheVariants.Term = codes "term"
 
 -- a word of a topic, as it is asked for with its topic
 abbrev pub of_topic : (topic word : List ℕ) → List ℕ

@@ -2,7 +2,7 @@
 use Rattle.std.specs.Prelude.{ℕ, List, [], ◌∷◌, ◌++◌, flat_map, codes}
 use Rattle.explanations.specs.declared.explanation.Explanation.{Explanation}
 use Rattle.explanations.specs.declared.explanation.Topic.{Topic}
-use Rattle.explanations.specs.declared.explanation.Topic.TheVariants.{Line, Side, Direction, Ending, Setting, Absent, State, Code, Message, Kind, Refusal, Status, Parameter, Field, Header}
+use Rattle.explanations.specs.declared.explanation.Topic.TheVariants.{Line, Side, Direction, Ending, Setting, Absent, State, Code, Message, Kind, Refusal, Status, Parameter, Field, Header, ClearingCause, ResettingCause, RestartingCause, Term}
 
 -- what is told of a word of a topic
 abbrev pub topic_word : Topic → List ℕ
@@ -21,6 +21,10 @@ topic_word Status = codes "exit status"
 topic_word Parameter = codes "PAD parameter"
 topic_word Field = codes "field of the report"
 topic_word Header = codes "word of the header"
+topic_word ClearingCause = codes "cause of a clear"
+topic_word ResettingCause = codes "cause of a reset"
+topic_word RestartingCause = codes "cause of a restart"
+topic_word Term = codes "term"
 
 -- the installed document that has the words of a topic in their place
 abbrev pub topic_document : Topic → List ℕ

@@ -8,7 +8,7 @@ mod ranges;
 mod rows;
 mod sentence;
 
-use crate::advice::files::file_advice;
+use crate::advice::files::{file_advice, other_text_advice};
 use crate::advice::header::headers_advice;
 use crate::advice::rows::rows_advice;
 use crate::advice::sentence::fixed_sentence;
@@ -59,6 +59,9 @@ pub fn advice(alloc: Global, kind: Kind, text: &[u8], whole: bool) -> Result<Str
     if whole {
         if let Some(sentence) = file_advice(text) {
             return String::from_str(alloc, sentence);
+        }
+        if let Some(sentence) = other_text_advice(alloc, text)? {
+            return Ok(sentence);
         }
     }
     match lines_advice(alloc, kind, text, whole)? {

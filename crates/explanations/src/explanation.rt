@@ -33,6 +33,14 @@ pub enum Topic {
     Field,
     /// A word of a trace's header.
     Header,
+    /// The cause of a clear.
+    ClearingCause,
+    /// The cause of a reset.
+    ResettingCause,
+    /// The cause of a restart.
+    RestartingCause,
+    /// A term of the documents and the options.
+    Term,
 }
 
 impl Topic {
@@ -60,6 +68,8 @@ impl Topic {
             Topic::Parameter => "parameter",
             Topic::Field => "field",
             Topic::Header => "header",
+            Topic::ClearingCause | Topic::ResettingCause | Topic::RestartingCause => "cause",
+            Topic::Term => "term",
         }
     }
 
@@ -83,6 +93,10 @@ impl Topic {
             Topic::Parameter => "PAD parameter",
             Topic::Field => "field of the report",
             Topic::Header => "word of the header",
+            Topic::ClearingCause => "cause of a clear",
+            Topic::ResettingCause => "cause of a reset",
+            Topic::RestartingCause => "cause of a restart",
+            Topic::Term => "term",
         }
     }
 

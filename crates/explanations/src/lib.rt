@@ -1,8 +1,9 @@
-//! The words of the report, of a header and of the refusals, and what each of them means; and what is wrong with a faulty
+//! The words of the report, of a header and of the refusals, causes and terms, and what each of them means; and what is wrong with a faulty
 //! line, in a sentence.
 #![tactic(auto)]
 
 pub mod advice;
+mod clearing_causes;
 pub mod explanation;
 mod fields;
 mod flow_codes;
@@ -14,7 +15,10 @@ mod packet_codes;
 mod parameters;
 mod refusals;
 mod report_fields;
+mod resetting_causes;
+mod restarting_causes;
 mod states;
 mod statuses;
 pub mod table;
+mod terms;
 pub mod text;

@@ -3,6 +3,7 @@
 ghost use Rattle.std.specs.Prelude.{◌≡◌, ◌++◌, IfOk, OnOk, map};
 ghost use Rattle.explanations.specs.Table.{explanations_of, is_of, key, of_topic, rows, table_keys};
 
+use crate::clearing_causes::clearing_causes;
 use crate::explanation::Explanation;
 use crate::fields::fields;
 use crate::flow_codes::flow_codes;
@@ -13,15 +14,18 @@ use crate::packet_codes::packet_codes;
 use crate::parameters::parameters;
 use crate::refusals::refusals;
 use crate::report_fields::report_fields;
+use crate::resetting_causes::resetting_causes;
+use crate::restarting_causes::restarting_causes;
 use crate::states::states;
 use crate::statuses::statuses;
+use crate::terms::terms;
 use std::alloc::{AllocError, Global};
 
 /// How many sections the table has.
-pub const SECTIONS: usize = 11;
+pub const SECTIONS: usize = 15;
 
 /// The table: its sections, each the words of one part of what the program prints or reads. It explains all words of the
-/// report, of a header and of the refusals, and no other.
+/// report, of a header and of the refusals, the causes and some terms, and no other.
 pub fn all() -> [&'static [Explanation]; SECTIONS]
     ensures { map key (rows result) ≡ table_keys }
 {
@@ -36,6 +40,10 @@ pub fn all() -> [&'static [Explanation]; SECTIONS]
         kinds(),
         refusals(),
         statuses(),
+        clearing_causes(),
+        resetting_causes(),
+        restarting_causes(),
+        terms(),
         parameters(),
     ]
 }

@@ -1,7 +1,7 @@
 -- Rows in two lists: what is appended to both comes to stand behind the others.
-use Rattle.std.proofs.Common.{◌≡◌, ◌∙◌, ap, ap₂, refl, sym, ℕ, suc, ◌+◌, ◌≤◌, List, [], ◌∷◌, ◌++◌, length, length-append, length-drop, zero, take, drop, arith}
+use Rattle.std.proofs.Common.{◌≡◌, ◌∙◌, ap, ap₂, refl, ℕ, suc, ◌+◌, ◌≤◌, List, [], ◌∷◌, ◌++◌, length, length-append, length-drop, take, drop, arith}
 use Rattle.std.proofs.Math.Seq.{take-length}
-use Rattle.std.proofs.lemmas.List.{take-append-le, drop-append-le, take-take, drop-take, drop-drop}
+use Rattle.std.proofs.lemmas.List.{take-append-le, drop-append-le}
 use Rattle.std.proofs.lemmas.List.Sums.{sum_by-append, sum_by-cons}
 use Rattle.line_model.specs.basics.Records.{Item}
 use Rattle.line_model.specs.basics.Items.{items_of, octets_of}
@@ -35,33 +35,6 @@ items-push (g ∷ hs) os h more e len =
     let few : kept g ≤ length os = omega (arith, e, first) in
     ap₂ (λ l rest. item_of g l ∷ rest) (take-append-le (kept g) os more few)
     (ap (items_of (hs ++ h ∷ [])) (drop-append-le (kept g) os more few) ∙ items-push hs (drop (kept g) os) h more (behind_first g hs os e) len)
-
--- rows that are appended with their octets stand behind the others
-pub items-append : (hs : List Head) (os : List ℕ) (gs : List Head) (more : List ℕ) → octets_of hs ≡ length os → items_of (hs ++ gs) (os ++ more) ≡ items_of hs os ++ items_of gs more
-items-append [] os gs more e = ap (items_of gs) (none_left os more e)
-items-append (h ∷ hs) os gs more e =
-    let first : octets_of (h ∷ hs) ≡ kept h + octets_of hs = sum_by-cons kept h hs in
-    let few : kept h ≤ length os = omega (arith, e, first) in
-    ap₂ (λ l rest. item_of h l ∷ rest) (take-append-le (kept h) os more few)
-    (ap (items_of (hs ++ gs)) (drop-append-le (kept h) os more few) ∙ items-append hs (drop (kept h) os) gs more (behind_first h hs os e))
-
--- the first rows have the first octets, and the others those after them
-pub items-take : (n : ℕ) (hs : List Head) (os : List ℕ) → octets_of hs ≡ length os → items_of (take n hs) (take (octets_of (take n hs)) os) ≡ take n (items_of hs os)
-items-take zero hs os e = refl
-items-take (suc n) [] os e = refl
-items-take (suc n) (h ∷ hs) os e =
-    let first : octets_of (h ∷ hs) ≡ kept h + octets_of hs = sum_by-cons kept h hs in
-    let some : octets_of (take (suc n) (h ∷ hs)) ≡ kept h + octets_of (take n hs) = sum_by-cons kept h (take n hs) in
-    let few : kept h ≤ octets_of (take (suc n) (h ∷ hs)) = omega (arith, some) in
-    ap₂ (λ l rest. item_of h l ∷ rest) (take-take (kept h) (octets_of (take (suc n) (h ∷ hs))) os few)
-    (ap (λ m. items_of (take n hs) (drop (kept h) (take m os))) some ∙ ap (items_of (take n hs)) (drop-take (kept h) (octets_of (take n hs)) os) ∙ items-take n hs (drop (kept h) os) (behind_first h hs os e))
-
-pub items-drop : (n : ℕ) (hs : List Head) (os : List ℕ) → octets_of hs ≡ length os → items_of (drop n hs) (drop (octets_of (take n hs)) os) ≡ drop n (items_of hs os)
-items-drop zero hs os e = refl
-items-drop (suc n) [] os e = refl
-items-drop (suc n) (h ∷ hs) os e =
-    let some : octets_of (take (suc n) (h ∷ hs)) ≡ kept h + octets_of (take n hs) = sum_by-cons kept h (take n hs) in
-    ap (λ m. items_of (drop n hs) (drop m os)) some ∙ ap (items_of (drop n hs)) (sym (drop-drop (octets_of (take n hs)) (kept h) os)) ∙ items-drop n hs (drop (kept h) os) (behind_first h hs os e)
 
 -- both lists grow by as much
 pub octets-push : (hs : List Head) (os : List ℕ) (h : Head) (more : List ℕ) → octets_of hs ≡ length os → kept h ≡ length more → octets_of (hs ++ h ∷ []) ≡ length (os ++ more)

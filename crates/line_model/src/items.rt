@@ -1,10 +1,7 @@
 //! What rows say, in two lists: what stands before the octets of each row, and the octets that are kept.
 
-ghost use Rattle.std.specs.Prelude.{◌≡◌, ◌<◌, ◌^◌, ◌++◌, ◌∷◌, [], length, take, drop, OnErr, OnOk, IfErr, IfOk, ◌==◌};
-ghost use Rattle.line_model.specs.basics.Items.{octets_of};
-ghost use Rattle.line_model.specs.declared.fault.Fault.TheVariants.{Memory};
+ghost use Rattle.std.specs.Prelude.{◌≡◌, ◌++◌, ◌∷◌, [], length, OnErr, OnOk, IfOk, ◌==◌};
 
-use crate::fault::Fault;
 use crate::packet::Packet;
 use crate::state::Side;
 use std::alloc::{AllocError, Allocator, Global};
@@ -20,18 +17,6 @@ pub struct Head {
     length: u32,
     /// How many of them are kept.
     kept: u32,
-}
-
-/// How many octets of some rows are kept.
-fn kept_of_all(heads: &[Head]) -> usize
-    requires { octets_of heads.now < 2 ^ 64 }
-    ensures { result ≡ octets_of heads.now }
-{
-    let mut kept = 0;
-    for head in heads {
-        kept += head.kept as usize;
-    }
-    kept
 }
 
 /// What rows say, in order. It takes memory for all heads and for all octets that are kept, and none for a single row.
@@ -101,16 +86,14 @@ impl<'a> Model for Iter<'a> {
 }
 
 impl<'a> Iter<'a> {
-    /// Removes the first `count` rows that are left, or all where fewer are left, and returns them.
-    pub fn take_front(&mut self, count: usize) -> Iter<'a>
-        ensures taken { result ≡ take count self.old }
-        ensures left { self.new ≡ drop count self.old }
+    /// No rows.
+    pub(crate) fn none() -> Self
+        ensures { result ≡ [] }
     {
-        let (heads, other_heads) = self.heads.split_at(count.min(self.heads.len()));
-        let (octets, other_octets) = self.octets.split_at(kept_of_all(heads));
-        self.heads = other_heads;
-        self.octets = other_octets;
-        Iter { heads, octets }
+        Iter {
+            heads: [].as_slice(),
+            octets: [].as_slice(),
+        }
     }
 }
 
@@ -196,22 +179,6 @@ impl<A: Allocator> Items<A> {
         });
         Ok(())
     }
-
-    /// Appends the rows that are left of others. Where memory is refused nothing changes.
-    pub fn append(&mut self, rows: &Iter<'_>) -> Result<(), AllocError>
-        ensures ok { OnOk result (self.new ≡ self.old ++ rows.now) }
-        ensures refused { OnErr result (self.new ≡ self.old) }
-    {
-        let count = self.heads.len();
-        self.heads.extend_from_slice(rows.heads)?;
-        match self.octets.extend_from_slice(rows.octets) {
-            Ok(()) => Ok(()),
-            Err(error) => {
-                self.heads.truncate(count);
-                Err(error)
-            }
-        }
-    }
 }
 
 impl<A: Allocator + Copy> Items<A> {
@@ -225,10 +192,9 @@ impl<A: Allocator + Copy> Items<A> {
         }
     }
 
-    /// The same rows once more. Fails only when memory is refused.
-    pub fn copy(&self) -> Result<Items<A>, Fault>
-        ensures same { IfOk result (λ items. items ≡ self.now) }
-        ensures memory { IfErr result (λ fault. fault ≡ Memory) }
+    /// The same rows once more, in as much memory as they take.
+    pub fn copy(&self) -> Result<Items<A>, AllocError>
+        ensures { IfOk result (λ items. items ≡ self.now) }
     {
         let alloc = *self.heads.allocator();
         Ok(Items {

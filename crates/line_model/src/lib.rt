@@ -15,6 +15,7 @@ pub mod laws;
 pub mod lending;
 pub mod packet;
 pub mod piece;
+pub mod piece_items;
 pub mod report;
 pub mod route;
 pub mod row;

@@ -16,7 +16,7 @@ use Rattle.report_merge.proofs.WrittenLemmas.{two_parts}
 use Rattle.trace_text.specs.Progress.{Progress, bytes_fed}
 use Rattle.trace_text.specs.StandsFor.{StandsFor as IsReaderOf, IsFaultOf, IsTextFault}
 use Rattle.trace_text.proofs.FeedLemmas.{size-sound}
-use Rattle.live_report.specs.Follows.{HasFindings, HasFindingsAtLine, HasFirst, IsRefusalOf}
+use Rattle.live_report.specs.Follows.{HasFindings, HasFirst, IsRefusalOf}
 use Rattle.live_report.specs.Found.{HasFound, IsFoundBy, IsFoundUpTo, found, found_text}
 use Rattle.live_report.specs.Reports.{IsReportFault}
 use Rattle.trace_text.specs.ObserverAnswers.{IsReportOf}
@@ -83,12 +83,6 @@ told_first r w before old new text all written out same h e ok err =
       length front,
       part.3 ∙ ap (λ o. with_more o part.0) h ∙ with_more-append before (found_text text) part.0 ∙ ap (with_more before) (front_of front back (found_text all) whole),
     )
-
--- at a faulty line the sink that did not fail took all of them
-told_at_line : {U : Type 0} → (f : Fault) (w : Result U Fault) (before old new : Option (List ℕ)) (a b : ℕ) (text all : List ℕ) (out : List Finding) → HasFindings before old text → IsFoundUpTo f [] out (found text) (found all)
-    → OnOk w (new ≡ with_more old (findings_text out)) → OnErr w (a < b) → b ≡ a → HasFindingsAtLine before new all f
-told_at_line (Trace line kind) w before old new a b text all out h e ok cause same = told_more before old new text all out h e (all_of w _ a b ok cause same)
-told_at_line _ w before old new a b text all out h e ok cause same = tt
 
 pub refusal_of : (at : Option (ℕ × Kind)) (f : Fault) → IsFaultOf at f → IsRefusalOf at f
 refusal_of at Memory h = tt

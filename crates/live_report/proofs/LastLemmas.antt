@@ -6,7 +6,9 @@ use Rattle.line_model.specs.declared.interface.Interface.{Interface}
 use Rattle.line_model.specs.declared.route.Route.{Route}
 use Rattle.line_model.specs.declared.route.Route.TheVariants.{ToChannel, Leave, Enter, Found, Pass}
 use Rattle.line_model.specs.basics.Records.{Item}
+use Rattle.line_model.specs.channels.Channels.{Channel}
 use Rattle.line_model.specs.channels.RestartMachine.{LineState}
+use Rattle.line_model.specs.observer.Machine.{Observer}
 use Rattle.line_model.specs.observer.Observer.{routing, is_ready}
 use Rattle.line_model.specs.observer.Report.{report_of}
 use Rattle.line_model.specs.pieces.Plan.{has_some}
@@ -17,14 +19,15 @@ use Rattle.restart_epochs.specs.Cutting.{Cutting, IsTakenBy, StandsFor as IsCutt
 use Rattle.restart_epochs.specs.declared.walk.EpochWalk.{EpochWalk}
 use Rattle.restart_epochs.specs.declared.walk.Step.{Step}
 use Rattle.restart_epochs.specs.declared.walk.Turn.{Turn}
-use Rattle.restart_epochs.specs.Walks.{channel_in, epoch_after, turn_of, IsStep}
+use Rattle.restart_epochs.specs.Walks.{epoch_after, turn_of, IsStep}
 use Rattle.restart_epochs.proofs.Routes.{is_to_channel}
 use Rattle.restart_epochs.proofs.Steps.{on_channel, routed_to, routed_none}
 use Rattle.live_report.specs.Lanes.{begun_piece}
-use Rattle.live_report.specs.Turns.{walked_piece, HasEvents, KnowsBy, SeesOn}
-use Rattle.live_report.specs.LastRows.{IsKnown, IsLastRow, IsSeen, IsState, KnowsLast}
-use Rattle.live_report.specs.declared.last_row.Known.{Known}
-use Rattle.live_report.specs.declared.last_row.LastRow.{LastRow}
+use Rattle.live_report.specs.Turns.{walked_piece, HasEvents, JudgesBy}
+use Rattle.live_report.specs.JudgedRows.{IsJudge, IsJudgedRow, IsRestart, IsTaker, KnowsLast, taker}
+use Rattle.live_report.specs.declared.judged_row.Judge.{Judge}
+use Rattle.live_report.specs.declared.judged_row.Judge.TheVariants as judge
+use Rattle.live_report.specs.declared.judged_row.JudgedRow.{JudgedRow}
 use Rattle.live_report.proofs.FindingLemmas.{events_on, state_here}
 use Rattle.line_model.specs.basics.Bounds.{IsSaid}
 use Rattle.line_model.specs.packets.Says.{packet_channel}
@@ -48,22 +51,26 @@ same_last (c ∷ a) (d ∷ b) x y h =
 
 -- ---- the last row
 
-pub no_row : (i : Interface) (last : Option LastRow) (events : List Event) → KnowsLast i [] last events
+pub taker_is : (i : Interface) (to : Option ℕ) (o more : Observer LineState Channel) (j : Judge) → IsJudge i to o more j → taker j ≡ to
+taker_is i None o more (judge.Restart before after) h = refl
+taker_is i None o more (judge.Channel k before after accepted) h = absurd h
+taker_is i (Some n) o more (judge.Restart before after) h = absurd h
+taker_is i (Some n) o more (judge.Channel k before after accepted) h = ap (λ m. Some m) h.0
+
+pub no_row : (i : Interface) (last : Option JudgedRow) (events : List Event) → KnowsLast i [] last events
 no_row i last events before r e = absurd (omega (arith, ap (λ (l : List Item). length l) e, length-append before (r ∷ [])))
 
-knows : (i : Interface) (rs : List Item) (r : Item) (l : LastRow) (last : Option LastRow) (events : List Event) → last ≡ Some l → IsLastRow i rs r l events → KnowsLast i (rs ++ r ∷ []) last events
+knows : (i : Interface) (rs : List Item) (r : Item) (l : JudgedRow) (last : Option JudgedRow) (events : List Event) → last ≡ Some l → IsJudgedRow i rs r l events → KnowsLast i (rs ++ r ∷ []) last events
 knows i rs r l last events is h before x e =
     let same = same_last rs before r x e in
-    subst (λ o. MatchOption o ⊥ (λ m. IsLastRow i before x m events)) (sym is)
-    (subst (λ y. IsLastRow i before y l events) same.1 (subst (λ b. IsLastRow i b r l events) same.0 h))
+    subst (λ o. MatchOption o ⊥ (λ m. IsJudgedRow i before x m events)) (sym is)
+    (subst (λ y. IsJudgedRow i before y l events) same.1 (subst (λ b. IsJudgedRow i b r l events) same.0 h))
 
--- a channel of the open epoch of a walk, as the observer knows it
-seen_at : {B : Type 0} → (i : Interface) (rs : List Item) (c : Cutting) (v : EpochWalk B) (k : ℕ) (known : Known) → IsCutterOf i rs c → is_ready (observer i rs).line ≡ true → v.interface ≡ c.interface → v.epoch ≡ c.epoch
-    → SeesOn v k c.open_rows known → IsSeen i ((observer i rs).states k) known
-seen_at i rs c v k known s ready same_interface same_epoch seen =
-    let same : channel_so_far (walked_piece v k c.open_rows) ≡ (observer i rs).states k =
-    (λ t. channel_so_far (begun_piece (same_interface t) (same_epoch t) k (rows_of c.open_rows k))) ∙ sym (state_here i rs c k s ready) in
-    subst (λ x. IsSeen i x known) same (subst (λ j. IsSeen j (channel_so_far (walked_piece v k c.open_rows)) known) (same_interface ∙ s.interface) seen)
+-- a channel of the open epoch of a walk, as the observer has it
+channel_here : {B : Type 0} → (i : Interface) (rs : List Item) (c : Cutting) (v : EpochWalk B) (k : ℕ) → IsCutterOf i rs c → is_ready (observer i rs).line ≡ true → v.interface ≡ c.interface → v.epoch ≡ c.epoch
+    → channel_so_far (walked_piece v k c.open_rows) ≡ (observer i rs).states k
+channel_here i rs c v k s ready same_interface same_epoch =
+    (λ t. channel_so_far (begun_piece (same_interface t) (same_epoch t) k (rows_of c.open_rows k))) ∙ sym (state_here i rs c k s ready)
 
 -- where a channel has rows in the open epoch, it is open
 pub open_is_ready : (i : Interface) (rs : List Item) (c : Cutting) (k : ℕ) → IsCutterOf i rs c → has_some (rows_of c.open_rows k) ≡ true → is_ready (observer i rs).line ≡ true
@@ -74,34 +81,32 @@ open_is_ready i rs c k s some = at (is_ready (observer i rs).line) refl
     at false e = absurd (true≢false (sym some ∙ ap has_some (s.rows k ∙ ap (λ b. rows_if b i (places i rs) (observer i rs).epoch k) e)))
 
 -- what a turn makes known of a row
-pub record Judged {B : Type 0} (turn : Turn) (item : Item) (walk : EpochWalk B) (machine : LineState) (rows rows_after : OpenRows) (last : LastRow) (events : List Event) : Type 0 where
-  pub number : last.number ≡ item.number
-  pub side : last.side ≡ item.side
-  pub packet : last.packet ≡ item.packet
-  pub channel : last.channel ≡ channel_in turn
-  pub before : KnowsBy turn walk walk.machine rows last.before
-  pub after : KnowsBy turn walk machine rows_after last.after
+pub record Judged {B : Type 0} (turn : Turn) (item : Item) (walk : EpochWalk B) (machine : LineState) (rows rows_after : OpenRows) (row : JudgedRow) (events : List Event) : Type 0 where
+  pub number : row.number ≡ item.number
+  pub side : row.side ≡ item.side
+  pub packet : row.packet ≡ item.packet
+  pub judge : JudgesBy turn walk machine rows rows_after row.judge
   pub came : HasEvents turn walk rows item events
 
 -- by what the row did to the channels
-pub last_known : {B : Type 0} → (i : Interface) (rs : List Item) (c a : Cutting) (item : Item) (step : Step) (v : EpochWalk B) (l : LastRow) (last : Option LastRow) (events : List Event)
-    → IsCutterOf i rs c → IsCutterOf i (rs ++ item ∷ []) a → IsTakenBy item step c a → IsSaid c.interface item → IsStep c.line c.epoch item step
-    → v.interface ≡ c.interface → v.epoch ≡ c.epoch → v.machine ≡ c.line → last ≡ Some l → Judged step.turn item v step.machine c.open_rows a.open_rows l events
-    → (report_of i (rs ++ item ∷ [])).findings ≡ (report_of i rs).findings ++ option_to_list l.finding → KnowsLast i (rs ++ item ∷ []) last events
-last_known {B} i rs c a item step v l last events s grown taken packet is same_interface same_epoch same_machine last_is judged finding =
-    knows i rs item l last events last_is (at (routing c.line item).route refl (subst (λ t. Judged t item v step.machine c.open_rows a.open_rows l events) is.turn judged))
+pub last_known : {B : Type 0} → (i : Interface) (rs : List Item) (c a : Cutting) (r : Item) (step : Step) (v : EpochWalk B) (row : JudgedRow) (last : Option JudgedRow) (events : List Event)
+    → IsCutterOf i rs c → IsCutterOf i (rs ++ r ∷ []) a → IsTakenBy r step c a → IsSaid c.interface r → IsStep c.line c.epoch r step
+    → v.interface ≡ c.interface → v.epoch ≡ c.epoch → v.machine ≡ c.line → last ≡ Some row → Judged step.turn r v step.machine c.open_rows a.open_rows row events
+    → (report_of i (rs ++ r ∷ [])).findings ≡ (report_of i rs).findings ++ option_to_list row.finding → KnowsLast i (rs ++ r ∷ []) last events
+last_known {B} i rs c a r step v row last events s grown taken packet is same_interface same_epoch same_machine last_is judged finding =
+    knows i rs r row last events last_is (at (routing c.line r).route refl (subst (λ t. Judged t r v step.machine c.open_rows a.open_rows row events) is.turn judged))
   where
-    r : Item
-    r = item
-
     k : ℕ
-    k = packet_channel item.packet
+    k = packet_channel r.packet
 
-    routes : (q : Route) → (routing c.line item).route ≡ q → is_to_channel (routing (observer i rs).line r).route ≡ is_to_channel q
+    o : Observer LineState Channel
+    o = observer i rs
+
+    more : Observer LineState Channel
+    more = observer i (rs ++ r ∷ [])
+
+    routes : (q : Route) → (routing c.line r).route ≡ q → is_to_channel (routing o.line r).route ≡ is_to_channel q
     routes q e = ap (λ x. is_to_channel (routing x r).route) (sym s.line) ∙ ap is_to_channel e
-
-    packet_is : l.packet ≡ r.packet
-    packet_is = judged.packet
 
     no_one : (n : ℕ) → ◌≡◌ {A = Option ℕ} None (Some n) → ⊥
     no_one n h = cc
@@ -109,41 +114,46 @@ last_known {B} i rs c a item step v l last events s grown taken packet is same_i
     some_one : (x y : ℕ) → Some x ≡ Some y → x ≡ y
     some_one x y h = cc
 
-    on_line : (q : Route) → (routing c.line item).route ≡ q → is_to_channel q ≡ false → l.channel ≡ None → IsState v.machine.state l.before → IsState step.machine.state l.after → IsLastRow i rs r l events
-    on_line q e to none before after = record {
-      number = judged.number;
-      side = judged.side;
-      packet = packet_is;
-      channel = none ∙ sym (routed_none i (observer i rs).line r (routes q e ∙ to));
-      before = subst (λ n. IsKnown i n (observer i rs) l.before) (sym none) (subst (λ x. IsState x l.before) (ap (λ m. m.state) (same_machine ∙ s.line)) before);
-      after = subst (λ n. IsKnown i n (observer i (rs ++ r ∷ [])) l.after) (sym none) (subst (λ x. IsState x l.after) (ap (λ m. m.state) (sym taken.line ∙ grown.line)) after);
-      finding = finding;
-      came = λ n there. absurd (no_one n (sym none ∙ there));
-    }
+    on_line : (q : Route) → (routing c.line r).route ≡ q → is_to_channel q ≡ false → IsRestart v.machine.state step.machine.state row.judge → IsJudgedRow i rs r row events
+    on_line q e to judge =
+        let none = routed_none i o.line r (routes q e ∙ to) in
+        let before = ap (λ m. m.state) (same_machine ∙ s.line) in
+        let after = ap (λ m. m.state) (sym taken.line ∙ grown.line) in
+        record {
+          number = judged.number;
+          side = judged.side;
+          packet = judged.packet;
+          judge = subst (λ n. IsJudge i n o more row.judge) (sym none) (subst (λ x. IsRestart o.line.state x row.judge) after (subst (λ x. IsRestart x step.machine.state row.judge) before judge));
+          finding = finding;
+          came = λ n there. absurd (no_one n (sym none ∙ there));
+        }
 
-    on_its_channel : (routing c.line item).route ≡ ToChannel → Judged (turn_of r.packet ToChannel) item v step.machine c.open_rows a.open_rows l events → IsLastRow i rs r l events
+    on_its_channel : (routing c.line r).route ≡ ToChannel → Judged (turn_of r.packet ToChannel) r v step.machine c.open_rows a.open_rows row events → IsJudgedRow i rs r row events
     on_its_channel e j =
         let there = routes ToChannel e in
         let on = on_channel i rs r there in
+        let to = routed_to i o.line r there in
         let epoch : v.epoch ≡ a.epoch = same_epoch ∙ sym (taken.epoch ∙ is.epoch ∙ ap (epoch_after c.epoch) e) in
-        let events_are : events ≡ row_events i (observer i rs).epoch k ((observer i rs).states k) r =
+        let before = channel_here i rs c v k s on.ready same_interface same_epoch in
+        let after = channel_here i (rs ++ r ∷ []) a v k grown (ap is_ready on.line ∙ on.ready) (same_interface ∙ sym taken.counted.interface) epoch in
+        let came : events ≡ row_events i o.epoch k (o.states k) r =
         j.came ∙ (λ t. row_events (same_interface t) (same_epoch t) k (channel_so_far (begun_piece (same_interface t) (same_epoch t) k (rows_of c.open_rows k))) r)
         ∙ sym (events_on i rs c r s (ap (λ x. is_to_channel (routing x r).route) s.line ∙ there)) in
         record {
           number = j.number;
           side = j.side;
-          packet = packet_is;
-          channel = j.channel ∙ sym (routed_to i (observer i rs).line r there);
-          before = subst (λ n. IsKnown i n (observer i rs) l.before) (sym j.channel) (seen_at i rs c v k l.before s on.ready same_interface same_epoch j.before);
-          after = subst (λ n. IsKnown i n (observer i (rs ++ r ∷ [])) l.after) (sym j.channel)
-              (seen_at i (rs ++ r ∷ []) a v k l.after grown (ap is_ready on.line ∙ on.ready) (same_interface ∙ sym taken.counted.interface) epoch j.after);
+          packet = j.packet;
+          judge = subst (λ n. IsJudge i n o more row.judge) (sym to)
+              (subst (λ x. IsTaker i k (o.states k) x row.judge) after
+              (subst (λ x. IsTaker i k x (channel_so_far (walked_piece v k a.open_rows)) row.judge) before
+              (subst (λ x. IsTaker x k (channel_so_far (walked_piece v k c.open_rows)) (channel_so_far (walked_piece v k a.open_rows)) row.judge) (same_interface ∙ s.interface) j.judge)));
           finding = finding;
-          came = λ n here. subst (λ m. events ≡ row_events i (observer i rs).epoch m ((observer i rs).states m) r) (some_one k n (sym j.channel ∙ here)) events_are;
+          came = λ n here. subst (λ m. events ≡ row_events i o.epoch m (o.states m) r) (some_one k n (sym to ∙ here)) came;
         }
 
-    at : (q : Route) → (routing c.line item).route ≡ q → Judged (turn_of r.packet q) item v step.machine c.open_rows a.open_rows l events → IsLastRow i rs r l events
+    at : (q : Route) → (routing c.line r).route ≡ q → Judged (turn_of r.packet q) r v step.machine c.open_rows a.open_rows row events → IsJudgedRow i rs r row events
     at ToChannel e j = on_its_channel e j
-    at (Leave code) e j = on_line (Leave code) e refl j.channel j.before j.after
-    at Enter e j = on_line Enter e refl j.channel j.before j.after
-    at (Found state code) e j = on_line (Found state code) e refl j.channel j.before j.after
-    at Pass e j = on_line Pass e refl j.channel j.before j.after
+    at (Leave code) e j = on_line (Leave code) e refl j.judge
+    at Enter e j = on_line Enter e refl j.judge
+    at (Found state code) e j = on_line (Found state code) e refl j.judge
+    at Pass e j = on_line Pass e refl j.judge

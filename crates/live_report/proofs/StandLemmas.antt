@@ -18,7 +18,7 @@ use Rattle.restart_epochs.proofs.Listings.{nothing_cut, nothing_bound}
 use Rattle.channel_run.specs.declared.live.LiveChannel.{LiveChannel}
 use Rattle.live_report.specs.declared.observer.Observer.{Observer}
 use Rattle.live_report.specs.Lanes.{begun_piece, LaneFor, OpenFor}
-use Rattle.live_report.specs.LastRows.{KnowsLast}
+use Rattle.live_report.specs.JudgedRows.{KnowsLast}
 use Rattle.live_report.specs.Uncounted.{none_left_out, uncounted_of}
 use Rattle.live_report.specs.Observing.{AreItems, Holds, StandsFor}
 use Rattle.live_report.proofs.LastLemmas.{no_row}

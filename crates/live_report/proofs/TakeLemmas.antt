@@ -23,7 +23,7 @@ use Rattle.restart_epochs.proofs.Taken.{enters_unready, takes, taken_bounds}
 use Rattle.report_merge.specs.Gathered.{gathered}
 use Rattle.channel_run.specs.declared.live.LiveChannel.{LiveChannel}
 use Rattle.live_report.specs.declared.observer.Observer.{Observer}
-use Rattle.live_report.specs.LastRows.{KnowsLast}
+use Rattle.live_report.specs.JudgedRows.{KnowsLast}
 use Rattle.live_report.specs.Uncounted.{uncounted_of}
 use Rattle.live_report.specs.Lanes.{begun_piece, LaneFor, OpenFor}
 use Rattle.live_report.specs.Turns.{MayTurn}

@@ -11,14 +11,15 @@ use Rattle.line_model.specs.channels.RestartMachine.{LineState}
 use Rattle.line_model.specs.observer.Machine.{Observer, after, routed, walk}
 use Rattle.line_model.specs.observer.Observer.{start, x25}
 use Rattle.line_model.specs.text.Text.{head, rows}
+use Rattle.channel_run.specs.StatusWord.{view_in}
 use Rattle.channel_run.specs.Views.{IsViewOf}
-use Rattle.channel_run.specs.declared.run.View.{View}
+use Rattle.data_transfer.specs.Packed.{Packed}
 use Rattle.restart_epochs.specs.Cutting.{observer}
-use Rattle.live_report.specs.LastRows.{IsKnown, IsLastRow}
+use Rattle.live_report.specs.JudgedRows.{IsJudge, IsJudgedRow}
 use Rattle.live_report.specs.Observing.{AreItems, StandsFor}
 use Rattle.live_report.specs.Uncounted.{AreFew, LeftOut, amount_of, amounts_of, grown, is_data, is_same, left_out, left_out_at, left_out_by, none_left_out, counts_data, has_finding, reason_of_state, reason_at, reason_by, reason_on, tells_data, trace_uncounted, uncounted_of, user_octets, with_one}
-use Rattle.live_report.specs.declared.last_row.Known.TheVariants as known
-use Rattle.live_report.specs.declared.last_row.LastRow.{LastRow}
+use Rattle.live_report.specs.declared.judged_row.Judge.TheVariants as judge
+use Rattle.live_report.specs.declared.judged_row.JudgedRow.{JudgedRow}
 use Rattle.live_report.specs.declared.observer.Observer.{Observer as Running}
 use Rattle.live_report.specs.declared.uncounted.Amount.{Amount}
 use Rattle.live_report.specs.declared.uncounted.Reason.{Reason}
@@ -29,36 +30,41 @@ use Rattle.channel_run.specs.Run.{data_events, row_events}
 
 -- ---- why the data of a row was not counted
 
--- by what is known before it
-by_known : (i : Interface) (o : Observer LineState Channel) (r : Item) (events : List Event) (taker : Option ℕ) (view : View) (answer : Option Reason) → IsKnown i taker o (known.Channel view)
-    → ((k : ℕ) → taker ≡ Some k → events ≡ row_events i o.epoch k (o.states k) r) → ((j : Interface) (c : Channel) → IsViewOf j c view → answer ≡ reason_on c events) → answer ≡ reason_by i taker o r
-by_known i o r events None view answer h came by = absurd h
-by_known i o r events (Some k) view answer h came by = by i (o.states k) h ∙ ap (reason_on (o.states k)) (came k refl)
+-- by the channel that took it
+by_taker : (i : Interface) (o more : Observer LineState Channel) (r : Item) (events : List Event) (taker : Option ℕ) (k : ℕ) (before after : Packed) (accepted : Option ℕ) (answer : Option Reason)
+    → IsJudge i taker o more (judge.Channel k before after accepted) → ((n : ℕ) → taker ≡ Some n → events ≡ row_events i o.epoch n (o.states n) r)
+    → ((j : Interface) (c : Channel) → IsViewOf j c (view_in before) → answer ≡ reason_on c events) → answer ≡ reason_by i taker o r
+by_taker i o more r events None k before after accepted answer h came by = absurd h
+by_taker i o more r events (Some n) k before after accepted answer h came by = by i (o.states n) h.1 ∙ ap (reason_on (o.states n)) (came n refl)
 
-by_state : (i : Interface) (o : Observer LineState Channel) (r : Item) (taker : Option ℕ) (s : RState) → IsKnown i taker o (known.Restart s) → Some Restart ≡ reason_by i taker o r
-by_state i o r None s h = refl
-by_state i o r (Some k) s h = absurd h
+by_restart : (i : Interface) (o more : Observer LineState Channel) (r : Item) (taker : Option ℕ) (before after : RState) → IsJudge i taker o more (judge.Restart before after) → Some Restart ≡ reason_by i taker o r
+by_restart i o more r None before after h = refl
+by_restart i o more r (Some k) before after h = absurd h
 
-of_data : (i : Interface) (earlier : List Item) (r : Item) (last : LastRow) (events : List Event) → IsLastRow i earlier r last events → is_data last.packet ≡ true
-    → reason_by i last.channel (observer i earlier) r ≡ reason_at i (observer i earlier) r
-of_data i earlier r last events l data_is =
+of_data : (i : Interface) (earlier : List Item) (r : Item) (row : JudgedRow) (events : List Event) → IsJudgedRow i earlier r row events → (b : Bool) → is_data row.packet ≡ b
+    → cond b (reason_by i (routed (x25 i) (observer i earlier).line r) (observer i earlier) r) None ≡ reason_at i (observer i earlier) r
+of_data i earlier r row events l b is =
     let o = observer i earlier in
-    ap (λ taker. reason_by i taker o r) l.channel ∙ ap (λ b. cond b (reason_by i (routed (x25 i) o.line r) o r) None) (sym data_is ∙ ap is_data l.packet)
+    ap (λ x. cond x (reason_by i (routed (x25 i) o.line r) o r) None) (sym is ∙ ap is_data l.packet)
 
-pub no_data : (i : Interface) (earlier : List Item) (r : Item) (last : LastRow) (events : List Event) → IsLastRow i earlier r last events → is_data last.packet ≡ false → None ≡ reason_at i (observer i earlier) r
-no_data i earlier r last events l none =
-    let o = observer i earlier in
-    ap (λ b. cond b (reason_by i (routed (x25 i) o.line r) o r) None) (sym none ∙ ap is_data l.packet)
+pub no_data : (i : Interface) (earlier : List Item) (r : Item) (row : JudgedRow) (events : List Event) → IsJudgedRow i earlier r row events → is_data row.packet ≡ false → None ≡ reason_at i (observer i earlier) r
+no_data i earlier r row events l none = of_data i earlier r row events l false none
 
-pub in_restart : (i : Interface) (earlier : List Item) (r : Item) (last : LastRow) (events : List Event) (s : RState) → IsLastRow i earlier r last events → is_data last.packet ≡ true → last.before ≡ known.Restart s
+pub in_restart : (i : Interface) (earlier : List Item) (r : Item) (row : JudgedRow) (events : List Event) (before after : RState) → IsJudgedRow i earlier r row events → is_data row.packet ≡ true → row.judge ≡ judge.Restart before after
     → Some Restart ≡ reason_at i (observer i earlier) r
-in_restart i earlier r last events s l data_is before =
-    by_state i (observer i earlier) r last.channel s (subst (IsKnown i last.channel (observer i earlier)) before l.before) ∙ of_data i earlier r last events l data_is
+in_restart i earlier r row events before after l data_is by =
+    let o = observer i earlier in
+    let more = observer i (earlier ++ r ∷ []) in
+    let taker = routed (x25 i) o.line r in
+    by_restart i o more r taker before after (subst (IsJudge i taker o more) by l.judge) ∙ of_data i earlier r row events l true data_is
 
-pub on_channel : (i : Interface) (earlier : List Item) (r : Item) (last : LastRow) (events : List Event) (view : View) (answer : Option Reason) → IsLastRow i earlier r last events → is_data last.packet ≡ true → last.before ≡ known.Channel view
-    → ((j : Interface) (c : Channel) → IsViewOf j c view → answer ≡ reason_on c events) → answer ≡ reason_at i (observer i earlier) r
-on_channel i earlier r last events view answer l data_is before by =
-    by_known i (observer i earlier) r events last.channel view answer (subst (IsKnown i last.channel (observer i earlier)) before l.before) l.came by ∙ of_data i earlier r last events l data_is
+pub on_channel : (i : Interface) (earlier : List Item) (r : Item) (row : JudgedRow) (events : List Event) (k : ℕ) (before after : Packed) (accepted : Option ℕ) (answer : Option Reason) → IsJudgedRow i earlier r row events
+    → is_data row.packet ≡ true → row.judge ≡ judge.Channel k before after accepted → ((j : Interface) (c : Channel) → IsViewOf j c (view_in before) → answer ≡ reason_on c events) → answer ≡ reason_at i (observer i earlier) r
+on_channel i earlier r row events k before after accepted answer l data_is by reason =
+    let o = observer i earlier in
+    let more = observer i (earlier ++ r ∷ []) in
+    let taker = routed (x25 i) o.line r in
+    by_taker i o more r events taker k before after accepted answer (subst (IsJudge i taker o more) by l.judge) l.came reason ∙ of_data i earlier r row events l true data_is
 
 or_true : (b c : Bool) → c ≡ true → (b || c) ≡ true
 or_true true c h = refl
@@ -69,15 +75,24 @@ pub has_data : (events : List Event) (epoch k : ℕ) (r : Item) (n : ℕ) → co
 has_data [] epoch k r n = refl
 has_data (e ∷ es) epoch k r n = or_true (tells_data e.what) (counts_data (es ++ data_events epoch k r (Some n))) (has_data es epoch k r n)
 
-pub was_counted : (i : Interface) (earlier : List Item) (r : Item) (last : LastRow) (events : List Event) (k : ℕ) → IsLastRow i earlier r last events → last.channel ≡ Some k → counts_data events ≡ true → None ≡ reason_at i (observer i earlier) r
-was_counted i earlier r last events k l channel counted =
+counted_on : (i : Interface) (o more : Observer LineState Channel) (r : Item) (events : List Event) (taker : Option ℕ) (k : ℕ) (before after : Packed) (accepted : Option ℕ)
+    → IsJudge i taker o more (judge.Channel k before after accepted) → ((n : ℕ) → taker ≡ Some n → events ≡ row_events i o.epoch n (o.states n) r) → counts_data events ≡ true → None ≡ reason_by i taker o r
+counted_on i o more r events None k before after accepted h came counted = absurd h
+counted_on i o more r events (Some n) k before after accepted h came counted =
+    let c = o.states n in
+    ap (λ b. cond b None (cond (has_finding events) (Some Finding) (Some (reason_of_state c.state c.owed)))) (sym counted) ∙ ap (reason_on c) (came n refl)
+
+none_if : (b : Bool) (why : Option Reason) → None ≡ why → None ≡ cond b why None
+none_if true why h = h
+none_if false why h = refl
+
+pub was_counted : (i : Interface) (earlier : List Item) (r : Item) (row : JudgedRow) (events : List Event) (k : ℕ) (before after : Packed) (accepted : Option ℕ) → IsJudgedRow i earlier r row events
+    → row.judge ≡ judge.Channel k before after accepted → counts_data events ≡ true → None ≡ reason_at i (observer i earlier) r
+was_counted i earlier r row events k before after accepted l by counted =
     let o = observer i earlier in
-    let on : reason_by i (Some k) o r ≡ None = ap (λ es. reason_on (o.states k) es) (sym (l.came k channel)) ∙ ap (λ b. cond b None (cond (has_finding events) (Some Finding) (Some (reason_of_state (o.states k).state (o.states k).owed)))) counted in
-    at (is_data r.packet) (ap (λ t. reason_by i t o r) (sym l.channel ∙ channel) ∙ on)
-  where
-    at : (b : Bool) → reason_by i (routed (x25 i) (observer i earlier).line r) (observer i earlier) r ≡ None → None ≡ cond b (reason_by i (routed (x25 i) (observer i earlier).line r) (observer i earlier) r) None
-    at true e = sym e
-    at false e = refl
+    let more = observer i (earlier ++ r ∷ []) in
+    let taker = routed (x25 i) o.line r in
+    none_if (is_data r.packet) (reason_by i taker o r) (counted_on i o more r events taker k before after accepted (subst (IsJudge i taker o more) by l.judge) l.came counted)
 
 -- ---- rows one by one
 
@@ -151,55 +166,36 @@ amount_after why reason n ds h =
     let d : LeftOut = record { reason = reason; octets = n } in
     ap amount_in (filter-append p ds (d ∷ [])) ∙ amount_more (is_same why reason) d (filter p ds) (h.packets why) (h.octets why)
 
+-- the amounts after one packet more, one by one
+abbrev each_with : Reason → (octets : ℕ) → Uncounted → Uncounted
+each_with reason n u = record {
+  finding = cond (is_same Finding reason) (grown n u.finding) u.finding;
+  owed = cond (is_same Owed reason) (grown n u.owed) u.owed;
+  not_in_transfer = cond (is_same NotInTransfer reason) (grown n u.not_in_transfer) u.not_in_transfer;
+  discarded = cond (is_same Discarded reason) (grown n u.discarded) u.discarded;
+  unknown = cond (is_same Unknown reason) (grown n u.unknown) u.unknown;
+  restart = cond (is_same Restart reason) (grown n u.restart) u.restart;
+}
+
+each_with_one : (reason : Reason) (n : ℕ) (u : Uncounted) → each_with reason n u ≡ with_one reason n u
+each_with_one Finding n u = refl
+each_with_one Owed n u = refl
+each_with_one NotInTransfer n u = refl
+each_with_one Discarded n u = refl
+each_with_one Unknown n u = refl
+each_with_one Restart n u = refl
+
 amounts_after : (reason : Reason) (n : ℕ) (ds : List LeftOut) → HasRoom n ds → amounts_of (ds ++ record { reason = reason; octets = n } ∷ []) ≡ with_one reason n (amounts_of ds)
-amounts_after Finding n ds h = λ t. record {
-  finding = amount_after Finding Finding n ds h t;
-  owed = amount_after Owed Finding n ds h t;
-  not_in_transfer = amount_after NotInTransfer Finding n ds h t;
-  discarded = amount_after Discarded Finding n ds h t;
-  unknown = amount_after Unknown Finding n ds h t;
-  restart = amount_after Restart Finding n ds h t;
-}
-amounts_after Owed n ds h = λ t. record {
-  finding = amount_after Finding Owed n ds h t;
-  owed = amount_after Owed Owed n ds h t;
-  not_in_transfer = amount_after NotInTransfer Owed n ds h t;
-  discarded = amount_after Discarded Owed n ds h t;
-  unknown = amount_after Unknown Owed n ds h t;
-  restart = amount_after Restart Owed n ds h t;
-}
-amounts_after NotInTransfer n ds h = λ t. record {
-  finding = amount_after Finding NotInTransfer n ds h t;
-  owed = amount_after Owed NotInTransfer n ds h t;
-  not_in_transfer = amount_after NotInTransfer NotInTransfer n ds h t;
-  discarded = amount_after Discarded NotInTransfer n ds h t;
-  unknown = amount_after Unknown NotInTransfer n ds h t;
-  restart = amount_after Restart NotInTransfer n ds h t;
-}
-amounts_after Discarded n ds h = λ t. record {
-  finding = amount_after Finding Discarded n ds h t;
-  owed = amount_after Owed Discarded n ds h t;
-  not_in_transfer = amount_after NotInTransfer Discarded n ds h t;
-  discarded = amount_after Discarded Discarded n ds h t;
-  unknown = amount_after Unknown Discarded n ds h t;
-  restart = amount_after Restart Discarded n ds h t;
-}
-amounts_after Unknown n ds h = λ t. record {
-  finding = amount_after Finding Unknown n ds h t;
-  owed = amount_after Owed Unknown n ds h t;
-  not_in_transfer = amount_after NotInTransfer Unknown n ds h t;
-  discarded = amount_after Discarded Unknown n ds h t;
-  unknown = amount_after Unknown Unknown n ds h t;
-  restart = amount_after Restart Unknown n ds h t;
-}
-amounts_after Restart n ds h = λ t. record {
-  finding = amount_after Finding Restart n ds h t;
-  owed = amount_after Owed Restart n ds h t;
-  not_in_transfer = amount_after NotInTransfer Restart n ds h t;
-  discarded = amount_after Discarded Restart n ds h t;
-  unknown = amount_after Unknown Restart n ds h t;
-  restart = amount_after Restart Restart n ds h t;
-}
+amounts_after reason n ds h =
+    (λ t. record {
+      finding = amount_after Finding reason n ds h t;
+      owed = amount_after Owed reason n ds h t;
+      not_in_transfer = amount_after NotInTransfer reason n ds h t;
+      discarded = amount_after Discarded reason n ds h t;
+      unknown = amount_after Unknown reason n ds h t;
+      restart = amount_after Restart reason n ds h t;
+    })
+    ∙ each_with_one reason n (amounts_of ds)
 
 room_for : (i : Interface) (earlier : List Item) (r : Item) → AreFew (earlier ++ r ∷ []) → HasRoom (user_octets i r.length) (left_out i (start i) earlier)
 room_for i earlier r few = record {

@@ -1,5 +1,5 @@
 -- What an observer tells of all pieces is what the walk is merged from.
-use Rattle.std.proofs.Common.{◌≡◌, ◌∙◌, sym, ap, subst, ℕ, ◌+◌, ◌≤◌, List, ◌++◌, map, length, None, arith}
+use Rattle.std.proofs.Common.{◌≡◌, ◌∙◌, sym, ap, subst, ℕ, List, ◌++◌, map, length, None}
 use Rattle.std.specs.List.Sorted.{IsPermutation}
 use Rattle.std.proofs.lemmas.List.{map-append}
 use Rattle.std.proofs.lemmas.List.Sorted.{IsPermutation-refl}
@@ -27,15 +27,6 @@ all_told I N S i rs o s =
     ap (λ n. map value (given_of i rs) ++ map value (pieces_out c.interface c.epoch None (rows_of c.open_rows) n c.open_rows.channels)) (length-values (given_of i rs) ∙ sym s.cut.given)
     ∙ sym (map-append value (given_of i rs) (pieces_out c.interface c.epoch None (rows_of c.open_rows) c.given c.open_rows.channels))
     ∙ ap (map value) (rest_open i rs c s.cut)
-
--- the pieces that are known whole and those of the open epoch are few
-pub few_pieces : {A C : Type 0} → (I : C → Interface) (N : C → ℕ) (S : C → Channel → Type 0) (i : Interface) (rs : List Item) (o : Observer A C) (s : StandsFor I N S i rs o) → o.ended.pieces + length s.cutting.open_rows.channels ≤ 999999999
-few_pieces I N S i rs o s =
-    let given : o.ended.pieces ≡ s.cutting.given = ap (λ p. p.pieces) s.holds.ended ∙ length-values (given_of i rs) ∙ sym s.cut.given in
-    let ids = s.bounds.ids in
-    let rows = s.bounds.rows in
-    let last = s.bounds.last in
-    omega (arith, given, ids, rows, last)
 
 pub of_walk : {A C : Type 0} → (I : C → Interface) (N : C → ℕ) (S : C → Channel → Type 0) (i : Interface) (rs : List Item) (o : Observer A C) (s : StandsFor I N S i rs o) (line : List Finding) (packets : ℕ)
     → line ≡ o.walk.findings.items → packets ≡ o.walk.packets → IsOfWalk i rs (told I N S i rs o s) line packets (length (told I N S i rs o s))

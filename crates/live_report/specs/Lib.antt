@@ -1,9 +1,7 @@
 pub mod Lanes
 pub mod Turns
 pub mod AddedPieces
-pub mod LastRows
-pub mod KeptRows
-pub mod QuietRows
+pub mod JudgedRows
 pub mod Uncounted
 pub mod Observing
 pub mod Reports

@@ -15,7 +15,7 @@ use Rattle.restart_epochs.specs.OpenRows.{rows_of}
 use Rattle.restart_epochs.specs.Cutting.{Cutting, IsCutting, StandsFor as IsCutterOf, given_of}
 use Rattle.report_merge.specs.Gathered.{gathered}
 use Rattle.live_report.specs.declared.observer.Observer.{Observer}
-use Rattle.live_report.specs.LastRows.{KnowsLast}
+use Rattle.live_report.specs.JudgedRows.{KnowsLast}
 use Rattle.live_report.specs.Uncounted.{uncounted_of}
 use Rattle.live_report.specs.declared.uncounted.Uncounted.{Uncounted}
 use Rattle.live_report.specs.Lanes.{OpenFor, begun_piece}

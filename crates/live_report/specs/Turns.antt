@@ -1,5 +1,5 @@
 -- What a row does to the live channels of the open epoch.
-use Rattle.std.specs.Prelude.{◌≡◌, ℕ, ◌++◌, ◌∷◌, [], List, Option, Some, None}
+use Rattle.std.specs.Prelude.{◌≡◌, ℕ, ◌++◌, ◌∷◌, [], List, Option}
 use Rattle.line_model.specs.declared.interface.Interface.{Interface}
 use Rattle.line_model.specs.declared.event.Event.{Event}
 use Rattle.line_model.specs.declared.finding.Finding.{Finding}
@@ -16,8 +16,9 @@ use Rattle.channel_run.specs.declared.live.LiveChannel.{LiveChannel}
 use Rattle.channel_run.specs.declared.run.Channel.{Ghosts as Machine}
 use Rattle.channel_run.specs.Live.{channel_so_far}
 use Rattle.channel_run.specs.Run.{data_events, row_events}
-use Rattle.live_report.specs.declared.last_row.Known.{Known}
-use Rattle.live_report.specs.LastRows.{IsSeen, IsState}
+use Rattle.live_report.specs.declared.judged_row.Judge.{Judge}
+use Rattle.live_report.specs.declared.judged_row.Judge.TheVariants as judge
+use Rattle.live_report.specs.JudgedRows.{IsRestart, IsTaker}
 use Rattle.live_report.specs.Lanes.{begun_piece, FindsOn, LanesStandFor}
 
 -- the piece of a channel in the open epoch of a walk
@@ -28,9 +29,9 @@ walked_piece walk channel rows = begun_piece walk.interface walk.epoch channel (
 abbrev pub OfLanes : {A B C : Type 0} → Machine C A → EpochWalk B → OpenLanes (LiveChannel A C) → (OpenRows → Type 0) → Type 0
 OfLanes m walk lanes Fact = (rows : OpenRows) → LanesStandFor m walk.interface walk.epoch rows lanes → Fact rows
 
--- what is known of a channel after its rows
-abbrev pub SeesOn : {B : Type 0} → EpochWalk B → (channel : ℕ) → OpenRows → Known → Type 0
-SeesOn walk channel rows known = IsSeen walk.interface (channel_so_far (walked_piece walk channel rows)) known
+-- a channel of the open epoch that took a row: these are the rows before and after it
+abbrev pub TakesOn : {B : Type 0} → EpochWalk B → (channel : ℕ) → (rows after : OpenRows) → Judge → Type 0
+TakesOn walk channel rows after by = IsTaker walk.interface channel (channel_so_far (walked_piece walk channel rows)) (channel_so_far (walked_piece walk channel after)) by
 
 -- the live channels of a walk stand for the rows of its open epoch
 abbrev pub StandsAt : {A B C : Type 0} → Machine C A → EpochWalk B → OpenRows → OpenLanes (LiveChannel A C) → Type 0
@@ -53,17 +54,17 @@ FindsAt _ line walk rows row found = found ≡ line
 abbrev pub FindsBy : {B : Type 0} → Step → EpochWalk B → OpenRows → Item → Option Finding → Type 0
 FindsBy step walk rows row found = FindsAt step.turn step.finding walk rows row found
 
--- events, and behind them that of accepted data on the channel that took a row
-abbrev pub with_data : (epoch : ℕ) → (taker : Option ℕ) → Item → (accepted : Option ℕ) → List Event → List Event
-with_data epoch None item accepted events = events
-with_data epoch (Some k) item accepted events = events ++ data_events epoch k item accepted
+-- events, and after them that of accepted data with Q 0 on the channel that took a row
+abbrev pub with_data : (epoch : ℕ) → Judge → Item → List Event → List Event
+with_data epoch (judge.Restart before after) item events = events
+with_data epoch (judge.Channel k before after accepted) item events = events ++ data_events epoch k item accepted
 
 -- the events of a row that goes to a channel
 abbrev pub HasEvents : {B : Type 0} → Turn → EpochWalk B → OpenRows → Item → List Event → Type 0
 HasEvents (ToChannel channel) walk rows row events = events ≡ row_events walk.interface walk.epoch channel (channel_so_far (walked_piece walk channel rows)) row
 HasEvents _ walk rows row events = Unit {0}
 
--- what is known where a row is judged, by these rows and this state of the restart machine
-abbrev pub KnowsBy : {B : Type 0} → Turn → EpochWalk B → LineState → OpenRows → Known → Type 0
-KnowsBy (ToChannel channel) walk line rows known = SeesOn walk channel rows known
-KnowsBy _ walk line rows known = IsState line.state known
+-- the machine that judges a row: the channel that it goes to, else the restart machine, which is so after it
+abbrev pub JudgesBy : {B : Type 0} → Turn → EpochWalk B → (machine : LineState) → (rows after : OpenRows) → Judge → Type 0
+JudgesBy (ToChannel channel) walk machine rows after by = TakesOn walk channel rows after by
+JudgesBy _ walk machine rows after by = IsRestart walk.machine.state machine.state by

@@ -1,16 +1,16 @@
 //! The live channels of the epoch that has not ended.
 
-ghost use Rattle.std.specs.Prelude.{◌≡◌, ◌<◌, ◌++◌, ◌∷◌, [], Some, IfErr, IfOk, OnOk, length};
+ghost use Rattle.std.specs.Prelude.{◌≡◌, ◌<◌, ◌++◌, ◌∷◌, [], IfErr, IfOk, OnOk, length};
 ghost use Rattle.line_model.specs.basics.Bounds.{IsPiece};
 ghost use Rattle.line_model.specs.declared.fault.Fault.TheVariants.{Memory};
 ghost use Rattle.restart_epochs.specs.OpenRows.{OpenRows, rows_of, HasMore};
 ghost use Rattle.channel_run.specs.Live.{channel_so_far};
-ghost use Rattle.channel_run.specs.Run.{data_events, row_events};
+ghost use Rattle.channel_run.specs.Run.{row_events};
 ghost use Rattle.channel_run.specs.Taken.{data_in, finding_in};
 ghost use Rattle.live_report.specs.Lanes.{FindsOn, IsOut, LanesStandFor};
-ghost use Rattle.live_report.specs.Turns.{walked_piece, OfLanes, SeesOn};
+ghost use Rattle.live_report.specs.Turns.{walked_piece, OfLanes, TakesOn, with_data};
 
-use crate::last_row::{Judge, Judged, KeptRow};
+use crate::judged_row::{Judge, JudgedRow};
 use channel_run::live::{LiveChannel, Taken};
 use channel_run::run::Channel;
 use line_model::event::Event;
@@ -53,7 +53,7 @@ pub(crate) fn step_channel<A: Allocator + Copy, C: Channel<A>>(
     item: &ItemRef<'_>,
     events: &mut Vec<Event, A>,
     lanes: &mut ChannelTable<LiveChannel<A, C>, A>,
-) -> Result<Judged, Fault>
+) -> Result<JudgedRow, Fault>
     requires room { (rows : OpenRows)
         × LanesStandFor C.Channel walk.now.interface walk.now.epoch rows lanes.old
         × IsPiece walk.now.interface channel (rows_of rows channel ++ item.now ∷ []) }
@@ -61,20 +61,17 @@ pub(crate) fn step_channel<A: Allocator + Copy, C: Channel<A>>(
         → HasMore channel item.now rows after
         → IsPiece walk.now.interface channel (rows_of after channel)
         → OnOk result (LanesStandFor C.Channel walk.now.interface walk.now.epoch after lanes.new)) }
-    ensures number { IfOk result (λ judged. judged.row.number ≡ item.now.number) }
-    ensures side { IfOk result (λ judged. judged.row.side ≡ item.now.side) }
-    ensures packet { IfOk result (λ judged. judged.row.packet ≡ item.now.packet) }
-    ensures channel { IfOk result (λ judged. judged.row.channel ≡ Some channel) }
-    ensures before { OfLanes C.Channel walk.now lanes.old (λ rows.
-        IfOk result (λ judged. SeesOn walk.now channel rows judged.row.before)) }
-    ensures after { OfLanes C.Channel walk.now lanes.old (λ rows. (after : OpenRows)
+    ensures number { IfOk result (λ row. row.number ≡ item.now.number) }
+    ensures side { IfOk result (λ row. row.side ≡ item.now.side) }
+    ensures packet { IfOk result (λ row. row.packet ≡ item.now.packet) }
+    ensures judge { OfLanes C.Channel walk.now lanes.old (λ rows. (after : OpenRows)
         → HasMore channel item.now rows after
         → IsPiece walk.now.interface channel (rows_of after channel)
-        → IfOk result (λ judged. SeesOn walk.now channel after judged.row.after)) }
+        → IfOk result (λ row. TakesOn walk.now channel rows after row.judge)) }
     ensures finding { OfLanes C.Channel walk.now lanes.old (λ rows.
-        IfOk result (λ judged. FindsOn (walked_piece walk.now channel rows) item.now judged.row.finding)) }
+        IfOk result (λ row. FindsOn (walked_piece walk.now channel rows) item.now row.finding)) }
     ensures events { OfLanes C.Channel walk.now lanes.old (λ rows.
-        IfOk result (λ judged. events.new.items ++ data_events walk.now.epoch channel item.now judged.accepted
+        IfOk result (λ row. with_data walk.now.epoch row.judge item.now events.new.items
         ≡ row_events walk.now.interface walk.now.epoch channel
         (channel_so_far (walked_piece walk.now channel rows)) item.now)) }
     ensures memory { IfErr result (λ fault. fault ≡ Memory) }
@@ -86,7 +83,7 @@ pub(crate) fn step_channel<A: Allocator + Copy, C: Channel<A>>(
     let (accepted, finding) = parts(taken);
     let after = live.word();
     lanes.put(channel, live);
-    let row = KeptRow {
+    Ok(JudgedRow {
         number: item.number,
         side: item.side,
         packet: item.packet,
@@ -94,10 +91,10 @@ pub(crate) fn step_channel<A: Allocator + Copy, C: Channel<A>>(
             channel,
             before,
             after,
+            accepted,
         },
         finding,
-    };
-    Ok(Judged { row, accepted })
+    })
 }
 
 /// The octets of accepted data with Q 0, and the finding, of what a row did to its channel.

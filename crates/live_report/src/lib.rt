@@ -3,8 +3,8 @@
 
 mod ending;
 pub mod follow;
+pub mod judged_row;
 mod lanes;
-pub mod last_row;
 pub mod laws;
 pub mod live;
 mod live_observer;

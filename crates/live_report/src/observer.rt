@@ -8,20 +8,19 @@ ghost use Rattle.line_model.specs.packets.Says.{item_read};
 ghost use Rattle.line_model.specs.pieces.Plans.{value};
 ghost use Rattle.restart_epochs.specs.OpenRows.{OpenRows};
 ghost use Rattle.restart_epochs.specs.Cutting.{Cutting, ended_by, observer, HasTurned};
-ghost use Rattle.restart_epochs.specs.Walks.{channel_in};
 ghost use Rattle.report_merge.specs.Gathered.{gathered};
 ghost use Rattle.channel_run.specs.Live.{channel_so_far};
 ghost use Rattle.channel_run.specs.Views.{IsViewOf};
 ghost use Rattle.live_report.specs.Lanes.{LanesStandFor};
-ghost use Rattle.live_report.specs.LastRows.{IsLastRow};
+ghost use Rattle.live_report.specs.JudgedRows.{IsJudgedRow};
 ghost use Rattle.live_report.specs.Uncounted.{uncounted_of};
-ghost use Rattle.live_report.specs.declared.last_row.Known.TheVariants.{Restart};
-ghost use Rattle.live_report.specs.Turns.{FindsBy, HasEvents, KnowsBy, MayTurn, OfOpen, StandsAt, with_data};
+ghost use Rattle.live_report.specs.declared.judged_row.Judge.TheVariants.{Restart};
+ghost use Rattle.live_report.specs.Turns.{FindsBy, HasEvents, JudgesBy, MayTurn, OfOpen, StandsAt, with_data};
 ghost use Rattle.live_report.specs.Observing.{open_piece, HasKept, HasWalked, IsHolding, IsObserver, MayWalk, ReturnsFinding, ReturnsReport, WalksOn};
 
 use crate::ending::end_channels;
+use crate::judged_row::{Judge, JudgedRow};
 use crate::lanes::step_channel;
-use crate::last_row::{Judge, Judged, KeptRow, LastRow};
 use crate::reporting::report_channels;
 use crate::uncounted::Uncounted;
 use channel_run::live::LiveChannel;
@@ -51,7 +50,7 @@ pub struct Observer<A: Allocator, C: Channel<A>> {
     /// Whether it keeps each row as it was judged, with its events.
     keeps_rows: bool,
     /// The row that was taken last, as it was judged, where rows are kept.
-    last: Option<KeptRow>,
+    last: Option<JudgedRow>,
     /// The events of the last row that a channel took; where no rows are kept, without that of accepted data with Q 0.
     events: Vec<Event, A>,
     /// The data of the rows that was not counted.
@@ -59,21 +58,16 @@ pub struct Observer<A: Allocator, C: Channel<A>> {
 }
 
 /// A row of a packet that no channel takes, which the restart machine judged in a state.
-fn judged_on_line(item: &ItemRef<'_>, before: RState, step: &Step) -> Judged
+fn judged_on_line(item: &ItemRef<'_>, before: RState, step: &Step) -> JudgedRow
     ensures { result ≡ record {
-      row = record {
-        number = item.now.number;
-        side = item.now.side;
-        packet = item.now.packet;
-        channel = None;
-        before = Restart before;
-        after = Restart step.now.machine.state;
-        finding = step.now.finding;
-      };
-      accepted = None;
+      number = item.now.number;
+      side = item.now.side;
+      packet = item.now.packet;
+      judge = Restart before step.now.machine.state;
+      finding = step.now.finding;
     } }
 {
-    let row = KeptRow {
+    JudgedRow {
         number: item.number,
         side: item.side,
         packet: item.packet,
@@ -82,10 +76,6 @@ fn judged_on_line(item: &ItemRef<'_>, before: RState, step: &Step) -> Judged
             after: step.machine.state(),
         },
         finding: step.finding,
-    };
-    Judged {
-        row,
-        accepted: None,
     }
 }
 
@@ -109,7 +99,7 @@ impl<A: Allocator + Copy, C: Channel<A>> Observer<A, C> {
     /// Steps the channel that a row goes to, or ends the channels that it ends, and returns the row as it was judged. Fails only
     /// when memory is refused.
     #[inline(always)]
-    fn turn(&mut self, step: &Step, item: &ItemRef<'_>) -> Result<Judged, Fault>
+    fn turn(&mut self, step: &Step, item: &ItemRef<'_>) -> Result<JudgedRow, Fault>
         requires room { (rows : OpenRows) × (reports : List records.PieceReport)
             × StandsAt C.Channel self.old.walk rows self.old.lanes × (self.old.ended ≡ gathered reports)
             × MayTurn step.now.turn self.old.walk.interface item.now rows }
@@ -125,21 +115,18 @@ impl<A: Allocator + Copy, C: Channel<A>> Observer<A, C> {
             → self.old.ended ≡ gathered reports
             → OnOk result (self.new.ended ≡ gathered (reports ++ map value (ended_by step.now.turn
             self.old.walk.interface self.old.walk.epoch item.now.number (length reports) rows)))) }
-        ensures number { IfOk result (λ judged. judged.row.number ≡ item.now.number) }
-        ensures side { IfOk result (λ judged. judged.row.side ≡ item.now.side) }
-        ensures packet { IfOk result (λ judged. judged.row.packet ≡ item.now.packet) }
-        ensures channel { IfOk result (λ judged. judged.row.channel ≡ channel_in step.now.turn) }
-        ensures before { OfOpen C.Channel self.old.walk self.old.lanes (λ rows. IfOk result (λ judged.
-            KnowsBy step.now.turn self.old.walk self.old.walk.machine rows judged.row.before)) }
-        ensures after { OfOpen C.Channel self.old.walk self.old.lanes (λ rows. (after : OpenRows)
+        ensures number { IfOk result (λ row. row.number ≡ item.now.number) }
+        ensures side { IfOk result (λ row. row.side ≡ item.now.side) }
+        ensures packet { IfOk result (λ row. row.packet ≡ item.now.packet) }
+        ensures judge { OfOpen C.Channel self.old.walk self.old.lanes (λ rows. (after : OpenRows)
             → MayTurn step.now.turn self.old.walk.interface item.now rows
             → HasTurned step.now.turn item.now rows after
-            → IfOk result (λ judged. KnowsBy step.now.turn self.old.walk step.now.machine after judged.row.after)) }
+            → IfOk result (λ row. JudgesBy step.now.turn self.old.walk step.now.machine rows after row.judge)) }
         ensures finding { OfOpen C.Channel self.old.walk self.old.lanes (λ rows.
-            IfOk result (λ judged. FindsBy step.now self.old.walk rows item.now judged.row.finding)) }
+            IfOk result (λ row. FindsBy step.now self.old.walk rows item.now row.finding)) }
         ensures events { OfOpen C.Channel self.old.walk self.old.lanes (λ rows.
-            IfOk result (λ judged. HasEvents step.now.turn self.old.walk rows item.now
-            (with_data self.old.walk.epoch (channel_in step.now.turn) item.now judged.accepted self.new.events.items))) }
+            IfOk result (λ row. HasEvents step.now.turn self.old.walk rows item.now
+            (with_data self.old.walk.epoch row.judge item.now self.new.events.items))) }
         ensures memory { IfErr result (λ fault. fault ≡ Memory) }
     {
         match step.turn {
@@ -180,23 +167,10 @@ impl<A: Allocator + Copy, C: Channel<A>> Observer<A, C> {
     }
 
     /// The row that was taken last, as it was judged; none before the first row, and where no rows are kept.
-    pub fn last_row(&self) -> Option<LastRow>
+    pub fn last_row(&self) -> Option<&JudgedRow>
         ensures { (i : AnyInterface) (before : List records.Item) (row : records.Item)
             → HasKept C.Channel i (before ++ row ∷ []) self.now
-            → MatchOption result ⊥ (λ last. IsLastRow i before row last self.now.events.items) }
-    {
-        match &self.last {
-            Some(last) => Some(last.row()),
-            None => None,
-        }
-    }
-
-    /// The row that was taken last, as it is kept, which costs no copy; none before the first row, and where no rows are
-    /// kept.
-    pub fn kept_row(&self) -> Option<&KeptRow>
-        ensures { (i : AnyInterface) (before : List records.Item) (row : records.Item)
-            → HasKept C.Channel i (before ++ row ∷ []) self.now
-            → MatchOption result ⊥ (λ last. IsLastRow i before row last.now self.now.events.items) }
+            → MatchOption result ⊥ (λ last. IsJudgedRow i before row last.now self.now.events.items) }
     {
         self.last.as_ref()
     }
@@ -256,7 +230,7 @@ impl<A: Allocator + Copy, C: Channel<A>> Observer<A, C> {
     {
         let step = self.walk.step(item)?;
         let judged = self.turn(&step, item)?;
-        let finding = judged.row.finding();
+        let finding = judged.finding;
         self.uncounted.take(
             &self.walk.interface,
             item.length,
@@ -271,19 +245,24 @@ impl<A: Allocator + Copy, C: Channel<A>> Observer<A, C> {
     /// Where rows are kept, keeps a row as it was judged, and lists the event of accepted data with Q 0. Fails only when
     /// memory is refused.
     #[inline(always)]
-    fn keep(&mut self, judged: Judged, item: &ItemRef<'_>) -> Result<(), Fault>
+    fn keep(&mut self, row: JudgedRow, item: &ItemRef<'_>) -> Result<(), Fault>
         ensures rest { OnOk result (self.new
             ≡ record self.old { last = self.new.last; events = self.new.events }) }
-        ensures last { self.old.keeps_rows ≡ true → OnOk result (self.new.last ≡ Some judged.row) }
+        ensures last { self.old.keeps_rows ≡ true → OnOk result (self.new.last ≡ Some row) }
         ensures events { self.old.keeps_rows ≡ true → OnOk result (self.new.events.items
-            ≡ with_data self.old.walk.epoch judged.row.channel item.now judged.accepted self.old.events.items) }
+            ≡ with_data self.old.walk.epoch row.judge item.now self.old.events.items) }
         ensures keeps { self.new.keeps_rows ≡ self.old.keeps_rows }
         ensures memory { IfErr result (λ fault. fault ≡ Memory) }
     {
         if !self.keeps_rows {
             return Ok(());
         }
-        if let (Some(channel), Some(octets)) = (judged.row.channel(), judged.accepted) {
+        if let Judge::Channel {
+            channel,
+            accepted: Some(octets),
+            ..
+        } = row.judge
+        {
             self.events.push(Event {
                 epoch: self.walk.epoch,
                 channel,
@@ -294,7 +273,7 @@ impl<A: Allocator + Copy, C: Channel<A>> Observer<A, C> {
                 },
             })?;
         }
-        self.last = Some(judged.row);
+        self.last = Some(row);
         Ok(())
     }
 

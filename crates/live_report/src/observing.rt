@@ -45,11 +45,11 @@ pub fn observe_chunk<A: Allocator + Copy, C: Channel<A>>(
     ensures kinds { IfErr result IsTextFault }
 {
     let mut rest = chunk;
-    while let Some(after) = lines.next_row(rest, row)? {
-        append_finding(found, observer.take(row)?)?;
-        if after.is_empty() {
+    while !rest.is_empty() {
+        let Some(after) = lines.next_row(rest, row)? else {
             return Ok(());
-        }
+        };
+        append_finding(found, observer.take(row)?)?;
         rest = after;
     }
     Ok(())

@@ -7,12 +7,11 @@ ghost use Rattle.line_model.specs.declared.interface.Interface.{Interface as Any
 ghost use Rattle.restart_epochs.specs.Cutting.{observer};
 ghost use Rattle.channel_run.specs.StatusWord.{view_in};
 ghost use Rattle.channel_run.specs.Views.{IsViewOf};
-ghost use Rattle.live_report.specs.LastRows.{IsLastRow};
+ghost use Rattle.live_report.specs.JudgedRows.{IsJudgedRow};
 ghost use Rattle.live_report.specs.Turns.{with_data};
 ghost use Rattle.live_report.specs.Uncounted.{AreFew, amount_for, counts_data, grown, has_finding, is_data, none_left_out, reason_at, reason_of_state, reason_on, uncounted_of, user_octets, with_one};
 
-use crate::last_row::{Judge, Judged, KeptRow, Known, LastRow};
-use channel_run::run::View;
+use crate::judged_row::{Judge, JudgedRow};
 use channel_run::status_word::view_in;
 use data_transfer::packed::FlowWord;
 use line_model::event::{Event, What};
@@ -104,8 +103,8 @@ pub fn has_finding(events: &[Event]) -> bool
 }
 
 /// Why a channel did not count the data of a row with these events, by what was known of it before; none where it did.
-fn reason_on(view: &View, events: &[Event]) -> Option<Reason>
-    ensures { (i : AnyInterface) (c : channels.Channel) → IsViewOf i c view.now
+fn reason_on(word: &FlowWord, events: &[Event]) -> Option<Reason>
+    ensures { (i : AnyInterface) (c : channels.Channel) → IsViewOf i c (view_in word.now)
         → result ≡ reason_on c events.now }
 {
     if counts_data(events) {
@@ -114,48 +113,23 @@ fn reason_on(view: &View, events: &[Event]) -> Option<Reason>
     if has_finding(events) {
         return Some(Reason::Finding);
     }
+    let view = view_in(word);
     Some(Reason::of_state(view.state, view.owed))
 }
 
-/// Why the data of a row was not counted; none where it has no data, or where it was counted.
-pub fn reason_of(last: &LastRow, events: &[Event]) -> Option<Reason>
-    ensures { (i : AnyInterface) (earlier : List Item) (r : Item)
-        → IsLastRow i earlier r last.now events.now
-        → result ≡ reason_at i (observer i earlier) r }
-{
-    if !is_data(&last.packet) {
-        return None;
-    }
-    match &last.before {
-        Known::Restart(_) => Some(Reason::Restart),
-        Known::Channel(view) => reason_on(view, events),
-    }
-}
-
-/// The same by the word of a channel, which is read only where its data was not counted.
-fn reason_in(word: &FlowWord, events: &[Event]) -> Option<Reason>
-    ensures { (i : AnyInterface) (c : channels.Channel) → IsViewOf i c (view_in word.now)
-        → result ≡ reason_on c events.now }
-{
-    if counts_data(events) {
-        return None;
-    }
-    reason_on(&view_in(word), events)
-}
-
-/// Why the data of a row that is kept was not counted, as `reason_of` has it.
+/// Returns why the data of a row was not counted; none where it has no data, or where it was counted.
 #[inline(always)]
-fn reason_kept(last: &KeptRow, events: &[Event]) -> Option<Reason>
+pub fn reason_of(row: &JudgedRow, events: &[Event]) -> Option<Reason>
     ensures { (i : AnyInterface) (earlier : List Item) (r : Item)
-        → IsLastRow i earlier r last.now events.now
+        → IsJudgedRow i earlier r row.now events.now
         → result ≡ reason_at i (observer i earlier) r }
 {
-    if !is_data(&last.packet) {
+    if !is_data(&row.packet) {
         return None;
     }
-    match &last.judge {
+    match &row.judge {
         Judge::Restart { .. } => Some(Reason::Restart),
-        Judge::Channel { before, .. } => reason_in(before, events),
+        Judge::Channel { before, .. } => reason_on(before, events),
     }
 }
 
@@ -257,19 +231,19 @@ impl Uncounted {
         &mut self,
         interface: &Interface,
         length: usize,
-        judged: &Judged,
+        row: &JudgedRow,
         events: &[Event],
     )
         ensures { (i : AnyInterface) (epoch : ℕ) (earlier : List Item) (r : Item)
-            → IsLastRow i earlier r judged.now.row (with_data epoch judged.now.row.channel r judged.now.accepted events.now)
+            → IsJudgedRow i earlier r row.now (with_data epoch row.now.judge r events.now)
             → interface.now ≡ i → length ≡ r.length → AreFew (earlier ++ r ∷ [])
             → self.old ≡ uncounted_of i earlier
             → self.new ≡ uncounted_of i (earlier ++ r ∷ []) }
     {
-        if judged.is_accepted() {
+        if row.judge.is_accepted() {
             return;
         }
-        if let Some(reason) = reason_kept(&judged.row, events) {
+        if let Some(reason) = reason_of(row, events) {
             self.add(reason, user_octets(interface, length));
         }
     }

@@ -7,3 +7,5 @@ pub mod AnyOrder
 pub mod OfWalk
 pub mod Posted
 pub mod GatheredLemmas
+pub mod EmptyStructs
+pub mod Strangers

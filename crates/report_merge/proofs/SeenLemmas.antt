@@ -2,17 +2,8 @@
 use Rattle.std.proofs.Common.{◌≡◌, ℕ, zero, suc, ◌+◌, ◌<◌, ◌==◌, ◌||◌, not, nat_lt, Bool, true, false, cond, List, [], ◌∷◌, length, get_or, set, drop, count_by, refl, sym, ap, ◌∙◌, subst, arith, Option, Some, None, if◌then◌else◌}
 use Rattle.std.proofs.lemmas.Bool.Decides.{nat_tests}
 use Rattle.std.proofs.lemmas.List.Sums.{sum_by-cons}
-use Rattle.line_model.specs.basics.Records.{PieceReport}
-use Rattle.line_model.specs.work.Book.{ids_of}
 use Rattle.report_merge.specs.Seen.{double_with, is_among}
 use Rattle.report_merge.specs.Refusal.{stranger}
-
-pub ids-drop : (ps : List PieceReport) (i : ℕ) (p : PieceReport) → i < length ps → p ≡ get_or ps i p → ids_of (drop i ps) ≡ p.id ∷ ids_of (drop (i + 1) ps)
-ids-drop [] i p lt is = absurd (omega arith)
-ids-drop (q ∷ ps) zero p lt is = ap (λ z. z.id ∷ ids_of ps) (sym is)
-ids-drop (q ∷ ps) (suc i) p lt is =
-    let e : suc i + 1 ≡ suc (i + 1) = omega arith in
-    subst (λ k. ids_of (drop i ps) ≡ p.id ∷ ids_of (drop k (q ∷ ps))) (sym e) (ids-drop ps i p (omega arith) is)
 
 later_apart : (k : ℕ) → (suc k == 0) ≡ false
 later_apart k = grind (arith, nat_tests)
@@ -58,45 +49,36 @@ among-more true false a b h = h
 among-more false true a b h = h
 among-more false false a b h = h
 
-pub known_next : (reports : List PieceReport) (i : ℕ) (p : PieceReport) (pieces : ℕ) → i < length reports → p ≡ get_or reports i p → stranger pieces (ids_of (drop i reports)) ≡ None
-    → (p.id < pieces) × (stranger pieces (ids_of (drop (i + 1) reports)) ≡ None)
-known_next reports i p pieces some is known = stranger-more pieces p.id (ids_of (drop (i + 1) reports)) (subst (λ l. stranger pieces l ≡ None) (ids-drop reports i p some is) known)
+pub known_next : (ids : List ℕ) (i p : ℕ) (pieces : ℕ) → drop i ids ≡ p ∷ drop (i + 1) ids → stranger pieces (drop i ids) ≡ None
+    → (p < pieces) × (stranger pieces (drop (i + 1) ids) ≡ None)
+known_next ids i p pieces is known = stranger-more pieces p (drop (i + 1) ids) (subst (λ l. stranger pieces l ≡ None) is known)
 
--- one more report that was not seen
-pub record IsMarked (reports : List PieceReport) (i : ℕ) (p : PieceReport) (seen : List Bool) (pieces : ℕ) : Type 0 where
-  pub some : i < length reports
-  pub is : p ≡ get_or reports i p
+-- one more id that was not seen
+pub record IsMarked (ids : List ℕ) (i p : ℕ) (seen : List Bool) (pieces : ℕ) : Type 0 where
+  pub at : drop i ids ≡ p ∷ drop (i + 1) ids
   pub len : length seen ≡ pieces
-  pub off : get_or seen p.id false ≡ false
-  pub known : stranger pieces (ids_of (drop i reports)) ≡ None
+  pub off : get_or seen p false ≡ false
+  pub known : stranger pieces (drop i ids) ≡ None
 
-pub marked_known : (reports : List PieceReport) (i : ℕ) (p : PieceReport) (seen : List Bool) (pieces : ℕ) → IsMarked reports i p seen pieces → (p.id < pieces) × (stranger pieces (ids_of (drop (i + 1) reports)) ≡ None)
-marked_known reports i p seen pieces h =
-    stranger-more pieces p.id (ids_of (drop (i + 1) reports)) (subst (λ l. stranger pieces l ≡ None) (ids-drop reports i p h.some h.is) h.known)
+pub marked_known : (ids : List ℕ) (i p : ℕ) (seen : List Bool) (pieces : ℕ) → IsMarked ids i p seen pieces → (p < pieces) × (stranger pieces (drop (i + 1) ids) ≡ None)
+marked_known ids i p seen pieces h =
+    stranger-more pieces p (drop (i + 1) ids) (subst (λ l. stranger pieces l ≡ None) h.at h.known)
 
-pub marked_seen : (reports : List PieceReport) (i : ℕ) (p : PieceReport) (seen : List Bool) (pieces : ℕ) → IsMarked reports i p seen pieces
-    → ((k : ℕ) → (get_or seen k false || is_among k (ids_of (drop i reports))) ≡ is_among k (ids_of reports))
-    → (k : ℕ) → (get_or (set seen p.id true) k false || is_among k (ids_of (drop (i + 1) reports))) ≡ is_among k (ids_of reports)
-marked_seen reports i p seen pieces h before k =
-    let w = marked_known reports i p seen pieces h in
-    let rest : List ℕ = ids_of (drop (i + 1) reports) in
-    ap (λ b. b || is_among k rest) (marked-at seen p.id k (omega (arith, w.0, h.len)))
-    ∙ among-more (get_or seen k false) (k == p.id) (is_among k rest) (is_among k (ids_of reports)) (subst (λ l. (get_or seen k false || is_among k l) ≡ is_among k (ids_of reports)) (ids-drop reports i p h.some h.is) (before k))
+pub marked_seen : (ids : List ℕ) (i p : ℕ) (seen : List Bool) (pieces : ℕ) → IsMarked ids i p seen pieces
+    → ((k : ℕ) → (get_or seen k false || is_among k (drop i ids)) ≡ is_among k ids)
+    → (k : ℕ) → (get_or (set seen p true) k false || is_among k (drop (i + 1) ids)) ≡ is_among k ids
+marked_seen ids i p seen pieces h before k =
+    let w = marked_known ids i p seen pieces h in
+    let rest : List ℕ = drop (i + 1) ids in
+    ap (λ b. b || is_among k rest) (marked-at seen p k (omega (arith, w.0, h.len)))
+    ∙ among-more (get_or seen k false) (k == p) (is_among k rest) (is_among k ids) (subst (λ l. (get_or seen k false || is_among k l) ≡ is_among k ids) h.at (before k))
 
-pub marked_double : (reports : List PieceReport) (i : ℕ) (p : PieceReport) (seen : List Bool) (pieces : ℕ) (all : Option ℕ) → IsMarked reports i p seen pieces
-    → all ≡ double_with (λ k. get_or seen k false) (ids_of (drop i reports)) → all ≡ double_with (λ k. get_or (set seen p.id true) k false) (ids_of (drop (i + 1) reports))
-marked_double reports i p seen pieces all h before =
-    let w = marked_known reports i p seen pieces h in
-    let rest : List ℕ = ids_of (drop (i + 1) reports) in
+pub marked_double : (ids : List ℕ) (i p : ℕ) (seen : List Bool) (pieces : ℕ) (all : Option ℕ) → IsMarked ids i p seen pieces
+    → all ≡ double_with (λ k. get_or seen k false) (drop i ids) → all ≡ double_with (λ k. get_or (set seen p true) k false) (drop (i + 1) ids)
+marked_double ids i p seen pieces all h before =
+    let w = marked_known ids i p seen pieces h in
+    let rest : List ℕ = drop (i + 1) ids in
     before
-    ∙ ap (λ l. double_with (λ k. get_or seen k false) l) (ids-drop reports i p h.some h.is)
-    ∙ ap (λ b. if b then Some p.id else double_with (λ k. (k == p.id) || get_or seen k false) rest) h.off
-    ∙ double_with-same (λ k. (k == p.id) || get_or seen k false) (λ k. get_or (set seen p.id true) k false) rest (λ k. sym (marked-at seen p.id k (omega (arith, w.0, h.len))))
-
-pub found_double : (reports : List PieceReport) (i : ℕ) (p : PieceReport) (seen : List Bool) (all : Option ℕ) → i < length reports → p ≡ get_or reports i p → get_or seen p.id false ≡ true
-    → all ≡ double_with (λ k. get_or seen k false) (ids_of (drop i reports)) → all ≡ Some p.id
-found_double reports i p seen all some is on before =
-    let rest : List ℕ = ids_of (drop (i + 1) reports) in
-    before
-    ∙ ap (λ l. double_with (λ k. get_or seen k false) l) (ids-drop reports i p some is)
-    ∙ ap (λ b. if b then Some p.id else double_with (λ k. (k == p.id) || get_or seen k false) rest) on
+    ∙ ap (λ l. double_with (λ k. get_or seen k false) l) h.at
+    ∙ ap (λ b. if b then Some p else double_with (λ k. (k == p) || get_or seen k false) rest) h.off
+    ∙ double_with-same (λ k. (k == p) || get_or seen k false) (λ k. get_or (set seen p true) k false) rest (λ k. sym (marked-at seen p k (omega (arith, w.0, h.len))))

@@ -1,8 +1,11 @@
 -- What the reports of pieces give, put together.
-use Rattle.std.specs.Prelude.{ℕ, ◌≤◌, ◌*◌, ◌^◌, List, length, sum_by}
+use Rattle.std.specs.Prelude.{◌≡◌, ℕ, ◌≤◌, ◌+◌, ◌*◌, ◌^◌, ◌++◌, List, length, sum_by, All}
 use Rattle.std.specs.List.{flat_map}
+use Rattle.std.specs.List.Sorted.{IsPermutation, IsNonDecreasingBy}
 use Rattle.line_model.specs.declared.finding.Finding.{Finding}
+use Rattle.line_model.specs.declared.totals.Totals.{Totals}
 use Rattle.line_model.specs.basics.Records.{CallRecord, PieceReport}
+use Rattle.line_model.specs.work.Book.{ids_of}
 
 -- the findings of the pieces
 abbrev pub piece_findings : List PieceReport → List Finding
@@ -29,6 +32,50 @@ gathered ps = record {
   octets = sum_by (λ p. p.octets) ps;
   segments = sum_by (λ p. p.segments) ps;
 }
+
+-- what they count for
+abbrev pub counted : Gathered → Totals
+counted g = record { posts = g.pieces; findings = length g.findings; octets = g.octets; segments = g.segments }
+
+-- what the second gives, after the first
+abbrev pub joined : Gathered → Gathered → Gathered
+joined g h = record {
+  pieces = g.pieces + h.pieces;
+  findings = g.findings ++ h.findings;
+  calls = g.calls ++ h.calls;
+  octets = g.octets + h.octets;
+  segments = g.segments + h.segments;
+}
+
+-- what these reports give, with each list in any order
+pub record AreGathered (ps : List PieceReport) (g : Gathered) : Type 0 where
+  pub number : g.pieces ≡ length ps
+  pub same_findings : IsPermutation (piece_findings ps) g.findings
+  pub same_calls : IsPermutation (all_calls ps) g.calls
+  pub same_octets : g.octets ≡ sum_by (λ p. p.octets) ps
+  pub same_segments : g.segments ≡ sum_by (λ p. p.segments) ps
+
+-- the same with the findings and the calls in the order of their packets
+pub record AreSorted (g h : Gathered) : Type 0 where
+  pub same_findings : IsPermutation g.findings h.findings
+  pub findings_sorted : IsNonDecreasingBy (λ f. f.packet) h.findings
+  pub same_calls : IsPermutation g.calls h.calls
+  pub calls_sorted : IsNonDecreasingBy (λ c. c.opened) h.calls
+  pub same_pieces : h.pieces ≡ g.pieces
+  pub same_octets : h.octets ≡ g.octets
+  pub same_segments : h.segments ≡ g.segments
+
+-- no number that a report counts for is great
+pub record IsSmall (r : PieceReport) : Type 0 where
+  pub findings : length r.findings ≤ 2 ^ 31
+  pub octets : r.octets ≤ 2 ^ 31
+  pub segments : r.segments ≤ 2 ^ 31
+
+-- the ids of some reports, and what they give
+pub record IsBundle (ps : List PieceReport) (ids : List ℕ) (g : Gathered) : Type 0 where
+  pub ids_are : ids ≡ ids_of ps
+  pub gathered : AreGathered ps g
+  pub small : All IsSmall ps
 
 -- no more octets and segments than so many pieces may have, and calls of no more segments than those
 pub record AreFew (pieces : ℕ) (calls : List CallRecord) (octets segments : ℕ) : Type 0 where

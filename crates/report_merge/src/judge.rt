@@ -1,47 +1,40 @@
-//! Which reports of pieces are refused.
+//! Which ids of pieces are refused.
 
 ghost use Rattle.std.specs.Prelude.{◌≡◌, ℕ, ◌<◌, ◌≤◌, length, IfOk, IfErr, OnOk, None, MatchOption, slice_index_or, true, false, vec_len};
 ghost use Rattle.report_merge.specs.Seen.{double, is_among, IsRefused};
 ghost use Rattle.report_merge.specs.Refusal.{stranger, IsRefusal, IsWhole};
-ghost use Rattle.line_model.specs.work.Book.{ids_of};
 
 use line_model::fault::Fault;
-use line_model::piece::PieceReport;
 use std::alloc::Allocator;
 
 /// The first id that is not of the plan.
-fn first_stranger<A: Allocator>(reports: &[PieceReport<A>], pieces: u32) -> Option<u32>
-    ensures { result ≡ stranger pieces (ids_of reports.now) }
+pub fn first_stranger(ids: &[u32], pieces: u32) -> Option<u32>
+    ensures { result ≡ stranger pieces ids.now }
 {
-    for report in reports {
-        if report.id >= pieces {
-            return Some(report.id);
+    for id in ids {
+        if *id >= pieces {
+            return Some(*id);
         }
     }
     None
 }
 
-/// Which ids stand in the reports, where none stands twice.
-fn seen_ids<A: Allocator + Clone>(
-    alloc: &A,
-    reports: &[PieceReport<A>],
-    pieces: u32,
-) -> Result<Vec<bool, A>, Fault>
-    requires known { stranger pieces (ids_of reports.now) ≡ None }
+/// Which ids there are, where none stands twice.
+fn seen_ids<A: Allocator>(alloc: A, ids: &[u32], pieces: u32) -> Result<Vec<bool, A>, Fault>
+    requires known { stranger pieces ids.now ≡ None }
     ensures seen { IfOk result (λ v. (k : ℕ) → slice_index_or v.items k false
-        ≡ is_among k (ids_of reports.now)) }
+        ≡ is_among k ids.now) }
     ensures len { IfOk result (λ v. vec_len v ≡ pieces) }
-    ensures once { OnOk result (double (ids_of reports.now) ≡ None) }
-    ensures few { OnOk result (length reports.now ≤ pieces) }
-    ensures refused { IfErr result (λ f. IsRefused f (double (ids_of reports.now))) }
+    ensures once { OnOk result (double ids.now ≡ None) }
+    ensures refused { IfErr result (λ f. IsRefused f (double ids.now)) }
 {
-    let mut seen = vec![in alloc.clone()?; false; pieces as usize]?;
-    for report in reports {
-        let id = report.id as usize;
-        if seen[id] {
-            return Err(Fault::Double(report.id));
+    let mut seen = vec![in alloc; false; pieces as usize]?;
+    for id in ids {
+        let place = *id as usize;
+        if seen[place] {
+            return Err(Fault::Double(*id));
         }
-        seen[id] = true;
+        seen[place] = true;
     }
     Ok(seen)
 }
@@ -61,20 +54,13 @@ fn first_unmarked(seen: &[bool]) -> Option<usize>
     None
 }
 
-/// Refuses reports that are not those of a plan, each once.
-pub fn judge<A: Allocator + Clone>(
-    alloc: &A,
-    reports: &[PieceReport<A>],
-    pieces: u32,
-) -> Result<(), Fault>
-    ensures whole { OnOk result (IsWhole pieces (ids_of reports.now)) }
-    ensures few { OnOk result (length reports.now ≤ pieces) }
-    ensures refused { IfErr result (λ f. IsRefusal f pieces (ids_of reports.now)) }
+/// Refuses ids of a plan that don't stand once each.
+pub fn judge<A: Allocator>(alloc: A, ids: &[u32], pieces: u32) -> Result<(), Fault>
+    requires known { stranger pieces ids.now ≡ None }
+    ensures whole { OnOk result (IsWhole pieces ids.now) }
+    ensures refused { IfErr result (λ f. IsRefusal f pieces ids.now) }
 {
-    if let Some(id) = first_stranger(reports, pieces) {
-        return Err(Fault::Stranger(id));
-    }
-    let seen = seen_ids(alloc, reports, pieces)?;
+    let seen = seen_ids(alloc, ids, pieces)?;
     match first_unmarked(seen.as_slice()) {
         Some(id) => Err(Fault::Missing(id as u32)),
         None => Ok(()),

@@ -4,8 +4,10 @@
 mod fields;
 mod judge;
 mod lines;
+mod log;
 pub mod merging;
 pub mod parts;
+pub mod reports;
 pub mod text;
 mod turns;
 pub mod words;

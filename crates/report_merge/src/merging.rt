@@ -1,50 +1,80 @@
 //! The report of a trace, from the reports of its pieces.
 
-ghost use Rattle.std.specs.Prelude.{◌≡◌, ◌<◌, ◌^◌, IfOk, IfErr, length};
+ghost use Rattle.std.specs.Prelude.{◌≡◌, IfOk, IfErr};
+ghost use Rattle.std.specs.List.{flat_map};
 ghost use Rattle.line_model.specs.work.Book.{ids_of};
-ghost use Rattle.report_merge.specs.Refusal.{IsRefusal, IsWhole};
-ghost use Rattle.report_merge.specs.Gathered.{gathered};
+ghost use Rattle.report_merge.specs.Refusal.{stranger, IsRefusal, IsWhole};
+ghost use Rattle.report_merge.specs.Gathered.{AreGathered};
 ghost use Rattle.report_merge.specs.Merged.{IsMemoryOfWalk, IsMerged, IsReportOfWalk};
 
-use crate::judge::judge;
+use crate::judge::{first_stranger, judge};
 use crate::parts::Parts;
+use crate::reports::Reports;
 use line_model::fault::Fault;
 use line_model::finding::Finding;
-use line_model::piece::PieceReport;
 use line_model::report::Report;
 use std::alloc::{AllocError, Allocator};
 
-/// Puts what pieces give together.
-fn gather<A: Allocator + Clone>(
-    alloc: A,
-    reports: Vec<PieceReport<A>, A>,
-) -> Result<Parts<A>, AllocError>
-    requires few { length reports.items < 2 ^ 32 }
-    ensures { IfOk result (λ parts. parts ≡ gathered reports.items) }
+/// The first id that is not of the plan.
+fn stranger_of<A: Allocator, T: Reports<A>>(reports: &[T], pieces: u32) -> Option<u32>
+    ensures { result ≡ stranger pieces (ids_of (flat_map T.reports reports.now)) }
 {
+    for some in reports {
+        if let Some(id) = first_stranger(some.ids(), pieces) {
+            return Some(id);
+        }
+    }
+    None
+}
+
+/// The ids of all pieces.
+fn all_ids<A: Allocator, T: Reports<A>>(alloc: A, reports: &[T]) -> Result<Vec<u32, A>, AllocError>
+    ensures { IfOk result (λ ids. ids.items ≡ ids_of (flat_map T.reports reports.now)) }
+{
+    let mut ids = Vec::new(alloc);
+    for some in reports {
+        ids.extend_from_slice(some.ids())?;
+    }
+    Ok(ids)
+}
+
+/// Puts what pieces give together, those with the first ids first. So lists of which each begins after the one before
+/// ends are one list in order.
+fn gather<A: Allocator + Clone, T: Reports<A> + Drop>(
+    alloc: A,
+    mut reports: Vec<T, A>,
+) -> Result<Parts<A>, AllocError>
+    ensures { IfOk result (AreGathered (flat_map T.reports reports.items)) }
+{
+    reports.sort_unstable_by_key(|some| some.ids().first().copied());
     let mut parts = Parts::with_allocators(alloc.clone()?, alloc);
-    for report in reports {
-        parts.add(report)?;
+    for some in reports {
+        parts.append(some.into_parts())?;
     }
     Ok(parts)
 }
 
-/// Merges the reports of pieces, in any order, with the findings of the restart machine, for a trace of so many packets
-/// and pieces. `Stranger` is the first report whose id is not below the number of pieces; else `Double` the first
-/// whose id stands before it; else `Missing` the least id that is absent; and `Memory`. The order of a report is profile.
-pub fn merge<A: Allocator + Clone>(
+/// Merges the reports of pieces, or of bundles of pieces, in any order, with the findings of the restart machine, for a
+/// trace of so many packets and pieces. `Stranger` is the first report whose id is not below the number of pieces; else
+/// `Double` the first whose id stands before it; else `Missing` the least id that is absent; and `Memory`. The order of a
+/// report is profile.
+pub fn merge<A: Allocator + Clone, T: Reports<A> + Drop>(
     alloc: A,
-    reports: Vec<PieceReport<A>, A>,
+    reports: Vec<T, A>,
     line: Vec<Finding, A>,
     packets: u32,
     pieces: u32,
 ) -> Result<Report<A>, Fault>
-    ensures whole { IfOk result (λ r. IsWhole pieces (ids_of reports.items)) }
-    ensures merged { IfOk result (λ r. IsMerged r reports.items line.items packets) }
-    ensures report { IfOk result (IsReportOfWalk reports.items line.items packets pieces) }
-    ensures refused { IfErr result (λ f. IsRefusal f pieces (ids_of reports.items)) }
-    ensures plan { IfErr result (IsMemoryOfWalk reports.items line.items packets pieces) }
+    ensures whole { IfOk result (λ r. IsWhole pieces (ids_of (flat_map T.reports reports.items))) }
+    ensures merged { IfOk result (λ r. IsMerged r (flat_map T.reports reports.items) line.items packets) }
+    ensures report { IfOk result (IsReportOfWalk (flat_map T.reports reports.items) line.items packets pieces) }
+    ensures refused { IfErr result (λ f. IsRefusal f pieces (ids_of (flat_map T.reports reports.items))) }
+    ensures plan { IfErr result (IsMemoryOfWalk (flat_map T.reports reports.items) line.items packets pieces) }
 {
-    judge(&alloc, reports.as_slice(), pieces)?;
+    if let Some(id) = stranger_of(&reports, pieces) {
+        return Err(Fault::Stranger(id));
+    }
+    let ids = all_ids(alloc.clone()?, &reports)?;
+    judge(alloc.clone()?, &ids, pieces)?;
     gather(alloc, reports)?.finish(line, packets)
 }

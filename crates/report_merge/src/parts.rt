@@ -1,14 +1,13 @@
 //! What pieces give, as their reports come.
 
 ghost use Rattle.std.specs.Prelude.{◌≡◌, ◌+◌, ◌<◌, ◌^◌, ◌++◌, ◌∷◌, [], List, length, IfOk, IfErr, OnOk};
-ghost use Rattle.std.specs.List.Sorted.{IsNonDecreasingBy, IsPermutation};
 ghost use Rattle.line_model.specs.basics.Records as records;
 ghost use Rattle.line_model.specs.declared.interface.Interface.{Interface};
 ghost use Rattle.line_model.specs.observer.Report.{report_of};
-ghost use Rattle.report_merge.specs.Gathered.{gathered};
+ghost use Rattle.report_merge.specs.Gathered.{AreGathered, AreSorted, counted, gathered, joined};
 ghost use Rattle.report_merge.specs.Merged.{IsMerged, IsOfWalk};
 
-use crate::turns::in_turn;
+use crate::turns::{sort_calls, sort_findings};
 use call_accounts::account::accounts_of;
 use call_accounts::peak::peak_of;
 use line_model::call::{CallRecord, copies};
@@ -16,11 +15,11 @@ use line_model::fault::Fault;
 use line_model::finding::Finding;
 use line_model::piece::PieceReport;
 use line_model::report::Report;
-use line_model::totals::Summary;
+use line_model::totals::{Summary, Totals};
 use std::alloc::{AllocError, Allocator};
 use std::marker::Model;
 
-/// What some pieces give, put together, in the order in which their reports came.
+/// What some pieces give, put together.
 #[derive(Drop)]
 pub struct Parts<A: Allocator> {
     pieces: u32,
@@ -46,6 +45,47 @@ impl<A: Allocator> Model for Parts<A> {
     ghost invariant = { λ p. AreFew p.pieces p.calls.items p.octets p.segments };
 }
 
+impl<A: Allocator> Parts<A> {
+    /// What one piece gives.
+    pub fn of(report: PieceReport<A>) -> Self
+        ensures { result ≡ gathered (report ∷ []) }
+    {
+        let PieceReport {
+            findings,
+            calls,
+            octets,
+            segments,
+            ..
+        } = report;
+        Parts {
+            pieces: 1,
+            findings,
+            calls,
+            octets,
+            segments,
+        }
+    }
+
+    /// How many pieces there are.
+    pub fn pieces(&self) -> u32
+        ensures { result ≡ self.now.pieces }
+    {
+        self.pieces
+    }
+
+    /// What the pieces count for.
+    pub fn totals(&self) -> Totals
+        ensures { result ≡ counted self.now }
+    {
+        Totals {
+            posts: u64::from(self.pieces),
+            findings: self.findings.len() as u64,
+            octets: self.octets,
+            segments: self.segments,
+        }
+    }
+}
+
 impl<A: Allocator + Copy> Parts<A> {
     /// What no pieces give. It takes no memory.
     pub fn new(alloc: A) -> Self
@@ -69,11 +109,27 @@ impl<A: Allocator + Clone> Parts<A> {
         }
     }
 
-    /// How many pieces there are.
-    pub fn pieces(&self) -> u32
-        ensures { result ≡ self.now.pieces }
+    /// Adds what other pieces give, after what there is. Fails where memory is refused, or where there would be more than
+    /// 2^32 - 1 pieces; a part may have been added then.
+    pub fn append(&mut self, other: Self) -> Result<(), AllocError>
+        ensures { OnOk result (self.new ≡ joined self.old other) }
     {
-        self.pieces
+        let Some(pieces) = self.pieces.checked_add(other.pieces) else {
+            return Err(AllocError);
+        };
+        let Parts {
+            mut findings,
+            mut calls,
+            octets,
+            segments,
+            ..
+        } = other;
+        self.pieces = pieces;
+        self.octets += octets;
+        self.segments += segments;
+        self.findings.append(&mut findings)?;
+        self.calls.append(&mut calls)?;
+        Ok(())
     }
 
     /// Adds what a piece gives. Where memory is refused a part of it may have been added.
@@ -83,17 +139,16 @@ impl<A: Allocator + Clone> Parts<A> {
             → OnOk result (self.new ≡ gathered (ps ++ report ∷ [])) }
         ensures pieces { OnOk result (self.new.pieces ≡ self.old.pieces + 1) }
     {
-        self.pieces += 1;
-        self.octets += report.octets;
-        self.segments += report.segments;
-        let PieceReport {
-            mut findings,
-            mut calls,
-            ..
-        } = report;
-        self.findings.append(&mut findings)?;
-        self.calls.append(&mut calls)?;
-        Ok(())
+        self.append(Parts::of(report))
+    }
+
+    /// Puts the findings in the order of their packets, and the calls in the order of the packets that opened them. Fails
+    /// only where memory is refused, and leaves the calls as they were then.
+    pub fn sort(&mut self) -> Result<(), AllocError>
+        ensures { OnOk result (AreSorted self.old self.new) }
+    {
+        sort_findings(&mut self.findings);
+        sort_calls(&mut self.calls)
     }
 
     /// The same once more. It refuses for want of memory alone.
@@ -114,25 +169,24 @@ impl<A: Allocator + Clone> Parts<A> {
     /// The report of a trace of so many packets, of which these are all pieces, with the findings of its restart
     /// machine. It refuses for want of memory alone. The order of a report is profile.
     pub fn finish(self, line: Vec<Finding, A>, packets: u32) -> Result<Report<A>, Fault>
-        ensures merged { (ps : List records.PieceReport) → self ≡ gathered ps
+        ensures merged { (ps : List records.PieceReport) → AreGathered ps self
             → IfOk result (λ report. IsMerged report ps line.items packets) }
         ensures report { (i : Interface) (rs : List records.Item) (ps : List records.PieceReport)
             → self ≡ gathered ps → IsOfWalk i rs ps line.items packets (length ps)
             → IfOk result (λ report. report ≡ report_of i rs) }
         ensures memory { IfErr result (λ fault. fault ≡ Fault.Memory) }
     {
+        let mut all = self;
+        let mut line = line;
+        all.findings.append(&mut line)?;
+        all.sort()?;
         let Parts {
-            mut findings,
+            findings,
             calls,
             octets,
             segments,
             ..
-        } = self;
-        let mut line = line;
-        findings.append(&mut line)?;
-        let findings = by_packet(findings);
-        let calls = in_turn(line.allocator().clone()?, calls)?;
-        let calls = by_opening(calls);
+        } = all;
         let accounts = accounts_of(line.allocator().clone()?, calls.as_slice())?;
         let peak = peak_of(line.allocator().clone()?, calls.as_slice())?;
         let summary = Summary {
@@ -150,22 +204,4 @@ impl<A: Allocator + Clone> Parts<A> {
             summary,
         })
     }
-}
-
-/// Findings in the order of their packets.
-fn by_packet<A: Allocator>(mut findings: Vec<Finding, A>) -> Vec<Finding, A>
-    ensures permutation { IsPermutation findings.items result.items }
-    ensures sorted { IsNonDecreasingBy (λ f. f.packet) result.items }
-{
-    findings.sort_unstable_by_key(|finding| finding.packet);
-    findings
-}
-
-/// Calls in the order of their opening packets.
-fn by_opening<A: Allocator>(mut calls: Vec<CallRecord<A>, A>) -> Vec<CallRecord<A>, A>
-    ensures permutation { IsPermutation calls.items result.items }
-    ensures sorted { IsNonDecreasingBy (λ c. c.opened) result.items }
-{
-    calls.sort_unstable_by_key(|call| call.opened);
-    calls
 }

@@ -1,9 +1,10 @@
-//! Calls brought near to the order of their opening packets, with few moves of their large records.
+//! Findings and calls in the order of their packets. The large records of calls are moved seldom.
 
-ghost use Rattle.std.specs.Prelude.{◌≡◌, ◌<◌, IfOk, length, vec_len, All};
-ghost use Rattle.std.specs.List.Sorted.{IsPermutation};
+ghost use Rattle.std.specs.Prelude.{◌≡◌, ◌<◌, IfOk, OnOk, length, vec_len, All};
+ghost use Rattle.std.specs.List.Sorted.{IsNonDecreasingBy, IsPermutation};
 
 use line_model::call::CallRecord;
+use line_model::finding::Finding;
 use std::alloc::{AllocError, Allocator};
 
 /// The opening packet of a call, and the place that its record is to come from.
@@ -64,16 +65,34 @@ fn take_turns<A: Allocator>(calls: &mut [CallRecord<A>], turns: &mut [Turn])
     }
 }
 
-/// The calls, each record moved to the place that the order of the opening packets gives it. It refuses for want of
-/// memory alone.
-pub(crate) fn in_turn<A: Allocator>(
-    alloc: A,
-    mut calls: Vec<CallRecord<A>, A>,
-) -> Result<Vec<CallRecord<A>, A>, AllocError>
-    ensures { IfOk result (λ moved. IsPermutation calls.items moved.items) }
+/// Moves each record to the place that the order of the opening packets gives it. Fails only where memory is refused, and
+/// leaves the calls as they were then.
+fn move_in_turn<A: Allocator>(alloc: A, calls: &mut Vec<CallRecord<A>, A>) -> Result<(), AllocError>
+    ensures { IsPermutation calls.old.items calls.new.items }
 {
-    let mut turns = turns(alloc, &calls)?;
+    let mut turns = turns(alloc, calls)?;
     turns.sort_unstable_by_key(|turn| turn.packet);
     take_turns(calls.as_mut_slice(), turns.as_mut_slice());
-    Ok(calls)
+    Ok(())
+}
+
+/// Puts calls in the order of the packets that opened them. Fails only where memory is refused, and leaves them as they
+/// were then.
+pub(crate) fn sort_calls<A: Allocator + Clone>(
+    calls: &mut Vec<CallRecord<A>, A>,
+) -> Result<(), AllocError>
+    ensures permutation { IsPermutation calls.old.items calls.new.items }
+    ensures sorted { OnOk result (IsNonDecreasingBy (λ c. c.opened) calls.new.items) }
+{
+    move_in_turn(calls.allocator().clone()?, calls)?;
+    calls.sort_unstable_by_key(|call| call.opened);
+    Ok(())
+}
+
+/// Puts findings in the order of their packets.
+pub(crate) fn sort_findings<A: Allocator>(findings: &mut Vec<Finding, A>)
+    ensures permutation { IsPermutation findings.old.items findings.new.items }
+    ensures sorted { IsNonDecreasingBy (λ f. f.packet) findings.new.items }
+{
+    findings.sort_unstable_by_key(|finding| finding.packet);
 }

@@ -19,8 +19,7 @@ use Rattle.line_model.proofs.Handed.{handed_in_range}
 use Rattle.restart_epochs.specs.Coming.{Comes, HasNext}
 use Rattle.restart_epochs.specs.OpenRows.{OpenRows, rows_of}
 use Rattle.restart_epochs.specs.Cutting.{Cutting, IsCutting, IsKeptOn, IsLane, IsUnchanged, StandsFor, given_of, observer, places, rows_if, channels_if}
-use Rattle.restart_epochs.specs.Stretches.{AreAdded, AreHandedOn, ChannelRows, HasAll, HasTakenAll, IsRun, StretchView, line_after, on_channel, parts_of, rows_on, with_rows}
-use Rattle.restart_epochs.specs.declared.stretch.Part.{Part}
+use Rattle.restart_epochs.specs.Stretches.{AreAdded, AreHandedOn, ChannelRows, HasAll, HasTakenAll, IsRun, StretchView, line_after, on_channel, rows_on, with_rows}
 use Rattle.restart_epochs.proofs.Bounds.{kept_bounds}
 use Rattle.restart_epochs.proofs.Cuts.{filter_each}
 use Rattle.restart_epochs.proofs.Listed.{insert_listed}
@@ -137,6 +136,9 @@ ran_rows c (item ∷ run) k =
     ran_rows (kept_on c item) run k ∙ more_on c.open_rows item run k (eqb (packet_channel item.packet) k) refl
 
 -- ---- channel by channel
+
+pub none_added : (o : OpenRows) → AreAdded [] o o
+none_added o = record { rows = λ k. refl; channels = refl }
 
 added_at : (p : ChannelRows) (ps : List ChannelRows) (before next : OpenRows) → HasAll p.channel p.items before next → (k : ℕ) (b : Bool) → eqb p.channel k ≡ b
     → rows_of next k ++ rows_on k ps ≡ rows_of before k ++ cond b (p.items ++ rows_on k ps) (rows_on k ps)
@@ -370,11 +372,6 @@ stretch_taken c now after s run kept out out' e taken left some h =
 pub stretch_short : (c now : Cutting) (s : StretchView) (run kept : List Item) (out out' : List Piece) → kept ≡ s.kept → HasTakenAll kept c now out out' → IsRun (line_after c.line s.kept) run s → s.rows ≡ 0 → HasTakenAll (s.kept ++ run) c now out out'
 stretch_short c now s run kept out out' e taken is none =
     subst (λ (l : List Item). HasTakenAll l c now out out') (e ∙ sym (ap (λ l. s.kept ++ l) (empty_run run s.rows is.rows none) ∙ append-nil s.kept)) taken
-
--- the parts as the code has them
-pub added_same : (ps ps' : List Part) (items items' : List Item) (before after : OpenRows) → ps ≡ ps' → items ≡ items' → AreAdded (parts_of ps items) before after → AreAdded (parts_of ps' items') before after
-added_same ps ps' items items' before after e f h =
-    subst (λ (l : List Part). AreAdded (parts_of l items') before after) e (subst (λ (l : List Item). AreAdded (parts_of ps l) before after) f h)
 
 pub run_same : (s s' : StretchView) (c c' after : Cutting) → s ≡ s' → c ≡ c' → HasRun s c after → HasRun s' c' after
 run_same s s' c c' after e f h = subst (λ t. HasRun t c' after) e (subst (λ d. HasRun s d after) f h)

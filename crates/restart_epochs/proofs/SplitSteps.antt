@@ -19,7 +19,6 @@ use Rattle.line_model.specs.observer.Observer.{routing}
 use Rattle.restart_epochs.specs.declared.splitter.Run.{Run}
 use Rattle.restart_epochs.specs.declared.splitter.Splitter.{Splitter}
 use Rattle.restart_epochs.proofs.KeptLine.{kept_line}
-use Rattle.restart_epochs.proofs.ListedRows.{listing_more}
 use Rattle.restart_epochs.proofs.Routes.{is_to_channel}
 
 -- ---- the restart machine after rows
@@ -57,7 +56,6 @@ run_more l run it before after was route more rows last octets =
           (λ e. subst (λ j. rows_of after.by_channel j ≡ rows_of before.by_channel j ++ it ∷ []) (eqb-true channel k e) more.row)
           (λ e. more.others k (λ same. eqb-false channel k e (sym same)))
           (was.by_channel k);
-      listing = listing_more channel it before.by_channel after.by_channel more was.listing;
       rows = let rows_before = was.rows in omega (arith, rows, rows_before, length-append run (it ∷ []));
       last = last ∙ sym (ap (last_or 0) (map-append (λ (x : Item). x.number) run (it ∷ [])) ∙ last_or-add 0 it.number (map (λ x. x.number) run));
       octets = octets ∙ ap (λ n. n + it.length) was.octets ∙ sym (sum_by_push (λ (x : Item). x.length) run it);
@@ -71,7 +69,7 @@ no_run (x ∷ run) h = absurd (omega (arith, h))
 pub run_none : {A : Type 0} → (l after : LineState) (run : List Item) (r : Run A) → IsRunOf l run r → run ≡ [] → IsRunOf after [] r
 run_none l after run r is none =
     let empty : IsRunOf l [] r = subst (λ x. IsRunOf l x r) none is in
-    record { handed = tt; by_channel = empty.by_channel; listing = empty.listing; rows = empty.rows; last = empty.last; octets = empty.octets }
+    record { handed = tt; by_channel = empty.by_channel; rows = empty.rows; last = empty.last; octets = empty.octets }
 
 -- ---- a stretch more
 

@@ -1,6 +1,5 @@
 -- Stretches that a cutter takes one after the other.
-use Rattle.std.proofs.Common.{◌≡◌, ◌∙◌, sym, ap, subst, ℕ, ◌+◌, ◌<◌, List, [], ◌∷◌, ◌++◌, length, drop, get_or, append_assoc}
-use Rattle.std.proofs.lemmas.List.{drop_more}
+use Rattle.std.proofs.Common.{◌≡◌, ◌∙◌, sym, subst, List, [], ◌∷◌, ◌++◌, append_assoc}
 use Rattle.line_model.specs.declared.interface.Interface.{Interface}
 use Rattle.line_model.specs.basics.Records.{Item, Piece}
 use Rattle.restart_epochs.specs.Coming.{Comes, HasNext}
@@ -55,10 +54,6 @@ pub first_next : (c : Cutting) (s : StretchView) (stretches left : List StretchV
 first_next c s stretches left may e =
     let h = heads c may.items s stretches (subst (IsSplit c.line may.items) e may.split) may.coming in
     (may.interface, may.rows, h.run, may.stands, h.next)
-
--- the next one of a list
-pub next_stretch : (ss : List StretchView) (n : ℕ) (s : StretchView) → n < length ss → s ≡ get_or ss n s → drop n ss ≡ s ∷ drop (n + 1) ss
-next_stretch ss n s lt is = drop_more ss n s lt ∙ ap (λ t. t ∷ drop (n + 1) ss) (sym is)
 
 -- what a cutter did with a stretch, whichever of its rows they are
 abbrev pub TookStretch : StretchView → (c now : Cutting) → (out out' : List Piece) → Type 0

@@ -60,3 +60,4 @@ pub record HasPopped {T : Type 0} (channel : ℕ) (taken : Option T) (before aft
   pub value : taken ≡ value_at before channel
   pub emptied : value_at after channel ≡ None
   pub others : (k : ℕ) → k ≢ channel → value_at after k ≡ value_at before k
+  pub room : is_some taken ≡ true → channel < length after.lanes

@@ -1,5 +1,5 @@
 -- The rows of the open epoch, by logical channel (profile).
-use Rattle.std.specs.Prelude.{◌≡◌, ◌≢◌, ℕ, List, [], ◌∷◌, ◌++◌, Option, Some, None, true}
+use Rattle.std.specs.Prelude.{◌≡◌, ◌≢◌, ℕ, ◌<◌, length, List, [], ◌∷◌, ◌++◌, Option, Some, None, true}
 use Rattle.std.specs.BTreeSet.{insert_key}
 use Rattle.std.specs.Ordering.{nat_cmp}
 use Rattle.std.specs.List.{AllByRecursion}
@@ -20,10 +20,14 @@ rows_in (Some items) = items
 abbrev pub rows_of : OpenRows → ℕ → List Item
 rows_of open_rows k = rows_in (value_at open_rows k)
 
+-- a channel that is not listed has no rows
+abbrev pub HasNoOthers : OpenRows → Type 0
+HasNoOthers o = (k : ℕ) → AllByRecursion (λ j. j ≢ k) o.channels → rows_of o k ≡ []
+
 -- the channels that are listed have rows, and no others
 pub record IsListing (o : OpenRows) : Type 0 where
   pub listed : AllByRecursion (λ k. has_some (rows_of o k) ≡ true) o.channels
-  pub others : (k : ℕ) → AllByRecursion (λ j. j ≢ k) o.channels → rows_of o k ≡ []
+  pub others : HasNoOthers o
 
 -- no rows
 abbrev pub no_rows : OpenRows
@@ -52,3 +56,11 @@ pub record IsTakenOut (channel : ℕ) (taken : List Item) (before after : OpenRo
   pub items : taken ≡ rows_of before channel
   pub emptied : rows_of after channel ≡ []
   pub others : (k : ℕ) → k ≢ channel → rows_of after k ≡ rows_of before k
+
+-- the rows of a channel were taken out, which has some; it stays listed
+pub record AreOut (channel : ℕ) (taken : List Item) (before after : OpenRows) : Type 0 where
+  pub rows : taken ≡ rows_of before channel
+  pub some : has_some taken ≡ true
+  pub others : (k : ℕ) → k ≢ channel → rows_of after k ≡ rows_of before k
+  pub channels : after.channels ≡ before.channels
+  pub room : channel < length after.lanes

@@ -1,20 +1,18 @@
 -- Rows that are split as they come.
-use Rattle.std.specs.Prelude.{◌≡◌, ℕ, List, [], ◌++◌, length, map, take, drop}
+use Rattle.std.specs.Prelude.{◌≡◌, ℕ, List, [], ◌++◌, length, map}
 use Rattle.line_model.specs.basics.Bounds.{all_octets}
 use Rattle.line_model.specs.basics.Records.{Item}
 use Rattle.line_model.specs.channels.RestartMachine.{LineState}
 use Rattle.line_model.specs.text.Text.{last_or}
-use Rattle.restart_epochs.specs.OpenRows.{OpenRows, rows_of, IsListing}
-use Rattle.restart_epochs.specs.Stretches.{AreHandedOn, IsSplit, line_after, on_channel, parts_of, rows_on}
+use Rattle.restart_epochs.specs.OpenRows.{rows_of}
+use Rattle.restart_epochs.specs.Stretches.{AreHandedOn, IsSplit, line_after, on_channel}
 use Rattle.restart_epochs.specs.declared.splitter.Run.{Run}
 use Rattle.restart_epochs.specs.declared.splitter.Splitter.{Splitter}
-use Rattle.restart_epochs.specs.declared.stretch.Part.{Part}
 
 -- rows that a restart machine hands on, by channel
 pub record IsRunOf {A : Type 0} (l : LineState) (run : List Item) (r : Run A) : Type 0 where
   pub handed : AreHandedOn l run
   pub by_channel : (k : ℕ) → rows_of r.by_channel k ≡ on_channel k run
-  pub listing : IsListing r.by_channel
   pub rows : r.rows ≡ length run
   pub last : r.last ≡ last_or 0 (map (λ it. it.number) run)
   pub octets : r.octets ≡ all_octets run
@@ -34,10 +32,3 @@ pub record IsSplitWhole {A : Type 0} (l : LineState) (items : List Item) (s : Sp
   pub kept : s.kept ≡ []
   pub machine : s.machine ≡ line_after l items
   pub run : (after : LineState) → IsRunOf after [] s.run
-
--- the rows of each channel were taken out and appended, as parts
-pub record AreParts (before : OpenRows) (first : List Item) (after : OpenRows) (items : List Item) (parts : List Part) : Type 0 where
-  pub kept : take (length first) items ≡ first
-  pub by_channel : (k : ℕ) → rows_on k (parts_of parts (drop (length first) items)) ≡ rows_of before k
-  pub emptied : (k : ℕ) → rows_of after k ≡ []
-  pub channels : after.channels ≡ []

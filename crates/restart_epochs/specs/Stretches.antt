@@ -1,5 +1,5 @@
 -- Rows that are split by logical channel apart from the rows before them.
-use Rattle.std.specs.Prelude.{◌≡◌, ◌≢◌, ℕ, ◌+◌, ◌≤◌, ◌^◌, ◌==◌, cond, List, [], ◌∷◌, ◌++◌, length, map, filter, take, drop, All}
+use Rattle.std.specs.Prelude.{◌≡◌, ◌≢◌, ℕ, ◌+◌, ◌≤◌, ◌^◌, ◌==◌, cond, List, [], ◌∷◌, ◌++◌, length, map, filter, All}
 use Rattle.std.specs.List.{AllByRecursion}
 use Rattle.std.specs.List.Sorted.{IsStrictlyIncreasing}
 use Rattle.line_model.specs.basics.Bounds.{AreSaid, all_octets}
@@ -12,7 +12,6 @@ use Rattle.line_model.specs.text.Text.{last_or}
 use Rattle.restart_epochs.specs.Cutting.{Cutting, HasAppended, StandsFor, given_of}
 use Rattle.restart_epochs.specs.OpenRows.{OpenRows, rows_of, with_channel, IsSame}
 use Rattle.line_model.specs.observer.Observer.{routing}
-use Rattle.restart_epochs.specs.declared.stretch.Part.{Part}
 
 -- rows of a channel
 pub record ChannelRows : Type 0 where
@@ -27,11 +26,6 @@ pub record StretchView : Type 0 where
   pub rows : ℕ
   pub last : ℕ
   pub octets : ℕ
-
--- each part has as many rows as it counts, from where those of the part before end
-abbrev pub parts_of : List Part → List Item → List ChannelRows
-parts_of [] items = []
-parts_of (p ∷ ps) items = record { channel = p.channel; items = take p.rows items } ∷ parts_of ps (drop p.rows items)
 
 -- the rows of a channel in all parts
 abbrev pub rows_on : ℕ → List ChannelRows → List Item

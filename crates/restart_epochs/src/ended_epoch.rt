@@ -9,8 +9,8 @@ ghost use Rattle.restart_epochs.specs.Cutting.{pieces_out, IsEmptied};
 use crate::channel_table::ChannelTable;
 use crate::kept_rows::take_first;
 use line_model::interface::Interface;
-use line_model::items::Items;
 use line_model::piece::Piece;
+use line_model::piece_items::PieceItems;
 use std::alloc::Allocator;
 
 /// An epoch that has ended, of which its pieces are.
@@ -26,7 +26,7 @@ pub struct EndedEpoch {
 pub fn append_pieces<A: Allocator + Copy>(
     epoch: EndedEpoch,
     first: u32,
-    epoch_rows: &mut ChannelTable<Items<A>, A>,
+    epoch_rows: &mut ChannelTable<PieceItems<A>, A>,
     out: &mut Vec<Piece<A>, A>,
 )
     requires room { vec_len out.old + length epoch_rows.old.channels ≤ vec_capacity out.old }

@@ -8,6 +8,7 @@ mod ended_epoch;
 mod kept_rows;
 mod open_pieces;
 pub mod restart;
+pub mod rows_by_channel;
 mod showing;
 pub mod splitter;
 pub mod stretch;

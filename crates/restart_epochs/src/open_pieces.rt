@@ -9,8 +9,9 @@ use crate::channel_table::ChannelTable;
 use crate::ended_epoch::{EndedEpoch, append_pieces};
 use crate::kept_rows::keep_row;
 use crate::walk::{EpochWalk, Turn};
-use line_model::items::{ItemRef, Items};
+use line_model::items::ItemRef;
 use line_model::piece::Piece;
+use line_model::piece_items::PieceItems;
 use std::alloc::{AllocError, Allocator};
 
 /// The pieces of the open epoch.
@@ -19,7 +20,7 @@ pub struct OpenPieces<A: Allocator> {
     /// How many pieces were given out.
     pub given: u32,
     /// The rows of each channel.
-    pub rows: ChannelTable<Items<A>, A>,
+    pub rows: ChannelTable<PieceItems<A>, A>,
 }
 
 impl<A: Allocator + Copy> OpenPieces<A> {

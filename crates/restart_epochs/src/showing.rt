@@ -10,8 +10,8 @@ use crate::channel_table::ChannelTable;
 use crate::kept_rows::copy_rows;
 use line_model::fault::Fault;
 use line_model::interface::Interface;
-use line_model::items::Items;
 use line_model::piece::Piece;
+use line_model::piece_items::PieceItems;
 use std::alloc::Allocator;
 
 /// Copies of the pieces of the open epoch, by their channels, with ids from `first` on and no end. It answers `Memory`
@@ -21,7 +21,7 @@ pub fn copy_pieces<A: Allocator + Copy>(
     interface: &Interface,
     epoch: u32,
     first: u32,
-    epoch_rows: &ChannelTable<Items<A>, A>,
+    epoch_rows: &ChannelTable<PieceItems<A>, A>,
 ) -> Result<Vec<Piece<A>, A>, Fault>
     requires ids { first + length epoch_rows.now.channels < 2 ^ 32 }
     requires pieces { (k : ℕ) → IsPiece interface.now k (rows_of epoch_rows.now k) }

@@ -4,15 +4,13 @@ ghost use Rattle.std.specs.Prelude.{◌≡◌, ◌++◌, ◌∷◌, [], List, If
 ghost use Rattle.line_model.specs.basics.Records as records;
 ghost use Rattle.line_model.specs.channels.RestartMachine.{LineState};
 ghost use Rattle.line_model.specs.declared.route.Route.TheVariants.{ToChannel};
-ghost use Rattle.restart_epochs.specs.OpenRows.{IsListing};
-ghost use Rattle.restart_epochs.specs.Splits.{AreParts, IsRunOf, IsSplitSoFar, IsSplitWhole};
+ghost use Rattle.restart_epochs.specs.Splits.{IsRunOf, IsSplitSoFar, IsSplitWhole};
 ghost use Rattle.restart_epochs.specs.Stretches.{IsRun, IsSplit};
 ghost use Rattle.line_model.specs.observer.Observer.{routing};
 
-use crate::channel_table::ChannelTable;
-use crate::kept_rows::{keep_row, take_first};
 use crate::restart::{Restart, Route, packet_channel};
-use crate::stretch::{Part, Stretch};
+use crate::rows_by_channel::RowsByChannel;
+use crate::stretch::Stretch;
 use line_model::items::{ItemRef, Items};
 use std::alloc::{AllocError, Allocator, Global};
 use std::mem;
@@ -20,7 +18,7 @@ use std::mem;
 /// Rows that a restart machine hands on to logical channels, by channel.
 #[derive(Drop)]
 pub struct Run<A: Allocator = Global> {
-    pub(crate) by_channel: ChannelTable<Items<A>, A>,
+    pub(crate) by_channel: RowsByChannel<A>,
     /// How many rows there are.
     pub(crate) rows: u32,
     /// The number of the last one, or 0.
@@ -29,33 +27,18 @@ pub struct Run<A: Allocator = Global> {
     pub(crate) octets: u32,
 }
 
-/// Takes all rows out of a table and appends them, those of a channel as one part.
-fn take_parts<A: Allocator + Copy>(
-    alloc: A,
-    by_channel: &mut ChannelTable<Items<A>, A>,
-    items: &mut Items<A>,
-) -> Result<Vec<Part, A>, AllocError>
-    ensures { IsListing by_channel.old
-        → IfOk result (λ parts. AreParts by_channel.old items.old by_channel.new items.new parts.items) }
-{
-    let mut parts = Vec::new(alloc);
-    while let Some((channel, rows)) = take_first(alloc, by_channel) {
-        items.append(&rows.iter())?;
-        parts.push(Part {
-            channel,
-            rows: rows.len(),
-        })?;
-    }
-    Ok(parts)
-}
-
 impl<A: Allocator + Copy> Run<A> {
-    /// No rows. It takes no memory.
-    fn new(alloc: A) -> Self
+    /// No rows, in lists that may have been used before. It takes no memory.
+    fn new(alloc: A, lists: RowsByChannel<A>) -> Self
         ensures { (l : LineState) → IsRunOf l [] result }
     {
+        let by_channel = if lists.is_empty() {
+            lists
+        } else {
+            RowsByChannel::new(alloc)
+        };
         Run {
-            by_channel: ChannelTable::new(alloc),
+            by_channel,
             rows: 0,
             last: 0,
             octets: 0,
@@ -63,7 +46,7 @@ impl<A: Allocator + Copy> Run<A> {
     }
 
     /// Takes a row that the restart machine hands on. A count that grows past its type is refused as memory is.
-    fn push(&mut self, alloc: A, item: &ItemRef<'_>) -> Result<(), AllocError>
+    fn push(&mut self, item: &ItemRef<'_>) -> Result<(), AllocError>
         ensures { (l : LineState) (run : List records.Item) → IsRunOf l run self.old
             → (routing l item.now).route ≡ ToChannel → OnOk result (IsRunOf l (run ++ item.now ∷ []) self.new) }
     {
@@ -74,12 +57,7 @@ impl<A: Allocator + Copy> Run<A> {
         else {
             return Err(AllocError);
         };
-        keep_row(
-            alloc,
-            packet_channel(&item.packet),
-            item,
-            &mut self.by_channel,
-        )?;
+        self.by_channel.push(packet_channel(&item.packet), item)?;
         self.rows = rows;
         self.last = item.number;
         self.octets = octets;
@@ -93,14 +71,9 @@ impl<A: Allocator + Copy> Run<A> {
         ensures left { (l : LineState) (run : List records.Item) → IsRunOf l run self.old
             → (after : LineState) → OnOk result (IsRunOf after [] self.new) }
     {
-        let alloc = *kept.allocator();
-        let count = kept.len();
-        let mut items = kept;
-        let parts = take_parts(alloc, &mut self.by_channel, &mut items)?;
         let stretch = Stretch {
-            items,
-            kept: count,
-            parts,
+            kept,
+            parts: self.by_channel.take_parts()?,
             rows: self.rows,
             last: self.last,
             octets: self.octets,
@@ -131,15 +104,15 @@ pub struct Splitter<A: Allocator = Global> {
 }
 
 impl<A: Allocator + Copy> Splitter<A> {
-    /// A splitter before the first row, whose restart machine is this. It takes no memory.
-    pub fn new(alloc: A, machine: Restart) -> Self
+    /// A splitter before the first row, whose restart machine is this. It uses these lists again, and takes no memory.
+    pub fn new(alloc: A, machine: Restart, lists: RowsByChannel<A>) -> Self
         ensures { IsSplitSoFar machine [] result }
     {
         Splitter {
             machine,
             stretches: Vec::new(alloc),
             kept: Items::new(alloc),
-            run: Run::new(alloc),
+            run: Run::new(alloc, lists),
             in_order: 0,
         }
     }
@@ -195,23 +168,23 @@ impl<A: Allocator + Copy> Splitter<A> {
         let route = machine.step(&item.packet, item.length, item.side);
         if let Route::ToChannel = route {
             if self.in_order == 0 {
-                return self.run.push(*self.kept.allocator(), item);
+                return self.run.push(item);
             }
             return self.keep(machine, self.in_order.saturating_sub(1), item);
         }
         self.keep(machine, IN_ORDER, item)
     }
 
-    /// The stretches of all rows.
-    pub fn end(self) -> Result<Vec<Stretch<A>, A>, AllocError>
+    /// The stretches of all rows, and the lists for the next splitter.
+    pub fn end(self) -> Result<(Vec<Stretch<A>, A>, RowsByChannel<A>), AllocError>
         ensures { (l : LineState) (items : List records.Item) → IsSplitSoFar l items self
-            → IfOk result (λ stretches. IsSplit l items stretches.items) }
+            → IfOk result (λ split. IsSplit l items split.0.items) }
     {
         let mut splitter = self;
         if splitter.run.rows == 0 && splitter.kept.is_empty() {
-            return Ok(splitter.stretches);
+            return Ok((splitter.stretches, splitter.run.by_channel));
         }
         splitter.end_stretch()?;
-        Ok(splitter.stretches)
+        Ok((splitter.stretches, splitter.run.by_channel))
     }
 }

@@ -4,11 +4,19 @@ use line_model::items::Items;
 use std::alloc::{Allocator, Global};
 use std::marker::Model;
 
-/// So many rows of a logical channel.
-#[derive(Clone, Copy)]
-pub struct Part {
+/// Rows of a logical channel, in order.
+#[derive(Drop)]
+pub struct Part<A: Allocator = Global> {
     pub(crate) channel: u16,
-    pub(crate) rows: usize,
+    pub(crate) items: Items<A>,
+}
+
+impl<A: Allocator> Model for Part<A> {
+    ghost use Rattle.restart_epochs.specs.Stretches.{ChannelRows};
+
+    ghost Value = { ChannelRows };
+
+    ghost view = { λ p. record { channel = p.channel; items = p.items } };
 }
 
 /// Rows as a restart machine takes them: first some in order, and then rows that it hands on to logical channels, which
@@ -16,15 +24,15 @@ pub struct Part {
 ///
 /// ```text
 ///  rows   7 restart │ 8 confirm │ 9 ch 1 │ 10 ch 2 │ 11 ch 1 │ 12 ch 2
-///  items  7 restart │ 8 confirm │ 9 ch 1 │ 11 ch 1 │ 10 ch 2 │ 12 ch 2
-///         `------ kept --------'`------ part -----'`----- part -------'
+///
+///  kept   7 restart │ 8 confirm
+///  parts  9 ch 1 │ 11 ch 1      10 ch 2 │ 12 ch 2
 /// ```
 #[derive(Drop)]
 pub struct Stretch<A: Allocator = Global> {
-    pub(crate) items: Items<A>,
-    /// How many of the rows stand in order.
-    pub(crate) kept: usize,
-    pub(crate) parts: Vec<Part, A>,
+    /// The rows that stand in order.
+    pub(crate) kept: Items<A>,
+    pub(crate) parts: Vec<Part<A>, A>,
     /// How many rows lie by channel.
     pub(crate) rows: u32,
     /// The number of the last of them in the order of the trace, or 0.
@@ -34,14 +42,13 @@ pub struct Stretch<A: Allocator = Global> {
 }
 
 impl<A: Allocator> Model for Stretch<A> {
-    ghost use Rattle.std.specs.Prelude.{take, drop};
-    ghost use Rattle.restart_epochs.specs.Stretches.{StretchView, parts_of};
+    ghost use Rattle.restart_epochs.specs.Stretches.{StretchView};
 
     ghost Value = { StretchView };
 
     ghost view = { λ s. record {
-      kept = take s.kept s.items;
-      parts = parts_of s.parts.items (drop s.kept s.items);
+      kept = s.kept;
+      parts = s.parts.items;
       rows = s.rows;
       last = s.last;
       octets = s.octets;

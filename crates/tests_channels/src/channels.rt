@@ -14,6 +14,7 @@ use line_model::interface::Interface;
 use line_model::items::Items;
 use line_model::packet::Packet;
 use line_model::piece::{Piece, PieceReport};
+use line_model::piece_items::PieceItems;
 use line_model::row::Row;
 use line_model::state::{Side, StateName};
 use packet_decode::decode::decode;
@@ -113,7 +114,7 @@ fn piece_of<A: Allocator + Copy>(
         interface: *interface,
         epoch: 1,
         channel,
-        items,
+        items: PieceItems::of(items),
         end,
     })
 }

@@ -12,6 +12,7 @@ use line_model::piece::PieceReport;
 use line_model::report::Report;
 use line_model::state::{Side, StateName};
 use report_merge::merging::merge;
+use report_merge::reports::{BundleReport, Reports};
 use report_merge::text::write_report;
 use std::alloc::{AllocError, Global};
 use std::process::Abort;
@@ -145,19 +146,43 @@ fn three_epochs(alloc: Global, third: Option<u32>) -> Result<Vec<PieceReport>, A
     Ok(reports)
 }
 
+/// The same reports in bundles of so many pieces; the last bundle has what is left, or none.
+fn bundles(alloc: Global, pieces: usize) -> Result<Vec<BundleReport>, AllocError> {
+    let mut bundles = Vec::new(alloc);
+    let mut bundle = BundleReport::new(alloc);
+    for report in three_epochs(alloc, Some(3))? {
+        bundle = bundle.with(report)?;
+        if bundle.ids().len() == pieces {
+            bundles.push(bundle.sorted()?)?;
+            bundle = BundleReport::new(alloc);
+        }
+    }
+    bundles.push(bundle)?;
+    Ok(bundles)
+}
+
 /// Sees that the reports of the twelve pieces give that of the three epochs.
-fn check_merged(rt: &impl Abort, alloc: Global, reports: Vec<PieceReport>) -> Result<(), Fault> {
+fn check_merged<T: Reports<Global> + Drop>(
+    rt: &impl Abort,
+    alloc: Global,
+    reports: Vec<T>,
+) -> Result<(), Fault> {
     let report = merge(alloc, reports, Vec::new(alloc), 16, 12)?;
     check(rt, alloc, &report, THREE_EPOCHS)
 }
 
 #[test]
-fn pieces_in_any_order_give_the_report_of_the_trace(rt: HostRuntime) -> Result<(), Fail> {
+fn pieces_and_bundles_in_any_order_give_the_report_of_the_trace(
+    rt: HostRuntime,
+) -> Result<(), Fail> {
     let backwards = three_epochs(rt.alloc(), Some(3))?;
     check_merged(&rt, rt.alloc(), backwards)?;
     let mut forwards = three_epochs(rt.alloc(), Some(3))?;
     forwards.reverse();
     check_merged(&rt, rt.alloc(), forwards)?;
+    for pieces in [1, 2, 5, 12] {
+        check_merged(&rt, rt.alloc(), bundles(rt.alloc(), pieces)?)?;
+    }
     Ok(())
 }
 

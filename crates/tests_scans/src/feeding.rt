@@ -15,36 +15,41 @@ use std::test::Fail;
 use std::thread::Threads;
 use std::time::Clock;
 use tests_devices::{CutSource, Cuts};
-use trace_scan::block_queues::BlockQueues;
+use trace_scan::block_queues::{BlockQueues, BlockSizes};
 use trace_scan::blocks::TraceText;
 use trace_scan::feeding::{Read, ReadingTask};
 use trace_scan::gate::{BlockGate, OpenGate};
 use trace_scan::text_cutter::TextCutter;
 use workers::{Crew, Worked, work_through};
 
-/// How many bytes a source gives at once, and how many bytes a block has at least.
-const STEPS: [(usize, usize); 6] = [
-    (1, 1),
-    (7, 1),
-    (64, 1),
-    (1, usize::MAX),
-    (7, 20),
-    (usize::MAX, 1),
+/// How many bytes a source gives at once, how few bytes of a read are taken at once, and how many bytes a block has.
+type Step = (usize, usize, usize);
+
+const STEPS: [Step; 9] = [
+    (1, 1, 1),
+    (7, 1, 1),
+    (64, 1, 1),
+    (1, usize::MAX, 1),
+    (7, 1, 7),
+    (7, 1, 64),
+    (1, 1, 64),
+    (7, 1, 262_144),
+    (usize::MAX, 1, 1),
 ];
 
-/// Reads a text beside two workers, over a queue of one piece. Blocks have so many bytes at least.
+/// Reads a text beside two workers, over a queue of one piece.
 fn read_by<P: Plan + TraceText + Send + Sync, R: Threads + Wait + Clock + Sync>(
     rt: &R,
     alloc: Global,
     text: &[u8],
     cuts: Cuts,
-    least: usize,
+    sizes: BlockSizes,
 ) -> Option<Result<Read, Fault>>
     requires text { P.text ≡ Some text.now }
     requires plan { P.pieces ≡ Some (trace_plan text.now) }
 {
     let mut source = CutSource::new(text, cuts);
-    let queues = BlockQueues::<P, Global>::new(alloc, least).ok()?;
+    let queues = BlockQueues::<P, Global>::new(alloc, sizes).ok()?;
     let reading = ReadingTask {
         source: &mut source,
         alloc,
@@ -71,7 +76,7 @@ fn read<R: Threads + Wait + Clock + Sync>(
     rt: &R,
     alloc: Global,
     text: &[u8],
-    (step, least): (usize, usize),
+    (step, least_read, most): Step,
     good: usize,
 ) -> Option<Result<Read, Fault>> {
     let cuts = Cuts {
@@ -79,7 +84,8 @@ fn read<R: Threads + Wait + Clock + Sync>(
         good_bytes: good,
         ..Cuts::none()
     };
-    read_by::<Brand, R>(rt, alloc, text, cuts, least)
+    let sizes = BlockSizes { least_read, most };
+    read_by::<Brand, R>(rt, alloc, text, cuts, sizes)
 }
 
 /// The rows of a text, and how many packets, pieces and findings of the line they have.
@@ -150,7 +156,7 @@ fn check_fed<R: Threads + Wait + Clock + Sync + Abort>(
             is_fed(read, fed),
             "{rows} by {}, blocks of {}",
             step.0,
-            step.1
+            step.2
         );
     }
     Ok(())
@@ -186,7 +192,7 @@ fn check_refused<R: Threads + Wait + Clock + Sync + Abort>(
             is_refused(read, wanted),
             "{text} by {}, blocks of {}",
             step.0,
-            step.1
+            step.2
         );
     }
 }
@@ -288,7 +294,7 @@ fn rows_of_a_text_that_is_cut_anywhere_say_the_same(rt: HostRuntime) -> Result<(
     for at in 0..text.len() {
         let (first, rest) = text.split_at(at);
         check_cut(&rt, rt.alloc(), first, rest, at)?;
-        let read = read(&rt, rt.alloc(), text, (at, 1), usize::MAX);
+        let read = read(&rt, rt.alloc(), text, (at, 1, 1), usize::MAX);
         assert!(rt; is_fed(read, &CUT_FED), "in blocks by {at}");
     }
     Ok(())

@@ -1,7 +1,6 @@
 //! Texts from outside, read in chunks of several sizes.
 
 mod blocks;
-mod judged;
 mod refused;
 mod rows;
 

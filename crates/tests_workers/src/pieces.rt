@@ -9,6 +9,7 @@ use line_model::interface::Interface;
 use line_model::items::{ItemRef, Items};
 use line_model::packet::Packet;
 use line_model::piece::Piece;
+use line_model::piece_items::PieceItems;
 use line_model::state::{Side, StateName};
 use line_model::totals::Totals;
 use std::alloc::{AllocError, Allocator, Global};
@@ -36,7 +37,7 @@ pub(crate) fn piece(alloc: Global, id: u32) -> Piece
         interface: PLAIN,
         epoch: 1,
         channel: 1,
-        items: Items::new(alloc),
+        items: PieceItems::new(alloc),
         end: None,
     }
 }
@@ -82,7 +83,7 @@ pub(crate) fn piece_of_rows(alloc: Global, id: u32, rows: u16) -> Result<Piece, 
         interface,
         epoch: 1,
         channel: 0,
-        items,
+        items: PieceItems::of(items),
         end: None,
     })
 }

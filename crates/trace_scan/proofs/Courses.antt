@@ -1,6 +1,7 @@
 -- A text whose pieces are fed while it is read from a source.
-use Rattle.std.proofs.Common.{◌≡◌, ◌∙◌, sym, ap, subst, refl, ℕ, ◌+◌, ◌≤◌, ◌^◌, List, [], ◌∷◌, ◌++◌, length, Option, Some, None, Result, Ok, Err, append-nil, inl, inr, ◌⊎◌, arith, length-append}
-use Rattle.std.specs.Prelude.{IfOk, IfErr, IfSome}
+use Rattle.std.proofs.Common.{◌≡◌, ◌∙◌, sym, ap, subst, refl, ℕ, ◌+◌, ◌-◌, ◌≤◌, ◌^◌, ◌≢◌, List, [], ◌++◌, length, take, drop, Option, Some, None, Result, Ok, Err, append-nil, inl, inr, ◌⊎◌, arith}
+use Rattle.std.proofs.Math.Seq.{take-add, take-append_seam}
+use Rattle.std.specs.Prelude.{IfOk, IfErr, IfSome, OnOk}
 use Rattle.std.specs.Option.{option_map}
 use Rattle.line_model.specs.work.Book.{KnownPlan}
 use Rattle.line_model.specs.basics.Records.{Piece}
@@ -8,18 +9,21 @@ use Rattle.line_model.specs.traces.Traces.{trace_plan}
 use Rattle.line_model.specs.text.Text.{early, fault}
 use Rattle.line_model.specs.declared.fault.Fault.{Fault}
 use Rattle.line_model.specs.declared.fault.Fault.TheVariants.{Memory, Trace, Read as ReadFailed}
+use Rattle.line_model.proofs.FinalFaults.{early-append}
 use Rattle.line_model.proofs.TextLemmas.{early_rows-nothing}
+use Rattle.trace_text.specs.Decided.{NoneDecidedButLast}
+use Rattle.trace_text.specs.FedBytes.{fed_length}
+use Rattle.trace_text.specs.Progress.{bytes_fed}
 use Rattle.trace_text.specs.Sources.{BeginsSo, HasFailed, IsAllGiven, IsFedAll, IsFedUpTo, IsRefusedBy, MayBeFed}
 use Rattle.trace_text.specs.StandsFor.{IsFaultOf, IsTextFault}
-use Rattle.trace_text.proofs.DecidedLemmas.{all_sound, decided_before}
+use Rattle.trace_text.proofs.DecidedLemmas.{all_sound, decided_before, none_sound}
 use Rattle.trace_text.proofs.SourceLemmas.{all_sound as sound_at_end, sound_before}
 use Rattle.shared_work.specs.queue.Passes.{PassView, QueueId}
 use Rattle.shared_work.specs.declared.queue.rule.Record.{Record}
 use Rattle.workers.specs.Workers.{HasFed}
-use Rattle.trace_text.specs.Progress.{Progress}
 use Rattle.trace_scan.specs.TextBlocks.{StandsAt}
 use Rattle.trace_scan.specs.TextCuts.{HasTaken, IsPlanOf}
-use Rattle.trace_scan.specs.Readings.{HasJudgedNone, HasRead, IsFedTextOf, IsJudged, IsPlanBegunSo, IsReadOf, IsReadingFault, IsRefusal, IsRefusedText}
+use Rattle.trace_scan.specs.Readings.{HasFedOn, HasRead, HasSentNone, IsFaultWithin, IsFedTextOf, IsHeld, IsPlanBegunSo, IsReadEnd, IsReadOf, IsReadingFault, IsRefusal, IsRefusedText, in_flight, lag_of}
 use Rattle.trace_scan.specs.declared.feeding.Read.{Read}
 use Rattle.trace_scan.specs.declared.text_cutter.TextCutter.{TextCutter}
 use Rattle.trace_scan.proofs.Firsts.{none_known}
@@ -34,21 +38,34 @@ begins_none : (known : Option (List ℕ)) → BeginsSo known []
 begins_none None = tt
 begins_none (Some whole) = (whole, refl)
 
-pub nothing_fed : {A : Type 0} (known : Option (List ℕ)) (queue : QueueId) (pass : PassView) (judge : Progress) (sent : ℕ) (tail : List ℕ) (c : TextCutter A) → HasJudgedNone judge sent tail → HasTaken [] c → pass.record_of.fed ≡ 0 → pass.record_of.ends ≡ 0 → pass.pieces ≡ [] → pass.queue ≡ queue
-    → IsFedTextOf known queue pass pass [] judge sent tail c
-nothing_fed known queue pass judge sent tail c judged taken none no_ends no_pieces same =
+pub nothing_fed : {A : Type 0} (known : Option (List ℕ)) (queue : QueueId) (pass : PassView) (sent : ℕ) (room : List ℕ) (c : TextCutter A) → HasSentNone sent room → HasTaken [] c → pass.record_of.fed ≡ 0 → pass.record_of.ends ≡ 0 → pass.pieces ≡ [] → pass.queue ≡ queue
+    → IsFedTextOf known queue pass pass [] sent room c
+nothing_fed known queue pass sent room c begun taken none no_ends no_pieces same =
     let none_are = none_known [] early_rows-nothing in
+    let bytes : bytes_fed c.lines ≡ 0 = fed_length c.lines [] taken.reads in
+    let size : length room ≡ 0 = ap (λ (xs : List ℕ). length xs) begun.room_is in
     record {
       fed = record { kept = fed_none pass.record_of no_ends; same = refl };
-      judged = record { reads = judged.reads; front = []; is = sym judged.tail_is; sent_is = sym judged.sent_is };
-      cut = record {
-        taken = [];
-        begins = begins_none known;
-        cut = record { taken = taken; count = none ∙ sym (ap (λ (ps : List Piece). length ps) none_are); pieces = no_pieces ∙ sym none_are };
-        queue_is = same;
-        no_ends = no_ends;
+      begins = begins_none known;
+      size = omega (arith, begun.sent_is, size);
+      few = omega arith;
+      held = record {
+        cut = record {
+          taken = [];
+          begins = begins_none known;
+          cut = record { taken = taken; count = none ∙ sym (ap (λ (ps : List Piece). length ps) none_are); pieces = no_pieces ∙ sym none_are };
+          within = omega (arith, bytes);
+          queue_is = same;
+          no_ends = no_ends;
+        };
+        place = none_stands known sent room begun;
       };
+      near = omega arith;
     }
+  where
+    none_stands : (known : Option (List ℕ)) (sent : ℕ) (room : List ℕ) → HasSentNone sent room → IfSome known (λ whole. StandsAt whole sent room)
+    none_stands None sent room begun = tt
+    none_stands (Some whole) sent room begun = record { before = []; rest = whole; is = ap (λ xs. xs ++ whole) (sym begun.room_is); place_is = sym begun.sent_is }
 
 -- ---- the plan of the text
 
@@ -59,31 +76,10 @@ plan_begun (Some all) text h = (h.0, ap trace_plan h.1)
 pub plan_expected : (plan : KnownPlan) (known left : Option (List ℕ)) → known ≡ left → plan ≡ option_map trace_plan known → MayBeFed left (IsPlanBegunSo plan known)
 plan_expected plan known left e planned text begins = record { planned = planned; begins = subst (λ l. BeginsSo l text) (sym e) begins }
 
--- what is left of a text that was judged stands at its end
-pub tail_stands : (known left after asked : Option (List ℕ)) (text : List ℕ) (judge : Progress) (sent : ℕ) (tail : List ℕ) → known ≡ left → IsAllGiven left after asked text → IsJudged text judge sent tail → IfSome known (λ whole. StandsAt whole sent tail)
-tail_stands None left after asked text judge sent tail e source judged = tt
-tail_stands (Some whole) left after asked text judge sent tail e source judged = record {
-  before = judged.front;
-  rest = [];
-  is = (source whole (sym e)).0 ∙ judged.is ∙ sym (append-nil (judged.front ++ tail));
-  place_is = judged.sent_is;
-}
-
-judged_length : (text : List ℕ) (judge : Progress) (sent : ℕ) (tail : List ℕ) → IsJudged text judge sent tail → length text ≡ sent + length tail
-judged_length text judge sent tail judged = ap (λ (l : List ℕ). length l) judged.is ∙ length-append judged.front tail ∙ ap (λ n. n + length tail) judged.sent_is
-
-no_length : (xs : List ℕ) (n : ℕ) → n ≡ n + length xs → xs ≡ []
-no_length [] n e = refl
-no_length (x ∷ xs) n e = absurd (omega (arith, e))
-
--- all of the text that a source tells was taken
-pub all_taken : (known left after asked : Option (List ℕ)) (text taken : List ℕ) (judge : Progress) (sent : ℕ) (tail : List ℕ) → known ≡ left → IsAllGiven left after asked text → IsJudged text judge sent tail → BeginsSo known taken → length taken ≡ sent + length tail → IfSome known (λ whole. whole ≡ taken)
-all_taken None left after asked text taken judge sent tail e source judged begins size = tt
-all_taken (Some whole) left after asked text taken judge sent tail e source judged begins size =
-    let rest = begins.0 in
-    let whole_size : length whole ≡ length taken = ap (λ (l : List ℕ). length l) (source whole (sym e)).0 ∙ judged_length text judge sent tail judged ∙ sym size in
-    let none = no_length rest (length taken) (sym whole_size ∙ ap (λ (l : List ℕ). length l) begins.1 ∙ length-append taken rest) in
-    begins.1 ∙ ap (λ l. taken ++ l) none ∙ append-nil taken
+-- all that was given was taken
+pub all_taken : (known : Option (List ℕ)) (text taken : List ℕ) → BeginsSo known text → BeginsSo known taken → length taken ≡ length text → IfSome known (λ whole. taken ≡ text)
+all_taken None text taken given begins size = tt
+all_taken (Some whole) text taken given begins size = sym (take-append_seam taken begins.0) ∙ ap (take (length taken)) (sym begins.1 ∙ given.1) ∙ ap (λ n. take n (text ++ given.0)) size ∙ take-append_seam text given.0
 
 -- the plan is that of what was taken
 pub plan_whole : (plan : KnownPlan) (known : Option (List ℕ)) (taken : List ℕ) → plan ≡ option_map trace_plan known → IfSome known (λ whole. whole ≡ taken) → IfSome plan (λ ps. ps ≡ trace_plan taken)
@@ -93,10 +89,36 @@ plan_whole plan known taken e h = subst (λ ps. IfSome ps (λ l. l ≡ trace_pla
     at None h = tt
     at (Some whole) h = ap trace_plan h
 
--- the text that a source told is what was taken
-pub told_taken : (known left after asked : Option (List ℕ)) (text taken all : List ℕ) → known ≡ left → IsAllGiven left after asked text → IfSome known (λ whole. whole ≡ taken) → left ≡ Some all → taken ≡ text
-told_taken None left after asked text taken all e source h told = absurd cc
-told_taken (Some whole) left after asked text taken all e source h told = sym h ∙ (source whole (sym e)).0
+-- the whole text was taken
+pub whole_taken : (known left after asked : Option (List ℕ)) (text taken : List ℕ) → known ≡ left → IsAllGiven left after asked text → IfSome known (λ whole. taken ≡ text) → IfSome known (λ whole. whole ≡ taken)
+whole_taken None left after asked text taken e source h = tt
+whole_taken (Some whole) left after asked text taken e source h = (source whole (sym e)).0 ∙ sym h
+
+pub told_taken : (known left : Option (List ℕ)) (text taken all : List ℕ) → known ≡ left → IfSome known (λ whole. taken ≡ text) → left ≡ Some all → taken ≡ text
+told_taken None left text taken all e h told = absurd cc
+told_taken (Some whole) left text taken all e h told = h
+
+-- ---- the fault of the first bytes of the text
+
+fault_stays : (text more : List ℕ) (f : Fault) → IsFaultOf (early text) f → IsFaultOf (early (text ++ more)) f
+fault_stays text more Memory h = tt
+fault_stays text more (Trace line kind) h = early-append text more (line, kind) h
+fault_stays text more _ h = absurd h
+
+pub fault_wider : (known : Option (List ℕ)) (few size : ℕ) (f : Fault) → few ≤ size → IsFaultWithin known few f → IsFaultWithin known size f
+fault_wider None few size f le h = record { kinds = h.kinds; fault = tt }
+fault_wider (Some whole) few size f le h = record {
+  kinds = h.kinds;
+  fault = subst (λ xs. IsFaultOf (early xs) f) (sym (take-add few (size - few) whole) ∙ ap (λ n. take n whole) (omega (arith, le))) (fault_stays (take few whole) (take (size - few) (drop few whole)) f h.fault);
+}
+
+pub fault_at : (known : Option (List ℕ)) (text : List ℕ) (f : Fault) → BeginsSo known text → IsFaultOf (early text) f → IsTextFault f → IsFaultWithin known (length text) f
+fault_at None text f begins h kinds = record { kinds = kinds; fault = tt }
+fault_at (Some whole) text f begins h kinds = record { kinds = kinds; fault = subst (λ xs. IsFaultOf (early xs) f) (sym (ap (take (length text)) begins.1 ∙ take-append_seam text begins.0)) h }
+
+pub memory_within : (known : Option (List ℕ)) (size : ℕ) (f : Fault) → f ≡ Memory → IsFaultWithin known size f
+memory_within None size f e = record { kinds = subst IsTextFault (sym e) tt; fault = tt }
+memory_within (Some whole) size f e = record { kinds = subst IsTextFault (sym e) tt; fault = subst (IsFaultOf (early (take size whole))) (sym e) tt }
 
 -- ---- what is told at the end
 
@@ -105,78 +127,166 @@ reading_fault Memory h = tt
 reading_fault (Trace line kind) h = tt
 reading_fault _ h = absurd h
 
-pub no_read_fault : (f : Fault) → IsTextFault f → f ≡ ReadFailed → ⊥
+no_read_fault : (f : Fault) → IsTextFault f → f ≡ ReadFailed → ⊥
 no_read_fault f h e = subst IsTextFault e h
 
-at_end : (text : List ℕ) (f : Fault) → early text ≡ None → IsFaultOf (fault text) f → IsRefusal text [] f
-at_end text Memory sound h = all_sound text sound
-at_end text (Trace line kind) sound h = (all_sound text sound, inr (refl, h))
-at_end text _ sound h = absurd h
+pub at_end : (lag : ℕ) (text : List ℕ) (f : Fault) → early text ≡ None → IsFaultOf (fault text) f → IsRefusal lag text [] f
+at_end lag text Memory sound h = all_sound (lag + 2 ^ 16) text sound
+at_end lag text (Trace line kind) sound h = (all_sound (lag + 2 ^ 16) text sound, inr (refl, h))
+at_end lag text _ sound h = absurd h
 
-on_the_way : (fed last rest : List ℕ) (f : Fault) → early fed ≡ None → length last ≤ 2 ^ 16 → IsFaultOf (early (fed ++ last)) f → IsRefusal (fed ++ last) rest f
-on_the_way fed last rest Memory sound few h = decided_before fed last sound few
-on_the_way fed last rest (Trace line kind) sound few h = (decided_before fed last sound few, inl h)
-on_the_way fed last rest _ sound few h = absurd h
+pub on_the_way : (lag : ℕ) (fed last rest : List ℕ) (f : Fault) → NoneDecidedButLast lag fed → length last ≤ 2 ^ 16 → IsFaultOf (early (fed ++ last)) f → IsRefusal lag (fed ++ last) rest f
+on_the_way lag fed last rest Memory sound few h = decided_before lag fed last sound few
+on_the_way lag fed last rest (Trace line kind) sound few h = (decided_before lag fed last sound few, inl h)
+on_the_way lag fed last rest _ sound few h = absurd h
 
-pub has_read : {A : Type 0} (before after asked : Option (List ℕ)) (failed : Type 0) (was_fed : List ℕ → Type 0) (fed : List Piece) (r : Result (Read A) Fault) → (w : IsFedAll before after asked was_fed) → ((all : List ℕ) → before ≡ Some all → IfOk r (IsReadOf w.text fed)) → IfOk r (λ read. (text : List ℕ) × IsReadOf text fed read)
-    → ((all : List ℕ) → before ≡ Some all → IfErr r (IsFaultOf (fault w.text))) → IfErr r IsTextFault
+-- the bytes in flight, where the source shows its text
+flight : (known before : Option (List ℕ)) (all : List ℕ) → known ≡ before → before ≡ Some all → lag_of known ≡ in_flight
+flight known before all e told = ap lag_of (e ∙ told)
+
+pub has_read : {A : Type 0} (known before after asked : Option (List ℕ)) (failed : Type 0) (was_fed : List ℕ → Type 0) (fed : List Piece) (r : Result (Read A) Fault) → known ≡ before → (w : IsFedAll (lag_of known) before after asked was_fed) → ((all : List ℕ) → before ≡ Some all → IfOk r (IsReadOf w.text fed)) → IfOk r (λ read. (text : List ℕ) × IsReadOf text fed read)
+    → ((all : List ℕ) → before ≡ Some all → IfErr r (IsRefusal (lag_of known) w.text [])) → IfErr r IsTextFault
     → HasRead before after asked failed fed r
-has_read before after asked failed was_fed fed (Ok read) w ok of_text refused kinds = record {
+has_read known before after asked failed was_fed fed (Ok read) same w ok of_text refused kinds = record {
   told = λ all e. let at = w.source all e in (subst (λ t. IsReadOf t fed read) (sym at.0) (ok all e), at.1, at.2);
   of_text = of_text;
   kinds = tt;
   refused = λ all e. tt;
   read_failed = λ e. absurd (cc);
 }
-has_read before after asked failed was_fed fed (Err f) w ok of_text refused kinds = record {
+has_read known before after asked failed was_fed fed (Err f) same w ok of_text refused kinds = record {
   told = λ all e. tt;
   of_text = tt;
   kinds = reading_fault f kinds;
   refused = λ all e.
       let at = w.source all e in
-      record { given = w.text; rest = []; whole = at.0 ∙ sym (append-nil w.text); left = at.1; order = inr (sound_at_end before after asked was_fed all w e); refusal = at_end w.text f w.sound (refused all e) };
+      subst (λ lag. IsRefusedBy lag (IsRefusal lag) all after asked f) (flight known before all same e)
+      (record { given = w.text; rest = []; whole = at.0 ∙ sym (append-nil w.text); left = at.1; order = inr (sound_at_end (lag_of known) before after asked was_fed all w e); refusal = refused all e });
   read_failed = λ e. let same : f ≡ ReadFailed = cc in absurd (no_read_fault f kinds same);
 }
 
-stop_kinds : (was_fed : List ℕ → Type 0) (start pass : PassView) (fed last : List ℕ) (f : Fault) → HasFailed was_fed fed last f ⊎ IsRefusedText start pass fed last f → IsReadingFault f
-stop_kinds was_fed start pass fed last f (inl why) = subst IsReadingFault (sym why.failure) tt
-stop_kinds was_fed start pass fed last f (inr why) = reading_fault f why.kinds
+-- ---- where reading stops
 
-stop_refusal : (was_fed : List ℕ → Type 0) (refused : (fed last : List ℕ) → Fault → Type 0) (fed last rest : List ℕ) (f : Fault) → early fed ≡ None → length last ≤ 2 ^ 16 → (refused fed last f → IsFaultOf (early (fed ++ last)) f) → HasFailed was_fed fed last f ⊎ refused fed last f → IsRefusal (fed ++ last) rest f
-stop_refusal was_fed refused fed last rest f sound few is (inl why) =
-    subst (IsRefusal (fed ++ last) rest) (sym why.failure) (subst (λ xs. early (fed ++ xs) ≡ None) (sym why.none) (subst (λ xs. early xs ≡ None) (sym (append-nil fed)) sound))
-stop_refusal was_fed refused fed last rest f sound few is (inr why) = on_the_way fed last rest f sound few (is why)
-
--- what the bytes say that were given where reading stopped
-pub refused_by : (before after asked : Option (List ℕ)) (was_fed : List ℕ → Type 0) (refused : (fed last : List ℕ) → Fault → Type 0) (f : Fault) (text : List ℕ) → (u : IsFedUpTo before after asked was_fed refused f) → (refused u.fed u.last f → IsFaultOf (early (u.fed ++ u.last)) f) → before ≡ Some text
-    → IsRefusedBy IsRefusal text after asked f
-refused_by before after asked was_fed refused f text u is told =
+-- what the bytes say that were given
+given_by : (lag : ℕ) (before after asked : Option (List ℕ)) (was_fed : List ℕ → Type 0) (refused : (fed last : List ℕ) → Fault → Type 0) (f g : Fault) (text : List ℕ) → (u : IsFedUpTo lag before after asked was_fed refused f) → before ≡ Some text → ((rest : List ℕ) → text ≡ (u.fed ++ u.last) ++ rest → IsRefusal lag (u.fed ++ u.last) rest g)
+    → IsRefusedBy lag (IsRefusal lag) text after asked g
+given_by lag before after asked was_fed refused f g text u told refusal =
     let at = u.given text told in
     record {
       given = u.fed ++ u.last;
       rest = at.0;
       whole = at.1;
       left = at.2;
-      order = inr (sound_before before after asked was_fed refused f text u told);
-      refusal = stop_refusal was_fed refused u.fed u.last at.0 f u.sound u.few is u.why;
+      order = inr (sound_before lag before after asked was_fed refused f text u told);
+      refusal = refusal at.0 at.1;
     }
 
-pub has_stopped : {A : Type 0} (before after asked : Option (List ℕ)) (failed : Type 0) (was_fed : List ℕ → Type 0) (start pass : PassView) (fed : List Piece) (f : Fault) → IsFedUpTo before after asked was_fed (IsRefusedText start pass) f → (f ≡ ReadFailed → failed)
-    → HasRead {A = A} before after asked failed fed (Err f)
-has_stopped before after asked failed was_fed start pass fed f u fails = record {
+failed_sound : (was_fed : List ℕ → Type 0) (fed last rest : List ℕ) (f : Fault) → early fed ≡ None → HasFailed was_fed fed last f → IsRefusal 0 (fed ++ last) rest f
+failed_sound was_fed fed last rest f sound why =
+    subst (IsRefusal 0 (fed ++ last) rest) (sym why.failure) (subst (λ xs. early (fed ++ xs) ≡ None) (sym why.none) (subst (λ xs. early xs ≡ None) (sym (append-nil fed)) sound))
+
+stop_refusal : (was_fed : List ℕ → Type 0) (refused : (fed last : List ℕ) → Fault → Type 0) (fed last rest : List ℕ) (f : Fault) → NoneDecidedButLast 0 fed → length last ≤ 2 ^ 16 → (refused fed last f → IsFaultOf (early (fed ++ last)) f) → HasFailed was_fed fed last f ⊎ refused fed last f → IsRefusal 0 (fed ++ last) rest f
+stop_refusal was_fed refused fed last rest f sound few is (inl why) = failed_sound was_fed fed last rest f (none_sound fed sound) why
+stop_refusal was_fed refused fed last rest f sound few is (inr why) = on_the_way 0 fed last rest f sound few (is why)
+
+-- of a consumer that refuses each read before the next
+pub refused_by : (before after asked : Option (List ℕ)) (was_fed : List ℕ → Type 0) (refused : (fed last : List ℕ) → Fault → Type 0) (f : Fault) (text : List ℕ) → (u : IsFedUpTo 0 before after asked was_fed refused f) → (refused u.fed u.last f → IsFaultOf (early (u.fed ++ u.last)) f) → before ≡ Some text
+    → IsRefusedBy 0 (IsRefusal 0) text after asked f
+refused_by before after asked was_fed refused f text u is told = given_by 0 before after asked was_fed refused f f text u told (λ rest whole. stop_refusal was_fed refused u.fed u.last rest f u.sound u.few is u.why)
+
+-- of one that takes what was given before it refuses
+has_stopped : {A : Type 0} (known before after asked : Option (List ℕ)) (failed : Type 0) (was_fed : List ℕ → Type 0) (refused : (fed last : List ℕ) → Fault → Type 0) (fed : List Piece) (f g : Fault) → known ≡ before → (u : IsFedUpTo (lag_of known) before after asked was_fed refused f)
+    → ((all rest : List ℕ) → known ≡ Some all → all ≡ (u.fed ++ u.last) ++ rest → IsRefusal (lag_of known) (u.fed ++ u.last) rest g) → IsReadingFault g → (g ≡ ReadFailed → failed)
+    → HasRead {A = A} before after asked failed fed (Err g)
+has_stopped known before after asked failed was_fed refused fed f g same u refusal kinds fails = record {
   told = λ all e. tt;
   of_text = tt;
-  kinds = stop_kinds was_fed start pass u.fed u.last f u.why;
-  refused = λ all e. refused_by before after asked was_fed (IsRefusedText start pass) f all u (λ why. why.refusal) e;
-  read_failed = λ e. let same : f ≡ ReadFailed = cc in fails same;
+  kinds = kinds;
+  refused = λ all e. subst (λ lag. IsRefusedBy lag (IsRefusal lag) all after asked g) (flight known before all same e) (given_by (lag_of known) before after asked was_fed refused f g all u e (λ rest whole. refusal all rest (same ∙ e) whole));
+  read_failed = λ e. let same : g ≡ ReadFailed = cc in fails same;
 }
 
--- ---- what the pass did
+-- the fault is that of what was given
+pub fault_given : (whole given rest : List ℕ) (f : Fault) → whole ≡ given ++ rest → IsFaultWithin (Some whole) (length given) f → IsFaultOf (early given) f
+fault_given whole given rest f e h = subst (λ xs. IsFaultOf (early xs) f) (ap (take (length given)) e ∙ take-append_seam given rest) h.fault
 
-pub stop_kept : (was_fed : List ℕ → Type 0) (start pass : PassView) (fed last : List ℕ) (f : Fault) → (was_fed fed → HasFed start.record_of pass.record_of) → HasFailed was_fed fed last f ⊎ IsRefusedText start pass fed last f → HasFed start.record_of pass.record_of
-stop_kept was_fed start pass fed last f kept (inl why) = kept why.stands
-stop_kept was_fed start pass fed last f kept (inr why) = why.kept
+-- what was given was refused
+text_stopped : {A : Type 0} (known before after asked : Option (List ℕ)) (failed : Type 0) (was_fed : List ℕ → Type 0) (refused : (fed last : List ℕ) → Fault → Type 0) (fed : List Piece) (f g : Fault) → known ≡ before → (u : IsFedUpTo (lag_of known) before after asked was_fed refused f) → IsFaultWithin known (length (u.fed ++ u.last)) g
+    → HasRead {A = A} before after asked failed fed (Err g)
+text_stopped known before after asked failed was_fed refused fed f g same u h =
+    has_stopped known before after asked failed was_fed refused fed f g same u
+    (λ all rest e whole. on_the_way (lag_of known) u.fed u.last rest g u.sound u.few (fault_given all (u.fed ++ u.last) rest g whole (subst (λ o. IsFaultWithin o (length (u.fed ++ u.last)) g) e h)))
+    (reading_fault g h.kinds) (λ e. absurd (no_read_fault g h.kinds e))
 
-pub stop_queue : (was_fed : List ℕ → Type 0) (start pass : PassView) (fed last : List ℕ) (f : Fault) → (was_fed fed → pass.queue ≡ start.queue) → HasFailed was_fed fed last f ⊎ IsRefusedText start pass fed last f → pass.queue ≡ start.queue
-stop_queue was_fed start pass fed last f same (inl why) = same why.stands
-stop_queue was_fed start pass fed last f same (inr why) = why.same
+-- what was given was refused after the source had ended
+pub end_stopped : (known before after asked : Option (List ℕ)) (was_fed : List ℕ → Type 0) (g : Fault) (all : List ℕ) → known ≡ before → (w : IsFedAll (lag_of known) before after asked was_fed) → IsFaultWithin known (length w.text) g → before ≡ Some all → IsRefusal (lag_of known) w.text [] g
+end_stopped known before after asked was_fed g all same w h e =
+    let at = w.source all e in
+    subst (λ xs. IsRefusal (lag_of known) xs [] g) (append-nil w.text)
+    (on_the_way (lag_of known) w.text [] [] g w.sound (omega arith) (subst (λ xs. IsFaultOf (early xs) g) (sym (append-nil w.text)) (fault_given all w.text [] g (at.0 ∙ sym (append-nil w.text)) (subst (λ o. IsFaultWithin o (length w.text) g) (same ∙ e) h))))
+
+-- a chunk more was given, of which all but what is in flight was cut
+pub fed_more : {A T : Type 0} (r : Result T Fault) (known : Option (List ℕ)) (queue : QueueId) (start pass : PassView) (text : List ℕ) (sent total : ℕ) (room : List ℕ) (c : TextCutter A) → HasFedOn start pass → BeginsSo known text → length text ≡ total → length text ≤ 2 ^ 30
+    → OnOk r (IsHeld known queue pass sent room c) → OnOk r (sent + length room ≡ total) → OnOk r (sent + length room ≤ bytes_fed c.lines + in_flight)
+    → OnOk r (IsFedTextOf known queue start pass text sent room c)
+fed_more (Err f) known queue start pass text sent total room c fed begins is few held size near = tt
+fed_more (Ok u) known queue start pass text sent total room c fed begins is few held size near = record { fed = fed; begins = begins; size = is ∙ sym size; few = few; held = held; near = omega (arith, is, size, near) }
+
+-- so it is where all of it was taken at once
+pub fed_now : {A T : Type 0} (r : Result T Fault) (known : Option (List ℕ)) (queue : QueueId) (start pass : PassView) (text : List ℕ) (sent total : ℕ) (room : List ℕ) (c : TextCutter A) → HasFedOn start pass → BeginsSo known text → length text ≡ total
+    → OnOk r (IsHeld known queue pass sent room c) → OnOk r (sent + length room ≡ total) → OnOk r (sent + length room ≤ 2 ^ 30) → OnOk r (bytes_fed c.lines ≡ sent) → OnOk r (room ≡ [])
+    → OnOk r (IsFedTextOf known queue start pass text sent room c)
+fed_now (Err f) known queue start pass text sent total room c fed begins is held size few all none = tt
+fed_now (Ok u) known queue start pass text sent total room c fed begins is held size few all none =
+    let empty : length room ≡ 0 = ap (λ (xs : List ℕ). length xs) none in
+    record { fed = fed; begins = begins; size = is ∙ sym size; few = omega (arith, is, size, few); held = held; near = omega (arith, is, size, all, empty) }
+
+pub refused_more : {T : Type 0} (r : Result T Fault) (known : Option (List ℕ)) (start pass : PassView) (few size : ℕ) → HasFedOn start pass → few ≤ size → IfErr r (IsFaultWithin known few) → IfErr r (IsRefusedText known start pass size)
+refused_more (Ok u) known start pass few size fed le h = tt
+refused_more (Err f) known start pass few size fed le h = record { fed = fed; refusal = fault_wider known few size f le h }
+
+pub no_failure : {T : Type 0} (r : Result T Fault) (known : Option (List ℕ)) (size : ℕ) → IfErr r (IsFaultWithin known size) → IfErr r (λ f. f ≢ ReadFailed)
+no_failure (Ok u) known size h = tt
+no_failure (Err f) known size h = λ e. no_read_fault f h.kinds e
+
+pub text_fault : (known : Option (List ℕ)) (size : ℕ) (f : Fault) → IsFaultWithin known size f → f ≢ ReadFailed
+text_fault known size f h = λ e. no_read_fault f h.kinds e
+
+-- ---- reading has stopped
+
+abbrev pub Stop : {A : Type 0} → (known : Option (List ℕ)) → (queue : QueueId) → (start pass : PassView) → (sent : ℕ) → (room : List ℕ) → TextCutter A → (fed last : List ℕ) → Fault → Type 0
+Stop known queue start pass sent room c fed last f = HasFailed (λ text. IsFedTextOf known queue start pass text sent room c) fed last f ⊎ IsRefusedText known start pass (length (fed ++ last)) f
+
+pub stop_held : {A : Type 0} (known : Option (List ℕ)) (queue : QueueId) (start pass : PassView) (sent : ℕ) (room : List ℕ) (c : TextCutter A) (fed last : List ℕ) (f : Fault) → Stop known queue start pass sent room c fed last f → f ≡ ReadFailed → IsHeld known queue pass sent room c
+stop_held known queue start pass sent room c fed last f (inl why) e = why.stands.held
+stop_held known queue start pass sent room c fed last f (inr why) e = absurd (no_read_fault f why.refusal.kinds e)
+
+pub stop_fed : {A : Type 0} (known : Option (List ℕ)) (queue : QueueId) (start pass : PassView) (sent : ℕ) (room : List ℕ) (c : TextCutter A) (fed last : List ℕ) (f : Fault) → Stop known queue start pass sent room c fed last f → HasFedOn start pass
+stop_fed known queue start pass sent room c fed last f (inl why) = why.stands.fed
+stop_fed known queue start pass sent room c fed last f (inr why) = why.fed
+
+-- the fault by which the text is refused then
+pub stop_read : {A B : Type 0} (known before after asked : Option (List ℕ)) (failed : Type 0) (queue : QueueId) (start pass : PassView) (sent : ℕ) (room : List ℕ) (c : TextCutter B) (fed : List Piece) (f g : Fault) → known ≡ before → (u : IsFedUpTo (lag_of known) before after asked (λ text. IsFedTextOf known queue start pass text sent room c) (λ xs last. IsRefusedText known start pass (length (xs ++ last))) f)
+    → (f ≢ ReadFailed → g ≡ f) → (f ≡ ReadFailed → IsReadEnd known (sent + length room) g) → (f ≡ ReadFailed → failed) → HasRead {A = A} before after asked failed fed (Err g)
+stop_read {A = A} known before after asked failed queue start pass sent room c fed f g same u other read fails = at u.why
+  where
+    at : Stop known queue start pass sent room c u.fed u.last f → HasRead {A = A} before after asked failed fed (Err g)
+    at (inr why) =
+        text_stopped known before after asked failed (λ text. IsFedTextOf known queue start pass text sent room c) (λ xs last. IsRefusedText known start pass (length (xs ++ last))) fed f g same u
+        (subst (IsFaultWithin known (length (u.fed ++ u.last))) (sym (other (text_fault known (length (u.fed ++ u.last)) f why.refusal))) why.refusal)
+    at (inl why) = ended (read why.failure)
+      where
+        size : length (u.fed ++ u.last) ≡ sent + length room
+        size = ap (λ (xs : List ℕ). length xs) (ap (λ xs. u.fed ++ xs) why.none ∙ append-nil u.fed) ∙ why.stands.size
+
+        sound_given : (all rest : List ℕ) → known ≡ Some all → all ≡ (u.fed ++ u.last) ++ rest → IfSome known (λ whole. early (take (sent + length room) whole) ≡ None) → early (u.fed ++ u.last) ≡ None
+        sound_given all rest k whole h =
+            subst (λ (xs : List ℕ). early xs ≡ None) (ap (λ n. take n all) (sym size) ∙ ap (take (length (u.fed ++ u.last))) whole ∙ take-append_seam (u.fed ++ u.last) rest) (subst (λ o. IfSome o (λ whole. early (take (sent + length room) whole) ≡ None)) k h)
+
+        ended : IsReadEnd known (sent + length room) g → HasRead {A = A} before after asked failed fed (Err g)
+        ended (inr h) =
+            text_stopped known before after asked failed (λ text. IsFedTextOf known queue start pass text sent room c) (λ xs last. IsRefusedText known start pass (length (xs ++ last))) fed f g same u
+            (subst (λ n. IsFaultWithin known n g) (sym size) h)
+        ended (inl h) =
+            has_stopped known before after asked failed (λ text. IsFedTextOf known queue start pass text sent room c) (λ xs last. IsRefusedText known start pass (length (xs ++ last))) fed f g same u
+            (λ all rest k whole. subst (IsRefusal (lag_of known) (u.fed ++ u.last) rest) (sym h.0) (sound_given all rest k whole h.1)) (subst IsReadingFault (sym h.0) tt) (λ e. fails why.failure)

@@ -15,7 +15,7 @@ use Rattle.live_report.specs.Found.{found_text}
 use Rattle.live_report.specs.Reports.{IsRefusal, IsReportFault, IsReported}
 use Rattle.live_report.proofs.FollowLemmas.{nothing_told}
 use Rattle.trace_text.specs.Sources.{HasFailed, IsFedAll, IsFedUpTo, IsRefusedBy}
-use Rattle.trace_text.proofs.DecidedLemmas.{all_sound, decided_before}
+use Rattle.trace_text.proofs.DecidedLemmas.{all_sound, decided_before, none_sound}
 use Rattle.trace_text.proofs.SourceLemmas.{sound_before, all_sound as sound_at_end}
 use Rattle.trace_scan.specs.Follow.{IsFollowRefusal, IsFollowed, IsRefusedAfter, IsToldOf}
 use Rattle.trace_scan.specs.Scan.{IsScanFault}
@@ -56,8 +56,8 @@ follow_reads (Err f) t = no_report_read f t
 -- ---- where reading stopped
 
 follow_refusal : (given bytes rest : List ℕ) (f : Fault) → early given ≡ None → length bytes ≤ 2 ^ 16 → IsRefusalOf (early (given ++ bytes)) f → IsFollowRefusal (given ++ bytes) rest f
-follow_refusal given bytes rest Memory sound few h = decided_before given bytes sound few
-follow_refusal given bytes rest (Trace line kind) sound few h = (decided_before given bytes sound few, inl h)
+follow_refusal given bytes rest Memory sound few h = decided_before 0 given bytes (all_sound 0 given sound) few
+follow_refusal given bytes rest (Trace line kind) sound few h = (decided_before 0 given bytes (all_sound 0 given sound) few, inl h)
 follow_refusal given bytes rest Write sound few h = h
 follow_refusal given bytes rest _ sound few h = absurd h
 
@@ -102,9 +102,9 @@ stop_write m before taken x z g fed last f (inr why) w = why.failed w
 
 -- by what a reader of the source says
 abbrev pub IsFollowedUpTo : {A C : Type 0} → Machine C A → (left after asked before taken : Option (List ℕ)) → (x z : ℕ) → Follower A C → Fault → Type 0
-IsFollowedUpTo m left after asked before taken x z g f = IsFedUpTo left after asked (λ text. IsFollowed m before taken x z text g) (IsRefusedAfter before taken x z) f
+IsFollowedUpTo m left after asked before taken x z g f = IsFedUpTo 0 left after asked (λ text. IsFollowed m before taken x z text g) (IsRefusedAfter before taken x z) f
 
-pub stopped_refused : {A C : Type 0} (m : Machine C A) (left after asked before taken : Option (List ℕ)) (x z : ℕ) (g : Follower A C) (f : Fault) (text : List ℕ) → left ≡ Some text → IsFollowedUpTo m left after asked before taken x z g f → IsRefusedBy IsFollowRefusal text after asked f
+pub stopped_refused : {A C : Type 0} (m : Machine C A) (left after asked before taken : Option (List ℕ)) (x z : ℕ) (g : Follower A C) (f : Fault) (text : List ℕ) → left ≡ Some text → IsFollowedUpTo m left after asked before taken x z g f → IsRefusedBy 0 IsFollowRefusal text after asked f
 stopped_refused m left after asked before taken x z g f text told u =
     let at = u.given text told in
     record {
@@ -112,12 +112,12 @@ stopped_refused m left after asked before taken x z g f text told u =
       rest = at.0;
       whole = at.1;
       left = at.2;
-      order = inr (sound_before left after asked (λ t. IsFollowed m before taken x z t g) (IsRefusedAfter before taken x z) f text u told);
-      refusal = (stop_is m before taken x z g u.fed u.last f u.sound u.few u.why).refusal at.0;
+      order = inr (sound_before 0 left after asked (λ t. IsFollowed m before taken x z t g) (IsRefusedAfter before taken x z) f text u told);
+      refusal = (stop_is m before taken x z g u.fed u.last f (none_sound u.fed u.sound) u.few u.why).refusal at.0;
     }
 
 pub stopped_taken : {A C : Type 0} (m : Machine C A) (left after asked before taken : Option (List ℕ)) (x z : ℕ) (g : Follower A C) (f : Fault) (text : List ℕ) → left ≡ Some text → IsFollowedUpTo m left after asked before taken x z g f
-    → IsRefusedBy (IsToldOf before taken (z ≡ x)) text after asked f
+    → IsRefusedBy 0 (IsToldOf before taken (z ≡ x)) text after asked f
 stopped_taken m left after asked before taken x z g f text told u =
     let at = u.given text told in
     record {
@@ -125,14 +125,14 @@ stopped_taken m left after asked before taken x z g f text told u =
       rest = at.0;
       whole = at.1;
       left = at.2;
-      order = inr (sound_before left after asked (λ t. IsFollowed m before taken x z t g) (IsRefusedAfter before taken x z) f text u told);
-      refusal = (stop_is m before taken x z g u.fed u.last f u.sound u.few u.why).told at.0;
+      order = inr (sound_before 0 left after asked (λ t. IsFollowed m before taken x z t g) (IsRefusedAfter before taken x z) f text u told);
+      refusal = (stop_is m before taken x z g u.fed u.last f (none_sound u.fed u.sound) u.few u.why).told at.0;
     }
 
 pub stopped_given : {A C : Type 0} (m : Machine C A) (left after asked before taken : Option (List ℕ)) (x z : ℕ) (g : Follower A C) (f : Fault) → IsFollowedUpTo m left after asked before taken x z g f
     → (given : List ℕ) × (rest : List ℕ) × IsFollowRefusal given rest f × IsToldOf before taken (z ≡ x) given rest f
 stopped_given m left after asked before taken x z g f u =
-    let stop = stop_is m before taken x z g u.fed u.last f u.sound u.few u.why in
+    let stop = stop_is m before taken x z g u.fed u.last f (none_sound u.fed u.sound) u.few u.why in
     (u.fed ++ u.last, [], stop.refusal [], stop.told [])
 
 -- ---- where all was read
@@ -145,8 +145,8 @@ end_some given before taken (Ok sums) h = (given, h)
 end_some given before taken (Err f) h = tt
 
 at_end : (given : List ℕ) (f : Fault) → early given ≡ None → IsRefusal given f → IsFollowRefusal given [] f
-at_end given Memory sound h = all_sound given sound
-at_end given (Trace line kind) sound h = (all_sound given sound, inr (refl, h))
+at_end given Memory sound h = all_sound (2 ^ 16) given sound
+at_end given (Trace line kind) sound h = (all_sound (2 ^ 16) given sound, inr (refl, h))
 at_end given Write sound h = sound
 at_end given _ sound h = absurd h
 
@@ -165,14 +165,14 @@ pub end_given : (given : List ℕ) (before taken after : Option (List ℕ)) (wel
 end_given given before taken after well (Ok sums) sound h r kept part = tt
 end_given given before taken after well (Err f) sound h r kept part = (given, [], at_end given f sound r, told_at_end given before taken after well f h r kept (λ e. part (ap Err e)))
 
-pub end_refused : (source after asked : Option (List ℕ)) (was_fed : List ℕ → Type 0) (text : List ℕ) (r : Result Summary Fault) → (w : IsFedAll source after asked was_fed) → source ≡ Some text → IfErr r (IsRefusal w.text) → IfErr r (IsRefusedBy IsFollowRefusal text after asked)
+pub end_refused : (source after asked : Option (List ℕ)) (was_fed : List ℕ → Type 0) (text : List ℕ) (r : Result Summary Fault) → (w : IsFedAll 0 source after asked was_fed) → source ≡ Some text → IfErr r (IsRefusal w.text) → IfErr r (IsRefusedBy 0 IsFollowRefusal text after asked)
 end_refused source after asked was_fed text (Ok sums) w told h = tt
 end_refused source after asked was_fed text (Err f) w told h =
     let all = w.source text told in
-    record { given = w.text; rest = []; whole = all.0 ∙ sym (append-nil w.text); left = all.1; order = inr (sound_at_end source after asked was_fed text w told); refusal = at_end w.text f w.sound h }
+    record { given = w.text; rest = []; whole = all.0 ∙ sym (append-nil w.text); left = all.1; order = inr (sound_at_end 0 source after asked was_fed text w told); refusal = at_end w.text f (none_sound w.text w.sound) h }
 
-pub end_taken : (source left asked : Option (List ℕ)) (was_fed : List ℕ → Type 0) (text : List ℕ) (before taken after : Option (List ℕ)) (well : Type 0) (r : Result Summary Fault) → (w : IsFedAll source left asked was_fed) → source ≡ Some text → HasFindings before taken w.text → IfErr r (IsRefusal w.text)
-    → IfErr r (λ fault. fault ≢ Write → after ≡ taken) → (r ≡ Err Write → HasFirst before after (trace_report w.text)) → IfErr r (IsRefusedBy (IsToldOf before after well) text left asked)
+pub end_taken : (source left asked : Option (List ℕ)) (was_fed : List ℕ → Type 0) (text : List ℕ) (before taken after : Option (List ℕ)) (well : Type 0) (r : Result Summary Fault) → (w : IsFedAll 0 source left asked was_fed) → source ≡ Some text → HasFindings before taken w.text → IfErr r (IsRefusal w.text)
+    → IfErr r (λ fault. fault ≢ Write → after ≡ taken) → (r ≡ Err Write → HasFirst before after (trace_report w.text)) → IfErr r (IsRefusedBy 0 (IsToldOf before after well) text left asked)
 end_taken source left asked was_fed text before taken after well (Ok sums) w told h r kept part = tt
 end_taken source left asked was_fed text before taken after well (Err f) w told h r kept part =
     let all = w.source text told in
@@ -181,6 +181,6 @@ end_taken source left asked was_fed text before taken after well (Err f) w told 
       rest = [];
       whole = all.0 ∙ sym (append-nil w.text);
       left = all.1;
-      order = inr (sound_at_end source left asked was_fed text w told);
+      order = inr (sound_at_end 0 source left asked was_fed text w told);
       refusal = told_at_end w.text before taken after well f h r kept (λ e. part (ap Err e));
     }

@@ -1,22 +1,23 @@
 -- The parts of a text that are taken in order.
-use Rattle.std.proofs.Common.{◌≡◌, ◌∙◌, sym, ap, subst, refl, ℕ, ◌+◌, ◌-◌, List, ◌++◌, length, take, Option, Some, None, append_assoc, length-append, arith}
+use Rattle.std.proofs.Common.{◌≡◌, ◌∙◌, sym, ap, subst, refl, ℕ, ◌+◌, ◌≤◌, List, [], ◌++◌, length, take, Option, Some, None, Result, Ok, Err, append-nil, append_assoc, length-append, arith}
 use Rattle.std.proofs.Math.Seq.{take-append_seam}
-use Rattle.std.specs.Prelude.{IfSome}
+use Rattle.std.specs.Prelude.{IfErr, IfSome, OnOk}
 use Rattle.std.specs.Option.{option_map}
+use Rattle.line_model.specs.text.Text.{early}
+use Rattle.line_model.specs.declared.fault.Fault.{Fault}
 use Rattle.line_model.specs.work.Book.{KnownPlan}
 use Rattle.line_model.specs.basics.Records.{Piece}
 use Rattle.line_model.specs.traces.Traces.{trace_plan}
-use Rattle.trace_text.specs.Progress.{Progress, bytes_fed}
+use Rattle.trace_text.specs.Progress.{bytes_fed}
 use Rattle.trace_text.specs.FedBytes.{fed_length}
 use Rattle.trace_text.specs.Sources.{BeginsSo}
 use Rattle.shared_work.specs.queue.Passes.{PassView, QueueId}
 use Rattle.workers.specs.Workers.{HasFed}
 use Rattle.trace_scan.specs.TextBlocks.{StandsAt}
 use Rattle.trace_scan.specs.TextCuts.{HasTaken, IsPlanOf, known_pieces}
-use Rattle.trace_text.specs.StandsFor.{StandsFor}
-use Rattle.trace_scan.specs.Readings.{HasFedOn, IsFedSoFar, IsJudged}
+use Rattle.trace_scan.specs.Readings.{HasFedOn, IsFaultWithin, IsFedSoFar, IsHeld}
 use Rattle.trace_scan.specs.declared.text_cutter.TextCutter.{TextCutter}
-use Rattle.trace_scan.proofs.Courses.{fed_on, plan_begun}
+use Rattle.trace_scan.proofs.Courses.{fault_wider, fed_on, plan_begun}
 use Rattle.trace_scan.proofs.Rows.{all_fed}
 
 same_front : (xs ys us vs : List ℕ) → xs ++ us ≡ ys ++ vs → length xs ≡ length ys → xs ≡ ys
@@ -38,10 +39,10 @@ pub taken_length : {A : Type 0} (text : List ℕ) (c : TextCutter A) → HasTake
 taken_length text c h = fed_length c.lines text h.reads
 
 -- a part was taken, and the pieces that came to be known whole were fed
-pub part_fed : {A : Type 0} (known : Option (List ℕ)) (queue : QueueId) (pass after : PassView) (c d : TextCutter A) (bytes : List ℕ) (pieces : List Piece) (len : ℕ) → (so : IsFedSoFar known queue pass c) → BeginsSo known (so.taken ++ bytes) → HasTaken (so.taken ++ bytes) d
+pub part_fed : {A : Type 0} (known : Option (List ℕ)) (queue : QueueId) (pass after : PassView) (sent reached : ℕ) (c d : TextCutter A) (bytes : List ℕ) (pieces : List Piece) (len : ℕ) → (so : IsFedSoFar known queue pass sent c) → bytes_fed d.lines ≤ reached → BeginsSo known (so.taken ++ bytes) → HasTaken (so.taken ++ bytes) d
     → known_pieces (so.taken ++ bytes) ≡ known_pieces so.taken ++ pieces → len ≡ length pieces → after.record_of.fed ≡ pass.record_of.fed + len → HasFed pass.record_of after.record_of → after.queue ≡ pass.queue → after.pieces ≡ pass.pieces ++ pieces
-    → IsFedSoFar known queue after d
-part_fed known queue pass after c d bytes pieces len so begins taken more size fed kept same all = record {
+    → IsFedSoFar known queue after reached d
+part_fed known queue pass after sent reached c d bytes pieces len so within begins taken more size fed kept same all = record {
   taken = so.taken ++ bytes;
   begins = begins;
   cut = record {
@@ -49,6 +50,7 @@ part_fed known queue pass after c d bytes pieces len so begins taken more size f
     count = all_fed len pass.record_of.fed after.record_of.fed (known_pieces so.taken) pieces (known_pieces (so.taken ++ bytes)) size so.cut.count more fed;
     pieces = all ∙ ap (λ ps. ps ++ pieces) so.cut.pieces ∙ sym more;
   };
+  within = within;
   queue_is = same ∙ so.queue_is;
   no_ends = kept.ends;
 }
@@ -61,42 +63,103 @@ fed_nothing pass none = record { kept = record { ends = none; pending = refl; do
 pub fed_both : (a b c : PassView) → HasFedOn a b → HasFedOn b c → HasFedOn a c
 fed_both a b c first more = record { kept = fed_on a.record_of b.record_of c.record_of first.kept more.kept; same = more.same ∙ first.same }
 
--- ---- the lines of a chunk after a line that had not ended
+-- ---- bytes of the text that stand one after the other
 
--- the front, the line, the lines that the chunk ended, and what it began
-lines_seam : (front tail lines begun : List ℕ) → (front ++ tail) ++ (lines ++ begun) ≡ (front ++ (tail ++ lines)) ++ begun
-lines_seam front tail lines begun = append_assoc front tail (lines ++ begun) ∙ ap (λ xs. front ++ xs) (sym (append_assoc tail lines begun)) ∙ sym (append_assoc front (tail ++ lines) begun)
-
-pub text_seam : (text chunk front tail lines begun : List ℕ) → text ≡ front ++ tail → chunk ≡ lines ++ begun → text ++ chunk ≡ (front ++ (tail ++ lines)) ++ begun
-text_seam text chunk front tail lines begun t k = (λ j. t j ++ k j) ∙ lines_seam front tail lines begun
-
-pub lines_stand : (known : Option (List ℕ)) (text chunk front tail lines begun : List ℕ) (sent : ℕ) → BeginsSo known (text ++ chunk) → text ≡ front ++ tail → length front ≡ sent → chunk ≡ lines ++ begun → IfSome known (λ whole. StandsAt whole sent (tail ++ lines))
-lines_stand None text chunk front tail lines begun sent h t n k = tt
-lines_stand (Some whole) text chunk front tail lines begun sent h t n k = record {
-  before = front;
-  rest = begun ++ h.0;
-  is = h.1 ∙ ap (λ xs. xs ++ h.0) (text_seam text chunk front tail lines begun t k) ∙ append_assoc (front ++ (tail ++ lines)) begun h.0;
-  place_is = n;
+pub stands_front : (known : Option (List ℕ)) (place : ℕ) (bytes lines more : List ℕ) → bytes ≡ lines ++ more → IfSome known (λ whole. StandsAt whole place bytes) → IfSome known (λ whole. StandsAt whole place lines)
+stands_front None place bytes lines more e s = tt
+stands_front (Some whole) place bytes lines more e s = record {
+  before = s.before;
+  rest = more ++ s.rest;
+  is = s.is ∙ ap (λ xs. (s.before ++ xs) ++ s.rest) e ∙ ap (λ xs. xs ++ s.rest) (sym (append_assoc s.before lines more)) ∙ append_assoc (s.before ++ lines) more s.rest;
+  place_is = s.place_is;
 }
 
--- a chunk was judged, and all its lines were sent on
-pub lines_sent : (text chunk tail lines begun now : List ℕ) (old judge : Progress) (sent place : ℕ) → IsJudged text old sent tail → StandsFor judge (text ++ chunk) → chunk ≡ lines ++ begun → now ≡ begun → place ≡ bytes_fed judge - length begun → IsJudged (text ++ chunk) judge place now
-lines_sent text chunk tail lines begun now old judge sent place was reads k same size =
-    let seam = text_seam text chunk was.front tail lines begun was.is k in
-    let all : length (text ++ chunk) ≡ length (was.front ++ (tail ++ lines)) + length begun = ap (λ (l : List ℕ). length l) seam ∙ length-append (was.front ++ (tail ++ lines)) begun in
-    let fed = fed_length judge (text ++ chunk) reads in
+pub stands_back : (known : Option (List ℕ)) (place next : ℕ) (bytes lines more : List ℕ) → bytes ≡ lines ++ more → next ≡ place + length lines → IfSome known (λ whole. StandsAt whole place bytes) → IfSome known (λ whole. StandsAt whole next more)
+stands_back None place next bytes lines more e at s = tt
+stands_back (Some whole) place next bytes lines more e at s = record {
+  before = s.before ++ lines;
+  rest = s.rest;
+  is = s.is ∙ ap (λ xs. (s.before ++ xs) ++ s.rest) e ∙ ap (λ xs. xs ++ s.rest) (sym (append_assoc s.before lines more));
+  place_is = length-append s.before lines ∙ ap (λ n. n + length lines) s.place_is ∙ sym at;
+}
+
+-- a chunk comes after them
+pub stands_more : (known : Option (List ℕ)) (text chunk bytes : List ℕ) (place : ℕ) → BeginsSo known (text ++ chunk) → length text ≡ place + length bytes → IfSome known (λ whole. StandsAt whole place bytes) → IfSome known (λ whole. StandsAt whole place (bytes ++ chunk))
+stands_more None text chunk bytes place begins size s = tt
+stands_more (Some whole) text chunk bytes place begins size s =
+    let front = same_front (s.before ++ bytes) text s.rest (chunk ++ begins.0) (sym s.is ∙ begins.1 ∙ append_assoc text chunk begins.0) (length-append s.before bytes ∙ ap (λ n. n + length bytes) s.place_is ∙ sym size) in
     record {
-      reads = reads;
-      front = was.front ++ (tail ++ lines);
-      is = seam ∙ ap (λ xs. (was.front ++ (tail ++ lines)) ++ xs) (sym same);
-      sent_is = omega (arith, all, fed, size);
+      before = s.before;
+      rest = begins.0;
+      is = begins.1 ∙ ap (λ xs. (xs ++ chunk) ++ begins.0) (sym front) ∙ ap (λ xs. xs ++ begins.0) (append_assoc s.before bytes chunk);
+      place_is = s.place_is;
     }
 
--- a chunk was judged that ends no line
-pub tail_grows : (text chunk tail now : List ℕ) (old judge : Progress) (sent : ℕ) → IsJudged text old sent tail → StandsFor judge (text ++ chunk) → now ≡ tail ++ chunk → IsJudged (text ++ chunk) judge sent now
-tail_grows text chunk tail now old judge sent was reads same = record {
-  reads = reads;
-  front = was.front;
-  is = ap (λ xs. xs ++ chunk) was.is ∙ append_assoc was.front tail chunk ∙ ap (λ xs. was.front ++ xs) (sym same);
-  sent_is = was.sent_is;
+-- a text as long as another one that begins so
+pub begins_same : (known : Option (List ℕ)) (text other chunk : List ℕ) → BeginsSo known text → BeginsSo known other → length text ≡ length other → BeginsSo known (other ++ chunk) → BeginsSo known (text ++ chunk)
+begins_same None text other chunk t o size h = tt
+begins_same (Some whole) text other chunk t o size h = subst (λ xs. BeginsSo (Some whole) (xs ++ chunk)) (same_front other text o.0 t.0 (sym o.1 ∙ t.1) (sym size)) h
+
+-- the chunk itself stands at the end of what was given
+pub chunk_stands : (known : Option (List ℕ)) (text chunk : List ℕ) (place : ℕ) → BeginsSo known (text ++ chunk) → length text ≡ place → IfSome known (λ whole. StandsAt whole place chunk)
+chunk_stands None text chunk place begins size = tt
+chunk_stands (Some whole) text chunk place begins size = record { before = text; rest = begins.0; is = begins.1; place_is = size }
+
+-- ---- what is held of the text, where it is moved on
+
+pub more_sent : {A : Type 0} (known : Option (List ℕ)) (queue : QueueId) (pass : PassView) (sent more : ℕ) (c : TextCutter A) → IsFedSoFar known queue pass sent c → sent ≤ more → IsFedSoFar known queue pass more c
+more_sent known queue pass sent more c so le = record { taken = so.taken; begins = so.begins; cut = so.cut; within = omega (arith, le, so.within); queue_is = so.queue_is; no_ends = so.no_ends }
+
+-- all that was sent on was taken, and nothing stands after it
+none_stands : {A : Type 0} (known : Option (List ℕ)) (queue : QueueId) (pass : PassView) (sent : ℕ) (room : List ℕ) (c : TextCutter A) → IsFedSoFar known queue pass sent c → bytes_fed c.lines ≡ sent → room ≡ [] → IfSome known (λ whole. StandsAt whole sent room)
+none_stands None queue pass sent room c so all none = tt
+none_stands (Some whole) queue pass sent room c so all none = record {
+  before = so.taken;
+  rest = so.begins.0;
+  is = so.begins.1 ∙ ap (λ xs. xs ++ so.begins.0) (sym (append-nil so.taken) ∙ ap (λ xs. so.taken ++ xs) (sym none));
+  place_is = sym (taken_length so.taken c so.cut.taken) ∙ all;
 }
+
+pub held_none : {A T : Type 0} (r : Result T Fault) (known : Option (List ℕ)) (queue : QueueId) (pass : PassView) (sent : ℕ) (room : List ℕ) (c : TextCutter A) → room ≡ [] → OnOk r (IsFedSoFar known queue pass sent c) → OnOk r (bytes_fed c.lines ≡ sent) → OnOk r (IsHeld known queue pass sent room c)
+held_none (Err f) known queue pass sent room c none so all = tt
+held_none (Ok u) known queue pass sent room c none so all = record { cut = so; place = none_stands known queue pass sent room c so all none }
+
+pub size_none : {T : Type 0} (r : Result T Fault) (sent total : ℕ) (room : List ℕ) → room ≡ [] → OnOk r (sent ≡ total) → OnOk r (sent + length room ≡ total)
+size_none (Err f) sent total room none h = tt
+size_none (Ok u) sent total room none h = let empty : length room ≡ 0 = ap (λ (xs : List ℕ). length xs) none in omega (arith, empty, h)
+
+-- lines were sent on, and the room after them stays
+pub held_after : {A T : Type 0} (r : Result T Fault) (known : Option (List ℕ)) (queue next_queue : QueueId) (pass after : PassView) (sent next : ℕ) (lines room : List ℕ) (c d : TextCutter A) → IsHeld known queue pass sent (lines ++ room) c → OnOk r (IsFedSoFar known next_queue after next d) → OnOk r (next ≡ sent + length lines)
+    → OnOk r (IsHeld known next_queue after next room d)
+held_after (Err f) known queue next_queue pass after sent next lines room c d held so at = tt
+held_after (Ok u) known queue next_queue pass after sent next lines room c d held so at = record { cut = so; place = stands_back known sent next (lines ++ room) lines room refl at held.place }
+
+pub size_after : {T : Type 0} (r : Result T Fault) (next now sent : ℕ) (all lines room rest : List ℕ) → all ≡ lines ++ room → now ≡ sent → OnOk r ((next ≡ now + length lines) × (rest ≡ room)) → OnOk r (next + length rest ≡ sent + length all)
+size_after (Err f) next now sent all lines room rest e at h = tt
+size_after (Ok u) next now sent all lines room rest e at h =
+    let whole : length all ≡ length (lines ++ room) = ap (λ (xs : List ℕ). length xs) e in
+    let same : length rest ≡ length room = ap (λ (xs : List ℕ). length xs) h.1 in
+    omega (arith, h.0, at, whole, same, length-append lines room)
+
+-- the same is held where nothing was sent on
+pub held_same : {A : Type 0} (known : Option (List ℕ)) (queue same_queue : QueueId) (pass : PassView) (sent now : ℕ) (room rest : List ℕ) (c d : TextCutter A) → IsHeld known queue pass sent room c → now ≡ sent → d ≡ c → same_queue ≡ queue → room ≡ rest → IsHeld known same_queue pass now rest d
+held_same known queue same_queue pass sent now room rest c d h at text work is =
+    subst (λ q. IsHeld known q pass now rest d) (sym work) (subst (λ n. IsHeld known queue pass n rest d) (sym at) (subst (λ t. IsHeld known queue pass sent rest t) (sym text) (subst (λ xs. IsHeld known queue pass sent xs c) is h)))
+
+-- a chunk was put after what is held
+pub held_more : {A : Type 0} (known : Option (List ℕ)) (queue : QueueId) (pass : PassView) (sent : ℕ) (text chunk room : List ℕ) (c : TextCutter A) → BeginsSo known (text ++ chunk) → length text ≡ sent + length room → IsHeld known queue pass sent room c → IsHeld known queue pass sent (room ++ chunk) c
+held_more known queue pass sent text chunk room c begins size h = record { cut = h.cut; place = stands_more known text chunk room sent begins size h.place }
+
+-- all that was taken is sound
+pub taken_sound : {A : Type 0} (known : Option (List ℕ)) (queue : QueueId) (pass : PassView) (sent size : ℕ) (c : TextCutter A) → IsFedSoFar known queue pass sent c → bytes_fed c.lines ≡ size → IfSome known (λ whole. early (take size whole) ≡ None)
+taken_sound None queue pass sent size c so all = tt
+taken_sound (Some whole) queue pass sent size c so all =
+    subst (λ xs. early xs ≡ None) (sym (take-append_seam so.taken so.begins.0) ∙ ap (take (length so.taken)) (sym so.begins.1) ∙ ap (λ n. take n whole) (sym (taken_length so.taken c so.cut.taken) ∙ all)) so.cut.taken.reads.sound
+
+pub err_wider : {T : Type 0} (r : Result T Fault) (known : Option (List ℕ)) (few size : ℕ) → few ≤ size → IfErr r (IsFaultWithin known few) → IfErr r (IsFaultWithin known size)
+err_wider (Ok u) known few size le h = tt
+err_wider (Err f) known few size le h = fault_wider known few size f le h
+
+pub ok_is : {T : Type 0} (r : Result T Fault) (a b c : ℕ) → b ≡ c → OnOk r (a ≡ b) → OnOk r (a ≡ c)
+ok_is (Err f) a b c e h = tt
+ok_is (Ok u) a b c e h = h ∙ e

@@ -1,5 +1,5 @@
 -- What a refusal says of the bytes that were given, and the report of a text that was read.
-use Rattle.std.proofs.Common.{◌≡◌, ◌≢◌, ◌∙◌, sym, refl, subst, ℕ, List, [], ◌++◌, Some, None, Option, Result, Ok, Err, IfOk, IfErr, OnOk, take, append-nil, inl, inr, ◌⊎◌}
+use Rattle.std.proofs.Common.{◌≡◌, ◌≢◌, ◌∙◌, sym, refl, subst, ℕ, ◌+◌, ◌^◌, List, [], ◌++◌, Some, None, Option, Result, Ok, Err, IfOk, IfErr, OnOk, take, append-nil, inl, inr, ◌⊎◌}
 use Rattle.line_model.specs.basics.Device.{with_more}
 use Rattle.line_model.specs.text.Text.{early, fault, head, rows}
 use Rattle.line_model.specs.traces.Traces.{trace_report}
@@ -14,7 +14,7 @@ use Rattle.live_report.specs.Reports.{IsRefusal as IsReportRefusal, IsReportFaul
 use Rattle.trace_text.specs.ObserverAnswers.{IsReportOf}
 use Rattle.trace_text.specs.Sources.{HasFailed, IsFedAll, IsRefusedBy}
 use Rattle.trace_text.specs.StandsFor.{IsFaultOf, IsTextFault}
-use Rattle.trace_text.proofs.DecidedLemmas.{all_sound}
+use Rattle.trace_text.proofs.DecidedLemmas.{all_sound, none_sound}
 use Rattle.live_report.proofs.LawLemmas.{no_fault_so_far}
 use Rattle.trace_scan.specs.Readings.{IsRefusal}
 use Rattle.trace_scan.specs.Scan.{IsPartTaken, IsScanFault}
@@ -24,31 +24,31 @@ report_is text i made sound h is = record { sound = sound; interface = i; header
 
 -- ---- where the whole text was read
 
-at_end : (text : List ℕ) (f : Fault) → early text ≡ None → IsReportRefusal text f → IsRefusal text [] f
-at_end text Memory sound h = all_sound text sound
-at_end text (Trace line kind) sound h = (all_sound text sound, inr (refl, h))
-at_end text Write sound h = (refl, h)
-at_end text _ sound h = absurd h
+at_end : (lag : ℕ) (text : List ℕ) (f : Fault) → early text ≡ None → IsReportRefusal text f → IsRefusal lag text [] f
+at_end lag text Memory sound h = all_sound (lag + 2 ^ 16) text sound
+at_end lag text (Trace line kind) sound h = (all_sound (lag + 2 ^ 16) text sound, inr (refl, h))
+at_end lag text Write sound h = (refl, h)
+at_end lag text _ sound h = absurd h
 
 -- the last call of the source gave nothing
-refused_at_end : (text : List ℕ) (left asked : Option (List ℕ)) (f : Fault) → early text ≡ None → IsReportRefusal text f → left ≡ Some [] → asked ≡ Some [] → IsRefusedBy IsRefusal text left asked f
-refused_at_end text left asked f sound h e none =
+refused_at_end : (lag : ℕ) (text : List ℕ) (left asked : Option (List ℕ)) (f : Fault) → early text ≡ None → IsReportRefusal text f → left ≡ Some [] → asked ≡ Some [] → IsRefusedBy lag (IsRefusal lag) text left asked f
+refused_at_end lag text left asked f sound h e none =
     let whole = sym (append-nil text) in
-    record { given = text; rest = []; whole = whole; left = e; order = inr (record { before = text; last = []; whole = whole; left = none; sound = sound }); refusal = at_end text f sound h }
+    record { given = text; rest = []; whole = whole; left = e; order = inr (record { before = text; last = []; whole = whole; left = none; sound = all_sound lag text sound }); refusal = at_end lag text f sound h }
 
-pub end_refused : (r : Result Summary Fault) (before left asked : Option (List ℕ)) (was_fed : List ℕ → Type 0) (text : List ℕ) → (w : IsFedAll before left asked was_fed) → before ≡ Some text → IfErr r (IsReportRefusal w.text) → IfErr r (IsRefusedBy IsRefusal text left asked)
+pub end_refused : (r : Result Summary Fault) (before left asked : Option (List ℕ)) (was_fed : List ℕ → Type 0) (text : List ℕ) → (w : IsFedAll 0 before left asked was_fed) → before ≡ Some text → IfErr r (IsReportRefusal w.text) → IfErr r (IsRefusedBy 0 (IsRefusal 0) text left asked)
 end_refused (Ok sums) before left asked was_fed text w told h = tt
 end_refused (Err f) before left asked was_fed text w told h =
     let all = w.source text told in
-    refused_at_end text left asked f (subst (λ t. early t ≡ None) (sym all.0) w.sound) (subst (λ t. IsReportRefusal t f) (sym all.0) h) all.1 all.2
+    refused_at_end 0 text left asked f (subst (λ t. early t ≡ None) (sym all.0) (none_sound w.text w.sound)) (subst (λ t. IsReportRefusal t f) (sym all.0) h) all.1 all.2
 
 -- the sink's failure comes where the whole text was accepted
-pub write_refused : (text : List ℕ) (left asked : Option (List ℕ)) (f : Fault) → f ≡ Write → left ≡ Some [] → asked ≡ Some [] → fault text ≡ None → IsRefusedBy IsRefusal text left asked f
-write_refused text left asked f w e none h = refused_at_end text left asked f (no_fault_so_far text h) (subst (IsReportRefusal text) (sym w) h) e none
+pub write_refused : (lag : ℕ) (text : List ℕ) (left asked : Option (List ℕ)) (f : Fault) → f ≡ Write → left ≡ Some [] → asked ≡ Some [] → fault text ≡ None → IsRefusedBy lag (IsRefusal lag) text left asked f
+write_refused lag text left asked f w e none h = refused_at_end lag text left asked f (no_fault_so_far text h) (subst (IsReportRefusal text) (sym w) h) e none
 
 -- memory ran out after the whole text was accepted
-pub memory_refused : (text : List ℕ) (left asked : Option (List ℕ)) (f : Fault) → f ≡ Memory → left ≡ Some [] → asked ≡ Some [] → fault text ≡ None → IsRefusedBy IsRefusal text left asked f
-memory_refused text left asked f m e none h = refused_at_end text left asked f (no_fault_so_far text h) (subst (IsReportRefusal text) (sym m) tt) e none
+pub memory_refused : (lag : ℕ) (text : List ℕ) (left asked : Option (List ℕ)) (f : Fault) → f ≡ Memory → left ≡ Some [] → asked ≡ Some [] → fault text ≡ None → IsRefusedBy lag (IsRefusal lag) text left asked f
+memory_refused lag text left asked f m e none h = refused_at_end lag text left asked f (no_fault_so_far text h) (subst (IsReportRefusal text) (sym m) tt) e none
 
 pub end_of_text : (r : Result Summary Fault) (text : List ℕ) (before after : Option (List ℕ)) → IfOk r (IsReported text before after) → IfOk r (λ sums. (x : List ℕ) × IsReported x before after sums)
 end_of_text (Ok sums) text before after h = (text, h)

@@ -1,17 +1,17 @@
 -- Where reading and working stop, and what the workers' reports are.
-use Rattle.std.proofs.Common.{◌≡◌, ◌∙◌, sym, ap, subst, refl, ℕ, true, List, [], ◌∷◌, length, take, Option, Some, None, Result, Ok, Err, ◌⊎◌, inl, inr}
+use Rattle.std.proofs.Common.{◌≡◌, ◌∙◌, sym, ap, subst, refl, ℕ, ◌+◌, ◌^◌, true, List, [], ◌∷◌, length, take, Option, Some, None, Result, Ok, Err, ◌⊎◌, inl, inr}
 use Rattle.std.specs.Prelude.{IfErr, IfOk, IfSome, MatchResult, is_some, is_ok}
 use Rattle.std.specs.List.Sorted.{IsStrictlyIncreasing}
 use Rattle.line_model.specs.declared.fault.Fault.{Fault}
 use Rattle.line_model.specs.declared.fault.Fault.TheVariants.{Memory, Trace, Read as ReadFailed, Write, Start}
 use Rattle.trace_scan.specs.declared.feeding.Read.{Read}
-use Rattle.trace_scan.specs.Readings.{IsOutcome, IsReadingFault, IsRefusal}
+use Rattle.trace_scan.specs.Readings.{IsOutcome, IsReadingFault, IsRefusal, in_flight}
 use Rattle.live_report.specs.Reports.{IsTaken}
 use Rattle.trace_scan.specs.Scan.{IsPartTaken}
 use Rattle.trace_scan.specs.declared.threaded.ScanParts.{ScanParts}
 use Rattle.trace_scan.specs.Threaded.{AreScanParts, IsStopFault, IsStopped, IsWorkedFault}
 use Rattle.line_model.specs.declared.totals.Totals.{Totals}
-use Rattle.line_model.specs.basics.Records.{Item, Piece}
+use Rattle.line_model.specs.basics.Records.{Item, Piece, PieceReport}
 use Rattle.line_model.specs.packets.Says.{items_of}
 use Rattle.line_model.proofs.Saying.{all_said, said_numbers}
 use Rattle.line_model.specs.basics.Device.{with_more}
@@ -27,7 +27,7 @@ use Rattle.trace_text.proofs.RowsOfText.{text_rises}
 use Rattle.report_merge.specs.Merged.{IsOfWalk}
 use Rattle.report_merge.proofs.Posted.{permuted_posts}
 use Rattle.workers.specs.declared.gathering.Gathered.{Gathered}
-use Rattle.workers.specs.Gathers.{IsWhole}
+use Rattle.workers.specs.Gathers.{IsWhole, reports_of}
 use Rattle.trace_scan.specs.Readings.{IsReadOf}
 use Rattle.trace_scan.specs.Threaded.{trace_totals}
 use Rattle.trace_scan.proofs.ScanLemmas.{memory_refused}
@@ -76,13 +76,13 @@ worker_stopped None before after asked failed fed f k h m = absurd h
 worker_stopped (Some (Err e)) before after asked failed fed f k h m = absurd (cc)
 worker_stopped (Some (Ok read)) before after asked failed fed f k h m = record {
   kinds = memory_stops f m;
-  refused = λ text told. let all = h.told text told in memory_refused text after asked f m all.1 all.2 all.0.sound;
+  refused = λ text told. let all = h.told text told in memory_refused in_flight text after asked f m all.1 all.2 all.0.sound;
 }
 
 -- the task came back without its turn: no byte was given
-unfed_refusal : (rest : List ℕ) (f : Fault) → (f ≡ Memory) ⊎ (f ≡ Start) → IsRefusal [] rest f
-unfed_refusal rest f (inl m) = subst (IsRefusal [] rest) (sym m) (all_sound [] early-nothing)
-unfed_refusal rest f (inr s) = subst (IsRefusal [] rest) (sym s) refl
+unfed_refusal : (rest : List ℕ) (f : Fault) → (f ≡ Memory) ⊎ (f ≡ Start) → IsRefusal in_flight [] rest f
+unfed_refusal rest f (inl m) = subst (IsRefusal in_flight [] rest) (sym m) (all_sound (in_flight + 2 ^ 16) [] early-nothing)
+unfed_refusal rest f (inr s) = subst (IsRefusal in_flight [] rest) (sym s) refl
 
 unfed_stops : (f : Fault) → (f ≡ Memory) ⊎ (f ≡ Start) → IsStopFault f
 unfed_stops f (inl m) = subst IsStopFault (sym m) tt
@@ -110,7 +110,7 @@ stopped (Err f) o g before after asked failed fed made (inr w) h m =
 
 -- ---- what was read and posted
 
-pub parts_are : {A : Type 0} (r : Result (ScanParts A) Fault) (o : Option (Result (Read A) Fault)) (g : Result (Gathered A) Fault) (known : KnownPlan) (workers : ℕ) (before after asked : Option (List ℕ)) (failed : Type 0) (fed : List Piece)
+pub parts_are : {A : Type 0} (r : Result (ScanParts A) Fault) (o : Option (Result (Read A) Fault)) (g : Result (Gathered A (List PieceReport)) Fault) (known : KnownPlan) (workers : ℕ) (before after asked : Option (List ℕ)) (failed : Type 0) (fed : List Piece)
     → IfOk r (λ t. (o ≡ Some (Ok t.read)) × (g ≡ Ok t.gathered)) → IsOutcome before after asked failed fed o → MatchResult g (IsWhole known workers fed) (λ f. f ≡ Memory)
     → IfOk r (AreScanParts known workers before after asked)
 parts_are (Err f) o g known workers before after asked failed fed both h m = tt
@@ -119,26 +119,26 @@ parts_are (Ok t) o g known workers before after asked failed fed both h m =
     record { fed = fed; whole = subst (λ q. MatchResult q (IsWhole known workers fed) (λ f. f ≡ Memory)) both.1 m; told = λ text told. read.told text told; of_text = read.of_text }
 
 -- the pieces that were fed are those of the plan, so the reports are those of the walk over what the rows of the text say
-pub of_walk : {A : Type 0} (known : KnownPlan) (workers : ℕ) (text : List ℕ) (fed : List Piece) (read : Read A) (g : Gathered A)
-    → IsReadOf text fed read → IsWhole known workers fed g → IsOfWalk read.interface (items_of read.interface (rows text)) g.reports.items read.interface_findings.items read.packets read.pieces
+pub of_walk : {A : Type 0} (known : KnownPlan) (workers : ℕ) (text : List ℕ) (fed : List Piece) (read : Read A) (g : Gathered A (List PieceReport))
+    → IsReadOf text fed read → IsWhole known workers fed g → IsOfWalk read.interface (items_of read.interface (rows text)) (reports_of g) read.interface_findings.items read.packets read.pieces
 of_walk known workers text fed read g r w =
     let items : List Item = items_of read.interface (rows text) in
-    let of_fed : AreOf (Some (plan read.interface items)) g.reports.items = subst (λ ps. AreOf (Some ps) g.reports.items) r.cut.all w.of_fed in
+    let of_fed : AreOf (Some (plan read.interface items)) (reports_of g) = subst (λ ps. AreOf (Some ps) (reports_of g)) r.cut.all w.of_fed in
     let count : length fed ≡ length (plan read.interface items) = ap (λ (ps : List Piece). length ps) r.cut.all in
     record {
       said = all_said read.interface (rows text);
       rising = subst (λ ns. IsStrictlyIncreasing (0 ∷ ns)) (sym (said_numbers read.interface (rows text))) (text_rises text r.sound);
-      values = permuted_posts (plan read.interface items) g.reports.items of_fed (w.number ∙ count);
+      values = permuted_posts (plan read.interface items) (reports_of g) of_fed (w.number ∙ count);
       line_is = r.cut.interface_findings;
       packets_are = r.cut.packets;
       pieces_are = r.cut.pieces ∙ count;
     }
 
-pub totals_are : {A : Type 0} (known : KnownPlan) (workers : ℕ) (text : List ℕ) (fed : List Piece) (read : Read A) (g : Gathered A) → IsReadOf text fed read → IsWhole known workers fed g → g.totals ≡ trace_totals text
+pub totals_are : {A : Type 0} (known : KnownPlan) (workers : ℕ) (text : List ℕ) (fed : List Piece) (read : Read A) (g : Gathered A (List PieceReport)) → IsReadOf text fed read → IsWhole known workers fed g → g.totals ≡ trace_totals text
 totals_are known workers text fed read g r w =
     let items : List Item = items_of read.interface (rows text) in
-    let of_fed : AreOf (Some (plan read.interface items)) g.reports.items = subst (λ ps. AreOf (Some ps) g.reports.items) r.cut.all w.of_fed in
+    let of_fed : AreOf (Some (plan read.interface items)) (reports_of g) = subst (λ ps. AreOf (Some ps) (reports_of g)) r.cut.all w.of_fed in
     w.sums
-    ∙ whole (plan read.interface items) g.reports.items of_fed (w.number ∙ ap (λ (ps : List Piece). length ps) r.cut.all)
+    ∙ whole (plan read.interface items) (reports_of g) of_fed (w.number ∙ ap (λ (ps : List Piece). length ps) r.cut.all)
     ∙ totals_law read.interface items (all_said read.interface (rows text))
     ∙ sym (ap (λ o. elim o as (λ _. Totals) [ None ↦ record { posts = 0; findings = 0; octets = 0; segments = 0 } | Some i ↦ channel_totals i (items_of i (rows text)) ]) r.header)

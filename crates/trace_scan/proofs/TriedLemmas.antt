@@ -109,7 +109,7 @@ lines_of_trials m text ts tried t all sorted = record {
 }
 
 -- a refusal of the whole text
-pub whole_refused : {T : Type 0} (r : Result T Fault) (before left asked : Option (List ℕ)) (was_fed : List ℕ → Type 0) (text : List ℕ) → (w : IsFedAll before left asked was_fed) → before ≡ Some text → IfErr r (IsReportRefusal w.text) → IfErr r (IsRefusedBy IsRefusal text left asked)
+pub whole_refused : {T : Type 0} (r : Result T Fault) (before left asked : Option (List ℕ)) (was_fed : List ℕ → Type 0) (text : List ℕ) → (w : IsFedAll 0 before left asked was_fed) → before ≡ Some text → IfErr r (IsReportRefusal w.text) → IfErr r (IsRefusedBy 0 (IsRefusal 0) text left asked)
 whole_refused (Ok x) before left asked was_fed text w told h = tt
 whole_refused (Err f) before left asked was_fed text w told h = end_refused (Err f) before left asked was_fed text w told h
 

@@ -1,5 +1,5 @@
 -- What a scan that follows a trace answers, and what its sink took.
-use Rattle.std.specs.Prelude.{◌≡◌, ◌⊎◌, ℕ, ◌<◌, ◌≤◌, List, [], ◌++◌, Option, Some, None}
+use Rattle.std.specs.Prelude.{◌≡◌, ◌⊎◌, ℕ, ◌<◌, ◌≤◌, ◌^◌, List, [], ◌++◌, Option, Some, None}
 use Rattle.line_model.specs.text.Text.{early, fault}
 use Rattle.trace_text.specs.Decided.{NoneDecidedButLast}
 use Rattle.line_model.specs.traces.Traces.{trace_report}
@@ -14,8 +14,8 @@ use Rattle.live_report.specs.Reports.{IsReportFault}
 -- what a refusal says of the bytes that were given: the first faulty line is told as soon as they show it, else at the end of the text, and
 -- all but at most the last 65,536 show none; where memory ran out so too; a device failed while they showed none
 abbrev pub IsFollowRefusal : (given rest : List ℕ) → Fault → Type 0
-IsFollowRefusal given rest Memory = NoneDecidedButLast given
-IsFollowRefusal given rest (Trace line kind) = NoneDecidedButLast given × ((early given ≡ Some (line, kind)) ⊎ ((rest ≡ []) × (fault given ≡ Some (line, kind))))
+IsFollowRefusal given rest Memory = NoneDecidedButLast (2 ^ 16) given
+IsFollowRefusal given rest (Trace line kind) = NoneDecidedButLast (2 ^ 16) given × ((early given ≡ Some (line, kind)) ⊎ ((rest ≡ []) × (fault given ≡ Some (line, kind))))
 IsFollowRefusal given rest Read = early given ≡ None
 IsFollowRefusal given rest Write = early given ≡ None
 IsFollowRefusal given rest _ = ⊥

@@ -5,6 +5,7 @@ pub mod Scan
 pub mod Follow
 pub mod Threaded
 pub mod Headers
+pub mod Lags
 pub mod Tried
 pub mod Trials
 pub mod TriedLines

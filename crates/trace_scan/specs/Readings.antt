@@ -1,5 +1,5 @@
 -- What was read of a source.
-use Rattle.std.specs.Prelude.{◌≡◌, ℕ, ◌⊎◌, List, [], ◌++◌, length, Option, Some, None, Result, Err, IfOk, IfErr, MatchOption}
+use Rattle.std.specs.Prelude.{◌≡◌, ℕ, ◌+◌, ◌*◌, ◌≤◌, ◌^◌, ◌⊎◌, List, [], length, take, Option, Some, None, Result, Err, IfOk, IfErr, IfSome, MatchOption}
 use Rattle.line_model.specs.basics.Records.{Item, Piece}
 use Rattle.line_model.specs.declared.interface.Interface.{Interface}
 use Rattle.line_model.specs.text.Text.{early, fault, head, rows}
@@ -9,13 +9,14 @@ use Rattle.line_model.specs.traces.Traces.{trace_plan}
 use Rattle.trace_text.specs.Decided.{NoneDecidedButLast}
 use Rattle.std.specs.Option.{option_map}
 use Rattle.line_model.specs.work.Book.{KnownPlan}
-use Rattle.trace_text.specs.Progress.{Progress}
+use Rattle.trace_text.specs.Progress.{bytes_fed}
 use Rattle.trace_text.specs.Sources.{BeginsSo, IsRefusedBy}
-use Rattle.trace_text.specs.StandsFor.{StandsFor, IsFaultOf, IsTextFault}
+use Rattle.trace_text.specs.StandsFor.{IsFaultOf, IsTextFault}
 use Rattle.line_model.specs.declared.fault.Fault.{Fault}
 use Rattle.line_model.specs.declared.fault.Fault.TheVariants.{Memory, Trace, Read as ReadFailed, Write, Start}
 use Rattle.shared_work.specs.queue.Passes.{PassView, QueueId}
 use Rattle.workers.specs.Workers.{HasFed}
+use Rattle.trace_scan.specs.TextBlocks.{StandsAt}
 use Rattle.trace_scan.specs.TextCuts.{IsFedTo}
 use Rattle.trace_scan.specs.declared.text_cutter.TextCutter.{TextCutter}
 use Rattle.trace_scan.specs.declared.feeding.Read.{Read}
@@ -34,16 +35,20 @@ pub record IsReadOf {A : Type 0} (text : List ℕ) (fed : List Piece) (r : Read 
   pub header : head text ≡ Some r.interface
   pub cut : IsCutOf r.interface (items_of r.interface (rows text)) fed r
 
+-- the bytes of the blocks in flight: 16 blocks, each of at most 262,144 bytes
+abbrev pub in_flight : ℕ
+in_flight = 16 * 2 ^ 18
+
 -- what a refusal says of the bytes that were given: the first faulty line is told as soon as they show it, else at the end of the text, and
--- all but at most the last 65,536 show none; where memory ran out so too; the source failed while they showed none; the sink failed on the
--- report of a text without a fault; where no thread was made, none was given
-abbrev pub IsRefusal : (given rest : List ℕ) → Fault → Type 0
-IsRefusal given rest Memory = NoneDecidedButLast given
-IsRefusal given rest (Trace line kind) = NoneDecidedButLast given × ((early given ≡ Some (line, kind)) ⊎ ((rest ≡ []) × (fault given ≡ Some (line, kind))))
-IsRefusal given rest ReadFailed = early given ≡ None
-IsRefusal given rest Write = (rest ≡ []) × (fault given ≡ None)
-IsRefusal given rest Start = given ≡ []
-IsRefusal given rest _ = ⊥
+-- all but at most the last 65,536 show none, and the last `lag` before them; where memory ran out so too; the source failed while they showed
+-- none; the sink failed on the report of a text without a fault; where no thread was made, none was given
+abbrev pub IsRefusal : (lag : ℕ) → (given rest : List ℕ) → Fault → Type 0
+IsRefusal lag given rest Memory = NoneDecidedButLast (lag + 2 ^ 16) given
+IsRefusal lag given rest (Trace line kind) = NoneDecidedButLast (lag + 2 ^ 16) given × ((early given ≡ Some (line, kind)) ⊎ ((rest ≡ []) × (fault given ≡ Some (line, kind))))
+IsRefusal lag given rest ReadFailed = early given ≡ None
+IsRefusal lag given rest Write = (rest ≡ []) × (fault given ≡ None)
+IsRefusal lag given rest Start = given ≡ []
+IsRefusal lag given rest _ = ⊥
 
 -- the faults that reading a text may meet
 abbrev pub IsReadingFault : Fault → Type 0
@@ -57,51 +62,65 @@ pub record HasFedOn (before after : PassView) : Type 0 where
   pub kept : HasFed before.record_of after.record_of
   pub same : after.queue ≡ before.queue
 
--- a first part of the text that a source tells was cut, and the pieces that are known whole were fed to this queue
-pub record IsFedSoFar {A : Type 0} (known : Option (List ℕ)) (queue : QueueId) (pass : PassView) (c : TextCutter A) : Type 0 where
+-- a first part of the text that a source tells was cut, no more than was sent on, and the pieces that are known whole were fed to this queue
+pub record IsFedSoFar {A : Type 0} (known : Option (List ℕ)) (queue : QueueId) (pass : PassView) (sent : ℕ) (c : TextCutter A) : Type 0 where
   pub taken : List ℕ
   pub begins : BeginsSo known taken
   pub cut : IsFedTo taken pass c
+  pub within : bytes_fed c.lines ≤ sent
   pub queue_is : pass.queue ≡ queue
   pub no_ends : pass.record_of.ends ≡ 0
 
--- a text was judged, of which so many bytes were sent on, and these are left
-pub record IsJudged (text : List ℕ) (judge : Progress) (sent : ℕ) (tail : List ℕ) : Type 0 where
-  pub reads : StandsFor judge text
-  pub front : List ℕ
-  pub is : text ≡ front ++ tail
-  pub sent_is : length front ≡ sent
+-- so many bytes of the text that a source tells were sent on, a first part of them was cut, and these bytes stand after them
+pub record IsHeld {A : Type 0} (known : Option (List ℕ)) (queue : QueueId) (pass : PassView) (sent : ℕ) (room : List ℕ) (c : TextCutter A) : Type 0 where
+  pub cut : IsFedSoFar known queue pass sent c
+  pub place : IfSome known (λ whole. StandsAt whole sent room)
 
--- nothing was judged
-pub record HasJudgedNone (judge : Progress) (sent : ℕ) (tail : List ℕ) : Type 0 where
-  pub reads : StandsFor judge []
+-- nothing was sent on
+pub record HasSentNone (sent : ℕ) (room : List ℕ) : Type 0 where
   pub sent_is : sent ≡ 0
-  pub tail_is : tail ≡ []
+  pub room_is : room ≡ []
 
--- a text was judged since the pass of the queue was `start`, and a first part of the text that the source tells was cut
-pub record IsFedTextOf {A : Type 0} (known : Option (List ℕ)) (queue : QueueId) (start pass : PassView) (text : List ℕ) (judge : Progress) (sent : ℕ) (tail : List ℕ) (c : TextCutter A) : Type 0 where
+-- how many of the last bytes that were given may not have been cut: the blocks in flight, and any of a source that hides its bytes
+abbrev pub lag_of : Option (List ℕ) → ℕ
+lag_of None = 2 ^ 30
+lag_of (Some whole) = in_flight
+
+-- a text was given since the pass of the queue was `start`: so many of its bytes were sent on, and these stand after them; all but the blocks
+-- in flight was cut
+pub record IsFedTextOf {A : Type 0} (known : Option (List ℕ)) (queue : QueueId) (start pass : PassView) (text : List ℕ) (sent : ℕ) (room : List ℕ) (c : TextCutter A) : Type 0 where
   pub fed : HasFedOn start pass
-  pub judged : IsJudged text judge sent tail
-  pub cut : IsFedSoFar known queue pass c
+  pub begins : BeginsSo known text
+  pub size : length text ≡ sent + length room
+  pub few : length text ≤ 2 ^ 30
+  pub held : IsHeld known queue pass sent room c
+  pub near : length text ≤ bytes_fed c.lines + in_flight
 
 -- the text that a source tells begins so, and the plan is that of it
 pub record IsPlanBegunSo (plan : KnownPlan) (known : Option (List ℕ)) (text : List ℕ) : Type 0 where
   pub planned : plan ≡ option_map trace_plan known
   pub begins : BeginsSo known text
 
--- after this text was fed, the next bytes of it were refused
-pub record IsRefusedText (start pass : PassView) (text last : List ℕ) (told : Fault) : Type 0 where
-  pub kept : HasFed start.record_of pass.record_of
-  pub same : pass.queue ≡ start.queue
-  pub refusal : IsFaultOf (early (text ++ last)) told
+-- the fault is that of the first so many bytes of the text that a source tells, or want of memory
+pub record IsFaultWithin (known : Option (List ℕ)) (size : ℕ) (told : Fault) : Type 0 where
   pub kinds : IsTextFault told
+  pub fault : IfSome known (λ whole. IsFaultOf (early (take size whole)) told)
+
+-- the source failed after so many bytes, and no line of them is faulty; or the fault is theirs
+abbrev pub IsReadEnd : (known : Option (List ℕ)) → (size : ℕ) → Fault → Type 0
+IsReadEnd known size told = ((told ≡ ReadFailed) × IfSome known (λ whole. early (take size whole) ≡ None)) ⊎ IsFaultWithin known size told
+
+-- after some text was fed, the next bytes of it were refused
+pub record IsRefusedText (known : Option (List ℕ)) (start pass : PassView) (size : ℕ) (told : Fault) : Type 0 where
+  pub fed : HasFedOn start pass
+  pub refusal : IsFaultWithin known size told
 
 -- these pieces were fed, by which all of a text was read, or it was refused; `asked` is what the source had before its last call
 pub record HasRead {A : Type 0} (before after asked : Option (List ℕ)) (failed : Type 0) (fed : List Piece) (r : Result (Read A) Fault) : Type 0 where
   pub told : (text : List ℕ) → before ≡ Some text → IfOk r (λ read. IsReadOf text fed read × (after ≡ Some []) × (asked ≡ Some []))
   pub of_text : IfOk r (λ read. (text : List ℕ) × IsReadOf text fed read)
   pub kinds : IfErr r IsReadingFault
-  pub refused : (text : List ℕ) → before ≡ Some text → IfErr r (IsRefusedBy IsRefusal text after asked)
+  pub refused : (text : List ℕ) → before ≡ Some text → IfErr r (IsRefusedBy in_flight (IsRefusal in_flight) text after asked)
   pub read_failed : r ≡ Err ReadFailed → failed
 
 -- the source was read

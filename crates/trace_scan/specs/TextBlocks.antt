@@ -1,5 +1,5 @@
 -- Blocks of a text that are read apart.
-use Rattle.std.specs.Prelude.{◌≡◌, ℕ, List, ◌++◌, length, not, Option, IfSome}
+use Rattle.std.specs.Prelude.{◌≡◌, ℕ, ◌≤◌, List, ◌++◌, length, not, Option, IfSome}
 use Rattle.line_model.specs.basics.Records.{Row}
 use Rattle.line_model.specs.channels.RestartMachine.{LineState}
 use Rattle.line_model.specs.packets.Says.{items_of}
@@ -27,9 +27,10 @@ pub record StandsAt (whole : List ℕ) (place : ℕ) (bytes : List ℕ) : Type 0
   pub is : whole ≡ (before ++ bytes) ++ rest
   pub place_is : length before ≡ place
 
--- a block stands at this place of the text that a source tells, if it tells one
-pub record IsBlockAt (known : Option (List ℕ)) (place : ℕ) (block : BlockView) : Type 0 where
+-- a block of at most so many bytes stands at this place of the text that a source tells, if it tells one
+pub record IsBlockAt (known : Option (List ℕ)) (place most : ℕ) (block : BlockView) : Type 0 where
   pub place_is : block.place ≡ place
+  pub few : length block.bytes ≤ most
   pub stands : IfSome known (λ whole. StandsAt whole place block.bytes)
 
 -- the rows of a block that is read after a header, and split as a restart machine takes them

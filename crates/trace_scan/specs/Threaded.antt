@@ -10,7 +10,7 @@ use Rattle.line_model.specs.text.Text.{head, rows}
 use Rattle.line_model.specs.declared.totals.Totals.{Totals}
 use Rattle.workers.specs.Gathers.{IsWhole}
 use Rattle.trace_text.specs.Sources.{IsRefusedBy}
-use Rattle.trace_scan.specs.Readings.{IsReadOf, IsRefusal}
+use Rattle.trace_scan.specs.Readings.{IsReadOf, IsRefusal, in_flight}
 use Rattle.trace_scan.specs.declared.threaded.ScanParts.{ScanParts}
 
 -- the totals over the channels of a text, those of nothing where it has no header
@@ -35,7 +35,7 @@ IsStopFault _ = ⊥
 -- a refusal, by the bytes that were given
 pub record IsStopped (before after asked : Option (List ℕ)) (f : Fault) : Type 0 where
   pub kinds : IsStopFault f
-  pub refused : (text : List ℕ) → before ≡ Some text → IsRefusedBy IsRefusal text after asked f
+  pub refused : (text : List ℕ) → before ≡ Some text → IsRefusedBy in_flight (IsRefusal in_flight) text after asked f
 
 -- the faults that a scan with workers may meet
 abbrev pub IsWorkedFault : Fault → Type 0

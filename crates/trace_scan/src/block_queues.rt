@@ -10,27 +10,41 @@ use std::alloc::{Allocator, Global};
 use std::sync::Wait;
 use std::thread;
 
-/// No more blocks are out of the hands of the reading thread.
+/// The most blocks that are out.
 pub const MOST_BLOCKS: usize = 16;
+
+/// The bytes of a block: 256 KiB.
+pub const BLOCK_BYTES: usize = 1 << 18;
+
+/// The most bytes that were given and not taken: those of the blocks that are out, and of the next one.
+pub const IN_FLIGHT: usize = MOST_BLOCKS * BLOCK_BYTES;
+
+/// How a text is cut into blocks.
+#[derive(Clone, Copy)]
+pub struct BlockSizes {
+    /// A read with fewer bytes is taken at once, with all before it.
+    pub least_read: usize,
+    /// A block has no more bytes, unless a single read has.
+    pub most: usize,
+}
 
 /// Blocks that wait to be read, and blocks that were read, in any order.
 #[derive(Drop)]
 pub struct BlockQueues<P: TraceText, A: Allocator = Global> {
-    /// A part of the text with fewer bytes is no block.
-    pub least: usize,
+    pub sizes: BlockSizes,
     unread: ArrayQueue<Block<P, A>, A>,
     read: ArrayQueue<ReadBlock<P, A>, A>,
 }
 
 impl<P: TraceText, A: Allocator + Copy> BlockQueues<P, A> {
-    /// Both queues are empty. A part of the text with fewer bytes than `least` is no block.
-    pub fn new(alloc: A, least: usize) -> Result<Self, Fault>
+    /// Both queues are empty.
+    pub fn new(alloc: A, sizes: BlockSizes) -> Result<Self, Fault>
         ensures refused { IfErr result (λ fault. fault ≡ Memory) }
     {
         let unread = ArrayQueue::new(alloc, MOST_BLOCKS)?;
         let read = ArrayQueue::new(alloc, MOST_BLOCKS)?;
         Ok(BlockQueues {
-            least,
+            sizes,
             unread,
             read,
         })

@@ -12,6 +12,7 @@ use line_model::interface::Interface;
 use line_model::row::ReadRow;
 use line_model::state::Side;
 use restart_epochs::restart::Restart;
+use restart_epochs::rows_by_channel::RowsByChannel;
 use restart_epochs::splitter::Splitter;
 use restart_epochs::stretch::Stretch;
 use std::alloc::{AllocError, Allocator, Global};
@@ -106,7 +107,7 @@ impl<A: Allocator + Copy> RowsSoFar<A> {
             interface: start.interface,
             is_empty: true,
             first: 0,
-            splitter: Splitter::new(alloc, start.machine),
+            splitter: Splitter::new(alloc, start.machine, RowsByChannel::new(alloc)),
         }
     }
 
@@ -164,7 +165,7 @@ fn rows_of<A: Allocator + Copy>(alloc: A, start: &Start, bytes: &[u8]) -> Option
     };
     rows.add_lines(bytes, &mut lines, &mut row).ok()?;
     let span = lines.end_block(rows.first)?;
-    let stretches = rows.splitter.end().ok()?;
+    let (stretches, _) = rows.splitter.end().ok()?;
     Some(BlockRows { span, stretches })
 }
 

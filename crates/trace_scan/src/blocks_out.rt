@@ -1,14 +1,23 @@
 //! The blocks that are out of the hands of the reading thread.
 
 ghost use Rattle.std.specs.Prelude.{◌≡◌, [], IfErr, IfOk, IfSome};
+ghost use Rattle.std.specs.Bool.{OnTrue};
 ghost use Rattle.trace_scan.specs.TextBlocks.{IsBlockAt};
 
-use crate::block_queues::{BlockQueues, MOST_BLOCKS};
+use crate::block_queues::{BlockQueues, BlockSizes, MOST_BLOCKS};
 use crate::blocks::{Block, ReadBlock, TraceText};
 use std::alloc::{AllocError, Allocator, Global};
 use std::sync::Wait;
 use std::time::Clock;
 use workers::Backoff;
+
+/// Whether a block stands at this place of the text, and has at most so many bytes. Of its place alone the contract does
+/// not know that it ends before what was not handed out.
+fn is_at<P: TraceText, A: Allocator>(read: &ReadBlock<P, A>, place: u32, most: usize) -> bool
+    ensures { OnTrue result (IsBlockAt P.text place most read.now) }
+{
+    read.block.place == place && read.block.bytes.len() <= most
+}
 
 /// The blocks that were handed out and not taken yet, as the reading thread knows of them.
 #[derive(Drop)]
@@ -51,16 +60,21 @@ impl<'a, P: TraceText, A: Allocator + Copy> BlocksOut<'a, P, A> {
         drop(self.rooms.push(bytes));
     }
 
-    /// A part of the text with fewer bytes is no block.
-    pub fn least(&self) -> usize {
-        self.queues.least
+    /// How the text is cut into blocks.
+    pub fn sizes(&self) -> BlockSizes {
+        self.queues.sizes
     }
 
-    /// Hands a block out. It comes back where too many are out.
+    /// Whether no more blocks may be out.
+    pub fn is_full(&self) -> bool {
+        self.count >= MOST_BLOCKS
+    }
+
+    /// Hands a block out. It comes back where too many are out, or where memory for taking blocks back is refused.
     pub fn hand_out<R: Wait>(&mut self, rt: &R, block: Block<P, A>) -> Result<(), Block<P, A>>
         ensures back { IfErr result (λ back. back ≡ block) }
     {
-        if self.count >= MOST_BLOCKS {
+        if self.is_full() || self.early.reserve(MOST_BLOCKS).is_err() {
             return Err(block);
         }
         self.queues.hand_out(rt, block)?;
@@ -68,30 +82,35 @@ impl<'a, P: TraceText, A: Allocator + Copy> BlocksOut<'a, P, A> {
         Ok(())
     }
 
-    /// The block of this place, if it came back before its turn.
-    fn take_early(&mut self, place: u32) -> Option<ReadBlock<P, A>>
-        ensures place { IfSome result (IsBlockAt P.text place) }
+    /// The block of this place, of at most so many bytes, if it came back before its turn.
+    fn take_early(&mut self, place: u32, most: usize) -> Option<ReadBlock<P, A>>
+        ensures place { IfSome result (IsBlockAt P.text place most) }
     {
         for index in 0..self.early.len() {
-            if self.early[index].block.place == place {
+            if is_at(&self.early[index], place, most) {
                 return Some(self.early.swap_remove(index));
             }
         }
         None
     }
 
-    /// The block of this place, if it came back.
-    fn find<R: Wait>(&mut self, rt: &R, place: u32) -> Result<Option<ReadBlock<P, A>>, AllocError>
-        ensures place { IfOk result (λ found. IfSome found (IsBlockAt P.text place)) }
+    /// The block of this place, of at most so many bytes, if it came back.
+    fn find<R: Wait>(
+        &mut self,
+        rt: &R,
+        place: u32,
+        most: usize,
+    ) -> Result<Option<ReadBlock<P, A>>, AllocError>
+        ensures place { IfOk result (λ found. IfSome found (IsBlockAt P.text place most)) }
     {
-        if let Some(block) = self.take_early(place) {
+        if let Some(block) = self.take_early(place, most) {
             return Ok(Some(block));
         }
         for _ in 0..MOST_BLOCKS {
             let Some(block) = self.queues.take_read(rt) else {
                 return Ok(None);
             };
-            if block.block.place == place {
+            if is_at(&block, place, most) {
                 return Ok(Some(block));
             }
             self.early.push(block)?;
@@ -99,32 +118,34 @@ impl<'a, P: TraceText, A: Allocator + Copy> BlocksOut<'a, P, A> {
         Ok(None)
     }
 
-    /// Takes the block of this place back, if it was read.
+    /// Takes the block of this place back, of at most so many bytes, if it was read.
     pub fn take_ready<R: Wait>(
         &mut self,
         rt: &R,
         place: u32,
+        most: usize,
     ) -> Result<Option<ReadBlock<P, A>>, AllocError>
-        ensures place { IfOk result (λ found. IfSome found (IsBlockAt P.text place)) }
+        ensures place { IfOk result (λ found. IfSome found (IsBlockAt P.text place most)) }
     {
-        let found = self.find(rt, place)?;
+        let found = self.find(rt, place, most)?;
         if found.is_some() {
             self.count = self.count.saturating_sub(1);
         }
         Ok(found)
     }
 
-    /// Takes the block of this place back. While it is not there, this thread reads those that wait.
+    /// Takes the block of this place back, of at most so many bytes. While it is not there, this thread reads those that wait.
     pub fn take<R: Wait + Clock>(
         &mut self,
         rt: &R,
         place: u32,
+        most: usize,
     ) -> Result<ReadBlock<P, A>, AllocError>
-        ensures place { IfOk result (IsBlockAt P.text place) }
+        ensures place { IfOk result (IsBlockAt P.text place most) }
     {
         let mut backoff = Backoff::new();
         for _ in rt.forever() {
-            if let Some(block) = self.take_ready(rt, place)? {
+            if let Some(block) = self.take_ready(rt, place, most)? {
                 return Ok(block);
             }
             match self.queues.take_unread(rt) {

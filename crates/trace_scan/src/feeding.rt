@@ -1,23 +1,25 @@
 //! A source that is read to its end while the pieces of its trace are fed.
 
-ghost use Rattle.std.specs.Prelude.{◌≡◌, ℕ, ◌+◌, ◌<◌, ◌≤◌, ◌^◌, ◌++◌, [], List, IfErr, IfOk, IfSome, OnOk, length};
+ghost use Rattle.std.specs.Prelude.{◌≡◌, ◌≢◌, ℕ, ◌+◌, ◌<◌, ◌≤◌, ◌^◌, ◌++◌, [], List, IfErr, IfOk, IfSome, MatchOption, OnOk, false, true, length};
 ghost use Rattle.std.specs.Option.{option_map};
+ghost use Rattle.std.proofs.Common.{sym};
 ghost use Rattle.line_model.specs.text.Text.{fault};
 ghost use Rattle.line_model.specs.declared.fault.Fault.TheVariants.{Memory};
 ghost use Rattle.line_model.specs.pieces.Plans.{plan};
 ghost use Rattle.line_model.specs.basics.Records as records;
 ghost use Rattle.line_model.specs.traces.Traces.{trace_plan};
 ghost use Rattle.restart_epochs.specs.Cutting.{given_of};
-ghost use Rattle.trace_text.specs.FedBytes.{fed_length};
 ghost use Rattle.trace_text.specs.Progress.{bytes_fed};
 ghost use Rattle.trace_text.specs.StandsFor.{IsFaultOf, IsTextFault};
+ghost use Rattle.shared_work.specs.queue.Passes.{PassView};
 ghost use Rattle.workers.specs.Workers.{HasFed};
+ghost use Rattle.trace_scan.specs.Lags.{cut_sound};
 ghost use Rattle.trace_scan.specs.TextBlocks.{StandsAt};
 ghost use Rattle.trace_scan.specs.TextCuts.{HasCut, HasTaken, IsFedTo};
-ghost use Rattle.trace_scan.specs.Readings.{HasFedOn, HasJudgedNone, HasRead, IsCutOf, IsFedSoFar, IsFedTextOf, IsOutcome, IsPlanBegunSo, IsReadOf, IsRefusedText};
+ghost use Rattle.trace_scan.specs.Readings.{HasFedOn, HasRead, HasSentNone, IsCutOf, IsFaultWithin, IsFedTextOf, IsHeld, IsOutcome, IsPlanBegunSo, IsReadEnd, IsReadOf, IsRefusedText, in_flight, lag_of};
 
-use crate::block_queues::BlockQueues;
-use crate::blocks::{Block, TraceText};
+use crate::block_queues::{BlockQueues, IN_FLIGHT};
+use crate::blocks::TraceText;
 use crate::blocks_out::BlocksOut;
 use crate::taken_text::TakenText;
 use crate::text_cutter::{RowCutter, TextCutter};
@@ -30,11 +32,11 @@ use memchr::memrchr;
 use restart_epochs::cutter::Cut;
 use shared_work::queue::{FeederPass, Work};
 use std::alloc::{Allocator, Global};
-use std::marker::PhantomData;
+use std::mem::replace;
 use std::sync::Wait;
 use std::time::Clock;
 use trace_text::consumer::{Consumer, read_to_end};
-use trace_text::lines::Lines;
+use trace_text::lines::{LINE_LIMIT, TEXT_LIMIT};
 use workers::{Feed, feed_pieces};
 
 /// What was read: the header of the trace, the findings of the restart machine, and how many rows and pieces there are.
@@ -109,126 +111,310 @@ fn finish<P: Plan, A: Allocator + Copy, R: Wait + Clock>(
     feed_open_epoch(rt, row_cutter, work, pass)
 }
 
-/// What stands up to the last LF, and what stands after it.
-fn split_at_last_line(chunk: &[u8]) -> Option<(&[u8], &[u8])>
-    ensures { IfSome result (λ parts. chunk.now ≡ parts.0.now ++ parts.1.now) }
+/// How many bytes whole lines have: all up to the last LF.
+fn whole_lines(bytes: &[u8]) -> usize
+    ensures { result ≤ length bytes.now }
 {
-    let at = memrchr(b'\n', chunk)?;
-    Some(chunk.split_at(at + 1))
+    match memrchr(b'\n', bytes) {
+        Some(at) => at + 1,
+        None => 0,
+    }
 }
 
-/// A text that is judged as it comes, and of which parts are handed out as blocks.
+/// A text that is read into the room of its next block. No line is validated before its block is taken.
 ///
 /// ```text
-///  judged:  1 T 10..\n2 N 10..\n3 T 10..\n4 N 10..\n5 T 1|
-///           `-- taken --'`- out as blocks -'`-- tail --'
-///           `------------- sent ------------'
+///  1 T 10..\n2 N 10..\n3 T 10..\n4 N 10..\n5 T 10..\n6 N 1|
+///  `-- taken --'`- out as blocks -'`------- room --------'
+///  `------------- sent ----------'
 /// ```
 #[derive(Drop)]
 struct FedText<'a, P: Plan + TraceText, A: Allocator, R> {
-    judge: Lines<A>,
     taken: TakenText<'a, P, A, R>,
-    /// How many bytes were taken or handed out: those of whole lines.
-    sent: u32,
-    /// What stands after the last LF.
-    tail: Vec<u8, A>,
+    /// What stands after the bytes that were sent on.
+    room: Vec<u8, A>,
 }
 
 impl<'a, P: Plan + TraceText, A: Allocator + Copy, R: Wait + Clock> FedText<'a, P, A, R> {
-    /// Takes the line that had not ended, with these bytes after it, or hands it out as a block.
-    fn take_lines(&mut self, bytes: &[u8], pass: &mut FeederPass<A>) -> Result<(), Fault>
-        requires plan { P.pieces ≡ option_map trace_plan P.text }
-        requires ready { IsFedSoFar P.text self.old.taken.work.now.queue pass.old self.old.taken.text }
-        requires place { IfSome P.text (λ whole. StandsAt whole self.old.sent
-            (self.old.tail.items ++ bytes.now)) }
-        ensures fed { HasFedOn pass.old pass.new }
-        ensures taken { OnOk result (IsFedSoFar P.text self.old.taken.work.now.queue pass.new
-            self.new.taken.text) }
-        ensures same { (self.new.judge ≡ self.old.judge) × (self.new.sent ≡ self.old.sent)
-            × (self.new.tail ≡ self.old.tail) × (self.new.taken.work.now ≡ self.old.taken.work.now) }
-        ensures memory { IfErr result (λ fault. fault ≡ Memory) }
+    /// Whether the text has more bytes with these than a text may have.
+    fn passes_limit(&self, chunk: &[u8]) -> bool
+        requires few { self.now.taken.sent + length self.now.room.items ≤ 2 ^ 30 }
+        ensures { result ≡ false
+            → self.now.taken.sent + length self.now.room.items + length chunk.now ≤ 2 ^ 30 }
     {
-        let mut lines = self.taken.blocks.room();
-        lines.reserve(self.tail.len() + bytes.len())?;
-        lines.extend_from_slice(self.tail.as_slice())?;
-        lines.extend_from_slice(bytes)?;
-        match self.taken.text.start() {
-            Some(start) if lines.len() >= self.taken.blocks.least() => {
-                let block = Block {
-                    place: self.sent,
-                    start,
-                    bytes: lines,
-                    text: PhantomData,
-                };
-                self.taken.hand_out(block, pass)
-            }
-            _ => {
-                self.taken.take_up_to(self.sent, pass)?;
-                self.taken.take_bytes(lines.as_slice(), pass)?;
-                self.taken.blocks.keep_room(lines);
-                Ok(())
-            }
+        let given = self.taken.sent as usize + self.room.len();
+        chunk.len() > TEXT_LIMIT as usize - given
+    }
+
+    /// Appends a chunk to the room. `false`: the text would be longer than one may be, or memory is refused, and nothing
+    /// has changed.
+    fn append(&mut self, chunk: &[u8]) -> bool
+        requires few { self.old.taken.sent + length self.old.room.items ≤ 2 ^ 30 }
+        ensures same { (self.new.taken.sent ≡ self.old.taken.sent)
+            × (self.new.taken.text ≡ self.old.taken.text)
+            × (self.new.taken.work.now ≡ self.old.taken.work.now) }
+        ensures appended { result ≡ true → (self.new.room.items ≡ self.old.room.items ++ chunk.now)
+            × (self.old.taken.sent + length self.old.room.items + length chunk.now ≤ 2 ^ 30) }
+        ensures kept { result ≡ false → self.new.room.items ≡ self.old.room.items }
+    {
+        if self.passes_limit(chunk) {
+            return false;
+        }
+        self.room.extend_from_slice(chunk).is_ok()
+    }
+
+    /// The first bytes of the room, whose rest begins the next one. `None`: memory is refused, and nothing has changed.
+    fn split_room(&mut self, count: usize) -> Option<Vec<u8, A>>
+        requires { count ≤ length self.old.room.items }
+        ensures same { (self.new.taken.sent ≡ self.old.taken.sent)
+            × (self.new.taken.text ≡ self.old.taken.text)
+            × (self.new.taken.work.now ≡ self.old.taken.work.now) }
+        ensures parts { MatchOption result (self.new.room.items ≡ self.old.room.items)
+            (λ lines. self.old.room.items ≡ lines.items ++ self.new.room.items) }
+    {
+        let mut next = self.taken.blocks.room();
+        next.extend_from_slice(&self.room[count..]).ok()?;
+        let mut lines = replace(&mut self.room, next);
+        lines.truncate(count);
+        Some(lines)
+    }
+
+    /// Takes the blocks that are out, and then all of the room.
+    fn take_room(&mut self, pass: &mut FeederPass<A>) -> Result<(), Fault>
+        requires plan { P.pieces ≡ option_map trace_plan P.text }
+        requires held { IsHeld P.text self.old.taken.work.now.queue pass.old self.old.taken.sent
+            self.old.room.items self.old.taken.text }
+        ensures fed { HasFedOn pass.old pass.new }
+        ensures held { OnOk result (IsHeld P.text self.new.taken.work.now.queue pass.new
+            self.new.taken.sent self.new.room.items self.new.taken.text) }
+        ensures all { OnOk result (bytes_fed self.new.taken.text.lines ≡ self.new.taken.sent) }
+        ensures sent { OnOk result (self.new.taken.sent ≡ self.old.taken.sent
+            + length self.old.room.items) }
+        ensures none { self.new.room.items ≡ [] }
+        ensures size { OnOk result (self.new.taken.sent + length self.new.room.items
+            ≡ self.old.taken.sent + length self.old.room.items) }
+        ensures refused { IfErr result (IsFaultWithin P.text (self.old.taken.sent
+            + length self.old.room.items)) }
+    {
+        let none = Vec::new(*self.room.allocator());
+        let room = replace(&mut self.room, none);
+        self.taken.take(room.as_slice(), pass)
+    }
+
+    /// Takes the blocks that are out, then all of the room, and then a chunk after it.
+    fn take_now(&mut self, chunk: &[u8], pass: &mut FeederPass<A>) -> Result<(), Fault>
+        requires plan { P.pieces ≡ option_map trace_plan P.text }
+        requires held { IsHeld P.text self.old.taken.work.now.queue pass.old self.old.taken.sent
+            self.old.room.items self.old.taken.text }
+        requires next { IfSome P.text (λ whole. StandsAt whole (self.old.taken.sent
+            + length self.old.room.items) chunk.now) }
+        ensures fed { HasFedOn pass.old pass.new }
+        ensures held { OnOk result (IsHeld P.text self.new.taken.work.now.queue pass.new
+            self.new.taken.sent self.new.room.items self.new.taken.text) }
+        ensures all { OnOk result (bytes_fed self.new.taken.text.lines ≡ self.new.taken.sent) }
+        ensures size { OnOk result (self.new.taken.sent + length self.new.room.items
+            ≡ self.old.taken.sent + length self.old.room.items + length chunk.now) }
+        ensures limit { OnOk result (self.new.taken.sent + length self.new.room.items ≤ 2 ^ 30) }
+        ensures none { OnOk result (self.new.room.items ≡ []) }
+        ensures refused { IfErr result (IsFaultWithin P.text (self.old.taken.sent
+            + length self.old.room.items + length chunk.now)) }
+    {
+        self.take_room(pass)?;
+        self.taken.take(chunk, pass)
+    }
+
+    /// Takes these lines of the room, which ends a line before its rest, or hands them out as a block.
+    fn send(
+        &mut self,
+        lines: Vec<u8, A>,
+        at_once: bool,
+        pass: &mut FeederPass<A>,
+    ) -> Result<(), Fault>
+        requires plan { P.pieces ≡ option_map trace_plan P.text }
+        requires held { IsHeld P.text self.old.taken.work.now.queue pass.old self.old.taken.sent
+            (lines.items ++ self.old.room.items) self.old.taken.text }
+        requires few { self.old.taken.sent + length lines.items ≤ 2 ^ 30 }
+        ensures fed { HasFedOn pass.old pass.new }
+        ensures held { OnOk result (IsHeld P.text self.new.taken.work.now.queue pass.new
+            self.new.taken.sent self.new.room.items self.new.taken.text) }
+        ensures size { OnOk result ((self.new.taken.sent ≡ self.old.taken.sent
+            + length lines.items) × (self.new.room.items ≡ self.old.room.items)) }
+        ensures refused { IfErr result (IsFaultWithin P.text (self.old.taken.sent
+            + length lines.items)) }
+    {
+        if at_once {
+            return self.taken.take_lines(lines, pass);
+        }
+        self.taken.hand_out(lines, pass)
+    }
+
+    /// Takes the whole lines of the room, or hands them out as a block. Takes all of it where it ends in a line that is too
+    /// long, or memory is refused.
+    fn send_lines(&mut self, at_once: bool, pass: &mut FeederPass<A>) -> Result<(), Fault>
+        requires plan { P.pieces ≡ option_map trace_plan P.text }
+        requires held { IsHeld P.text self.old.taken.work.now.queue pass.old self.old.taken.sent
+            self.old.room.items self.old.taken.text }
+        requires few { self.old.taken.sent + length self.old.room.items ≤ 2 ^ 30 }
+        ensures fed { HasFedOn pass.old pass.new }
+        ensures held { OnOk result (IsHeld P.text self.new.taken.work.now.queue pass.new
+            self.new.taken.sent self.new.room.items self.new.taken.text) }
+        ensures size { OnOk result (self.new.taken.sent + length self.new.room.items
+            ≡ self.old.taken.sent + length self.old.room.items) }
+        ensures refused { IfErr result (IsFaultWithin P.text (self.old.taken.sent
+            + length self.old.room.items)) }
+    {
+        let count = whole_lines(self.room.as_slice());
+        if self.room.len().saturating_sub(count) > LINE_LIMIT {
+            return self.take_room(pass);
+        }
+        if count == 0 {
+            return Ok(());
+        }
+        let Some(lines) = self.split_room(count) else {
+            return self.take_room(pass);
+        };
+        self.send(lines, at_once, pass)
+    }
+
+    /// Hands the whole lines of the room out, where they are as many as a block may have with this chunk.
+    fn make_room(&mut self, chunk: &[u8], pass: &mut FeederPass<A>) -> Result<(), Fault>
+        requires plan { P.pieces ≡ option_map trace_plan P.text }
+        requires held { IsHeld P.text self.old.taken.work.now.queue pass.old self.old.taken.sent
+            self.old.room.items self.old.taken.text }
+        requires few { self.old.taken.sent + length self.old.room.items ≤ 2 ^ 30 }
+        ensures fed { HasFedOn pass.old pass.new }
+        ensures held { OnOk result (IsHeld P.text self.new.taken.work.now.queue pass.new
+            self.new.taken.sent self.new.room.items self.new.taken.text) }
+        ensures size { OnOk result (self.new.taken.sent + length self.new.room.items
+            ≡ self.old.taken.sent + length self.old.room.items) }
+        ensures refused { IfErr result (IsFaultWithin P.text (self.old.taken.sent
+            + length self.old.room.items)) }
+    {
+        if chunk.len()
+            <= self
+                .taken
+                .blocks
+                .sizes()
+                .most
+                .saturating_sub(self.room.len())
+        {
+            return Ok(());
+        }
+        self.send_lines(false, pass)
+    }
+
+    /// Takes the whole lines of the room at once where the source gives few bytes, or no row was read yet.
+    fn take_early(&mut self, chunk: &[u8], pass: &mut FeederPass<A>) -> Result<(), Fault>
+        requires plan { P.pieces ≡ option_map trace_plan P.text }
+        requires held { IsHeld P.text self.old.taken.work.now.queue pass.old self.old.taken.sent
+            self.old.room.items self.old.taken.text }
+        requires few { self.old.taken.sent + length self.old.room.items ≤ 2 ^ 30 }
+        ensures fed { HasFedOn pass.old pass.new }
+        ensures held { OnOk result (IsHeld P.text self.new.taken.work.now.queue pass.new
+            self.new.taken.sent self.new.room.items self.new.taken.text) }
+        ensures size { OnOk result (self.new.taken.sent + length self.new.room.items
+            ≡ self.old.taken.sent + length self.old.room.items) }
+        ensures refused { IfErr result (IsFaultWithin P.text (self.old.taken.sent
+            + length self.old.room.items)) }
+    {
+        let is_long = chunk.len() >= self.taken.blocks.sizes().least_read;
+        if is_long && self.taken.text.start().is_some() {
+            return Ok(());
+        }
+        self.send_lines(true, pass)
+    }
+
+    /// Takes blocks until no more bytes are in flight than may be.
+    fn keep_up(&mut self, pass: &mut FeederPass<A>) -> Result<(), Fault>
+        requires plan { P.pieces ≡ option_map trace_plan P.text }
+        requires held { IsHeld P.text self.old.taken.work.now.queue pass.old self.old.taken.sent
+            self.old.room.items self.old.taken.text }
+        ensures fed { HasFedOn pass.old pass.new }
+        ensures held { OnOk result (IsHeld P.text self.new.taken.work.now.queue pass.new
+            self.new.taken.sent self.new.room.items self.new.taken.text) }
+        ensures size { OnOk result (self.new.taken.sent + length self.new.room.items
+            ≡ self.old.taken.sent + length self.old.room.items) }
+        ensures near { OnOk result (self.new.taken.sent + length self.new.room.items
+            ≤ bytes_fed self.new.taken.text.lines + in_flight) }
+        ensures refused { IfErr result (IsFaultWithin P.text (self.old.taken.sent
+            + length self.old.room.items)) }
+    {
+        match IN_FLIGHT.checked_sub(self.room.len()) {
+            Some(most) => self.taken.take_until(most, pass),
+            None => self.take_room(pass),
         }
     }
 }
 
 impl<P: Plan + TraceText, A: Allocator + Copy, R: Wait + Clock> Consumer<FeederPass<A>>
     for FedText<'_, P, A, R> {
-    ghost was_fed = { λ first start now pass text. IsFedTextOf P.text now.taken.work.now.queue start pass text now.judge now.sent now.tail.items now.taken.text };
+    ghost was_fed = { λ first start now pass text. IsFedTextOf P.text now.taken.work.now.queue start pass text now.taken.sent now.room.items now.taken.text };
 
-    ghost refused = { λ first start now pass text last told. IsRefusedText start pass text last told };
+    ghost refused = { λ first start now pass text last told. IsRefusedText P.text start pass (length (text ++ last)) told };
 
     // The text is the one that the source tells, if it tells one, and the plan is that of it.
     ghost expects = { λ text. IsPlanBegunSo P.pieces P.text text };
 
-    ghost size = { λ now. bytes_fed now.judge };
+    ghost lag = { lag_of P.text };
+
+    ghost size = { λ now. now.taken.sent + length now.room.items };
 
     fn feed(&mut self, chunk: &[u8], pass: &mut FeederPass<A>) -> Result<(), Fault> {
-        self.judge.judge(chunk)?;
-        let Some((lines, begun)) = split_at_last_line(chunk) else {
-            self.tail.extend_from_slice(chunk)?;
-            return Ok(());
-        };
-        self.take_lines(lines, pass)?;
-        self.sent = self.judge.bytes().saturating_sub(begun.len() as u32);
-        self.tail.clear();
-        self.tail.extend_from_slice(begun)?;
-        Ok(())
+        self.make_room(chunk, pass)?;
+        if !self.append(chunk) {
+            return self.take_now(chunk, pass);
+        }
+        self.take_early(chunk, pass)?;
+        self.keep_up(pass)
     }
 
-    ghost sound = { λ first start now pass text fed. fed.judged.reads.sound };
+    ghost sound = { λ first start now pass text fed. cut_sound P.text now.taken.work.now.queue start pass text now.taken.sent now.room.items now.taken.text fed };
 
-    ghost sized = { λ first start now pass text fed. fed_length now.judge text fed.judged.reads };
+    ghost sized = { λ first start now pass text fed. sym fed.size };
+
+    ghost few = { λ first start now pass text fed. fed.few };
 }
 
-/// The source has ended: takes all blocks that are out, and the line that has not ended.
-fn take_rest<'a, P: Plan + TraceText, A: Allocator + Copy, R: Wait + Clock>(
-    fed: FedText<'a, P, A, R>,
+/// The source has failed: takes what was given, and returns its fault, or else that of the source.
+fn take_failed<P: Plan + TraceText, A: Allocator + Copy, R: Wait + Clock>(
+    fed: &mut FedText<'_, P, A, R>,
     pass: &mut FeederPass<A>,
-) -> Result<TakenText<'a, P, A, R>, Fault>
+) -> Fault
     requires plan { P.pieces ≡ option_map trace_plan P.text }
-    requires ready { IsFedSoFar P.text fed.taken.work.now.queue pass.old fed.taken.text }
-    requires place { IfSome P.text (λ whole. StandsAt whole fed.sent fed.tail.items) }
+    requires held { IsHeld P.text fed.old.taken.work.now.queue pass.old fed.old.taken.sent
+        fed.old.room.items fed.old.taken.text }
     ensures fed { HasFedOn pass.old pass.new }
-    ensures taken { IfOk result (λ taken. IsFedSoFar P.text fed.entry.taken.work.now.queue pass.new
-        taken.text) }
-    ensures size { IfOk result (λ taken. bytes_fed taken.text.lines
-        ≡ fed.entry.sent + length fed.entry.tail.items) }
-    ensures same { IfOk result (λ taken. taken.work.now ≡ fed.entry.taken.work.now) }
-    ensures memory { IfErr result (λ fault. fault ≡ Memory) }
+    ensures read { IsReadEnd P.text (fed.old.taken.sent + length fed.old.room.items) result }
 {
-    let FedText {
-        mut taken,
-        sent,
-        tail,
-        ..
-    } = fed;
-    taken.take_up_to(sent, pass)?;
-    taken.take_bytes(tail.as_slice(), pass)?;
-    Ok(taken)
+    match fed.take_room(pass) {
+        Ok(()) => Fault::Read,
+        Err(earlier) => earlier,
+    }
 }
 
-/// Reads a source to its end. The pieces of its trace are fed as soon as they are known whole.
+/// The fault by which a text is refused once reading has stopped by this one. Where the source has failed, the text was
+/// not refused yet, and what was given of it may show a fault.
+fn last_fault<P: Plan + TraceText, A: Allocator + Copy, R: Wait + Clock>(
+    fed: &mut FedText<'_, P, A, R>,
+    fault: Fault,
+    pass: &mut FeederPass<A>,
+) -> Fault
+    requires plan { P.pieces ≡ option_map trace_plan P.text }
+    requires held { fault ≡ Fault.Read → IsHeld P.text fed.old.taken.work.now.queue pass.old
+        fed.old.taken.sent fed.old.room.items fed.old.taken.text }
+    ensures fed { (start : PassView) → HasFedOn start pass.old → HasFedOn start pass.new }
+    ensures other { fault ≢ Fault.Read → result ≡ fault }
+    ensures read { fault ≡ Fault.Read
+        → IsReadEnd P.text (fed.old.taken.sent + length fed.old.room.items) result }
+{
+    match fault {
+        Fault::Read => take_failed(fed, pass),
+        _ => fault,
+    }
+}
+
+/// Reads a source to its end. The pieces of its trace are fed as soon as they are known whole. What was given is taken
+/// before the failure of the source is returned, so that it hides no faulty line.
 fn read_all<P: Plan + TraceText, A: Allocator + Copy, S: Source, R: Wait + Clock>(
     source: &mut S,
     fed: FedText<'_, P, A, R>,
@@ -237,7 +423,7 @@ fn read_all<P: Plan + TraceText, A: Allocator + Copy, S: Source, R: Wait + Clock
     requires queue { pass.old.queue ≡ fed.taken.work.now.queue }
     requires first { (pass.old.record_of.fed ≡ 0) × (pass.old.record_of.ends ≡ 0) }
     requires none { pass.old.pieces ≡ [] }
-    requires begun { HasJudgedNone fed.judge fed.sent fed.tail.items × HasTaken [] fed.taken.text }
+    requires begun { HasSentNone fed.taken.sent fed.room.items × HasTaken [] fed.taken.text }
     requires text { P.text ≡ S.left source.old }
     requires plan { P.pieces ≡ option_map trace_plan P.text }
     ensures queue { pass.new.queue ≡ pass.old.queue }
@@ -248,10 +434,15 @@ fn read_all<P: Plan + TraceText, A: Allocator + Copy, S: Source, R: Wait + Clock
     ensures asked { S.calls source.new ≤ S.calls source.old + (2 ^ 30 + 1) }
 {
     let mut fed = fed;
-    read_to_end(source, &mut fed, pass)?;
-    let alloc = *fed.tail.allocator();
-    let TakenText { rt, work, text, .. } = take_rest(fed, pass)?;
-    finish(rt, alloc, text, work, pass)
+    match read_to_end(source, &mut fed, pass) {
+        Ok(()) => {
+            fed.take_room(pass)?;
+            let FedText { taken, room } = fed;
+            let TakenText { rt, work, text, .. } = taken;
+            finish(rt, *room.allocator(), text, work, pass)
+        }
+        Err(fault) => Err(last_fault(&mut fed, fault, pass)),
+    }
 }
 
 /// The reading thread's part of a scan with workers: a source, the queues of blocks, and what became of reading it:
@@ -285,15 +476,14 @@ impl<'a, P: Plan + TraceText, A: Allocator + Copy, S: Source> Feed<P, A>
             ..
         } = self;
         let fed = FedText {
-            judge: Lines::new(alloc),
             taken: TakenText {
                 rt,
                 work,
                 text: TextCutter::new(alloc),
                 blocks: BlocksOut::new(alloc, queues),
+                sent: 0,
             },
-            sent: 0,
-            tail: Vec::new(alloc),
+            room: Vec::new(alloc),
         };
         let outcome = Some(read_all(source, fed, pass));
         ReadingTask {

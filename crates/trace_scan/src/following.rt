@@ -3,6 +3,8 @@
 ghost use Rattle.std.specs.Prelude.{◌≡◌, ℕ, ◌+◌, ◌<◌, ◌≤◌, ◌^◌, List, Some, Err, IfErr, IfOk, OnOk};
 ghost use Rattle.live_report.specs.Uncounted.{trace_uncounted};
 ghost use Rattle.live_report.specs.Reports.{IsReported};
+ghost use Rattle.trace_text.proofs.DecidedLemmas.{all_sound};
+ghost use Rattle.trace_text.proofs.SourceLemmas.{few_bytes};
 ghost use Rattle.trace_text.specs.FedBytes.{fed_length};
 ghost use Rattle.trace_text.specs.Progress.{bytes_fed};
 ghost use Rattle.trace_text.specs.Sources.{IsRefusedBy};
@@ -34,16 +36,20 @@ impl<A: Allocator + Copy, C: Channel<A>, K: Sink> Consumer<K> for Following<A, C
 
     ghost expects = { λ text. Unit {0} };
 
+    ghost lag = { 0 };
+
     ghost size = { λ now. bytes_fed now.follower.live.lines };
 
     fn feed(&mut self, chunk: &[u8], sink: &mut K) -> Result<(), Fault> {
         self.follower.feed(chunk, sink)
     }
 
-    ghost sound = { λ first start now sink text fed. fed.stands.live.reads.sound };
+    ghost sound = { λ first start now sink text fed. all_sound 0 text fed.stands.live.reads.sound };
 
     ghost sized = { λ first start now sink text fed. fed_length now.follower.live.lines text
         fed.stands.live.reads };
+
+    ghost few = { λ first start now sink text fed. few_bytes text fed.stands.live.reads.sound };
 }
 
 /// Walks a trace in one thread, and writes each finding as soon as the LF of its row was read, and the rest of the report
@@ -64,7 +70,7 @@ pub fn follow<A: Allocator + Copy, S: Source, K: Sink>(
         → OnOk result (uncounted.new ≡ trace_uncounted text) }
     // A refusal is by the bytes that were given, and those before the last call of the source show no faulty line.
     ensures refused { (text : List ℕ) → S.left source.old ≡ Some text
-        → IfErr result (IsRefusedBy IsFollowRefusal text (S.left source.new)
+        → IfErr result (IsRefusedBy 0 IsFollowRefusal text (S.left source.new)
         (S.before source.new)) }
     ensures kinds { IfErr result IsScanFault }
     ensures read_failed { result ≡ Err Fault.Read → S.failures source.old < S.failures source.new }
@@ -72,7 +78,7 @@ pub fn follow<A: Allocator + Copy, S: Source, K: Sink>(
     // What the sink has at a refusal are first lines of what was found in the bytes that were given: where the source failed
     // all of them, and so at a faulty line where the sink did not fail.
     ensures taken { (text : List ℕ) → S.left source.old ≡ Some text
-        → IfErr result (IsRefusedBy (IsToldOf (K.taken sink.old) (K.taken sink.new)
+        → IfErr result (IsRefusedBy 0 (IsToldOf (K.taken sink.old) (K.taken sink.new)
         (K.failures sink.new ≡ K.failures sink.old)) text (S.left source.new)
         (S.before source.new)) }
     // The source is asked at least once.

@@ -2,6 +2,8 @@
 
 ghost use Rattle.std.specs.Prelude.{◌≡◌, ◌++◌};
 ghost use Rattle.line_model.specs.text.Text.{early};
+ghost use Rattle.trace_text.proofs.DecidedLemmas.{all_sound};
+ghost use Rattle.trace_text.proofs.SourceLemmas.{few_bytes};
 ghost use Rattle.trace_text.specs.FedBytes.{fed_length};
 ghost use Rattle.trace_text.specs.Progress.{bytes_fed};
 ghost use Rattle.trace_text.specs.StandsFor.{IsFaultOf, IsTextFault};
@@ -28,13 +30,17 @@ impl<A: Allocator + Copy, C: Channel<A>, K> Consumer<K> for Walk<A, C> {
 
     ghost expects = { λ text. Unit {0} };
 
+    ghost lag = { 0 };
+
     ghost size = { λ now. bytes_fed now.live.lines };
 
     fn feed(&mut self, chunk: &[u8], _sink: &mut K) -> Result<(), Fault> {
         self.live.feed(chunk)
     }
 
-    ghost sound = { λ first start now sink text fed. fed.0.reads.sound };
+    ghost sound = { λ first start now sink text fed. all_sound 0 text fed.0.reads.sound };
 
     ghost sized = { λ first start now sink text fed. fed_length now.live.lines text fed.0.reads };
+
+    ghost few = { λ first start now sink text fed. few_bytes text fed.0.reads.sound };
 }

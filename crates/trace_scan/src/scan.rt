@@ -39,7 +39,7 @@ pub fn scan_alone<A: Allocator + Copy, S: Source, K: Sink>(
     // A refusal is by the bytes that were given. Those before the last call of the source show no faulty line, and all but
     // at most the last 65,536 show none.
     ensures refused { (text : List ℕ) → S.left source.old ≡ Some text
-        → IfErr result (IsRefusedBy IsRefusal text (S.left source.new) (S.before source.new)) }
+        → IfErr result (IsRefusedBy 0 (IsRefusal 0) text (S.left source.new) (S.before source.new)) }
     ensures kinds { IfErr result IsScanFault }
     ensures read_failed { result ≡ Err Fault.Read → S.failures source.old < S.failures source.new }
     ensures write_failed { result ≡ Err Fault.Write → K.failures sink.old < K.failures sink.new }

@@ -1,10 +1,9 @@
 //! The text as far as the reading thread took it, part by part and in order.
 
-ghost use Rattle.std.specs.Prelude.{◌≡◌, ◌+◌, IfErr, IfSome, OnOk, length};
+ghost use Rattle.std.specs.Prelude.{◌≡◌, ◌+◌, ◌-◌, ◌≤◌, ◌^◌, IfErr, IfSome, OnOk, length};
 ghost use Rattle.std.specs.Option.{option_map};
-ghost use Rattle.line_model.specs.declared.fault.Fault.TheVariants.{Memory};
 ghost use Rattle.trace_text.specs.Progress.{bytes_fed};
-ghost use Rattle.trace_scan.specs.Readings.{HasFedOn, IsFedSoFar};
+ghost use Rattle.trace_scan.specs.Readings.{HasFedOn, IsFaultWithin, IsFedSoFar};
 ghost use Rattle.trace_scan.specs.TextBlocks.{IsBlockAt, StandsAt};
 ghost use Rattle.line_model.specs.traces.Traces.{trace_plan};
 
@@ -16,103 +15,114 @@ use line_model::fault::Fault;
 use line_model::piece::Plan;
 use shared_work::queue::{FeederPass, Work};
 use std::alloc::{Allocator, Global};
+use std::marker::PhantomData;
 use std::sync::Wait;
 use std::time::Clock;
 use workers::feed_pieces;
 
-/// A text that was judged, as far as it was taken, and the blocks of it that are out. The pieces that are known whole go
-/// to a queue.
+/// A text as far as it was taken, and the blocks of it that are out. The pieces that are known whole go to a queue.
+///
+/// ```text
+///  1 T 10..\n2 N 10..\n3 T 10..\n4 N 10..\n
+///  `-- taken --'`- out as blocks -'
+///  `------------- sent ----------'
+/// ```
 #[derive(Drop)]
 pub struct TakenText<'a, P: Plan + TraceText, A: Allocator, R> {
     pub rt: &'a R,
     pub work: &'a Work<P, A>,
     pub text: TextCutter<A>,
     pub blocks: BlocksOut<'a, P, A>,
+    /// How many bytes were taken or handed out.
+    pub sent: u32,
 }
 
 impl<'a, P: Plan + TraceText, A: Allocator + Copy, R: Wait + Clock> TakenText<'a, P, A, R> {
-    /// Takes bytes that stand after those that were taken. They were judged, so only memory can be wanted.
-    pub fn take_bytes(&mut self, bytes: &[u8], pass: &mut FeederPass<A>) -> Result<(), Fault>
+    /// Takes a block that was read, and stands after the bytes that were taken.
+    fn take_block(&mut self, block: ReadBlock<P, A>, pass: &mut FeederPass<A>) -> Result<(), Fault>
         requires plan { P.pieces ≡ option_map trace_plan P.text }
-        requires ready { IsFedSoFar P.text self.old.work.now.queue pass.old self.old.text }
-        requires place { IfSome P.text (λ whole. StandsAt whole (bytes_fed self.old.text.lines) bytes.now) }
+        requires ready { IsFedSoFar P.text self.old.work.now.queue pass.old self.old.sent self.old.text }
+        requires place { IsBlockAt P.text (bytes_fed self.old.text.lines)
+            (self.old.sent - bytes_fed self.old.text.lines) block }
         ensures fed { HasFedOn pass.old pass.new }
-        ensures taken { OnOk result (IsFedSoFar P.text self.old.work.now.queue pass.new self.new.text) }
-        ensures size { OnOk result (bytes_fed self.new.text.lines ≡ bytes_fed self.old.text.lines + length bytes.now) }
-        ensures same { self.new.work.now ≡ self.old.work.now }
-        ensures memory { IfErr result (λ fault. fault ≡ Memory) }
+        ensures taken { OnOk result (IsFedSoFar P.text self.new.work.now.queue pass.new self.old.sent self.new.text) }
+        ensures sent { self.new.sent ≡ self.old.sent }
+        ensures refused { IfErr result (IsFaultWithin P.text self.old.sent) }
     {
-        let Ok(pieces) = self.text.feed(bytes) else {
-            return Err(Fault::Memory);
-        };
+        let (pieces, bytes) = self.text.take_block(block)?;
         feed_pieces(self.rt, self.work, pieces, pass);
+        self.blocks.keep_room(bytes);
         Ok(())
     }
 
-    /// Takes a block that was read, and stands after the bytes that were taken.
-    fn take_block(&mut self, block: &ReadBlock<P, A>, pass: &mut FeederPass<A>) -> Result<(), Fault>
-        requires plan { P.pieces ≡ option_map trace_plan P.text }
-        requires ready { IsFedSoFar P.text self.old.work.now.queue pass.old self.old.text }
-        requires place { IsBlockAt P.text (bytes_fed self.old.text.lines) block.now }
-        ensures fed { HasFedOn pass.old pass.new }
-        ensures taken { OnOk result (IsFedSoFar P.text self.old.work.now.queue pass.new self.new.text) }
-        ensures same { self.new.work.now ≡ self.old.work.now }
-        ensures memory { IfErr result (λ fault. fault ≡ Memory) }
+    /// How many bytes are out as blocks.
+    fn out(&self) -> usize
+        ensures { result ≡ self.now.sent - bytes_fed self.now.text.lines }
     {
-        let Ok(pieces) = self.text.take_block(block) else {
-            return Err(Fault::Memory);
-        };
-        feed_pieces(self.rt, self.work, pieces, pass);
-        Ok(())
+        self.sent.saturating_sub(self.text.lines.bytes()) as usize
     }
 
     /// Takes the next block that is out, and waits for it.
     fn take_next(&mut self, pass: &mut FeederPass<A>) -> Result<(), Fault>
         requires plan { P.pieces ≡ option_map trace_plan P.text }
-        requires ready { IsFedSoFar P.text self.old.work.now.queue pass.old self.old.text }
+        requires ready { IsFedSoFar P.text self.old.work.now.queue pass.old self.old.sent self.old.text }
         ensures fed { HasFedOn pass.old pass.new }
-        ensures taken { OnOk result (IsFedSoFar P.text self.old.work.now.queue pass.new self.new.text) }
-        ensures same { self.new.work.now ≡ self.old.work.now }
-        ensures memory { IfErr result (λ fault. fault ≡ Memory) }
+        ensures taken { OnOk result (IsFedSoFar P.text self.new.work.now.queue pass.new self.old.sent self.new.text) }
+        ensures sent { self.new.sent ≡ self.old.sent }
+        ensures refused { IfErr result (IsFaultWithin P.text self.old.sent) }
     {
-        let read = self.blocks.take(self.rt, self.text.lines.bytes())?;
-        self.take_block(&read, pass)?;
-        self.blocks.keep_room(read.block.bytes);
-        Ok(())
+        let most = self.out();
+        let read = self.blocks.take(self.rt, self.text.lines.bytes(), most)?;
+        self.take_block(read, pass)
+    }
+
+    /// Takes the next block that is out, and waits for it, where no more blocks may be out.
+    fn free_place(&mut self, pass: &mut FeederPass<A>) -> Result<(), Fault>
+        requires plan { P.pieces ≡ option_map trace_plan P.text }
+        requires ready { IsFedSoFar P.text self.old.work.now.queue pass.old self.old.sent self.old.text }
+        ensures fed { HasFedOn pass.old pass.new }
+        ensures taken { OnOk result (IsFedSoFar P.text self.new.work.now.queue pass.new self.old.sent self.new.text) }
+        ensures sent { self.new.sent ≡ self.old.sent }
+        ensures refused { IfErr result (IsFaultWithin P.text self.old.sent) }
+    {
+        if !self.blocks.is_full() {
+            return Ok(());
+        }
+        self.take_next(pass)
     }
 
     /// Takes the blocks that were read, up to one that was not.
     fn take_ready(&mut self, pass: &mut FeederPass<A>) -> Result<(), Fault>
         requires plan { P.pieces ≡ option_map trace_plan P.text }
-        requires ready { IsFedSoFar P.text self.old.work.now.queue pass.old self.old.text }
+        requires ready { IsFedSoFar P.text self.old.work.now.queue pass.old self.old.sent self.old.text }
         ensures fed { HasFedOn pass.old pass.new }
-        ensures taken { OnOk result (IsFedSoFar P.text self.old.work.now.queue pass.new self.new.text) }
-        ensures same { self.new.work.now ≡ self.old.work.now }
-        ensures memory { IfErr result (λ fault. fault ≡ Memory) }
+        ensures taken { OnOk result (IsFedSoFar P.text self.new.work.now.queue pass.new self.old.sent self.new.text) }
+        ensures sent { self.new.sent ≡ self.old.sent }
+        ensures refused { IfErr result (IsFaultWithin P.text self.old.sent) }
     {
         for _ in 0..MOST_BLOCKS {
             let place = self.text.lines.bytes();
-            let Some(read) = self.blocks.take_ready(self.rt, place)? else {
+            let most = self.out();
+            let Some(read) = self.blocks.take_ready(self.rt, place, most)? else {
                 return Ok(());
             };
-            self.take_block(&read, pass)?;
-            self.blocks.keep_room(read.block.bytes);
+            self.take_block(read, pass)?;
         }
         Ok(())
     }
 
-    /// Takes the blocks that are out, up to this place of the text, and waits for each.
-    pub fn take_up_to(&mut self, place: u32, pass: &mut FeederPass<A>) -> Result<(), Fault>
+    /// Takes blocks that are out, and waits for each, until at most so many bytes are out.
+    pub fn take_until(&mut self, most: usize, pass: &mut FeederPass<A>) -> Result<(), Fault>
         requires plan { P.pieces ≡ option_map trace_plan P.text }
-        requires ready { IsFedSoFar P.text self.old.work.now.queue pass.old self.old.text }
+        requires ready { IsFedSoFar P.text self.old.work.now.queue pass.old self.old.sent self.old.text }
         ensures fed { HasFedOn pass.old pass.new }
-        ensures taken { OnOk result (IsFedSoFar P.text self.old.work.now.queue pass.new self.new.text) }
-        ensures place { OnOk result (bytes_fed self.new.text.lines ≡ place) }
-        ensures same { self.new.work.now ≡ self.old.work.now }
-        ensures memory { IfErr result (λ fault. fault ≡ Memory) }
+        ensures taken { OnOk result (IsFedSoFar P.text self.new.work.now.queue pass.new self.old.sent self.new.text) }
+        ensures near { OnOk result (self.new.sent ≤ bytes_fed self.new.text.lines + most) }
+        ensures sent { self.new.sent ≡ self.old.sent }
+        ensures refused { IfErr result (IsFaultWithin P.text self.old.sent) }
     {
         for _ in self.rt.forever() {
-            if self.text.lines.bytes() == place {
+            if self.out() <= most {
                 return Ok(());
             }
             self.take_next(pass)?;
@@ -120,23 +130,69 @@ impl<'a, P: Plan + TraceText, A: Allocator + Copy, R: Wait + Clock> TakenText<'a
         unreachable!()
     }
 
-    /// Hands a block out, and takes those that were read. While too many are out it waits for the next one.
-    pub fn hand_out(&mut self, block: Block<P, A>, pass: &mut FeederPass<A>) -> Result<(), Fault>
+    /// Takes the blocks that are out, and then the next bytes of the text.
+    pub fn take(&mut self, bytes: &[u8], pass: &mut FeederPass<A>) -> Result<(), Fault>
         requires plan { P.pieces ≡ option_map trace_plan P.text }
-        requires ready { IsFedSoFar P.text self.old.work.now.queue pass.old self.old.text }
+        requires ready { IsFedSoFar P.text self.old.work.now.queue pass.old self.old.sent self.old.text }
+        requires place { IfSome P.text (λ whole. StandsAt whole self.old.sent bytes.now) }
         ensures fed { HasFedOn pass.old pass.new }
-        ensures taken { OnOk result (IsFedSoFar P.text self.old.work.now.queue pass.new self.new.text) }
-        ensures same { self.new.work.now ≡ self.old.work.now }
-        ensures memory { IfErr result (λ fault. fault ≡ Memory) }
+        ensures taken { OnOk result (IsFedSoFar P.text self.new.work.now.queue pass.new self.new.sent self.new.text) }
+        ensures sent { OnOk result (self.new.sent ≡ self.old.sent + length bytes.now) }
+        ensures all { OnOk result (bytes_fed self.new.text.lines ≡ self.new.sent) }
+        ensures limit { OnOk result (self.new.sent ≤ 2 ^ 30) }
+        ensures refused { IfErr result (IsFaultWithin P.text (self.old.sent + length bytes.now)) }
     {
-        let mut left = block;
-        for _ in self.rt.forever() {
-            match self.blocks.hand_out(self.rt, left) {
-                Ok(()) => return self.take_ready(pass),
-                Err(back) => left = back,
+        self.take_until(0, pass)?;
+        let pieces = self.text.feed(bytes)?;
+        feed_pieces(self.rt, self.work, pieces, pass);
+        self.sent = self.text.lines.bytes();
+        Ok(())
+    }
+
+    /// Takes the blocks that are out, and then the next lines of the text, whose room is used again.
+    pub fn take_lines(&mut self, lines: Vec<u8, A>, pass: &mut FeederPass<A>) -> Result<(), Fault>
+        requires plan { P.pieces ≡ option_map trace_plan P.text }
+        requires ready { IsFedSoFar P.text self.old.work.now.queue pass.old self.old.sent self.old.text }
+        requires place { IfSome P.text (λ whole. StandsAt whole self.old.sent lines.items) }
+        ensures fed { HasFedOn pass.old pass.new }
+        ensures taken { OnOk result (IsFedSoFar P.text self.new.work.now.queue pass.new self.new.sent self.new.text) }
+        ensures sent { OnOk result (self.new.sent ≡ self.old.sent + length lines.items) }
+        ensures refused { IfErr result (IsFaultWithin P.text (self.old.sent + length lines.items)) }
+    {
+        self.take(lines.as_slice(), pass)?;
+        self.blocks.keep_room(lines);
+        Ok(())
+    }
+
+    /// Hands the next lines of the text out as a block, and takes the blocks that were read. While too many are out it
+    /// waits for the next one. Takes the lines at once where no row was read yet, or memory is refused.
+    pub fn hand_out(&mut self, lines: Vec<u8, A>, pass: &mut FeederPass<A>) -> Result<(), Fault>
+        requires plan { P.pieces ≡ option_map trace_plan P.text }
+        requires ready { IsFedSoFar P.text self.old.work.now.queue pass.old self.old.sent self.old.text }
+        requires place { IfSome P.text (λ whole. StandsAt whole self.old.sent lines.items) }
+        requires few { self.old.sent + length lines.items ≤ 2 ^ 30 }
+        ensures fed { HasFedOn pass.old pass.new }
+        ensures taken { OnOk result (IsFedSoFar P.text self.new.work.now.queue pass.new self.new.sent self.new.text) }
+        ensures sent { OnOk result (self.new.sent ≡ self.old.sent + length lines.items) }
+        ensures refused { IfErr result (IsFaultWithin P.text (self.old.sent + length lines.items)) }
+    {
+        self.free_place(pass)?;
+        let Some(start) = self.text.start() else {
+            return self.take_lines(lines, pass);
+        };
+        let len = lines.len() as u32;
+        let block = Block {
+            place: self.sent,
+            start,
+            bytes: lines,
+            text: PhantomData,
+        };
+        match self.blocks.hand_out(self.rt, block) {
+            Ok(()) => {
+                self.sent += len;
+                self.take_ready(pass)
             }
-            self.take_next(pass)?;
+            Err(back) => self.take_lines(back.bytes, pass),
         }
-        unreachable!()
     }
 }

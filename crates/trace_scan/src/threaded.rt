@@ -6,11 +6,11 @@ ghost use Rattle.line_model.specs.traces.Traces.{trace_plan, trace_report};
 ghost use Rattle.line_model.specs.work.Book.{sum_of};
 ghost use Rattle.live_report.specs.Reports.{IsReported, IsTaken};
 ghost use Rattle.trace_text.specs.Sources.{IsRefusedBy};
-ghost use Rattle.trace_scan.specs.Readings.{IsRefusal};
+ghost use Rattle.trace_scan.specs.Readings.{IsRefusal, in_flight};
 ghost use Rattle.trace_scan.specs.Scan.{IsPartTaken};
 ghost use Rattle.trace_scan.specs.Threaded.{AreScanParts, IsStopped, IsWorkedFault, trace_totals};
 
-use crate::block_queues::BlockQueues;
+use crate::block_queues::{BLOCK_BYTES, BlockQueues, BlockSizes};
 use crate::blocks::TraceText;
 use crate::feeding::{Read, ReadingTask};
 use crate::gate::BlockGate;
@@ -20,6 +20,7 @@ use line_model::lending::take_back;
 use line_model::piece::Plan;
 use line_model::totals::{Summary, Totals};
 use report_merge::merging::merge;
+use report_merge::reports::BundleReport;
 use report_merge::text::write_report;
 use std::alloc::{Allocator, Global};
 use std::marker::Brand;
@@ -32,13 +33,13 @@ use workers::{Crew, Gate, Gathered, Worked, work_through};
 #[derive(Drop)]
 struct ScanParts<A: Allocator = Global> {
     read: Read<A>,
-    gathered: Gathered<A>,
+    gathered: Gathered<A, BundleReport<A>>,
 }
 
 /// The reading thread's fault stands before that of a worker.
 fn first_fault<A: Allocator>(
     outcome: Option<Result<Read<A>, Fault>>,
-    gathered: Result<Gathered<A>, Fault>,
+    gathered: Result<Gathered<A, BundleReport<A>>, Fault>,
 ) -> Result<ScanParts<A>, Fault>
     requires some { is_some outcome ≡ true }
     ensures both { IfOk result (λ t. (outcome ≡ Some (Ok t.read)) × (gathered ≡ Ok t.gathered)) }
@@ -53,14 +54,18 @@ fn first_fault<A: Allocator>(
     Ok(ScanParts { read, gathered })
 }
 
-/// A part of the text with fewer bytes is read where it was judged: it takes longer to hand it to another thread.
-const LEAST_BLOCK: usize = 1 << 15;
+/// A read with fewer bytes is taken at once: a source that gives so few is slow, and its lines are refused as they come.
+const LEAST_READ: usize = 1 << 15;
 
-/// How many bytes a block has at the least. On one processor nothing is a block: no other thread would read it meanwhile.
-fn least_block(rt: &impl Threads) -> usize {
-    match available_parallelism(rt) {
-        Ok(processors) if processors.get() > 1 => LEAST_BLOCK,
+/// How a text is cut into blocks. On one processor nothing is a block: no other thread would read it meanwhile.
+fn block_sizes(rt: &impl Threads) -> BlockSizes {
+    let least_read = match available_parallelism(rt) {
+        Ok(processors) if processors.get() > 1 => LEAST_READ,
         _ => usize::MAX,
+    };
+    BlockSizes {
+        least_read,
+        most: BLOCK_BYTES,
     }
 }
 
@@ -85,7 +90,7 @@ fn work_on_trace<
     ensures unasked { S.calls source.new ≡ S.calls source.old → source.new ≡ source.old }
     ensures asked { S.calls source.new ≤ S.calls source.old + (2 ^ 30 + 1) }
 {
-    let queues = BlockQueues::<P, A>::new(alloc, least_block(rt))?;
+    let queues = BlockQueues::<P, A>::new(alloc, block_sizes(rt))?;
     let gate = BlockGate {
         gate: crew.gate,
         queues: &queues,
@@ -172,10 +177,11 @@ pub fn scan_with<
         × (scan.totals ≡ trace_totals text)) }
     ensures shares { IfOk result (λ scan. (vec_len scan.shares ≡ workers)
         × (scan.totals ≡ sum_of scan.shares.items)) }
-    // A refusal is by the bytes that were given. Those before the last call of the source show no faulty line, and all but
-    // at most the last 65,536 show none.
+    // A refusal is by the bytes that were given: by the first faulty line of all of them. Those before the last call of the
+    // source show none, except for at most those of the blocks in flight.
     ensures refused { (text : List ℕ) → S.left source.old ≡ Some text
-        → IfErr result (IsRefusedBy IsRefusal text (S.left source.new) (S.before source.new)) }
+        → IfErr result (IsRefusedBy in_flight (IsRefusal in_flight) text (S.left source.new)
+        (S.before source.new)) }
     ensures read_failed { result ≡ Err Fault.Read → S.failures source.old < S.failures source.new }
     ensures write_failed { result ≡ Err Fault.Write → K.failures sink.old < K.failures sink.new }
     // Where no thread was made the source was not asked.

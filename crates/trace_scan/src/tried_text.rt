@@ -5,6 +5,8 @@ ghost use Rattle.line_model.specs.basics.Records as records;
 ghost use Rattle.line_model.specs.declared.fault.Fault.TheVariants.{Memory};
 ghost use Rattle.line_model.specs.declared.interface.Interface.{Interface as AnyInterface};
 ghost use Rattle.line_model.specs.text.Text.{early, fault};
+ghost use Rattle.trace_text.proofs.DecidedLemmas.{all_sound};
+ghost use Rattle.trace_text.proofs.SourceLemmas.{few_bytes};
 ghost use Rattle.trace_text.specs.FedBytes.{fed_length};
 ghost use Rattle.trace_text.specs.Progress.{bytes_fed};
 ghost use Rattle.trace_text.specs.StandsFor.{IsFaultOf, IsTextFault, last_row};
@@ -167,13 +169,17 @@ impl<A: Allocator + Copy, C: Channel<A>, K> Consumer<K> for TriedText<A, C> {
 
     ghost expects = { λ text. Unit {0} };
 
+    ghost lag = { 0 };
+
     ghost size = { λ now. bytes_fed now.lines };
 
     fn feed(&mut self, chunk: &[u8], _sink: &mut K) -> Result<(), Fault> {
         self.take_chunk(chunk)
     }
 
-    ghost sound = { λ first start now sink text fed. fed.0.reads.sound };
+    ghost sound = { λ first start now sink text fed. all_sound 0 text fed.0.reads.sound };
 
     ghost sized = { λ first start now sink text fed. fed_length now.lines text fed.0.reads };
+
+    ghost few = { λ first start now sink text fed. few_bytes text fed.0.reads.sound };
 }

@@ -56,7 +56,7 @@ pub fn try_headers<A: Allocator + Copy, S: Source, K: Sink>(
         × HasTried text (K.taken sink.old) (K.taken sink.new) findings) }
     // A refusal is by the bytes that were given.
     ensures refused { (text : List ℕ) → S.left source.old ≡ Some text
-        → IfErr result (IsRefusedBy IsRefusal text (S.left source.new) (S.before source.new)) }
+        → IfErr result (IsRefusedBy 0 (IsRefusal 0) text (S.left source.new) (S.before source.new)) }
     ensures kinds { IfErr result IsScanFault }
     ensures read_failed { result ≡ Err Fault.Read → S.failures source.old < S.failures source.new }
     ensures write_failed { result ≡ Err Fault.Write → K.failures sink.old < K.failures sink.new }

@@ -6,6 +6,7 @@ use Rattle.line_model.specs.declared.fault.Fault.{Fault}
 use Rattle.line_model.specs.declared.fault.Fault.TheVariants.{Read}
 use Rattle.line_model.proofs.TextLemmas.{size_kind-none, size_of-ended}
 use Rattle.trace_text.proofs.FeedLemmas.{size-sound}
+use Rattle.trace_text.specs.Decided.{NoneDecidedButLast}
 use Rattle.trace_text.specs.Sources.{BeginsSo, IsFedAll, IsFedUpTo, IsGiven, NoneDecided}
 
 -- what a source gave so far was fed
@@ -28,8 +29,8 @@ begins_so None after given source = tt
 begins_so (Some all) after given source = let g = source all refl in (g.0, g.1)
 
 -- the source gave nothing more
-pub all_read : (left after next asked : Option (List ℕ)) (was_fed : List ℕ → Type 0) (bytes : List ℕ) → (r : Reached left after was_fed) → early r.text ≡ None → Gives after next bytes → asked ≡ after → bytes ≡ [] → IsFedAll left next asked was_fed
-all_read left after next asked was_fed bytes r sound gives same none = record {
+pub all_read : (lag : ℕ) (left after next asked : Option (List ℕ)) (was_fed : List ℕ → Type 0) (bytes : List ℕ) → (r : Reached left after was_fed) → NoneDecidedButLast lag r.text → Gives after next bytes → asked ≡ after → bytes ≡ [] → IsFedAll lag left next asked was_fed
+all_read lag left after next asked was_fed bytes r sound gives same none = record {
   text = r.text;
   fed = r.fed;
   sound = sound;
@@ -44,9 +45,9 @@ all_read left after next asked was_fed bytes r sound gives same none = record {
 }
 
 -- what the last call gave was refused
-pub refused_at : (left after next asked : Option (List ℕ)) (had_fed was_fed : List ℕ → Type 0) (refused : (fed last : List ℕ) → Fault → Type 0) (told : Fault) (last : List ℕ) → (r : Reached left after had_fed) → early r.text ≡ None → Gives after next last → asked ≡ after → length last ≤ 2 ^ 16
-    → refused r.text last told → IsFedUpTo left next asked was_fed refused told
-refused_at left after next asked had_fed was_fed refused told last r sound gives same few why = record {
+pub refused_at : (lag : ℕ) (left after next asked : Option (List ℕ)) (had_fed was_fed : List ℕ → Type 0) (refused : (fed last : List ℕ) → Fault → Type 0) (told : Fault) (last : List ℕ) → (r : Reached left after had_fed) → NoneDecidedButLast lag r.text → Gives after next last → asked ≡ after → length last ≤ 2 ^ 16
+    → refused r.text last told → IsFedUpTo lag left next asked was_fed refused told
+refused_at lag left after next asked had_fed was_fed refused told last r sound gives same few why = record {
   fed = r.text;
   last = last;
   few = few;
@@ -57,8 +58,8 @@ refused_at left after next asked had_fed was_fed refused told last r sound gives
 }
 
 -- the last call failed
-pub failed_read : (left after next asked : Option (List ℕ)) (was_fed : List ℕ → Type 0) (refused : (fed last : List ℕ) → Fault → Type 0) → (r : Reached left after was_fed) → early r.text ≡ None → next ≡ after → asked ≡ after → IsFedUpTo left next asked was_fed refused Read
-failed_read left after next asked was_fed refused r sound kept same = record {
+pub failed_read : (lag : ℕ) (left after next asked : Option (List ℕ)) (was_fed : List ℕ → Type 0) (refused : (fed last : List ℕ) → Fault → Type 0) → (r : Reached left after was_fed) → NoneDecidedButLast lag r.text → next ≡ after → asked ≡ after → IsFedUpTo lag left next asked was_fed refused Read
+failed_read lag left after next asked was_fed refused r sound kept same = record {
   fed = r.text;
   last = [];
   few = omega arith;
@@ -69,22 +70,22 @@ failed_read left after next asked was_fed refused r sound kept same = record {
 }
 
 -- a text of which no line is faulty so far is no longer than a text may be
-pub few_bytes : (x : List ℕ) → early x ≡ None → length x ≤ 1073741824
+pub few_bytes : (x : List ℕ) → early x ≡ None → length x ≤ 2 ^ 30
 few_bytes x sound = omega (arith, (size_kind-none (size_of (ended_lines x)) 0 (length (begun_line x)) (size-sound x sound)).1, size_of-ended x)
 
 -- what was given before the last call shows no faulty line
-none_decided : (left asked : Option (List ℕ)) (fed text : List ℕ) → IsGiven left asked fed → early fed ≡ None → left ≡ Some text → NoneDecided text asked
-none_decided left asked fed text source sound told = let g = source text told in record { before = fed; last = g.0; whole = g.1; left = g.2; sound = sound }
+none_decided : (lag : ℕ) (left asked : Option (List ℕ)) (fed text : List ℕ) → IsGiven left asked fed → NoneDecidedButLast lag fed → left ≡ Some text → NoneDecided lag text asked
+none_decided lag left asked fed text source sound told = let g = source text told in record { before = fed; last = g.0; whole = g.1; left = g.2; sound = sound }
 
 -- so it is where the last call gave nothing
-pub all_sound : (left after asked : Option (List ℕ)) (was_fed : List ℕ → Type 0) (text : List ℕ) → IsFedAll left after asked was_fed → left ≡ Some text → NoneDecided text asked
-all_sound left after asked was_fed text w told =
+pub all_sound : (lag : ℕ) (left after asked : Option (List ℕ)) (was_fed : List ℕ → Type 0) (text : List ℕ) → IsFedAll lag left after asked was_fed → left ≡ Some text → NoneDecided lag text asked
+all_sound lag left after asked was_fed text w told =
     let all = w.source text told in
     record { before = w.text; last = []; whole = all.0 ∙ sym (append-nil w.text); left = all.2; sound = w.sound }
 
 -- and where what it gave was refused, or it failed
-pub sound_before : (left after asked : Option (List ℕ)) (was_fed : List ℕ → Type 0) (refused : (fed last : List ℕ) → Fault → Type 0) (told : Fault) (text : List ℕ) → IsFedUpTo left after asked was_fed refused told → left ≡ Some text → NoneDecided text asked
-sound_before left after asked was_fed refused told text u e = none_decided left asked u.fed text u.before u.sound e
+pub sound_before : (lag : ℕ) (left after asked : Option (List ℕ)) (was_fed : List ℕ → Type 0) (refused : (fed last : List ℕ) → Fault → Type 0) (told : Fault) (text : List ℕ) → IsFedUpTo lag left after asked was_fed refused told → left ≡ Some text → NoneDecided lag text asked
+sound_before lag left after asked was_fed refused told text u e = none_decided lag left asked u.fed text u.before u.sound e
 
 -- ---- a fault that a `?` passes on
 

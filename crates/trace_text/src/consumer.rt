@@ -8,8 +8,8 @@ use line_model::fault::Fault;
 
 /// What takes a text, chunk by chunk, and puts what it makes of it into an `O`.
 pub trait Consumer<O> {
-    ghost use Rattle.std.specs.Prelude.{◌≡◌, ◌≢◌, ℕ, ◌++◌, List, None, IfErr, OnOk, length};
-    ghost use Rattle.line_model.specs.text.Text.{early};
+    ghost use Rattle.std.specs.Prelude.{◌≡◌, ◌≢◌, ℕ, ◌++◌, ◌≤◌, ◌^◌, List, IfErr, OnOk, length};
+    ghost use Rattle.trace_text.specs.Decided.{NoneDecidedButLast};
     ghost use Rattle.line_model.specs.declared.fault.Fault.{Fault as AnyFault};
 
     /// Since it and its `O` were the first two, it was fed this text, and refused none of it.
@@ -20,6 +20,9 @@ pub trait Consumer<O> {
 
     /// A text that begins so may be fed.
     ghost expects: { List ℕ → Type 0 };
+
+    /// No more of the last bytes that it was fed may show a faulty line.
+    ghost lag: { ℕ };
 
     /// How many bytes it was fed.
     ghost size: { Self → ℕ };
@@ -36,13 +39,17 @@ pub trait Consumer<O> {
             → IfErr result (refused first start self.new out.new text chunk.now) }
         ensures kinds { IfErr result (λ fault. fault ≢ Fault.Read) };
 
-    /// No line of what it was fed is known to be faulty.
+    /// No line of what it was fed is known to be faulty, except for those of the last bytes.
     ghost sound: { (first : Self) (start : O) (now : Self) (out : O) (text : List ℕ)
-        → was_fed first start now out text → early text ≡ None };
+        → was_fed first start now out text → NoneDecidedButLast lag text };
 
     /// It counts the bytes of the text.
     ghost sized: { (first : Self) (start : O) (now : Self) (out : O) (text : List ℕ)
         → was_fed first start now out text → size now ≡ length text };
+
+    /// It is fed no more than a text may have.
+    ghost few: { (first : Self) (start : O) (now : Self) (out : O) (text : List ℕ)
+        → was_fed first start now out text → length text ≤ 2 ^ 30 };
 }
 
 /// Feeds all that a source gives, each read before the next. It stops at the first refusal, and with `Fault::Read` where
@@ -54,10 +61,10 @@ pub fn read_to_end<O, T: Consumer<O>, S: Source>(
 ) -> Result<(), Fault>
     requires nothing { T.was_fed consumer.old out.old consumer.old out.old [] }
     requires expected { MayBeFed (S.left source.old) T.expects }
-    ensures whole { OnOk result (IsFedAll (S.left source.old) (S.left source.new)
+    ensures whole { OnOk result (IsFedAll T.lag (S.left source.old) (S.left source.new)
         (S.before source.new) (T.was_fed consumer.old out.old consumer.new out.new)) }
     // At a refusal all was fed that the source gave before its last call.
-    ensures stopped { IfErr result (IsFedUpTo (S.left source.old) (S.left source.new)
+    ensures stopped { IfErr result (IsFedUpTo T.lag (S.left source.old) (S.left source.new)
         (S.before source.new) (T.was_fed consumer.old out.old consumer.new out.new)
         (T.refused consumer.old out.old consumer.new out.new)) }
     ensures read_failed { result ≡ Err Fault.Read → S.failures source.old < S.failures source.new }

@@ -17,10 +17,10 @@ use std::alloc::{AllocError, Allocator};
 use std::marker::Model;
 
 /// The bytes that a text may have.
-const TEXT_LIMIT: u32 = 1 << 30;
+pub const TEXT_LIMIT: u32 = 1 << 30;
 
 /// The bytes that a line may have without its LF.
-const LINE_LIMIT: usize = 8500;
+pub const LINE_LIMIT: usize = 8500;
 
 /// A reader of a trace text, which is fed in chunks.
 ///
@@ -588,4 +588,3 @@ impl<A: Allocator + Clone> Lines<A> {
 }
 
 pub mod block;
-pub mod judging;

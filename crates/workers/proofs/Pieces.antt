@@ -1,8 +1,10 @@
 -- Pieces that a witness knows, and their reports.
-use Rattle.std.proofs.Common.{◌≡◌, ℕ, suc, ◌+◌, zero, List, [], ◌∷◌, ◌++◌, Some, length, ap, sym, refl, ◌∙◌, subst, arith}
+use Rattle.std.proofs.Common.{◌≡◌, ℕ, suc, ◌+◌, zero, List, [], ◌∷◌, ◌++◌, Some, length, map, ap, sym, refl, ◌∙◌, subst, arith}
 use Rattle.std.specs.Prelude.{All, slice_get}
 use Rattle.line_model.specs.basics.Records.{Piece}
-use Rattle.line_model.specs.work.Book.{IsValue}
+use Rattle.std.proofs.lemmas.List.{map-append}
+use Rattle.line_model.specs.pieces.Plans.{value}
+use Rattle.line_model.specs.work.Book.{KnownPlan, IsPlanned, IsValue}
 use Rattle.line_model.specs.basics.Records.{PieceReport}
 use Rattle.line_model.specs.work.Work.{numbers_of}
 use Rattle.line_model.proofs.Posts.{value_is}
@@ -52,3 +54,17 @@ fed-one fed (x ∷ xs) p (suc k) all e = fed-one fed xs p k (λ j d lt. all (suc
 -- what a witness vouches for is the value of a piece that was fed
 pub value-of-fed : (fed pieces : List Piece) (r : PieceReport) → All (IsFed fed) pieces → IsValueOfOne pieces r → IsValue (Some fed) r
 value-of-fed fed pieces r all v = subst (IsValue (Some fed)) (sym v.2) (value_is (Some fed) v.0 (refl, fed-one fed pieces v.0 v.1.0 all v.1.1))
+
+-- the values of pieces, and of one more
+pub value_more : (rs : List PieceReport) (r : PieceReport) (ps : List Piece) (p : Piece) → rs ≡ map value ps → r ≡ value p → rs ++ r ∷ [] ≡ map value (ps ++ p ∷ [])
+value_more rs r ps p all one = (λ i. all i ++ one i ∷ []) ∙ sym (map-append value ps (p ∷ []))
+
+pub values_are : (plan : KnownPlan) (ps : List Piece) → All (λ p. IsPlanned plan p.id p) ps → All (IsValue plan) (map value ps)
+values_are plan [] all k d lt = absurd (omega arith)
+values_are plan (p ∷ ps) all zero d lt = value_is plan p (all 0 p (omega arith))
+values_are plan (p ∷ ps) all (suc k) d lt = values_are plan ps (λ j q below. all (suc j) q (omega arith)) k d (omega arith)
+
+pub values_of : (pieces ps : List Piece) → All (HasPiece pieces) ps → All (IsValueOfOne pieces) (map value ps)
+values_of pieces [] all k d lt = absurd (omega arith)
+values_of pieces (p ∷ ps) all zero d lt = (p, all 0 p (omega arith), refl)
+values_of pieces (p ∷ ps) all (suc k) d lt = values_of pieces ps (λ j q below. all (suc j) q (omega arith)) k d (omega arith)

@@ -1,17 +1,22 @@
 -- What is known of the whole once all workers were joined.
 use Rattle.std.specs.Prelude.{◌≡◌, ℕ, List, Some, length, vec_len, MatchResult}
+use Rattle.std.specs.List.{flat_map}
 use Rattle.line_model.specs.declared.fault.Fault.TheVariants.{Memory}
-use Rattle.line_model.specs.basics.Records.{Piece}
+use Rattle.line_model.specs.basics.Records.{Piece, PieceReport}
 use Rattle.line_model.specs.work.Book.{KnownPlan, AreOf, totals_of, sum_of}
 use Rattle.workers.specs.declared.gathering.Gathered.{Gathered}
 use Rattle.workers.specs.declared.whole.Worked.{Worked}
 
+-- the reports of all bundles
+abbrev pub reports_of : {A : Type 0} → Gathered A (List PieceReport) → List PieceReport
+reports_of g = flat_map (λ ps. ps) g.reports.items
+
 -- as many reports as pieces were fed, each the value of another piece of the plan, and of another one that was fed; the totals are theirs, and those of the shares, of which each worker has one
-pub record IsWhole {A : Type 0} (plan : KnownPlan) (workers : ℕ) (fed : List Piece) (g : Gathered A) : Type 0 where
-  pub posted : AreOf plan g.reports.items
-  pub of_fed : AreOf (Some fed) g.reports.items
-  pub number : length g.reports.items ≡ length fed
-  pub sums : g.totals ≡ totals_of g.reports.items
+pub record IsWhole {A : Type 0} (plan : KnownPlan) (workers : ℕ) (fed : List Piece) (g : Gathered A (List PieceReport)) : Type 0 where
+  pub posted : AreOf plan (reports_of g)
+  pub of_fed : AreOf (Some fed) (reports_of g)
+  pub number : length (reports_of g) ≡ length fed
+  pub sums : g.totals ≡ totals_of (reports_of g)
   pub of_shares : g.totals ≡ sum_of g.shares.items
   pub each : vec_len g.shares ≡ workers
 

@@ -93,11 +93,16 @@ pub fn feed_piece<P: Plan, A: Allocator + Copy, R: Wait + Clock>(
 /// A bundle has no more rows than this, or is one piece.
 const MOST_ROWS: usize = 500;
 
+/// The pieces of a list with no more pieces go through the queue one by one, so that each worker has work of a short trace.
+const FEW_PIECES: usize = 64;
+
 /// Pieces that are to go through the queue together, and how many rows they have.
 #[derive(Drop)]
 struct Waiting<A: Allocator> {
     pieces: Vec<Piece<A>, A>,
     rows: usize,
+    /// Whether each piece goes by itself.
+    one_by_one: bool,
 }
 
 /// Feeds the pieces that wait.
@@ -116,6 +121,7 @@ fn feed_waiting<P: Plan, A: Allocator + Copy, R: Wait + Clock>(
     let none = Waiting {
         pieces: Vec::new(*waiting.pieces.allocator()),
         rows: 0,
+        one_by_one: waiting.one_by_one,
     };
     if waiting.pieces.is_empty() {
         return none;
@@ -149,7 +155,8 @@ fn push_waiting<P: Plan, A: Allocator + Copy, R: Wait + Clock>(
     }
 }
 
-/// Lets one more piece wait. Those before it are fed first where all of them have too many rows together.
+/// Lets one more piece wait. Those before it are fed first where pieces go one by one, or where all of them have too many
+/// rows together.
 fn add_waiting<P: Plan, A: Allocator + Copy, R: Wait + Clock>(
     rt: &R,
     work: &Work<P, A>,
@@ -162,15 +169,16 @@ fn add_waiting<P: Plan, A: Allocator + Copy, R: Wait + Clock>(
     requires open { pass.old.record_of.ends ≡ 0 }
     ensures fed { FeedsFirst pass.old (waiting.pieces.items ++ piece ∷ []) result.pieces.items pass.new }
 {
-    if waiting.rows.saturating_add(piece.items.len()) > MOST_ROWS {
+    let rows = waiting.rows.saturating_add(piece.items.len());
+    if waiting.one_by_one || rows > MOST_ROWS {
         let none = feed_waiting(rt, work, waiting, pass);
         return push_waiting(rt, work, none, piece, pass);
     }
     push_waiting(rt, work, waiting, piece, pass)
 }
 
-/// Feeds the plan's next pieces, in order; those that have few rows go together. All of them are fed when it returns, so
-/// a piece waits only for the others of this list.
+/// Feeds the plan's next pieces, in order. Of a list of more than 64 pieces, those that have few rows go together. All of
+/// them are fed when it returns, so a piece waits only for the others of this list.
 pub fn feed_pieces<P: Plan, A: Allocator + Copy, R: Wait + Clock>(
     rt: &R,
     work: &Work<P, A>,
@@ -188,6 +196,7 @@ pub fn feed_pieces<P: Plan, A: Allocator + Copy, R: Wait + Clock>(
     let mut waiting = Waiting {
         pieces: Vec::new(*pieces.allocator()),
         rows: 0,
+        one_by_one: pieces.len() <= FEW_PIECES,
     };
     for piece in pieces {
         waiting = add_waiting(rt, work, waiting, piece, pass);

@@ -1,40 +1,42 @@
-//! What a worker does with a piece, and beside the pieces.
+//! What a worker does with a bundle of pieces, and beside the bundles.
 
-ghost use Rattle.std.specs.Prelude.{◌≡◌, ◌+◌, OnOk, IfErr};
+ghost use Rattle.std.specs.Prelude.{◌≡◌, ◌+◌, All, OnOk, IfErr, length};
 ghost use Rattle.line_model.specs.work.Book.{IsPlanned};
 ghost use Rattle.workers.specs.Vouching.{HasPiece};
 
 use crate::gate::Gate;
 use crate::witness::{PieceWitness, QueueName};
 use line_model::fault::Fault;
-use line_model::piece::{Piece, Plan};
+use line_model::piece::Plan;
+use report_merge::reports::BundleReport;
 use shared_work::findings::{Ledgers, LockedPosts, Share};
-use shared_work::queue::{Work, WorkerPass};
+use shared_work::queue::{Bundle, Work, WorkerPass};
 use std::alloc::{Allocator, Global};
 use std::marker::PhantomData;
 use std::sync::Wait;
 
-/// Handles the pieces of all workers, each with a share of its own.
+/// Handles the bundles of all workers, each with a share of its own.
 pub trait Handler<P: Plan, A: Allocator, L: Ledgers> {
     ghost use Rattle.shared_work.specs.queue.Passes.{QueueId};
 
-    /// It handles pieces of this queue.
+    /// It handles bundles of this queue.
     ghost handles: { Self → QueueId → Type 0 };
 
-    /// Runs a piece that was taken by this pass, and posts its report, or wants memory.
+    /// Runs the pieces of a bundle that was taken by this pass, and posts their reports. Fails only where memory is
+    /// refused.
     fn handle<R: Wait>(
         &self,
         rt: &R,
         alloc: A,
-        piece: &Piece<A>,
+        bundle: &Bundle<A>,
         pass: &mut WorkerPass<A>,
         share: &mut Share<L>,
     ) -> Result<(), Fault>
-        requires planned { IsPlanned P.pieces piece.now.id piece.now }
+        requires planned { All (λ p. IsPlanned P.pieces p.id p) bundle.now }
         requires queue { handles self.now pass.old.queue }
-        requires taken { HasPiece pass.old.pieces piece.now }
+        requires taken { All (HasPiece pass.old.pieces) bundle.now }
         ensures same { pass.new ≡ pass.old }
-        ensures posted { OnOk result (share.new.posts ≡ share.old.posts + 1) }
+        ensures posted { OnOk result (share.new.posts ≡ share.old.posts + length bundle.now) }
         ensures refused { IfErr result (λ fault. fault ≡ Fault.Memory) };
 
     /// Does some other work, if some waits, and says whether it did.
@@ -43,11 +45,11 @@ pub trait Handler<P: Plan, A: Allocator, L: Ledgers> {
     }
 }
 
-/// Runs pieces by a gate, and posts their reports to a book, each with a witness of its piece.
+/// Runs the pieces of bundles by a gate, and posts the reports of a bundle together, with a witness of its pieces.
 #[derive(Drop)]
 pub struct Posting<'a, 'w, P: Plan, L: Ledgers + QueueName, A: Allocator, G> {
     pub work: &'w Work<P, A>,
-    pub locked_posts: &'a LockedPosts<P, L, A, PieceWitness<'w, P, L, A>>,
+    pub locked_posts: &'a LockedPosts<P, L, A, PieceWitness<'w, P, L, A>, BundleReport<A>>,
     pub gate: &'a G,
 }
 
@@ -61,22 +63,22 @@ impl<'a, 'w, P: Plan, L: Ledgers + QueueName, A: Allocator + Copy, G: Gate> Hand
         &self,
         rt: &R,
         alloc: A,
-        piece: &Piece<A>,
+        bundle: &Bundle<A>,
         pass: &mut WorkerPass<A>,
         share: &mut Share<L>,
     ) -> Result<(), Fault> {
-        let mut report = self.gate.run(alloc, piece)?;
+        let mut reports = self.gate.run_bundle(alloc, bundle)?;
         for _ in rt.forever() {
-            // A report that is answered as posted twice is posted again.
+            // Reports that are answered as posted twice are posted again.
             let witness = PieceWitness {
                 work: self.work,
                 witness: self.work.witness_of(pass),
                 name: PhantomData,
             };
-            match self.locked_posts.post(rt, report, share, witness) {
+            match self.locked_posts.post(rt, reports, share, witness) {
                 Ok(()) => return Ok(()),
                 Err((_, Fault::Memory)) => return Err(Fault::Memory),
-                Err((back, _)) => report = back,
+                Err((back, _)) => reports = back,
             }
         }
         unreachable!()

@@ -8,6 +8,7 @@ use crate::handler::Handler;
 use crate::worker::{Finishes, WorkerOutcome, work_on};
 use line_model::fault::Fault;
 use line_model::piece::Plan;
+use report_merge::reports::Reports;
 use shared_work::findings::{Book, Ledgers, Share, Witness};
 use shared_work::queue::{FeederPass, Work, WorkerPass};
 use std::alloc::{Allocator, Global};
@@ -49,10 +50,10 @@ impl<'w, P: Plan, L: Ledgers, A: Allocator> Model for ReadyWorkers<'w, P, L, A> 
 }
 
 /// So many workers, each with a pass of the queue and a share of the book; or want of memory.
-pub fn ready_workers<'w, P: Plan, L: Ledgers, A: Allocator + Copy, N: Witness>(
+pub fn ready_workers<'w, P: Plan, L: Ledgers, A: Allocator + Copy, N: Witness, T: Reports<A>>(
     alloc: A,
     work: &'w Work<P, A>,
-    book: &mut Book<P, L, A, N>,
+    book: &mut Book<P, L, A, N, T>,
     pass: FeederPass<A>,
     workers: usize,
 ) -> Result<ReadyWorkers<'w, P, L, A>, Fault>

@@ -13,6 +13,7 @@ use crate::starting::ready_workers;
 use crate::witness::{PieceWitness, QueueName};
 use line_model::fault::Fault;
 use line_model::piece::Plan;
+use report_merge::reports::BundleReport;
 use shared_work::findings::{Blanks, Book, Ledgers, Share};
 use shared_work::queue::{FeederPass, Work};
 use std::alloc::{Allocator, Global};
@@ -36,13 +37,13 @@ pub struct Crew<'a, G> {
 #[derive(Drop)]
 pub struct Worked<T, A: Allocator = Global> {
     pub task: T,
-    pub gathered: Result<Gathered<A>, Fault>,
+    pub gathered: Result<Gathered<A, BundleReport<A>>, Fault>,
 }
 
 /// What the workers made, from the book and what became of their run.
 fn gather_ran<'w, P: Plan, L: Ledgers + QueueName, A: Allocator + Copy, T: Drop>(
     alloc: A,
-    book: Book<P, L, A, PieceWitness<'w, P, L, A>>,
+    book: Book<P, L, A, PieceWitness<'w, P, L, A>, BundleReport<A>>,
     ran: RunOutcome<T, Share<L>, A>,
 ) -> Worked<T, A>
     requires queue { ran.pass.queue ≡ L.queue }
@@ -86,7 +87,7 @@ fn work_with<
     T: Feed<P, A> + Drop,
 >(
     rt: &R,
-    mut book: Book<P, L, A, PieceWitness<'w, P, L, A>>,
+    mut book: Book<P, L, A, PieceWitness<'w, P, L, A>, BundleReport<A>>,
     queue: NewQueue<'w, P, A>,
     crew: Crew<'_, G>,
     task: T,
@@ -145,7 +146,7 @@ fn work_in<
         mut pass,
     } = queue;
     let witness = PieceWitness::<P, L, A>::new(work, &mut pass);
-    let book = Book::<P, L, A, PieceWitness<P, L, A>>::new(alloc, blanks, witness);
+    let book = Book::<P, L, A, PieceWitness<P, L, A>, BundleReport<A>>::new(alloc, blanks, witness);
     work_with(rt, book, NewQueue { alloc, work, pass }, crew, task)
 }
 

@@ -72,7 +72,7 @@ function showDetail(row) {
   place("detail").hidden = false;
   place("detail").replaceChildren(
     make("div", { class: "section-head" },
-      make("h3", {}, `Packet ${count(row.packet)}: ${typeName(row.type)}, ${arrow}`),
+      make("h3", {}, `${upper(rowName(row))}: ${typeName(row.type)}, ${arrow}`),
       make("div", { class: "tools" },
         make("a", { class: "button", href: `#packets/${row.packet}` }, "in the list of all packets"),
         make("button", { type: "button", click: closeDetail }, "close"))),

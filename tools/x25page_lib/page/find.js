@@ -1,6 +1,15 @@
-// The find box at the top: the number of a packet leads to it, and "call 4" or "channel 3" to a ladder.
+// The find box at the top: the number of a packet or of its frame leads to it, and "call 4" or "channel 3" to a ladder.
 
+const FOUND_BY = NUMBERED_BY.toLowerCase();
 const SOUGHT = /^\s*(?:(packet|frame|call|channel)\s+)?([\d,]+)\s*$/i;
+
+// Words on a packet that is not here: where the page leaves packets out, also the command that looks for it.
+function notFound(name, rest, wanted) {
+  const isWhole = !Object.values(facts.left_out).some(Boolean);
+  if (isWhole) return { words: rest };
+  return { words: `${name} is left out to keep the page small. This command shows it, if it is there: `,
+    line: command(`--annotate | grep -A 3 '${wanted}'`) };
+}
 
 function foundPacket(number) {
   const found = packetOf(number);
@@ -9,15 +18,14 @@ function foundPacket(number) {
   if (!first || number < first || number > last) {
     return { words: first ? `The packets are ${count(first)} to ${count(last)}.` : "The trace has no packets." };
   }
-  const isWhole = !Object.values(facts.left_out).some(Boolean);
-  if (isWhole) return { words: `The trace has no packet ${count(number)}.` };
-  return { words: `Packet ${count(number)} is left out to keep the page small. This command shows it, if it is there: `,
-    line: command(`--annotate | grep -A 3 '^${number} '`) };
+  return notFound(`Packet ${count(number)}`, `The trace has no packet ${count(number)}.`, `^${number} `);
 }
 
 function foundFrame(number) {
   const found = packetOfFrame(number);
-  return found ? { part: `${found.key}/${found.number}` } : { words: `No packet of the page is of frame ${number}.` };
+  if (found) return { part: `${found.key}/${found.number}` };
+  if (!hasFrames) return { words: "The trace says no frames." };
+  return notFound(`Frame ${count(number)}`, `No packet of the trace is of frame ${count(number)}.`, `^#@ [^ ]* ${number}$`);
 }
 
 function foundLadder(key) {
@@ -38,8 +46,8 @@ const FOUND = { packet: foundPacket, frame: foundFrame, call: (number) => foundL
 // Where a text leads, or words on why it leads nowhere. A number alone is that of a frame, where packets have frames.
 function found(text) {
   const match = SOUGHT.exec(text);
-  if (!match) return { words: "Give the number of a packet, or call 4, or channel 3." };
-  const what = (match[1] || (hasFrames() ? "frame" : "packet")).toLowerCase();
+  if (!match) return { words: `Give the number of a ${FOUND_BY}, or call 4, or channel 3.` };
+  const what = (match[1] || FOUND_BY).toLowerCase();
   return FOUND[what](Number(match[2].replaceAll(",", "")));
 }
 
@@ -50,8 +58,8 @@ function find() {
 }
 
 function showFind() {
-  const text = make("input", { type: "search", id: "find-text", size: 12, placeholder: "packet number",
-    "aria-label": "Find a packet by its number, or call 4, or channel 3", "aria-describedby": "find-note",
+  const text = make("input", { type: "search", id: "find-text", size: 12, placeholder: `${FOUND_BY} number`,
+    "aria-label": `Find a ${FOUND_BY} by its number, or call 4, or channel 3`, "aria-describedby": "find-note",
     keydown: (event) => event.key === "Enter" && find(), input: () => place("find-note").replaceChildren() });
   place("find").append(text, make("button", { type: "button", click: find }, "Find"));
 }

@@ -129,7 +129,7 @@ function callFacts(call) {
     fact("from", call.calling ?? "-"), fact("to", call.called ?? "-"),
     fact("direction", word("direction", call.direction, call.direction === "out" ? "outgoing" : "incoming")),
     fact("channel", count(call.channel)),
-    fact("packets", `${count(call.opened)} to ${call.ended ? count(call.ended) : "the end"}`),
+    fact("packets", spanName(call.opened, call.ended)),
     call.start !== null && fact("start", clock(call.start)),
     call.seconds !== null && fact("length", length(call.seconds)),
     fact("data of the DTE", `${count(call.dataT)} (${plural(call.octetsT, "octet")})`),
@@ -199,7 +199,7 @@ function mark(withDetail = true) {
   const item = shown.items.find((it) => it.row && it.row.packet === shown.packet);
   const isMissing = shown.packet !== null && !item && shown.items.length;
   place("ladder-note").textContent = isMissing
-    ? `Packet ${count(shown.packet)} is left out to keep the page small.` : "";
+    ? `${upper(packetName(shown.packet))} is left out to keep the page small.` : "";
   const element = item && place(`row-${shown.packet}`);
   element?.classList.add("chosen");
   makeReachable(element || rows()[0]);

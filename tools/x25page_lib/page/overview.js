@@ -30,7 +30,7 @@ function codeLine([code, name, , counts, first], side, most) {
     make("span", {}, word(codeTopic(code), code, `code ${code}`, "code"), " ", name),
     make("span", { class: "bar-room" }, bar),
     make("b", {}, count(counts[side])),
-    make("a", { href: `#${key}/${packet}` }, `${counts[side] > 1 ? "first at " : ""}packet ${count(packet)}`));
+    make("a", { href: `#${key}/${packet}` }, `${counts[side] > 1 ? "first at " : ""}${packetName(packet)}`));
 }
 
 function tile(value, name, more = "") {
@@ -40,7 +40,7 @@ function tile(value, name, more = "") {
 function tiles() {
   const { sums, peak } = facts;
   const lost = facts.not_counted.reduce((sum, it) => sum + it[1], 0);
-  const atPeak = peak[1] ? `first at packet ${count(peak[1])}` : "no call was up";
+  const atPeak = peak[1] ? `first at ${packetName(peak[1])}` : "no call was up";
   const found = [
     tile(count(sums.packets), sums.packets === 1 ? "packet" : "packets", duration()),
     tile(count(sums.calls), sums.calls === 1 ? "call" : "calls"),

@@ -36,12 +36,10 @@ function packetOf(number) {
   return null;
 }
 
-// The packet of a frame, where rows have frames: the last one, which the frame is the number of.
+// The first packet of a frame, or nothing.
 function packetOfFrame(frame) {
-  return everyPacket().findLast((it) => isRow(it) && (it.item[8] || {}).frame === frame) ?? null;
+  return everyPacket().find((it) => isRow(it) && frameOf(it.number, (it.item[8] || {}).frame) === frame) ?? null;
 }
-
-const hasFrames = () => everyPacket().some((it) => isRow(it) && (it.item[8] || {}).frame !== undefined);
 
 function channelOf(row) {
   const number = row.hex.length >= 4 ? parseInt(row.hex.slice(1, 4), 16) : 0;
@@ -59,12 +57,13 @@ function isListed(it, filter) {
   if (!isRow(it)) return false;
   const row = rowOf(it.item);
   const call = it.key.startsWith("call-") ? Number(it.key.slice(5)) : null;
-  const numbers = { call, channel: channelOf(row), packet: row.packet, code: row.fault?.code };
+  const numbers = { call, channel: channelOf(row), packet: row.packet, frame: rowFrame(row), code: row.fault?.code };
   return filter.takes(numbers, listedTexts(row));
 }
 
 const LIST_COLUMNS = [
-  ["Packet", "number", ({ number, key }) => make("a", { href: `#${key}/${number}` }, count(number))],
+  [NUMBERED_BY, "number", ({ number, key }, row) => make("a", { href: `#${key}/${number}` },
+    shortName(number, rowFrame(row)))],
   ["Time", "number", (it, row) => (row.time === null ? "-" : `+${decimals(row.time)} s`)],
   ["Sent by", "", (it, row) => [SIDES[row.side], row.side === 0 ? " \u2192" : " \u2190"]],
   ["Channel", "number", (it, row) => channelOf(row) ?? "-"],

@@ -132,7 +132,8 @@ function noteLines(lines, at, y) {
 // The number of a packet and its time: before the arrow, or above it in a narrow ladder.
 function numberAndTime(row, at, y, begun) {
   const time = row.time === null ? "" : `+${decimals(row.time - begun)} s`;
-  const name = rowName(row);
+  const frame = rowFrame(row);
+  const name = count(frame || row.packet);
   if (at.isNarrow) {
     return [draw("text", { class: "packet", x: at.number, y: y + at.text }, name,
       draw("tspan", { class: "time", dx: 10 }, time))];
@@ -165,7 +166,7 @@ function drawRow(row, at, y, begun) {
     ...noteLines(lines, at, y),
   ];
   const code = row.fault ? `, code ${row.fault.code}` : "";
-  const name = `Packet ${row.packet}, ${SIDES[row.side]}, ${typeName(row.type)}${code}`;
+  const name = `${upper(rowName(row))}, ${SIDES[row.side]}, ${typeName(row.type)}${code}`;
   return [draw("g", { class: `row ${kind(row)}`, id: `row-${row.packet}`, tabindex: -1, role: "button",
     "aria-label": name, click: () => goTo(`${shown.key}/${row.packet}`) }, parts), height];
 }
@@ -191,7 +192,9 @@ function sumsOf(rows) {
 function gapLines(item) {
   const run = item.run || sumsOf(item.fold);
   const codes = Object.entries(run.findings || {}).map(([code, many]) => `code ${code} ${times(many)}`).join(", ");
-  const what = item.run ? `${plural(run.packets, "packet")} left out, ${count(run.first)} to ${count(run.last)}`
+  const [first, last] = run.frames ?? [];
+  const what = item.run ? `${plural(run.packets, "packet")} left out, ${packetName(run.first, frameOf(run.first, first))} ` +
+    `to ${packetName(run.last, frameOf(run.last, last))}`
     : `${plural(run.packets, "packet")} without a finding${printing.width ? "" : ": click to see them"}`;
   return [what, codes || runText(run)];
 }
@@ -215,7 +218,7 @@ function ladderHead(at) {
     draw("rect", { x: x - 24, y: 6, width: 48, height: 28, rx: 6 }),
     draw("text", { x, y: 25, "text-anchor": "middle" }, name));
   const title = (x, name, anchor) => draw("text", { class: "column", x, y: 25, "text-anchor": anchor }, name);
-  const columns = at.isNarrow ? [] : [title(at.number, "packet", "end"),
+  const columns = at.isNarrow ? [] : [title(at.number, NUMBERED_BY.toLowerCase(), "end"),
     title(at.time, facts.times.length ? "time" : "", "end"), title(at.note, "what it did", "start")];
   const edge = (x) => Math.min(Math.max(x, 25), at.width - 25);
   return draw("svg", { class: "ladder", viewBox: `0 0 ${at.width} 40`, role: "group",

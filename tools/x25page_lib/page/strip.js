@@ -185,13 +185,12 @@ function under(event) {
 }
 
 function underText({ mark, call, restart, packet }) {
-  if (restart !== undefined) return `Packet ${count(packet)} of the ${SIDES[restart]}: a restart`;
-  if (mark) return `Packet ${count(mark[0])} of the ${SIDES[mark[1]]}: code ${mark[3]}. ${mark[5]}`;
+  if (restart !== undefined) return `${upper(packetName(packet))} of the ${SIDES[restart]}: a restart`;
+  if (mark) return `${upper(packetName(mark[0]))} of the ${SIDES[mark[1]]}: code ${mark[3]}. ${mark[5]}`;
   if (!call) return "";
   const found = call.findings ? `; ${plural(call.findings, "finding")}` : "";
-  const packets = `packets ${count(call.opened)} to ${call.ended ? count(call.ended) : "the end"}`;
   const ends = `${call.calling ?? "-"} to ${call.called ?? "-"}`;
-  return `Call ${call.call}: ${ends}, ${packets}, ${plural(call.segments, "segment")}${found}`;
+  return `Call ${call.call}: ${ends}, ${spanName(call.opened, call.ended)}, ${plural(call.segments, "segment")}${found}`;
 }
 
 function go({ mark, call, channel }) {

@@ -25,7 +25,7 @@ class Table {
 
   heading(column, at) {
     const act = () => this.sort(at);
-    const shown = column.word ? word("field", column.word, column.name) : column.name;
+    const shown = column.word ? word(column.topic ?? "field", column.word, column.name) : column.name;
     return make("th", { class: column.style, scope: "col", role: "columnheader" },
       make("button", { type: "button", class: "sort", click: act }, shown));
   }
@@ -117,10 +117,10 @@ function callColumns() {
       show: (it) => word("direction", it.direction, it.direction === "out" ? "DTE" : "DCE") },
     hasTimes ? { name: "Start", style: "number", value: (it) => it.start,
       show: (it) => (it.start === null ? "-" : clock(it.start).slice(hasDates ? 11 : 0).replace(" UTC", "")) }
-      : number("Packets from", (it) => it.opened, { word: "opened" }),
+      : number(`${NUMBERED_BY}s from`, (it) => it.opened, { word: "opened", show: (it) => shortName(it.opened) }),
     hasTimes ? { name: "Length", value: (it) => it.seconds, falls: true, style: "number",
       show: (it) => (it.seconds === null ? "-" : length(it.seconds)) }
-      : number("to", (it) => it.ended, { word: "ended" }),
+      : number("to", (it) => it.ended, { word: "ended", show: (it) => (it.ended === null ? "-" : shortName(it.ended)) }),
     number("Data packets", (it) => it.data, { falls: true }),
     number("Octets", (it) => it.octetsT + it.octetsN, { falls: true }),
     number("Segments", (it) => it.segments, { word: "segments", falls: true }),
@@ -164,8 +164,8 @@ function showCalls() {
 function showFindings() {
   if (!facts.marks.length) return;
   const columns = [
-    { name: "Packet", word: "packet", style: "number", value: (it) => it[0],
-      show: (it) => make("a", { href: `#${it[4]}/${it[0]}` }, count(it[0])) },
+    { name: NUMBERED_BY, ...NUMBER_WORD, style: "number", value: (it) => it[0],
+      show: (it) => make("a", { href: `#${it[4]}/${it[0]}` }, shortName(it[0])) },
     { name: "Side", word: "side", value: (it) => it[1], show: (it) => word("side", LETTERS[it[1]], SIDES[it[1]]) },
     { name: "Code", word: "code", value: (it) => it[3],
       show: (it) => [word(codeTopic(it[3]), it[3], it[3], "code"), " ",
@@ -188,7 +188,7 @@ function showFoundChannels() {
     number("Findings", (it) => it[1] + it[2], { word: "findings", falls: true }),
     number("of the DTE", (it) => it[1], { falls: true }), number("of the DCE", (it) => it[2], { falls: true }),
     { name: "First", value: (it) => it[3], style: "number",
-      show: (it) => make("a", { href: `#${it[4]}/${it[3]}` }, `packet ${count(it[3])}`) },
+      show: (it) => make("a", { href: `#${it[4]}/${it[3]}` }, packetName(it[3])) },
   ];
   const table = new Table("channel-table", columns, facts.found_channels, { link: (it) => `${it[4]}/${it[3]}` });
   place("findings").append(make("h3", {}, "Findings by channel"), make("div", { class: "card flush" }, table.element),
@@ -252,6 +252,7 @@ function showWords() {
     glossary("end", "How calls end", Object.keys(facts.texts.end || {})),
     glossary("parameter", "The PAD parameters of this trace", parameters),
     glossary("header", "The words of the header", facts.numbers.map((it) => it[0])),
+    glossary("term", "Terms", Object.keys(facts.texts.term || {})),
     glossary("field", "The fields of the tables", Object.keys(facts.texts.field || {})),
   ];
   place("words").append(make("h2", {}, "Words"), ...parts.filter(Boolean));

@@ -6,8 +6,8 @@ const ENDS = {
   open: "no answer to the end of the trace",
 };
 
-const packetLink = (key, packet, shown = `packet ${count(packet)}`) =>
-  (packet === null ? "-" : make("a", { href: `#${key}/${packet}` }, shown));
+const packetLink = (key, packet, nameOf = packetName) =>
+  (packet === null ? "-" : make("a", { href: `#${key}/${packet}` }, nameOf(packet)));
 const lengthOf = (seconds) => (seconds === null ? "-" : length(seconds));
 
 // A table with a heading of its own.
@@ -33,7 +33,7 @@ function requestTable() {
 function waitTable() {
   const limits = new Map(facts.use.waited.map((it) => [it[0], it]));
   const columns = [
-    { name: "Packet", style: "number", value: (it) => it[1], show: (it) => packetLink(it[2], it[1], count(it[1])) },
+    { name: NUMBERED_BY, style: "number", value: (it) => it[1], show: (it) => packetLink(it[2], it[1], shortName) },
     { name: "Request", value: (it) => limits.get(it[0])[2] },
     { name: "Where", value: (it) => it[2], show: (it) => keyName(it[2]) },
     number("Channel", (it) => it[3]),

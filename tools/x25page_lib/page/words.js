@@ -127,8 +127,28 @@ const REASONS = {
 };
 const reasonName = (reason) => (Object.hasOwn(REASONS, reason) ? REASONS[reason] : reason.replaceAll("_", " "));
 
-// What a row is called: by its frame, where it has one.
-const rowName = (row) => (row.more.frame === undefined ? count(row.packet) : count(row.more.frame));
+// The frame of a packet, or 0 where it is not known; its row may have it.
+const hasFrames = facts.framed !== null;
+const frameOf = (packet, ofRow) => ofRow ?? facts.frames[packet] ?? (hasFrames && packet >= facts.framed ? packet : 0);
+const rowFrame = (row) => frameOf(row.packet, row.more.frame);
+
+// What a packet is called: by its frame where that is known, with its own number where that is another one.
+function packetName(packet, frame = frameOf(packet)) {
+  const own = `packet ${count(packet)}`;
+  if (!frame) return own;
+  return `frame ${count(frame)}${frame === packet ? "" : ` (${own})`}`;
+}
+
+// The same below a heading that says what the number is of.
+const NUMBERED_BY = hasFrames ? "Frame" : "Packet";
+const NUMBER_WORD = hasFrames ? { word: "frame", topic: "term" } : { word: "packet" };
+function shortName(packet, frame = frameOf(packet)) {
+  if (!frame) return hasFrames ? `packet ${count(packet)}` : count(packet);
+  return frame === packet ? count(frame) : `${count(frame)} (packet ${count(packet)})`;
+}
+
+const rowName = (row) => packetName(row.packet, rowFrame(row));
+const spanName = (first, last) => `${packetName(first)} to ${last ? packetName(last) : "the end"}`;
 
 // A row of the page, by name.
 function rowOf(array) {

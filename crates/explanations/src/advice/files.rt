@@ -1,5 +1,9 @@
 //! Files that are no trace, by their first bytes.
 
+use crate::advice::sentence::quoting_sentence;
+use memchr::memmem;
+use std::alloc::{AllocError, Global};
+
 /// What a file is that begins with some bytes, and what to do with it.
 struct Form {
     magic: &'static [u8],
@@ -136,4 +140,37 @@ pub fn file_advice(text: &[u8]) -> Option<&'static str> {
         }
     }
     None
+}
+
+/// Whether the words of a line are like a header or a row of a trace.
+fn is_like_trace(words: &[u8]) -> bool {
+    match words {
+        [b'0'..=b'9', ..] | [b'X' | b'x', b'2', b'5', ..] => true,
+        _ => memmem::find(words, b"MOD ").is_some(),
+    }
+}
+
+/// Returns that a text is no trace, and how it begins, where its first line that is neither a comment nor blank is like
+/// none of a trace. Fails only when memory is refused.
+pub fn other_text_advice(alloc: Global, text: &[u8]) -> Result<Option<String>, AllocError> {
+    let mut begin: &[u8] = b"";
+    for line in text.split(|byte| *byte == b'\n') {
+        let words = line.trim_ascii();
+        if begin.is_empty() {
+            begin = words;
+        }
+        if !words.is_empty() && !line.starts_with(b"#") {
+            return if is_like_trace(words) {
+                Ok(None)
+            } else {
+                quoting_sentence(
+                    alloc,
+                    "This is no trace: it begins with ",
+                    begin,
+                    "; x25trace reads captures.",
+                )
+            };
+        }
+    }
+    Ok(None)
 }

@@ -1,5 +1,6 @@
 -- What rows say, in two lists: heads, and the octets that are kept one after the other.
-use Rattle.std.specs.Prelude.{ℕ, List, [], ◌∷◌, sum_by, take, drop}
+use Rattle.std.specs.Prelude.{ℕ, List, [], ◌∷◌, ◌++◌, sum_by, take, drop}
+use Rattle.std.specs.List.{flat_map}
 use Rattle.line_model.specs.basics.Records.{Item}
 use Rattle.line_model.specs.declared.items.Head.{Head}
 
@@ -13,3 +14,7 @@ items_of [] octets = []
 items_of (h ∷ hs) octets =
     record { number = h.number; side = h.side; packet = h.packet; length = h.length; octets = take h.kept octets }
     ∷ items_of hs (drop h.kept octets)
+
+-- the rows of all parts, and then of the last one
+abbrev pub all_items : List (List Item) → List Item → List Item
+all_items parts last = flat_map (λ p. p) parts ++ last

@@ -38,19 +38,24 @@ impl<A: Allocator + Copy> Cutter<A> {
         Ok(cutter)
     }
 
-    /// Takes the rows of a stretch: those in order one by one, and the others channel by channel, since the restart
-    /// machine hands each of them on.
-    fn take_stretch(self, stretch: &Stretch<A>, out: &mut Vec<Piece<A>, A>) -> Result<Self, Fault>
+    /// Takes the rows of a stretch: those in order one by one, and the others channel by channel and without a copy,
+    /// since the restart machine hands each of them on.
+    fn take_stretch(self, stretch: Stretch<A>, out: &mut Vec<Piece<A>, A>) -> Result<Self, Fault>
         requires next { (i : AnyInterface) × (rows : List records.Item) × (run : List records.Item)
-            × StandsFor i rows self × HasNext self stretch.now run }
-        ensures taken { (run : List records.Item) → HasNext self stretch.now run
-            → IfOk result (λ cutter. HasTakenAll (stretch.now.kept ++ run) self cutter out.old.items out.new.items) }
+            × StandsFor i rows self × HasNext self stretch run }
+        ensures taken { (run : List records.Item) → HasNext self stretch run
+            → IfOk result (λ cutter. HasTakenAll (stretch.kept ++ run) self cutter out.old.items out.new.items) }
         ensures memory { IfErr result (λ fault. fault ≡ Memory) }
     {
-        let mut items = stretch.items.iter();
-        let kept = items.take_front(stretch.kept);
-        let cutter = self.take_kept(kept, out)?;
-        if stretch.rows == 0 {
+        let Stretch {
+            kept,
+            parts,
+            rows,
+            last,
+            octets: more,
+        } = stretch;
+        let cutter = self.take_kept(kept.iter(), out)?;
+        if rows == 0 {
             return Ok(cutter);
         }
         let Cutter {
@@ -59,18 +64,13 @@ impl<A: Allocator + Copy> Cutter<A> {
             octets,
             ..
         } = cutter;
-        keep_parts(
-            *walk.findings.allocator(),
-            &stretch.parts,
-            items,
-            &mut pieces.rows,
-        )?;
-        walk.packets += stretch.rows;
+        keep_parts(*walk.findings.allocator(), parts, &mut pieces.rows)?;
+        walk.packets += rows;
         Ok(Cutter {
             walk,
             pieces,
-            last: stretch.last,
-            octets: octets + stretch.octets,
+            last,
+            octets: octets + more,
         })
     }
 
@@ -78,12 +78,12 @@ impl<A: Allocator + Copy> Cutter<A> {
     /// known whole with them. After a refusal, which is for memory, no cutter is left.
     pub fn take_stretches(
         self,
-        stretches: &[Stretch<A>],
+        stretches: Vec<Stretch<A>, A>,
         out: &mut Vec<Piece<A>, A>,
     ) -> Result<Self, Fault>
         requires next { (i : AnyInterface) × (rows : List records.Item) × (items : List records.Item)
-            × StandsFor i rows self × IsSplit self.line items stretches.now × MayCome self items }
-        ensures taken { (items : List records.Item) → IsSplit self.line items stretches.now
+            × StandsFor i rows self × IsSplit self.line items stretches.items × MayCome self items }
+        ensures taken { (items : List records.Item) → IsSplit self.line items stretches.items
             → MayCome self items → IfOk result (λ cutter. HasTakenAll items self cutter out.old.items out.new.items) }
         ensures memory { IfErr result (λ fault. fault ≡ Memory) }
     {

@@ -1,8 +1,9 @@
 //! The lock round the posts, and the shares.
-ghost use Rattle.std.specs.Prelude.{◌≡◌, ℕ, ◌+◌, ◌^◌, ◌<◌, ◌≤◌, ◌⊎◌, OnOk, IfErr, vec_len, List, All};
+ghost use Rattle.std.specs.Prelude.{◌≡◌, ℕ, ◌+◌, ◌^◌, ◌<◌, ◌≤◌, OnOk, IfErr, vec_len, List, All};
+ghost use Rattle.std.specs.List.{flat_map};
 ghost use Rattle.line_model.specs.basics.Records as records;
 ghost use Rattle.line_model.specs.work.Book.{IsValue, totals_of, AreOf, IsWithin, sum_of};
-ghost use Rattle.shared_work.specs.findings.Sums.{with_report};
+ghost use Rattle.shared_work.specs.findings.Sums.{with_reports, IsPostFault};
 
 use crate::findings::ledgers::{Blanks, Ledgers};
 use crate::findings::posts::Posts;
@@ -13,6 +14,7 @@ use crate::findings::witness::{AnyReport, Witness};
 use line_model::fault::Fault;
 use line_model::piece::{PieceReport, Plan};
 use line_model::totals::Totals;
+use report_merge::reports::Reports;
 use std::alloc::{Allocator, Global};
 use std::collections::BTreeSet;
 use std::marker::{Model, PhantomData};
@@ -23,19 +25,31 @@ pub const MOST_SHARES: u64 = 4096;
 
 /// The lock round the posts, which is all of a book that threads share.
 #[derive(Drop)]
-pub struct LockedPosts<P: Plan, L: Ledgers, A: Allocator = Global, W: Witness = AnyReport> {
-    locked: Mutex<Posts<P, L, A, W>>,
+pub struct LockedPosts<
+    P: Plan,
+    L: Ledgers,
+    A: Allocator = Global,
+    W: Witness = AnyReport,
+    T: Reports<A> = PieceReport<A>,
+> {
+    locked: Mutex<Posts<P, L, A, W, T>>,
 }
 
-/// The posts under their lock, and the parts that were not given. Contracts see how many shares were given.
+/// The posts under their lock, each the report of a piece or of a bundle, and the parts that were not given. Contracts see how many shares were given.
 #[derive(Drop)]
-pub struct Book<P: Plan, L: Ledgers, A: Allocator = Global, W: Witness = AnyReport> {
-    locked_posts: LockedPosts<P, L, A, W>,
+pub struct Book<
+    P: Plan,
+    L: Ledgers,
+    A: Allocator = Global,
+    W: Witness = AnyReport,
+    T: Reports<A> = PieceReport<A>,
+> {
+    locked_posts: LockedPosts<P, L, A, W, T>,
     spares: Spares<L>,
     given: u64,
 }
 
-impl<P: Plan, L: Ledgers, A: Allocator, W: Witness> Model for Book<P, L, A, W> {
+impl<P: Plan, L: Ledgers, A: Allocator, W: Witness, T: Reports<A>> Model for Book<P, L, A, W, T> {
     ghost Value = { ℕ };
 
     ghost view = { λ s. s.given };
@@ -43,10 +57,10 @@ impl<P: Plan, L: Ledgers, A: Allocator, W: Witness> Model for Book<P, L, A, W> {
     ghost invariant = { λ s. s.spares + s.given ≡ 4096 };
 }
 
-impl<P: Plan, L: Ledgers, A: Allocator, W: Witness> Book<P, L, A, W> {
+impl<P: Plan, L: Ledgers, A: Allocator, W: Witness, T: Reports<A>> Book<P, L, A, W, T> {
     /// A book without posts, over four ledgers of 4,096 parts, one part a share, with a witness who will vouch for them.
     /// It takes no memory.
-    pub fn new(alloc: A, blanks: Blanks, witness: W) -> Book<P, L, A, W>
+    pub fn new(alloc: A, blanks: Blanks, witness: W) -> Book<P, L, A, W, T>
     where
         A: Copy,
         requires names { blanks ≡ L.names }
@@ -55,7 +69,7 @@ impl<P: Plan, L: Ledgers, A: Allocator, W: Witness> Book<P, L, A, W> {
         let (sums, spares) = Sums::<L>::open(blanks);
         let empty = Posts {
             witness,
-            reports: Vec::new(alloc),
+            posts: Vec::new(alloc),
             ids: BTreeSet::new(alloc),
             sums,
             plan: PhantomData,
@@ -80,18 +94,18 @@ impl<P: Plan, L: Ledgers, A: Allocator, W: Witness> Book<P, L, A, W> {
     }
 
     /// What threads share.
-    pub fn locked_posts(&self) -> &LockedPosts<P, L, A, W> {
+    pub fn locked_posts(&self) -> &LockedPosts<P, L, A, W, T> {
         &self.locked_posts
     }
 
-    /// The totals and the reports, once every share is back, and who vouches for the reports. Each total is the sum over
+    /// The totals and the posts, once every share is back, and who vouches for their reports. Each total is the sum over
     /// the shares.
-    pub fn gather(self, shares: Vec<Share<L>, A>) -> (Totals, Vec<PieceReport<A>, A>, W)
+    pub fn gather(self, shares: Vec<Share<L>, A>) -> (Totals, Vec<T, A>, W)
         requires all { vec_len shares ≡ self }
         ensures shares { result.0 ≡ sum_of shares.items }
-        ensures reports { AreOf P.pieces result.1.items }
-        ensures vouched { All (W.vouches result.2) result.1.items }
-        ensures totals { result.0 ≡ totals_of result.1.items }
+        ensures reports { AreOf P.pieces (flat_map T.reports result.1.items) }
+        ensures vouched { All (W.vouches result.2) (flat_map T.reports result.1.items) }
+        ensures totals { result.0 ≡ totals_of (flat_map T.reports result.1.items) }
     {
         let Book {
             locked_posts,
@@ -107,25 +121,25 @@ impl<P: Plan, L: Ledgers, A: Allocator, W: Witness> Book<P, L, A, W> {
     }
 }
 
-impl<P: Plan, L: Ledgers, A: Allocator, W: Witness> LockedPosts<P, L, A, W> {
-    /// Adds a report for which a witness vouches to the posts by `Posts::add`, and to the share. It comes back where a
-    /// report of its id stands, or where memory ran out, and no number has changed then.
+impl<P: Plan, L: Ledgers, A: Allocator, W: Witness, T: Reports<A>> LockedPosts<P, L, A, W, T> {
+    /// Adds a post for whose reports a witness vouches by `Posts::add`, and to the share. It comes back where an id of its
+    /// reports stands among the posts, or where memory ran out, and no number has changed then.
     pub fn post<R: Wait>(
         &self,
         rt: &R,
-        report: PieceReport<A>,
+        post: T,
         share: &mut Share<L>,
         witness: W,
-    ) -> Result<(), (PieceReport<A>, Fault)>
+    ) -> Result<(), (T, Fault)>
     where
         A: Clone,
-        requires value { IsValue P.pieces report }
-        requires vouched { W.vouches witness report }
-        ensures share { OnOk result (share.new ≡ with_report share.old report) }
-        ensures refused { IfErr result (λ e. (e.0 ≡ report) × (share.new ≡ share.old)) }
-        ensures faults { IfErr result (λ e. (e.1 ≡ Fault.Double report.id) ⊎ (e.1 ≡ Fault.Memory)) }
+        requires values { All (IsValue P.pieces) (T.reports post) }
+        requires vouched { All (W.vouches witness) (T.reports post) }
+        ensures share { OnOk result (share.new ≡ with_reports share.old (T.reports post)) }
+        ensures refused { IfErr result (λ e. (e.0 ≡ post) × (share.new ≡ share.old)) }
+        ensures faults { IfErr result (λ e. IsPostFault e.1 (T.reports post)) }
     {
-        self.locked.lock(rt).add(report, share, witness)
+        self.locked.lock(rt).add(post, share, witness)
     }
 
     /// The totals of some of the plan's pieces, each counted once. No number is below that of the share.

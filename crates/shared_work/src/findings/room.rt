@@ -1,39 +1,84 @@
-//! Room for one more report.
-ghost use Rattle.std.specs.Prelude.{◌≡◌, ◌<◌, ◌⊎◌, ◌↔◌, true, false, OnOk, OnErr, IfErr, vec_len, vec_capacity};
-ghost use Rattle.std.specs.BTreeSet.{contains, Updates, IsUnchanged};
+//! Room for one more post, and its ids.
+ghost use Rattle.std.specs.Prelude.{◌≡◌, ℕ, ◌<◌, ◌≤◌, true, false, take, OnOk, OnErr, IfErr, IfSome, IfNone, length, vec_len, vec_capacity};
+ghost use Rattle.std.specs.BTreeSet.{contains};
 ghost use Rattle.std.specs.Ordering.{nat_cmp};
+ghost use Rattle.line_model.specs.work.Book.{times};
+ghost use Rattle.shared_work.specs.findings.Sums.{once_known, AreFew, HasNoted, IsNoteRefusal};
 
 use line_model::fault::Fault;
-use line_model::piece::PieceReport;
 use std::alloc::Allocator;
 use std::collections::BTreeSet;
 
-/// Makes room for a report of this id and notes the id. It is refused where the id is known, or where memory ran out,
-/// and no id is noted then.
-pub fn make_room<A: Allocator>(
-    reports: &mut Vec<PieceReport<A>, A>,
-    ids: &mut BTreeSet<u32, A>,
-    id: u32,
-) -> Result<(), Fault>
-where
-    A: Clone,
-    ensures same { reports.new.items ≡ reports.old.items }
-    ensures room { OnOk result (vec_len reports.new < vec_capacity reports.new) }
-    ensures unknown { OnOk result (contains nat_cmp ids.old id ≡ false) }
-    ensures noted { OnOk result (Updates nat_cmp ids.old ids.new id true) }
-    ensures refused { OnErr result (IsUnchanged ids.old ids.new) }
-    ensures double { IfErr result (λ f. (f ≡ Fault.Double id)
-        ↔ (contains nat_cmp ids.old id ≡ true)) }
-    ensures faults { IfErr result (λ f. (f ≡ Fault.Double id) ⊎ (f ≡ Fault.Memory)) }
+/// The first of some ids that is known.
+fn first_known<A: Allocator>(known: &BTreeSet<u32, A>, ids: &[u32]) -> Option<u32>
+    ensures some { IfSome result (λ id. IsNoteRefusal (Fault.Double id) known.now ids.now) }
+    ensures none { IfNone result (IsNoteRefusal Fault.Memory known.now ids.now) }
+    ensures few { AreFew ids.now }
 {
-    if ids.contains(&id) {
+    for id in ids {
+        if known.contains(id) {
+            return Some(*id);
+        }
+    }
+    None
+}
+
+/// Notes ids up to the first that can't be noted. Where there is one, returns how many were noted, and why no more.
+fn note_each<A: Allocator + Clone>(
+    known: &mut BTreeSet<u32, A>,
+    ids: &[u32],
+) -> Result<(), (usize, Fault)>
+    requires unknown { IsNoteRefusal Fault.Memory known.old ids.now }
+    ensures noted { OnOk result (HasNoted known.old ids.now known.new) }
+    ensures some { IfErr result (λ e. (e.0 ≤ length ids.now) × HasNoted known.old (take e.0 ids.now) known.new) }
+    ensures refused { IfErr result (λ e. IsNoteRefusal e.1 known.old ids.now) }
+{
+    for (index, id) in ids.iter().enumerate() {
+        match known.insert(*id) {
+            Ok(true) => {}
+            Ok(false) => return Err((index, Fault::Double(*id))),
+            Err(_) => return Err((index, Fault::Memory)),
+        }
+    }
+    Ok(())
+}
+
+/// Forgets ids, each of which is known.
+fn forget<A: Allocator>(known: &mut BTreeSet<u32, A>, ids: &[u32])
+    requires known { (x : ℕ) → times x ids.now ≤ once_known known.old x }
+    ensures { HasNoted known.new ids.now known.old }
+{
+    for id in ids {
+        known.remove(id);
+    }
+}
+
+/// Makes room for a post with these ids, and notes them. Where one of them is known or stands twice, or memory is
+/// refused, the ids that are known stay the same.
+pub fn make_room<T, A: Allocator + Clone>(
+    posts: &mut Vec<T, A>,
+    known: &mut BTreeSet<u32, A>,
+    ids: &[u32],
+) -> Result<(), Fault>
+    ensures same { posts.new.items ≡ posts.old.items }
+    ensures few { AreFew ids.now }
+    ensures room { OnOk result (vec_len posts.new < vec_capacity posts.new) }
+    ensures noted { OnOk result (HasNoted known.old ids.now known.new) }
+    ensures kept { OnErr result ((x : ℕ) → once_known known.new x ≡ once_known known.old x) }
+    ensures refused { IfErr result (λ f. IsNoteRefusal f known.old ids.now) }
+{
+    if let Some(id) = first_known(known, ids) {
         return Err(Fault::Double(id));
     }
-    let Ok(()) = reports.reserve(1) else {
+    let Ok(()) = posts.reserve(1) else {
         return Err(Fault::Memory);
     };
-    let Ok(_) = ids.insert(id) else {
-        return Err(Fault::Memory);
-    };
-    Ok(())
+    match note_each(known, ids) {
+        Ok(()) => Ok(()),
+        Err((count, fault)) => {
+            let (noted, _) = ids.split_at(count);
+            forget(known, noted);
+            Err(fault)
+        }
+    }
 }

@@ -3,7 +3,7 @@
 use crate::scans::crews::{Work, agree, findings};
 use crate::scans::line_source::length_of_lines;
 use crate::scans::meeting::check_meetings;
-use crate::scans::runs::{NONE, Scanned, Way, scan_from, scan_through};
+use crate::scans::runs::{Scanned, Way, scan_from, scan_through};
 use crate::scans::worked::{Table, trace};
 use line_model::device::{CHUNK, Source};
 use line_model::fault::Fault;
@@ -98,11 +98,11 @@ impl Record {
     }
 }
 
-/// Notes each piece, and holds it until these pieces were entered.
+/// Notes each piece, and holds it until all pieces of its group were entered.
 #[derive(Drop)]
 struct Holding<'a> {
     record: &'a Record,
-    until: &'a [usize],
+    groups: &'a [&'a [usize]],
 }
 
 impl Gate for Holding<'_> {
@@ -112,7 +112,11 @@ impl Gate for Holding<'_> {
         piece: &Piece<A>,
     ) -> Result<PieceReport<A>, Fault> {
         self.record.enter(piece.id);
-        self.record.wait_for(self.until);
+        for group in self.groups {
+            if group.contains(&(piece.id as usize)) {
+                self.record.wait_for(group);
+            }
+        }
         OpenGate.run(alloc, piece)
     }
 }
@@ -129,34 +133,36 @@ fn check_three_epochs(rt: &impl Abort, scanned: &Scanned, record: &Record, work:
     );
 }
 
-/// The first piece of each epoch. The four of an epoch are known whole together, so they are one bundle.
-const FIRSTS: [usize; 3] = [0, 4, 8];
+/// Two pieces each, which two workers run side by side.
+const PAIRS: [&[usize]; 6] = [&[0, 1], &[2, 3], &[4, 5], &[6, 7], &[8, 9], &[10, 11]];
 
-/// Holds each piece until the first ones of so many bundles were entered, so that each of these has a worker of its own.
+/// The pieces of the first epoch, which four workers run side by side.
+const FOUR: [&[usize]; 1] = [&[0, 1, 2, 3]];
+
+/// Holds each piece until all pieces of its group were entered, so that each of these has a worker of its own.
 fn check_crew<R: Threads + Wait + Clock + Sync + Abort>(
     rt: &R,
     alloc: Global,
     capacity: usize,
-    held: usize,
+    groups: &[&[usize]],
     work: &Work,
 ) {
     let text = trace(rt, Table::Epochs, "three-epochs").text;
     let record = Record::new();
-    let (until, _) = FIRSTS.as_slice().split_at(held.min(3));
     let gate = Holding {
         record: &record,
-        until,
+        groups,
     };
     let way = Way::Crew(work.workers, capacity);
     let scanned = scan_through(rt, alloc, alloc, &gate, way, text, Cuts::of_steps(7, 7));
     check_three_epochs(rt, &scanned, &record, work);
 }
 
-/// Has so many workers run the three bundles side by side, so many of them at a time.
+/// Has so many workers run the twelve pieces, those of a group side by side.
 fn check_side_by_side<R: Threads + Wait + Clock + Sync + Abort>(
     rt: &R,
     alloc: Global,
-    held: usize,
+    groups: &[&[usize]],
     workers: usize,
     shares: &[(usize, Totals)],
 ) {
@@ -165,17 +171,17 @@ fn check_side_by_side<R: Threads + Wait + Clock + Sync + Abort>(
         totals: findings(12),
         shares,
     };
-    check_crew(rt, alloc, 64, held, &work);
-    check_crew(rt, alloc, 1, held, &work);
+    check_crew(rt, alloc, 64, groups, &work);
+    check_crew(rt, alloc, 1, groups, &work);
 }
 
 #[test]
-fn three_bundles_are_run_side_by_side_by_1_2_4_and_64_workers(rt: HostRuntime) {
+fn pieces_of_a_short_trace_are_run_side_by_side_by_1_2_4_and_64_workers(rt: HostRuntime) {
     let alloc = rt.alloc();
-    check_side_by_side(&rt, alloc, 1, 1, &[(1, findings(12))]);
-    check_side_by_side(&rt, alloc, 2, 2, &[(1, findings(8)), (1, findings(4))]);
-    check_side_by_side(&rt, alloc, 3, 4, &[(3, findings(4)), (1, NONE)]);
-    check_side_by_side(&rt, alloc, 3, 64, &[(3, findings(4)), (61, NONE)]);
+    check_side_by_side(&rt, alloc, &[], 1, &[(1, findings(12))]);
+    check_side_by_side(&rt, alloc, &PAIRS, 2, &[(2, findings(6))]);
+    check_side_by_side(&rt, alloc, &FOUR, 4, &[]);
+    check_side_by_side(&rt, alloc, &FOUR, 64, &[]);
 }
 
 /// Gives three epochs, a line a call. Before row 7 it waits until the pieces of the first epoch were entered.
@@ -235,7 +241,7 @@ fn check_waiting<R: Threads + Wait + Clock + Sync + Abort>(
 ) -> Scanned {
     let gate = Holding {
         record: source.record,
-        until: &[],
+        groups: &[],
     };
     let scanned = scan_from(
         rt,

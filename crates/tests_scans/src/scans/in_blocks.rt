@@ -8,23 +8,30 @@ use line_model::device::{Sink, Source};
 use line_model::fault::Fault;
 use line_model::piece::Plan;
 use report_merge::merging::merge;
+use report_merge::reports::BundleReport;
 use report_merge::text::write_report;
 use std::alloc::Allocator;
 use std::sync::Wait;
 use std::thread::Threads;
 use std::time::Clock;
-use trace_scan::block_queues::BlockQueues;
+use trace_scan::block_queues::{BlockQueues, BlockSizes};
 use trace_scan::blocks::TraceText;
 use trace_scan::feeding::{Read, ReadingTask};
 use trace_scan::gate::BlockGate;
 use trace_scan::threaded::Scan;
 use workers::{Crew, Gate, Gathered, Worked, work_through};
 
+/// Each read of the source that ends a line is a block.
+pub const EACH_READ: BlockSizes = BlockSizes {
+    least_read: 1,
+    most: 1,
+};
+
 /// What a scan read, and what its workers made of the pieces.
 #[derive(Drop)]
 pub struct Parts<A: Allocator> {
     read: Read<A>,
-    gathered: Gathered<A>,
+    gathered: Gathered<A, BundleReport<A>>,
 }
 
 impl<A: Allocator + Copy> Parts<A> {
@@ -100,7 +107,7 @@ pub fn scan_in_blocks<
     requires workers { (0 < crew.workers) × (crew.workers ≤ 64) }
     requires capacity { (0 < crew.capacity) × (crew.capacity ≤ 4096) }
 {
-    let queues = BlockQueues::<P, A>::new(alloc, 1)?;
+    let queues = BlockQueues::<P, A>::new(alloc, EACH_READ)?;
     let gate = BlockGate {
         gate: crew.gate,
         queues: &queues,

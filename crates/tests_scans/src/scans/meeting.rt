@@ -6,7 +6,7 @@ ghost use Rattle.line_model.specs.traces.Traces.{trace_plan};
 
 use crate::scans::checks::{same_bytes, same_number};
 use crate::scans::held::Record;
-use crate::scans::in_blocks::{Parts, read_in_blocks};
+use crate::scans::in_blocks::{EACH_READ, Parts, read_in_blocks};
 use crate::scans::line_source::length_of_lines;
 use crate::scans::runs::{Way, scan};
 use crate::scans::worked::{Table, trace};
@@ -244,7 +244,7 @@ fn scan_meeting<'m, P: Plan + TraceText + Send + Sync, R: Threads + Wait + Clock
         calls: Count::new(),
         meeting,
     };
-    let queues = BlockQueues::<P, &Scarce<Global>>::new(meeting.heap, 1)?;
+    let queues = BlockQueues::<P, &Scarce<Global>>::new(meeting.heap, EACH_READ)?;
     let parts = read_meeting(rt, meeting, &mut source, &queues)?;
     parts.write(meeting.heap, sink)?;
     Ok(())

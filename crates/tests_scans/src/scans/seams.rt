@@ -165,7 +165,7 @@ fn faulty_text(
     Ok(text)
 }
 
-/// Scans a text by blocks of so many lines. It is refused by a line, and nothing is asked for after the lines of its block.
+/// Scans a text by blocks of so many lines: it is refused by a line, whatever was read after it.
 fn check_fault<R: Threads + Wait + Clock + Sync + Abort>(
     rt: &R,
     alloc: Global,
@@ -173,16 +173,59 @@ fn check_fault<R: Threads + Wait + Clock + Sync + Abort>(
     lines: usize,
     (line, kind): (u32, Kind),
 ) {
-    let given = (line as usize).div_ceil(lines.max(1)).saturating_mul(lines);
-    let asked = length_of_lines(text, given);
     for workers in CREWS {
-        let InBlocks { outcome, unasked } = scan_lines(rt, alloc, text, lines, workers);
+        let InBlocks { outcome, .. } = scan_lines(rt, alloc, text, lines, workers);
         let fault = outcome.answer.err();
         assert_eq!(rt; fault, Some(Fault::Trace(line, kind)), "by {lines}");
         assert!(rt; outcome.taken.is_empty(), "by {lines}");
-        let left = text.len().saturating_sub(asked);
-        same_number(rt, unasked.len() as u64, left as u64, "bytes not asked for");
     }
+}
+
+/// Scans a text of which the source gives few bytes at once. It is refused by a line, and nothing is asked for after the
+/// read that gave that line.
+fn check_slow<R: Threads + Wait + Clock + Sync + Abort>(
+    rt: &R,
+    alloc: Global,
+    text: &[u8],
+    lines: usize,
+    (line, kind): (u32, Kind),
+) {
+    let given = (line as usize).div_ceil(lines.max(1)).saturating_mul(lines);
+    let left = text.len().saturating_sub(length_of_lines(text, given));
+    let mut source = LineSource::new(text, lines);
+    let way = Way::Crew(2, 4);
+    let scanned = scan_from(rt, alloc, alloc, &OpenGate, way, &mut source, Cuts::none());
+    let fault = outcome_of(scanned).answer.err();
+    assert_eq!(rt; fault, Some(Fault::Trace(line, kind)), "by {lines}");
+    same_number(
+        rt,
+        source.rest.len() as u64,
+        left as u64,
+        "bytes not asked for",
+    );
+}
+
+/// Scans a text by blocks from a source that fails after so many bytes: it is refused by its faulty line if that was
+/// given, and else by the source.
+fn check_failure<R: Threads + Wait + Clock + Sync + Abort>(
+    rt: &R,
+    alloc: Global,
+    text: &[u8],
+    good: usize,
+    (line, kind): (u32, Kind),
+) {
+    let wanted = if good < length_of_lines(text, line as usize) {
+        Fault::Read
+    } else {
+        Fault::Trace(line, kind)
+    };
+    let cuts = Cuts {
+        good_bytes: good,
+        ..Cuts::of_steps(20, 7)
+    };
+    let outcome = scan(rt, alloc, Way::InBlocks(2, 4), text, cuts);
+    let fault = outcome.answer.err();
+    assert_eq!(rt; fault, Some(wanted), "{good} bytes");
 }
 
 /// Scans texts of which one row is faulty, by blocks of any number of lines.
@@ -197,6 +240,34 @@ fn check_faults<R: Threads + Wait + Clock + Sync + Abort>(
             let fault = (at.saturating_add(2), faulty.2);
             check_fault(rt, alloc, text.as_slice(), lines, fault);
         }
+        check_slow(
+            rt,
+            alloc,
+            text.as_slice(),
+            2,
+            (at.saturating_add(2), faulty.2),
+        );
+        let line = at.saturating_add(2);
+        for given in [at.saturating_add(1), line, ALL_ROWS] {
+            let good = length_of_lines(text.as_slice(), given as usize);
+            check_failure(rt, alloc, text.as_slice(), good, (line, faulty.2));
+        }
+    }
+    Ok(())
+}
+
+/// Scans a text of two faulty rows by blocks of any number of lines: the first one is told.
+fn check_two_faults<R: Threads + Wait + Clock + Sync + Abort>(
+    rt: &R,
+    alloc: Global,
+) -> Result<(), Fail> {
+    for first in 1..ALL_ROWS {
+        let mut text = faulty_text(alloc, first, FAULTY_ROWS[3])?;
+        text.extend_from_slice(b"1 X 10\n")?;
+        for lines in 1..6 {
+            let fault = (first.saturating_add(2), Kind::Hex);
+            check_fault(rt, alloc, text.as_slice(), lines, fault);
+        }
     }
     Ok(())
 }
@@ -208,6 +279,7 @@ fn texts_are_reported_and_refused_in_blocks_of_any_size(rt: HostRuntime) -> Resu
         check_rows(&rt, rt.alloc(), (name, rows))?;
     }
     check_runs(&rt, rt.alloc())?;
+    check_two_faults(&rt, rt.alloc())?;
     for faulty in FAULTY_ROWS {
         check_faults(&rt, rt.alloc(), faulty)?;
     }

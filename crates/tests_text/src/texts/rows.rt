@@ -9,7 +9,7 @@ use std::test::Fail;
 use trace_text::lines::Lines;
 
 /// Digits of both cases, more than two blocks of 32: of a packet that is no data, of data with Q 0, and of data with Q 1.
-pub const DIGITS: [&[u8]; 3] = [
+const DIGITS: [&[u8]; 3] = [
     b"0123456789abcdefABCDEF9876543210fedcbaFEDCBA0123456789abcdefABCDEF9876",
     b"1001006789abcdefABCDEF9876543210fedcbaFEDCBA0123456789abcdefABCDEF9876",
     b"9001006789abcdefABCDEF9876543210fedcbaFEDCBA0123456789abcdefABCDEF9876",
@@ -20,16 +20,15 @@ const LONG_DIGITS: &[u8] =
     b"1001006789abcdefABCDEF9876543210fedcbaFEDCBA0123456789abcdefABCDEF9876543210fedcbaFEDCBA0123456789abcdefABCDEF9876543210fedcbaFEDCBA0123456789abcdefABCDEF9876543210fedcba";
 
 /// Lines that come after those that are tested, so that these lie far from the end.
-pub const AFTER: &[u8] =
-    b"1000 N 0123456789abcdefABCDEF9876543210fedcbaFEDCBA0123456789\n1001 T -\n";
+const AFTER: &[u8] = b"1000 N 0123456789abcdefABCDEF9876543210fedcbaFEDCBA0123456789\n1001 T -\n";
 
 /// Bytes that are no digits, beside the digits and far from them.
-pub const OTHERS: [u8; 14] = [
+const OTHERS: [u8; 14] = [
     0, b'\t', b'\n', b' ', b'/', b':', b'@', b'G', b'`', b'g', 0x7f, 0x80, 0xb0, 0xff,
 ];
 
 /// Numbers of 1 to 10 digits, and words that are no numbers.
-pub const NUMBERS: [&[u8]; 14] = [
+const NUMBERS: [&[u8]; 14] = [
     b"1",
     b"12",
     b"123",
@@ -89,7 +88,7 @@ fn check_line(rt: &impl Abort, alloc: Global, line: &[u8]) -> Result<(), Fail> {
 }
 
 /// The line of a row of these digits.
-pub fn line_of(alloc: Global, number: &[u8], digits: &[u8]) -> Result<Vec<u8, Global>, Fail> {
+fn line_of(alloc: Global, number: &[u8], digits: &[u8]) -> Result<Vec<u8, Global>, Fail> {
     let mut line = Vec::new(alloc);
     line.extend_from_slice(number)?;
     line.extend_from_slice(b" T ")?;
@@ -99,7 +98,7 @@ pub fn line_of(alloc: Global, number: &[u8], digits: &[u8]) -> Result<Vec<u8, Gl
 }
 
 /// These digits, with another byte at a place.
-pub fn with_other(
+fn with_other(
     alloc: Global,
     digits: &[u8],
     place: usize,

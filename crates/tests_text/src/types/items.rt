@@ -2,6 +2,7 @@
 
 use line_model::items::{ItemRef, Items};
 use line_model::packet::{DataHeader, Packet, PacketKind};
+use line_model::piece_items::PieceItems;
 use line_model::state::Side;
 use std::alloc::Global;
 use std::test::Fail;
@@ -109,29 +110,49 @@ fn copied(items: &mut Items) -> Result<Items, Fail> {
     Ok(items.copy()?)
 }
 
-/// The rows of a list in another one, to which they were appended in two parts, so many of them first.
-fn in_two_parts(alloc: Global, items: &Items, count: usize) -> Result<Items, Fail> {
-    let mut parts = Items::new(alloc);
-    let mut rows = items.iter();
-    parts.append(&rows.take_front(count))?;
-    if !rows_are(&parts, LINES.get(..count).unwrap_or(&LINES)) {
-        return Err("the first part has other rows")?;
+/// The rows of a piece: so many lines in a part, the others up to the last in another, and the last one pushed.
+fn in_parts(alloc: Global, count: usize) -> Result<PieceItems, Fail> {
+    let (first, others) = LINES[..4].split_at(count.min(4));
+    let (mut part, mut other, mut last) = (Items::new(alloc), Items::new(alloc), Items::new(alloc));
+    push_all(&mut part, first)?;
+    push_all(&mut other, others)?;
+    push_all(&mut last, &LINES[4..])?;
+    let mut items = PieceItems::of(part);
+    items.add(other)?;
+    for item in last.iter() {
+        items.push(&item)?;
     }
-    parts.append(&rows)?;
-    Ok(parts)
+    Ok(items)
+}
+
+/// The same rows in one list.
+fn in_one_list(alloc: Global, items: &PieceItems) -> Result<Items, Fail> {
+    let mut list = Items::new(alloc);
+    for item in items.iter() {
+        list.push(&item)?;
+    }
+    Ok(list)
 }
 
 #[test]
-fn rows_are_copied_appended_in_parts_and_cleared(rt: HostRuntime) -> Result<(), Fail> {
+fn rows_are_copied_and_cleared(rt: HostRuntime) -> Result<(), Fail> {
     let mut items = Items::new(rt.alloc());
     let copy = copied(&mut items)?;
-    for count in 0..8 {
-        let parts = in_two_parts(rt.alloc(), &copy, count)?;
-        assert!(rt; rows_are(&parts, &LINES));
-    }
     items.clear();
     assert!(rt; rows_are(&items, &[]) && rows_are(&copy, &LINES));
     push_all(&mut items, &[DATA, CALL])?;
     assert!(rt; rows_are(&items, &[DATA, CALL]) && rows_are(&copy, &LINES));
+    Ok(())
+}
+
+#[test]
+fn rows_that_are_added_in_parts_stay_in_order(rt: HostRuntime) -> Result<(), Fail> {
+    for count in 0..5 {
+        let items = in_parts(rt.alloc(), count)?;
+        let copy = items.copy()?;
+        assert!(rt; items.len() == LINES.len() && !items.is_empty() && copy.len() == LINES.len());
+        assert!(rt; rows_are(&in_one_list(rt.alloc(), &items)?, &LINES));
+        assert!(rt; rows_are(&in_one_list(rt.alloc(), &copy)?, &LINES));
+    }
     Ok(())
 }

@@ -7,6 +7,7 @@ ghost use Rattle.workers.specs.Workers.{ArePlanned};
 use crate::pieces::{piece, piece_of_rows};
 use crate::working::EmptyPieces;
 use line_model::piece::Piece;
+use report_merge::reports::Reports;
 use shared_work::queue::{Bundle, FeederPass, Taken, Work, WorkerPass};
 use std::alloc::Global;
 use std::marker::Brand;
@@ -67,7 +68,10 @@ fn of_one<R: Threads + Wait + Clock + Sync>(rt: &R, batch: Batch) -> Option<(u64
     };
     Some((
         gathered.totals.posts,
-        gathered.reports.iter().map(|report| report.id).eq([0]),
+        gathered
+            .reports
+            .iter()
+            .all(|report| report.ids() == [0].as_slice()),
     ))
 }
 
@@ -164,20 +168,22 @@ fn taken_of<R: Wait + Clock>(rt: &R, alloc: Global, runs: &[Run]) -> Result<Seen
 }
 
 /// Lists, with how many pieces they have and how many bundles they make.
-const LISTS: [(&[Run], u32, u32); 9] = [
+const LISTS: [(&[Run], u32, u32); 11] = [
     (&[], 0, 0),
     (&[(1, 1)], 1, 1),
-    (&[(2, 1)], 2, 1),
+    (&[(2, 1)], 2, 2),
+    (&[(64, 1)], 64, 64),
+    (&[(65, 1)], 65, 1),
     (&[(500, 1)], 500, 1),
     (&[(501, 1)], 501, 2),
     (&[(1000, 1)], 1000, 2),
     (&[(1, 501)], 1, 1),
-    (&[(3, 1), (1, 501), (3, 1)], 7, 3),
-    (&[(1, 1), (1, 500)], 2, 2),
+    (&[(65, 1), (1, 501), (3, 1)], 69, 3),
+    (&[(65, 1), (1, 436)], 66, 2),
 ];
 
 #[test]
-fn the_pieces_of_a_list_are_taken_in_bundles_of_at_most_500_rows(
+fn the_pieces_of_a_list_of_more_than_64_are_taken_in_bundles_of_at_most_500_rows(
     rt: HostRuntime,
 ) -> Result<(), Fail> {
     let alloc = rt.alloc();

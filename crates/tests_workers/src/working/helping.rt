@@ -6,6 +6,7 @@ use crate::pieces::PIECES;
 use crate::working::{EmptyPieces, twelve};
 use line_model::fault::Fault;
 use line_model::piece::{Piece, PieceReport};
+use report_merge::reports::{BundleReport, Reports};
 use std::alloc::{Allocator, Global};
 use std::process::Abort;
 use std::sync::Wait;
@@ -37,12 +38,12 @@ impl Gate for Helping {
 }
 
 /// Whether each of the twelve pieces was run once.
-fn has_each_once(gathered: &Gathered) -> bool {
+fn has_each_once(gathered: &Gathered<Global, BundleReport>) -> bool {
     for id in 0..PIECES {
         if gathered
             .reports
             .iter()
-            .filter(|report| report.id == id)
+            .filter(|report| report.ids() == [id].as_slice())
             .count()
             != 1
         {

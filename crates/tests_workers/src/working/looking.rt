@@ -8,7 +8,7 @@ use line_model::fault::Fault;
 use line_model::piece::{Piece, PieceReport};
 use line_model::totals::Totals;
 use shared_work::findings::{AnyReport, Blanks, Book, Ledgers, LockedPosts, Share};
-use shared_work::queue::{Work, WorkerPass};
+use shared_work::queue::{Bundle, Work, WorkerPass};
 use std::alloc::Global;
 use std::marker::Brand;
 use std::process::Abort;
@@ -72,10 +72,13 @@ impl<'a, L: Ledgers> Handler<Brand, Global, L> for Looking<'a, L> {
         &self,
         rt: &R,
         alloc: Global,
-        piece: &Piece,
+        bundle: &Bundle,
         _pass: &mut WorkerPass,
         share: &mut Share<L>,
     ) -> Result<(), Fault> {
+        let ([], piece) = bundle.parts() else {
+            return Err(Fault::Memory);
+        };
         let Ok(report) = report_of(alloc, piece) else {
             return Err(Fault::Memory);
         };

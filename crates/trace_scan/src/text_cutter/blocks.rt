@@ -4,9 +4,10 @@ ghost use Rattle.std.specs.Prelude.{◌≡◌, ℕ, ◌++◌, ◌+◌, List, IfE
 ghost use Rattle.std.specs.Bool.{OnTrue};
 ghost use Rattle.std.specs.Option.{option_map};
 ghost use Rattle.line_model.specs.basics.Records as records;
+ghost use Rattle.line_model.specs.text.Text.{early};
 ghost use Rattle.line_model.specs.declared.fault.Fault.TheVariants.{Memory};
 ghost use Rattle.trace_text.specs.Progress.{bytes_fed};
-ghost use Rattle.trace_text.specs.StandsFor.{IsTextFault};
+ghost use Rattle.trace_text.specs.StandsFor.{IsFaultOf, IsTextFault};
 ghost use Rattle.restart_epochs.specs.Cutting.{HasAppended, given_of};
 ghost use Rattle.restart_epochs.specs.Stretches.{IsSplit};
 ghost use Rattle.live_report.specs.Observing.{AreItems};
@@ -14,7 +15,7 @@ ghost use Rattle.trace_scan.specs.TextBlocks.{IsReadAs};
 ghost use Rattle.trace_scan.specs.TextCuts.{HasCut, HasTaken, OfCut, OfTaken, known_pieces};
 
 use super::{RowCutter, TextCutter};
-use crate::blocks::{BlockRows, ReadBlock, Start, TraceText};
+use crate::blocks::{Block, BlockRows, ReadBlock, Start, TraceText};
 use line_model::fault::Fault;
 use line_model::piece::Piece;
 use restart_epochs::stretch::Stretch;
@@ -32,20 +33,20 @@ impl<A: Allocator + Copy> RowCutter<A> {
     /// refusal no cutter is left.
     fn cut_stretches(
         self,
-        stretches: &[Stretch<A>],
+        stretches: Vec<Stretch<A>, A>,
         pieces: &mut Vec<Piece<A>, A>,
     ) -> Result<Self, Fault>
         requires next { (before : List records.Item) × (items : List records.Item)
             × HasCut before self × AreItems self.interface (before ++ items)
-            × IsSplit self.cutter.line items stretches.now }
+            × IsSplit self.cutter.line items stretches.items }
         ensures interface { IfOk result (λ cutter. cutter.interface ≡ self.interface) }
         ensures cut { OfCut self (λ before. (items : List records.Item)
             → AreItems self.interface (before ++ items)
-            → IsSplit self.cutter.line items stretches.now
+            → IsSplit self.cutter.line items stretches.items
             → IfOk result (HasCut (before ++ items))) }
         ensures pieces { OfCut self (λ before. (items : List records.Item)
             → AreItems self.interface (before ++ items)
-            → IsSplit self.cutter.line items stretches.now
+            → IsSplit self.cutter.line items stretches.items
             → IfOk result (λ cutter. HasAppended pieces.old.items pieces.new.items
             (given_of self.interface before) (given_of self.interface (before ++ items)))) }
         ensures memory { IfErr result (λ fault. fault ≡ Memory) }
@@ -85,16 +86,16 @@ impl<A: Allocator + Copy> TextCutter<A> {
     pub fn take_rows(
         &mut self,
         start: &Start,
-        rows: &BlockRows<A>,
+        rows: BlockRows<A>,
         pieces: &mut Vec<Piece<A>, A>,
     ) -> Result<bool, Fault>
         requires { (text : List ℕ) × (bytes : List ℕ) × HasTaken text self.old
-            × IsReadAs start.now bytes rows.now }
+            × IsReadAs start.now bytes rows }
         ensures taken { OfTaken self.old (λ text. (bytes : List ℕ)
-            → IsReadAs start.now bytes rows.now → IfOk result (λ taken. taken ≡ true
+            → IsReadAs start.now bytes rows → IfOk result (λ taken. taken ≡ true
             → HasTaken (text ++ bytes) self.new)) }
         ensures pieces { OfTaken self.old (λ text. (bytes : List ℕ)
-            → IsReadAs start.now bytes rows.now → IfOk result (λ taken. taken ≡ true
+            → IsReadAs start.now bytes rows → IfOk result (λ taken. taken ≡ true
             → HasAppended pieces.old.items pieces.new.items (known_pieces text)
             (known_pieces (text ++ bytes)))) }
         ensures same { IfOk result (λ taken. taken ≡ false
@@ -107,32 +108,37 @@ impl<A: Allocator + Copy> TextCutter<A> {
         let Some(row_cutter) = self.row_cutter.take() else {
             unreachable!();
         };
-        self.row_cutter = Some(row_cutter.cut_stretches(&rows.stretches, pieces)?);
+        self.row_cutter = Some(row_cutter.cut_stretches(rows.stretches, pieces)?);
         Ok(true)
     }
 
     /// Takes the next block of the text: its rows where it was read apart and follows the text that was taken, or else
-    /// its bytes. The pieces that are known whole with its rows.
+    /// its bytes. Returns the pieces that are known whole with it, and the list of its bytes, which may be used again.
     pub fn take_block<P: TraceText>(
         &mut self,
-        read: &ReadBlock<P, A>,
-    ) -> Result<Vec<Piece<A>, A>, Fault>
+        read: ReadBlock<P, A>,
+    ) -> Result<(Vec<Piece<A>, A>, Vec<u8, A>), Fault>
         requires { (text : List ℕ) × HasTaken text self.old }
         ensures taken { OfTaken self.old (λ text.
-            OnOk result (HasTaken (text ++ read.now.bytes) self.new)) }
+            OnOk result (HasTaken (text ++ read.bytes) self.new)) }
         ensures pieces { OfTaken self.old (λ text.
-            IfOk result (λ pieces. known_pieces (text ++ read.now.bytes) ≡ known_pieces text
-            ++ pieces.items)) }
+            IfOk result (λ taken. known_pieces (text ++ read.bytes) ≡ known_pieces text
+            ++ taken.0.items)) }
+        ensures refused { OfTaken self.old (λ text.
+            IfErr result (IsFaultOf (early (text ++ read.bytes)))) }
         ensures size { OnOk result (bytes_fed self.new.lines
-            ≡ bytes_fed self.old.lines + length read.now.bytes) }
+            ≡ bytes_fed self.old.lines + length read.bytes) }
         ensures kinds { IfErr result IsTextFault }
     {
-        if let Some(rows) = &read.rows {
+        let ReadBlock { block, rows } = read;
+        let Block { start, bytes, .. } = block;
+        if let Some(rows) = rows {
             let mut pieces = Vec::new(*self.row.octets.allocator());
-            if self.take_rows(&read.block.start, rows, &mut pieces)? {
-                return Ok(pieces);
+            if self.take_rows(&start, rows, &mut pieces)? {
+                return Ok((pieces, bytes));
             }
         }
-        self.feed(read.block.bytes.as_slice())
+        let pieces = self.feed(bytes.as_slice())?;
+        Ok((pieces, bytes))
     }
 }

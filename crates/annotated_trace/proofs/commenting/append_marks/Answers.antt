@@ -33,6 +33,3 @@ returns-in_err-append_mark-clause-rows g c = c.explain.ensures.rows ∙ c.loop-f
 
 pub returns-clause-described : goal.returns-clause-described
 returns-clause-described g c lines h = c.loop-finding.invariant.described lines h
-
-pub returns-clause-rows : goal.returns-clause-rows
-returns-clause-rows g c = c.loop-finding.invariant.rows

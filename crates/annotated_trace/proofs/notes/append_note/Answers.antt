@@ -12,6 +12,3 @@ pub returns-clause-kept : goal.returns-clause-kept
 returns-clause-kept g c =
     more_added c.args.out.now.items c.append_to.new.out.items _ c.push.new.self.items
     (kept_after c.args.out.now.items c.extend_from_slice.new.self.items c.append_to.new.out.items _ c.in_ok-extend_from_slice.ensures.items c.append_to.ensures.kept) c.in_ok-push.ensures.items
-
-pub returns-clause-words : goal.returns-clause-words
-returns-clause-words g c = c.append_to.ensures.words

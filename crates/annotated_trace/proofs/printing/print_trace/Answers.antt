@@ -14,9 +14,6 @@ read_to_end-requires-clause-nothing g c =
     nothing_written (HasFollowed g.O.TraceObserver g.P.Printer choice) g.O.TraceObserver.size (IsPrintOf (g.P.Printer.form choice) []) (g.K.Sink.taken c.args.sink.now) (g.K.Sink.failures c.args.sink.now) printing refl (record { trace = (fed.trace.0, fed.trace.1, refl); begun = fed.begun })
     c.new-printing.ensures.held (g.met.O.TraceObserver.sized printing.trace [] fed.trace.0)
 
-pub read_to_end-requires-clause-expected : goal.read_to_end-requires-clause-expected
-read_to_end-requires-clause-expected g c text begins = tt
-
 pub returns-in_err-read_to_end-clause-stopped : goal.returns-in_err-read_to_end-clause-stopped
 returns-in_err-read_to_end-clause-stopped g c =
     let fault = c.in_err-read_to_end.field-0.0 in

@@ -3,7 +3,7 @@ use Rattle.std.proofs.Common.{◌≡◌, ◌<◌, ◌∙◌, arith, false, inl, 
 use Rattle.std.specs.Prelude.{OnOk, IfErr}
 use Rattle.line_model.specs.basics.Device.{with_more}
 use Rattle.json_lines.specs.Json.{json_text}
-use Rattle.command_line.specs.Program.{IsReportStatus}
+use Rattle.command_line.specs.Program.{IsReportStatus, lag_by}
 use Rattle.command_line.proofs.JsonLemmas.{none_failed, reported_json, scanned_afresh, told_back}
 use Rattle.command_line.proofs.StatusLemmas.{other_any}
 use Rattle.command_line.proofs.json.scan_to.Goals as goal
@@ -13,12 +13,12 @@ returns-in-Ok-clause-told g c text told =
     let taken = c.scan-scanned.new.sink.lines.told.bytes in
     let failures = length c.scan-scanned.new.sink.lines.refused.bytes in
     let back = c.give_back in
-    told_back c.args.options.follow text _ _ _ (g.K.Sink.taken c.finish-lent.result.0.sink.now) _ (g.K.Sink.failures c.finish-lent.result.0.sink.now) _ _ _ back.ensures.taken back.ensures.failures
+    told_back (lag_by c.args.options.alone) c.args.options.follow text _ _ _ (g.K.Sink.taken c.finish-lent.result.0.sink.now) _ (g.K.Sink.failures c.finish-lent.result.0.sink.now) _ _ _ back.ensures.taken back.ensures.failures
     (record {
       told = taken;
       failures = failures;
       plain = c.scan-scanned.result;
-      scanned = scanned_afresh c.args.options.follow text _ _ _ _ _ failures c.scan-scanned.result c.new-json.ensures.taken c.new-json.ensures.failures
+      scanned = scanned_afresh (lag_by c.args.options.alone) c.args.options.follow text _ _ _ _ _ failures c.scan-scanned.result c.new-json.ensures.taken c.new-json.ensures.failures
           (λ plain. c.scan-scanned.ensures.status plain text told) (λ follow. c.scan-scanned.ensures.followed follow text told);
       objects = inl (
         none_failed failures c.finish-lent.result.1 _ c.in-Ok.is c.finish-lent.ensures.refused,
@@ -34,12 +34,12 @@ returns-in-Err-clause-told g c text told =
     let part = c.finish-lent.ensures.part taken refl in
     let failed = subst (λ r. IfErr r (λ fault. (fault ≡ Write) × (g.B.Origin.before.1 < g.K.Sink.failures c.finish-lent.result.0.sink.now))) c.in-Err.is c.finish-lent.ensures.failed in
     let back = c.give_back-in-Err in
-    told_back c.args.options.follow text _ _ _ (g.K.Sink.taken c.finish-lent.result.0.sink.now) _ (g.K.Sink.failures c.finish-lent.result.0.sink.now) _ _ _ back.ensures.taken back.ensures.failures
+    told_back (lag_by c.args.options.alone) c.args.options.follow text _ _ _ (g.K.Sink.taken c.finish-lent.result.0.sink.now) _ (g.K.Sink.failures c.finish-lent.result.0.sink.now) _ _ _ back.ensures.taken back.ensures.failures
     (record {
       told = taken;
       failures = failures;
       plain = c.scan-scanned.result;
-      scanned = scanned_afresh c.args.options.follow text _ _ _ _ _ failures c.scan-scanned.result c.new-json.ensures.taken c.new-json.ensures.failures
+      scanned = scanned_afresh (lag_by c.args.options.alone) c.args.options.follow text _ _ _ _ _ failures c.scan-scanned.result c.new-json.ensures.taken c.new-json.ensures.failures
           (λ plain. c.scan-scanned.ensures.status plain text told) (λ follow. c.scan-scanned.ensures.followed follow text told);
       objects = inr (c.if-scanned-eq-OTHER_FAULT.true, (λ well. omega (arith, failed.1, well)), record { front = part.0; rest = part.1; whole = part.2; taken = part.3 });
     })
@@ -51,12 +51,12 @@ returns-in-Err-2-clause-told g c text told =
     let part = c.finish-lent.ensures.part taken refl in
     let failed = subst (λ r. IfErr r (λ fault. (fault ≡ Write) × (g.B.Origin.before.1 < g.K.Sink.failures c.finish-lent.result.0.sink.now))) c.in-Err-2.is c.finish-lent.ensures.failed in
     let back = c.give_back-in-Err-2 in
-    told_back c.args.options.follow text _ _ _ (g.K.Sink.taken c.finish-lent.result.0.sink.now) _ (g.K.Sink.failures c.finish-lent.result.0.sink.now) _ _ _ back.ensures.taken back.ensures.failures
+    told_back (lag_by c.args.options.alone) c.args.options.follow text _ _ _ (g.K.Sink.taken c.finish-lent.result.0.sink.now) _ (g.K.Sink.failures c.finish-lent.result.0.sink.now) _ _ _ back.ensures.taken back.ensures.failures
     (record {
       told = taken;
       failures = failures;
       plain = c.scan-scanned.result;
-      scanned = scanned_afresh c.args.options.follow text _ _ _ _ _ failures c.scan-scanned.result c.new-json.ensures.taken c.new-json.ensures.failures
+      scanned = scanned_afresh (lag_by c.args.options.alone) c.args.options.follow text _ _ _ _ _ failures c.scan-scanned.result c.new-json.ensures.taken c.new-json.ensures.failures
           (λ plain. c.scan-scanned.ensures.status plain text told) (λ follow. c.scan-scanned.ensures.followed follow text told);
       objects = inr (c.refuse_write-status.ensures, (λ well. omega (arith, failed.1, well)), record { front = part.0; rest = part.1; whole = part.2; taken = part.3 });
     })

@@ -3,6 +3,7 @@ use Rattle.std.specs.Prelude.{MatchOption, is_some}
 use Rattle.annotated_trace.specs.declared.rows.Rows.{Rows}
 use Rattle.annotated_trace.specs.declared.rows.Rows.TheVariants.{All}
 use Rattle.clap.specs.Words.{first_of, matches_of}
+use Rattle.command_line.specs.Faults.{SaysFault}
 use Rattle.command_line.specs.Explaining.{IsAnswered}
 use Rattle.command_line.specs.Notes.{notes_refused, refused_in, refuses_notes}
 use Rattle.command_line.specs.Options.{AreAskedRows, AreRowsBy, annotates, annotates_by, as_json, command, follows, named_trace, prints_rows}
@@ -12,16 +13,16 @@ use Rattle.command_line.specs.declared.options.Printing.{Printing}
 use Rattle.command_line.specs.Trying.{IsTryAnswer, cannot_try}
 use Rattle.command_line.proofs.FaultLemmas.{says_of}
 use Rattle.command_line.proofs.TryLemmas.{annotating}
-use Rattle.command_line.specs.Program.{IsReportStatus, IsTold, IsUnread, trace_of}
+use Rattle.command_line.specs.Program.{IsReportStatus, IsTold, IsUnread, lag_by, trace_of}
 use Rattle.command_line.proofs.program.program.Given.{Over}
 use Rattle.command_line.proofs.program.program.Goals as goal
 
 -- what is told of a trace of this name
-Tells : (g : Over) → (c : goal.After-run g) → (json followed : Bool) → (name : Option (List ℕ)) → Type 0
-Tells g c json followed name =
+Tells : (g : Over) → (c : goal.After-run g) → (is_alone json followed : Bool) → (name : Option (List ℕ)) → Type 0
+Tells g c is_alone json followed name =
     IsUnread c.args.source.now c.run.new.source c.args.sink.now c.run.new.sink c.run.result
     ⊎ ((text : List ℕ) → trace_of name (g.S.Source.left c.args.source.now) (g.S.Input.named c.args.source.now) ≡ Some text →
-    IsTold json followed text (g.S.Source.left c.run.new.source) (g.S.Source.before c.run.new.source) (g.K.Sink.taken c.args.sink.now) (g.K.Sink.taken c.run.new.sink)
+    IsTold (lag_by is_alone) json followed text (g.S.Source.left c.run.new.source) (g.S.Source.before c.run.new.source) (g.K.Sink.taken c.args.sink.now) (g.K.Sink.taken c.run.new.sink)
     (g.K.Sink.failures c.run.new.sink ≡ g.K.Sink.failures c.args.sink.now) c.run.result)
 
 -- what the options say of an annotation
@@ -71,9 +72,10 @@ unfolding Tells AsksFor
 returns-in-Ok-clause-told g c right unasked untried unannotated plain allowed =
     let words : List (List ℕ) = map (λ word. word.now) c.args.words.now in
     let none = none_printed words c.in-Ok.options.rows c.in-Ok.options.annotate c.in-Ok.ensures.annotate unannotated (c.in-Ok.ensures.rows ∙ plain) in
-    subst (λ json. Tells g c json (follows words) (named_trace words)) c.in-Ok.ensures.json
-    (subst (λ followed. Tells g c c.in-Ok.options.json followed (named_trace words)) c.in-Ok.ensures.follow
-    (subst (λ name. Tells g c c.in-Ok.options.json c.in-Ok.options.follow name) c.in-Ok.ensures.trace (c.run.ensures.told (c.in-Ok.ensures.explain ∙ unasked) (c.in-Ok.ensures.try_headers ∙ untried) (same_refusal g c ∙ allowed) none)))
+    subst (λ is_alone. Tells g c is_alone (as_json words) (follows words) (named_trace words)) c.in-Ok.ensures.alone
+    (subst (λ json. Tells g c c.in-Ok.options.alone json (follows words) (named_trace words)) c.in-Ok.ensures.json
+    (subst (λ followed. Tells g c c.in-Ok.options.alone c.in-Ok.options.json followed (named_trace words)) c.in-Ok.ensures.follow
+    (subst (λ name. Tells g c c.in-Ok.options.alone c.in-Ok.options.json c.in-Ok.options.follow name) c.in-Ok.ensures.trace (c.run.ensures.told (c.in-Ok.ensures.explain ∙ unasked) (c.in-Ok.ensures.try_headers ∙ untried) (same_refusal g c ∙ allowed) none))))
 
 -- what is answered where rows of a trace of this name are printed
 Prints : (g : Over) → (c : goal.After-run g) → (refused : Bool) → (name : Option (List ℕ)) → Printing → Type 0
@@ -137,6 +139,7 @@ unfolding AsksFor
 returns-in-Ok-clause-said g c right unasked untried unannotated plain allowed two =
     let words : List (List ℕ) = map (λ word. word.now) c.args.words.now in
     let none = none_printed words c.in-Ok.options.rows c.in-Ok.options.annotate c.in-Ok.ensures.annotate unannotated (c.in-Ok.ensures.rows ∙ plain) in
-    says_of (g.S.Source.left c.run.new.source) (g.S.Source.before c.run.new.source) (g.E.Sink.taken c.args.errors.now) (g.E.Sink.taken c.run.new.errors) (g.E.Sink.failures c.run.new.errors ≡ g.E.Sink.failures c.args.errors.now)
+    subst (λ is_alone. SaysFault (lag_by is_alone) (trace_of (named_trace words) (g.S.Source.left c.args.source.now) (g.S.Input.named c.args.source.now)) (g.S.Source.left c.run.new.source) (g.S.Source.before c.run.new.source) (g.E.Sink.taken c.args.errors.now) (g.E.Sink.taken c.run.new.errors) (g.E.Sink.failures c.run.new.errors ≡ g.E.Sink.failures c.args.errors.now)) c.in-Ok.ensures.alone
+    (says_of (lag_by c.in-Ok.options.alone) (g.S.Source.left c.run.new.source) (g.S.Source.before c.run.new.source) (g.E.Sink.taken c.args.errors.now) (g.E.Sink.taken c.run.new.errors) (g.E.Sink.failures c.run.new.errors ≡ g.E.Sink.failures c.args.errors.now)
     (ap (λ name. trace_of name (g.S.Source.left c.args.source.now) (g.S.Input.named c.args.source.now)) c.in-Ok.ensures.trace)
-    (c.run.ensures.said (c.in-Ok.ensures.explain ∙ unasked) (c.in-Ok.ensures.try_headers ∙ untried) (same_refusal g c ∙ allowed) none two)
+    (c.run.ensures.said (c.in-Ok.ensures.explain ∙ unasked) (c.in-Ok.ensures.try_headers ∙ untried) (same_refusal g c ∙ allowed) none two))

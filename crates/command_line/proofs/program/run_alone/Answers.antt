@@ -1,15 +1,15 @@
 use Rattle.std.proofs.Common.{ap, arith, Err, false}
 use Rattle.command_line.proofs.FaultLemmas.{says_fault, says_none}
-use Rattle.command_line.proofs.StatusLemmas.{refused_any, refused_status, reported_any, reported_status, status_range}
+use Rattle.command_line.proofs.StatusLemmas.{refused_any, refused_status, reported_any, reported_status, status_range, wider_refusal}
 use Rattle.command_line.proofs.program.run_alone.Goals as goal
 
 pub returns-in-Ok-clause-status : goal.returns-in-Ok-clause-status
-returns-in-Ok-clause-status g c text told =
-    reported_status text (g.S.Source.left c.scan_alone.new.source) (g.S.Source.before c.scan_alone.new.source) (g.K.Sink.taken c.args.sink.now) (g.K.Sink.taken c.scan_alone.new.sink) _ c.in-Ok.summary c.summary_status.result (c.in-Ok.ensures.reported text told) c.summary_status.ensures
+returns-in-Ok-clause-status g c lag text told =
+    reported_status lag text (g.S.Source.left c.scan_alone.new.source) (g.S.Source.before c.scan_alone.new.source) (g.K.Sink.taken c.args.sink.now) (g.K.Sink.taken c.scan_alone.new.sink) _ c.in-Ok.summary c.summary_status.result (c.in-Ok.ensures.reported text told) c.summary_status.ensures
 
 pub returns-in-Err-clause-status : goal.returns-in-Err-clause-status
-returns-in-Err-clause-status g c text told =
-    refused_status text (g.S.Source.left c.scan_alone.new.source) (g.S.Source.before c.scan_alone.new.source) (g.K.Sink.taken c.args.sink.now) (g.K.Sink.taken c.scan_alone.new.sink) _ c.in-Err.fault c.refuse_scan.result (c.in-Err.ensures.refused text told) (c.in-Err.ensures.taken text told)
+returns-in-Err-clause-status g c lag text told =
+    refused_status lag text (g.S.Source.left c.scan_alone.new.source) (g.S.Source.before c.scan_alone.new.source) (g.K.Sink.taken c.args.sink.now) (g.K.Sink.taken c.scan_alone.new.sink) _ c.in-Err.fault c.refuse_scan.result (wider_refusal lag text (g.S.Source.left c.scan_alone.new.source) (g.S.Source.before c.scan_alone.new.source) c.in-Err.fault (c.in-Err.ensures.refused text told)) (c.in-Err.ensures.taken text told)
     (λ e well. omega (arith, c.in-Err.ensures.write_failed (ap Err e), well)) c.refuse_scan.ensures.status
 
 pub returns-in-Err-clause-range : goal.returns-in-Err-clause-range
@@ -22,9 +22,9 @@ pub returns-in-Err-clause-reported : goal.returns-in-Err-clause-reported
 returns-in-Err-clause-reported g c = refused_any false (g.K.Sink.taken c.args.sink.now) (g.K.Sink.taken c.scan_alone.new.sink) c.in-Err.fault c.refuse_scan.result c.refuse_scan.ensures.status
 
 pub returns-in-Ok-clause-said : goal.returns-in-Ok-clause-said
-returns-in-Ok-clause-said g c two = says_none c.in-Ok.summary.findings c.summary_status.result _ c.summary_status.ensures two
+returns-in-Ok-clause-said g c lag two = says_none c.in-Ok.summary.findings c.summary_status.result _ c.summary_status.ensures two
 
 pub returns-in-Err-clause-said : goal.returns-in-Err-clause-said
-returns-in-Err-clause-said g c two =
-    says_fault c.in-Err.fault c.refuse_scan.result (g.S.Source.left c.args.source.now) (g.S.Source.left c.scan_alone.new.source) (g.S.Source.before c.scan_alone.new.source) (g.E.Sink.taken c.args.errors.now) (g.E.Sink.taken c.refuse_scan.new.errors) _
-    c.refuse_scan.ensures.status c.refuse_scan.ensures.said c.in-Err.ensures.refused two
+returns-in-Err-clause-said g c lag two =
+    says_fault lag c.in-Err.fault c.refuse_scan.result (g.S.Source.left c.args.source.now) (g.S.Source.left c.scan_alone.new.source) (g.S.Source.before c.scan_alone.new.source) (g.E.Sink.taken c.args.errors.now) (g.E.Sink.taken c.refuse_scan.new.errors) _
+    c.refuse_scan.ensures.status c.refuse_scan.ensures.said (λ text told. wider_refusal lag text (g.S.Source.left c.scan_alone.new.source) (g.S.Source.before c.scan_alone.new.source) c.in-Err.fault (c.in-Err.ensures.refused text told)) two

@@ -22,9 +22,9 @@ pub returns-in-Err-clause-reported : goal.returns-in-Err-clause-reported
 returns-in-Err-clause-reported g c = refused_any false (g.K.Sink.taken c.args.sink.now) (g.K.Sink.taken c.follow.new.sink) c.in-Err.fault c.refuse_scan.result c.refuse_scan.ensures.status
 
 pub returns-in-Ok-clause-said : goal.returns-in-Ok-clause-said
-returns-in-Ok-clause-said g c two = says_none c.in-Ok.summary.findings c.summary_status.result _ c.summary_status.ensures two
+returns-in-Ok-clause-said g c lag two = says_none c.in-Ok.summary.findings c.summary_status.result _ c.summary_status.ensures two
 
 pub returns-in-Err-clause-said : goal.returns-in-Err-clause-said
-returns-in-Err-clause-said g c two =
-    says_followed c.in-Err.fault c.refuse_scan.result (g.S.Source.left c.args.source.now) (g.S.Source.left c.follow.new.source) (g.S.Source.before c.follow.new.source) (g.E.Sink.taken c.args.errors.now) (g.E.Sink.taken c.refuse_scan.new.errors) _
+returns-in-Err-clause-said g c lag two =
+    says_followed lag c.in-Err.fault c.refuse_scan.result (g.S.Source.left c.args.source.now) (g.S.Source.left c.follow.new.source) (g.S.Source.before c.follow.new.source) (g.E.Sink.taken c.args.errors.now) (g.E.Sink.taken c.refuse_scan.new.errors) _
     c.refuse_scan.ensures.status c.refuse_scan.ensures.said c.in-Err.ensures.refused two

@@ -1,15 +1,16 @@
 use Rattle.std.proofs.Common.{ap, arith, Err, false}
+use Rattle.trace_scan.specs.Readings.{in_flight}
 use Rattle.command_line.proofs.FaultLemmas.{says_fault, says_none}
 use Rattle.command_line.proofs.StatusLemmas.{refused_any, refused_status, reported_any, reported_status, status_range}
 use Rattle.command_line.proofs.program.run_with.Goals as goal
 
 pub returns-in-Ok-clause-status : goal.returns-in-Ok-clause-status
 returns-in-Ok-clause-status g c text told =
-    reported_status text (g.S.Source.left c.scan_with.new.source) (g.S.Source.before c.scan_with.new.source) (g.K.Sink.taken c.args.sink.now) (g.K.Sink.taken c.scan_with.new.sink) _ c.in-Ok.scan.summary c.summary_status.result (c.in-Ok.ensures.reported text told) c.summary_status.ensures
+    reported_status in_flight text (g.S.Source.left c.scan_with.new.source) (g.S.Source.before c.scan_with.new.source) (g.K.Sink.taken c.args.sink.now) (g.K.Sink.taken c.scan_with.new.sink) _ c.in-Ok.scan.summary c.summary_status.result (c.in-Ok.ensures.reported text told) c.summary_status.ensures
 
 pub returns-in-Err-clause-status : goal.returns-in-Err-clause-status
 returns-in-Err-clause-status g c text told =
-    refused_status text (g.S.Source.left c.scan_with.new.source) (g.S.Source.before c.scan_with.new.source) (g.K.Sink.taken c.args.sink.now) (g.K.Sink.taken c.scan_with.new.sink) _ c.in-Err.fault c.refuse_scan.result (c.in-Err.ensures.refused text told) (c.in-Err.ensures.taken text told)
+    refused_status in_flight text (g.S.Source.left c.scan_with.new.source) (g.S.Source.before c.scan_with.new.source) (g.K.Sink.taken c.args.sink.now) (g.K.Sink.taken c.scan_with.new.sink) _ c.in-Err.fault c.refuse_scan.result (c.in-Err.ensures.refused text told) (c.in-Err.ensures.taken text told)
     (λ e well. omega (arith, c.in-Err.ensures.write_failed (ap Err e), well)) c.refuse_scan.ensures.status
 
 pub returns-in-Err-clause-range : goal.returns-in-Err-clause-range
@@ -26,5 +27,5 @@ returns-in-Ok-clause-said g c two = says_none c.in-Ok.scan.summary.findings c.su
 
 pub returns-in-Err-clause-said : goal.returns-in-Err-clause-said
 returns-in-Err-clause-said g c two =
-    says_fault c.in-Err.fault c.refuse_scan.result (g.S.Source.left c.args.source.now) (g.S.Source.left c.scan_with.new.source) (g.S.Source.before c.scan_with.new.source) (g.E.Sink.taken c.args.errors.now) (g.E.Sink.taken c.refuse_scan.new.errors) _
+    says_fault in_flight c.in-Err.fault c.refuse_scan.result (g.S.Source.left c.args.source.now) (g.S.Source.left c.scan_with.new.source) (g.S.Source.before c.scan_with.new.source) (g.E.Sink.taken c.args.errors.now) (g.E.Sink.taken c.refuse_scan.new.errors) _
     c.refuse_scan.ensures.status c.refuse_scan.ensures.said c.in-Err.ensures.refused two

@@ -1,11 +1,8 @@
-use Rattle.std.proofs.Common.{◌∙◌, ap, sym, ◌++◌, append-nil, map}
+use Rattle.std.proofs.Common.{◌∙◌, ap, ◌++◌, map}
 use Rattle.std.proofs.lemmas.List.{take_all}
 use Rattle.descriptions.specs.RowObjects.{joined}
 use Rattle.descriptions.proofs.ObjectLemmas.{joined_next}
 use Rattle.descriptions.proofs.row_head.append_words.Goals as goal
-
-pub loop-word-init : goal.loop-word-init
-loop-word-init g c = record { first = sym (append-nil c.args.out.now.items) }
 
 pub loop-word-preserved : goal.loop-word-preserved
 loop-word-preserved g c = record {

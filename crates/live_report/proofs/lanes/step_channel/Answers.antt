@@ -1,4 +1,4 @@
-use Rattle.std.proofs.Common.{◌∙◌, ap, subst, sym}
+use Rattle.std.proofs.Common.{◌∙◌, ap, refl, subst, sym}
 use Rattle.std.specs.Prelude.{ℕ, ◌++◌, Option, option_to_list}
 use Rattle.channel_run.specs.Run.{data_events}
 use Rattle.line_model.specs.declared.finding.Finding.{Finding}
@@ -31,21 +31,19 @@ returns-clause-stands g c rows f after more small =
     (subst (IsPiece walk.interface c.args.channel) more.row small))
     c.put.ensures more
 
-pub returns-clause-before : goal.returns-clause-before
-returns-clause-before g c rows f =
-    let p = walked_piece c.args.walk.now c.args.channel rows in
-    c.word-before.ensures p (subst (λ live. IsLive g.C.Channel.interface_of g.C.Channel.number_of g.C.Channel.stands_for live p) (sym c.deref.ensures) (c.in_ok-live.ensures.out rows f).stands)
-
-pub returns-clause-after : goal.returns-clause-after
-returns-clause-after g c rows f after more small =
+pub returns-clause-judge : goal.returns-clause-judge
+returns-clause-judge g c rows f after more small =
     let walk = c.args.walk.now in
     let p = walked_piece walk c.args.channel rows in
-    let out = c.in_ok-live.ensures.out rows f in
-    c.word-after.ensures (walked_piece walk c.args.channel after)
-    (subst (λ items. IsLive g.C.Channel.interface_of g.C.Channel.number_of g.C.Channel.stands_for c.deref-2.result.now (record p { items = items })) (sym more.row)
-    (subst (λ live. IsLive g.C.Channel.interface_of g.C.Channel.number_of g.C.Channel.stands_for live (with_item p c.args.item.now)) (sym c.deref-2.ensures)
-    (c.in_ok-taken.ensures.stands p (subst (λ live. IsLive g.C.Channel.interface_of g.C.Channel.number_of g.C.Channel.stands_for live p) (sym c.deref_mut.ensures.value) out.stands)
-    (subst (IsPiece walk.interface c.args.channel) more.row small))))
+    let out = c.in_ok-live.ensures.out rows f in (
+      refl,
+      c.word-before.ensures p (subst (λ live. IsLive g.C.Channel.interface_of g.C.Channel.number_of g.C.Channel.stands_for live p) (sym c.deref.ensures) out.stands),
+      c.word-after.ensures (walked_piece walk c.args.channel after)
+          (subst (λ items. IsLive g.C.Channel.interface_of g.C.Channel.number_of g.C.Channel.stands_for c.deref-2.result.now (record p { items = items })) (sym more.row)
+          (subst (λ live. IsLive g.C.Channel.interface_of g.C.Channel.number_of g.C.Channel.stands_for live (with_item p c.args.item.now)) (sym c.deref-2.ensures)
+          (c.in_ok-taken.ensures.stands p (subst (λ live. IsLive g.C.Channel.interface_of g.C.Channel.number_of g.C.Channel.stands_for live p) (sym c.deref_mut.ensures.value) out.stands)
+          (subst (IsPiece walk.interface c.args.channel) more.row small)))),
+    )
 
 pub returns-clause-finding : goal.returns-clause-finding
 returns-clause-finding g c rows f =

@@ -1,6 +1,5 @@
 use Rattle.std.proofs.Common.{◌≡◌, ◌∙◌, ℕ, List, Bool, false, length, slice_index_or, sym, ap, arith}
 use Rattle.std.proofs.lemmas.Result.{err_from_is_err_and}
-use Rattle.line_model.specs.work.Book.{ids_of}
 use Rattle.report_merge.specs.Seen.{is_among}
 use Rattle.report_merge.proofs.Doubles.{refused_from, missing_from, whole_from}
 use Rattle.report_merge.proofs.judge.judge.Goals as goal
@@ -13,19 +12,19 @@ pub returns-in_err-seen-clause-refused : goal.returns-in_err-seen-clause-refused
 returns-in_err-seen-clause-refused g c =
     let exit = err_from_is_err_and c.from_residual.result c.from_residual.ensures.1 in
     rw (exit.1, exit.2)
-    (refused_from c.in_err-seen.field-0.0 c.args.pieces (ids_of c.args.reports.now) (sym c.first_stranger.ensures ∙ c.in_default.is) c.in_err-seen.ensures.refused)
+    (refused_from c.in_err-seen.field-0.0 c.args.pieces c.args.ids.now c.requires.known c.in_err-seen.ensures.refused)
 
-pub returns-in-Some-first_unmarked-clause-refused : goal.returns-in-Some-first_unmarked-clause-refused
-returns-in-Some-first_unmarked-clause-refused g c =
-    let w = c.in-Some-first_unmarked.ensures in
-    let mark = marks c.as_slice.result.now c.in_ok-seen.seen.items (ids_of c.args.reports.now) c.as_slice.ensures.value c.in_ok-seen.ensures.seen in
+pub returns-in-Some-clause-refused : goal.returns-in-Some-clause-refused
+returns-in-Some-clause-refused g c =
+    let w = c.in-Some.ensures in
+    let mark = marks c.as_slice.result.now c.in_ok-seen.seen.items c.args.ids.now c.as_slice.ensures.value c.in_ok-seen.ensures.seen in
     let within : length c.as_slice.result.now ≡ c.args.pieces = ap length c.as_slice.ensures.value ∙ sym c.in_ok-seen.seen.ok.0 ∙ c.in_ok-seen.ensures.len in
-    missing_from c.in-Some-first_unmarked.id c.args.pieces (ids_of c.args.reports.now) (sym c.first_stranger.ensures ∙ c.in_default.is) c.in_ok-seen.ensures.once
-    (omega (arith, w.0, within)) (mark c.in-Some-first_unmarked.id ∙ w.1) (λ k lt. mark k ∙ w.2 k lt)
+    missing_from c.in-Some.id c.args.pieces c.args.ids.now c.requires.known c.in_ok-seen.ensures.once
+    (omega (arith, w.0, within)) (mark c.in-Some.id ∙ w.1) (λ k lt. mark k ∙ w.2 k lt)
 
 pub returns-clause-whole : goal.returns-clause-whole
 returns-clause-whole g c =
-    let mark = marks c.as_slice.result.now c.in_ok-seen.seen.items (ids_of c.args.reports.now) c.as_slice.ensures.value c.in_ok-seen.ensures.seen in
+    let mark = marks c.as_slice.result.now c.in_ok-seen.seen.items c.args.ids.now c.as_slice.ensures.value c.in_ok-seen.ensures.seen in
     let within : length c.as_slice.result.now ≡ c.args.pieces = ap length c.as_slice.ensures.value ∙ sym c.in_ok-seen.seen.ok.0 ∙ c.in_ok-seen.ensures.len in
-    whole_from c.args.pieces (ids_of c.args.reports.now) (sym c.first_stranger.ensures ∙ c.in_default.is) c.in_ok-seen.ensures.once
+    whole_from c.args.pieces c.args.ids.now c.requires.known c.in_ok-seen.ensures.once
     (λ k lt. mark k ∙ c.in-None.ensures k (omega (arith, lt, within)))

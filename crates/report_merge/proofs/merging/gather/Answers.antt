@@ -1,31 +1,22 @@
-use Rattle.std.proofs.Common.{◌∙◌, sym, ap, arith}
-use Rattle.std.proofs.lemmas.List.{map-id}
+use Rattle.std.proofs.Common.{◌∙◌, List, [], sym, subst, flat_map}
+use Rattle.std.proofs.lemmas.List.{flat_map_more, map-id}
 use Rattle.std.proofs.lemmas.Iterator.Adapters.{YieldsList-from_vec}
-use Rattle.std.proofs.lemmas.Iterator.Consumers.{YieldsList-turn, YieldsList-end}
-use Rattle.report_merge.specs.Gathered.{gathered}
-use Rattle.std.proofs.lemmas.Result.{IfOk-from_err}
+use Rattle.std.proofs.lemmas.Iterator.Consumers.{YieldsList-end}
+use Rattle.line_model.specs.basics.Records.{PieceReport}
+use Rattle.report_merge.specs.Gathered.{Gathered, AreGathered}
+use Rattle.report_merge.proofs.GatheredLemmas.{both, permuted}
+use Rattle.report_merge.proofs.SortedLists.{flat_map_permuted}
 use Rattle.report_merge.proofs.merging.gather.Goals as goal
+
+pub loop-some-preserved : goal.loop-some-preserved
+loop-some-preserved g c = subst (λ (y : List PieceReport × Gathered). AreGathered y.0 y.1)
+    (λ i. (flat_map_more g.T.Reports.reports [] c.loop-some.yielded c.in-Some.some i, sym c.in_ok-append.ensures i))
+    (both _ _ _ _ c.loop-some.invariant c.into_parts.ensures)
 
 pub returns : goal.returns
 returns g c =
-    let given = c.into_iter-report-iterator.ensures.into_iter_gives in
-    let t = YieldsList-end (YieldsList-from_vec {s = c.into_iter-report-iterator.result} c.args.reports.items given.0 (given.1 ∙ c.args.reports.ok.0)) c.loop-report.yielded c.loop-report.report-iterator c.loop-report.yielded_by c.next.result c.next.new.self c.in-None.is c.next.ensures.steps in
-    c.loop-report.invariant ∙ ap gathered (sym (map-id c.loop-report.yielded) ∙ t.0)
-
-pub loop-report-init : goal.loop-report-init
-loop-report-init g c = c.with_allocators-parts.ensures
-
-pub loop-report-preserved : goal.loop-report-preserved
-loop-report-preserved g c = c.in_ok-add.ensures.added c.loop-report.yielded c.loop-report.invariant
-
-pub add-requires : goal.add-requires
-add-requires g c =
-    let given = c.into_iter-report-iterator.ensures.into_iter_gives in
-    let turn = YieldsList-turn (YieldsList-from_vec {s = c.into_iter-report-iterator.result} c.args.reports.items given.0 (given.1 ∙ c.args.reports.ok.0)) c.loop-report.yielded c.loop-report.report-iterator c.loop-report.yielded_by c.next.result c.next.new.self c.in-Some.report c.in-Some.is c.next.ensures.steps in
-    omega (arith, turn.0, c.requires.few, ap (λ p. p.pieces) c.loop-report.invariant)
-
-pub returns-in_err-clone : goal.returns-in_err-clone
-returns-in_err-clone g c = IfOk-from_err _ _ c.from_residual.ensures.0
-
-pub returns-in_err-add : goal.returns-in_err-add
-returns-in_err-add g c = IfOk-from_err _ _ c.from_residual-in_err-add.ensures.0
+    let sorted = c.sort_unstable_by_key.new.self in
+    let given = c.into_iter-some-iterator.ensures.into_iter_gives in
+    let t = YieldsList-end (YieldsList-from_vec {s = c.into_iter-some-iterator.result} sorted.items given.0 (given.1 ∙ sorted.ok.0)) c.loop-some.yielded c.loop-some.some-iterator c.loop-some.yielded_by c.next.result c.next.new.self c.in-None.is c.next.ensures.steps in
+    permuted _ _ _ (flat_map_permuted g.T.Reports.reports c.args.reports.items sorted.items c.sort_unstable_by_key.ensures.permutation)
+    (subst (λ l. AreGathered (flat_map g.T.Reports.reports l) c.loop-some.parts) (sym (map-id c.loop-some.yielded) ∙ t.0) c.loop-some.invariant)

@@ -24,7 +24,7 @@ loop-channel-preserved g c =
     record {
       ids = omega (arith, inv.ids, ap (λ (l : List ℕ). length l) c.in-Some.ensures.steps);
       copied = next_piece c.args.interface.now c.args.epoch (rows_of c.args.epoch_rows.now) c.loop-channel.id _ _ _ c.loop-channel.pieces.items _ _ _
-          c.in-Some.ensures.steps c.in_ok-items.ensures.rows c.in_ok-push.ensures.items inv.copied;
+          c.in-Some.ensures.steps c.in_ok-items.ensures c.in_ok-push.ensures.items inv.copied;
     }
 
 pub returns-in_err-items-clause-copied : goal.returns-in_err-items-clause-copied
@@ -33,7 +33,7 @@ returns-in_err-items-clause-copied g c = IfOk-from_err _ _ c.from_residual.ensur
 pub returns-in_err-items-clause-memory : goal.returns-in_err-items-clause-memory
 returns-in_err-items-clause-memory g c =
     let p = err_from_is_err_and c.from_residual.result c.from_residual.ensures.1 in
-    subst (λ r. IfErr r (λ f. f ≡ Memory)) (sym p.1) (p.2 ∙ c.in_err-items.ensures.memory)
+    subst (λ r. IfErr r (λ f. f ≡ Memory)) (sym p.1) p.2
 
 pub returns-in_err-push-clause-copied : goal.returns-in_err-push-clause-copied
 returns-in_err-push-clause-copied g c = IfOk-from_err _ _ c.from_residual-in_err-push.ensures.0

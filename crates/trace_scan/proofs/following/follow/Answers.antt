@@ -1,6 +1,7 @@
 use Rattle.std.proofs.Common.{◌≡◌, OnOk, arith, subst, sym}
 use Rattle.std.proofs.lemmas.Result.{IfOk-from_err}
 use Rattle.line_model.specs.declared.fault.Fault.TheVariants.{Write}
+use Rattle.trace_text.proofs.DecidedLemmas.{none_sound}
 use Rattle.trace_text.proofs.SourceLemmas.{passed_on, same_fault}
 use Rattle.live_report.specs.Uncounted.{trace_uncounted}
 use Rattle.trace_scan.specs.Scan.{IsScanFault}
@@ -51,7 +52,7 @@ returns-clause-of_text g c =
 pub returns-clause-of_given : goal.returns-clause-of_given
 returns-clause-of_given g c =
     let w = c.in_ok-read_to_end.ensures.whole in
-    end_given w.text (g.K.Sink.taken c.args.sink.now) (g.K.Sink.taken c.read_to_end.new.out) (g.K.Sink.taken c.end.new.sink) _ c.end.result w.sound w.fed.told
+    end_given w.text (g.K.Sink.taken c.args.sink.now) (g.K.Sink.taken c.read_to_end.new.out) (g.K.Sink.taken c.end.new.sink) _ c.end.result (none_sound w.text w.sound) w.fed.told
     (c.end.ensures.refused w.text w.fed.stands) (same_taken c.end.result (g.K.Sink.taken) c.read_to_end.new.out c.end.new.sink c.end.ensures.unwritten) (c.end.ensures.taken w.text (g.K.Sink.taken c.args.sink.now) w.fed.stands w.fed.told)
 
 pub returns-clause-called : goal.returns-clause-called

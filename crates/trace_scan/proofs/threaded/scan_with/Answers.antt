@@ -9,6 +9,7 @@ use Rattle.trace_scan.proofs.ScanLemmas.{memory_refused, report_is, write_refuse
 use Rattle.trace_scan.proofs.ThreadedLemmas.{memory_worked, of_walk, part_taken, stop_no_write, stop_worked, totals_are, write_worked}
 use Rattle.line_model.specs.declared.fault.Fault.{Fault}
 use Rattle.line_model.specs.declared.fault.Fault.TheVariants.{Memory, Write}
+use Rattle.trace_scan.specs.Readings.{in_flight}
 use Rattle.trace_scan.specs.Threaded.{IsStopFault}
 use Rattle.trace_scan.proofs.threaded.scan_with.Given.{Over}
 use Rattle.line_model.specs.traces.Traces.{trace_plan}
@@ -18,7 +19,7 @@ pub returns-in_err-report-clause-refused : goal.returns-in_err-report-clause-ref
 returns-in_err-report-clause-refused g c text told =
     let read = c.in_ok-parts.ensures.parts.told text told in
     passed_on c.from_residual-in_err-report.result c.in_err-report.field-0.0 _ c.from_residual-in_err-report.ensures.1
-    (memory_refused text (g.S.Source.left c.work_on_trace.new.source) (g.S.Source.before c.work_on_trace.new.source) c.in_err-report.field-0.0
+    (memory_refused in_flight text (g.S.Source.left c.work_on_trace.new.source) (g.S.Source.before c.work_on_trace.new.source) c.in_err-report.field-0.0
     (c.in_err-report.ensures.plan c.in_ok-parts.parts.read.interface (items_of c.in_ok-parts.parts.read.interface (rows text)) (of_walk (option_map trace_plan (g.S.Source.left c.args.source.now)) c.args.workers text c.in_ok-parts.ensures.parts.fed c.in_ok-parts.parts.read c.in_ok-parts.parts.gathered read.0 c.in_ok-parts.ensures.parts.whole)) read.1 read.2 read.0.sound)
 
 pub returns-clause-reported : goal.returns-clause-reported
@@ -38,7 +39,7 @@ pub returns-in_err-write_report-clause-refused : goal.returns-in_err-write_repor
 returns-in_err-write_report-clause-refused g c text told =
     let read = c.in_ok-parts.ensures.parts.told text told in
     passed_on c.from_residual-in_err-write_report.result c.in_err-write_report.field-0.0 _ c.from_residual-in_err-write_report.ensures.1
-    (write_refused text (g.S.Source.left c.work_on_trace.new.source) (g.S.Source.before c.work_on_trace.new.source) c.in_err-write_report.field-0.0 c.in_err-write_report.ensures.write read.1 read.2 read.0.sound)
+    (write_refused in_flight text (g.S.Source.left c.work_on_trace.new.source) (g.S.Source.before c.work_on_trace.new.source) c.in_err-write_report.field-0.0 c.in_err-write_report.ensures.write read.1 read.2 read.0.sound)
 
 pub returns-in_err-write_report-clause-taken : goal.returns-in_err-write_report-clause-taken
 returns-in_err-write_report-clause-taken g c text told =

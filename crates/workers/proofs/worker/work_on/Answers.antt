@@ -20,27 +20,27 @@ take-requires-clause-queue g c = c.loop.invariant.queue
 pub take-requires-clause-unfinished : goal.take-requires-clause-unfinished
 take-requires-clause-unfinished g c = c.loop.invariant.unfinished
 
-pub handle_bundle-requires-clause-planned : goal.handle_bundle-requires-clause-planned
-handle_bundle-requires-clause-planned g c = c.in-Got.ensures.taken.0
+pub handle_unless-requires-clause-planned : goal.handle_unless-requires-clause-planned
+handle_unless-requires-clause-planned g c = c.in-Got.ensures.taken.0
 
-pub handle_bundle-requires-clause-taken : goal.handle_bundle-requires-clause-taken
-handle_bundle-requires-clause-taken g c =
+pub handle_unless-requires-clause-taken : goal.handle_unless-requires-clause-taken
+handle_unless-requires-clause-taken g c =
     subst (λ l. All (HasPiece l) c.in-Got.bundle) (sym c.in-Got.ensures.pieces) (has-added c.loop.worker.pass.pieces c.in-Got.bundle)
 
-pub handle_bundle-requires-clause-queue : goal.handle_bundle-requires-clause-queue
-handle_bundle-requires-clause-queue g c = subst (g.W.Handler.handles c.args.handler.now) (sym (c.take.ensures.queue ∙ c.loop.invariant.queue)) c.requires.handler
+pub handle_unless-requires-clause-queue : goal.handle_unless-requires-clause-queue
+handle_unless-requires-clause-queue g c = subst (g.W.Handler.handles c.args.handler.now) (sym (c.take.ensures.queue ∙ c.loop.invariant.queue)) c.requires.handler
 
-pub handle_bundle-requires-clause-memory : goal.handle_bundle-requires-clause-memory
-handle_bundle-requires-clause-memory g c = fault_stands c.loop.worker.fault _ (λ f. f ≡ Memory) c.loop.invariant.fault
+pub handle_unless-requires-clause-memory : goal.handle_unless-requires-clause-memory
+handle_unless-requires-clause-memory g c = fault_stands c.loop.worker.fault _ (λ f. f ≡ Memory) c.loop.invariant.fault
 
 pub loop-preserved-in-Got : goal.loop-preserved-in-Got
 loop-preserved-in-Got g c =
     let taken = c.in-Got.ensures.taken.1 in
-    let same = c.handle_bundle.ensures.same in
+    let same = c.handle_unless.ensures.same in
     let more = ap (λ v. length v.record_of.taken) same ∙ ap (λ v. length v.taken) taken in record {
       queue = ap (λ v. v.queue) same ∙ (c.take.ensures.queue ∙ c.loop.invariant.queue);
       unfinished = ap (λ v. v.record_of.finished) same ∙ ap (λ v. v.finished) taken;
       fault =
-          fault_next c.loop.worker.fault c.handle_bundle.new.worker.fault _ _ _ (λ f. f ≡ Memory) c.handle_bundle.ensures.posted c.handle_bundle.ensures.memory c.loop.invariant.fault
+          fault_next c.loop.worker.fault c.handle_unless.new.worker.fault _ _ _ (λ f. f ≡ Memory) c.handle_unless.ensures.posted c.handle_unless.ensures.memory c.loop.invariant.fault
           (λ old new. omega (arith, old, new, more, length-numbers c.in-Got.bundle, length-append c.loop.worker.pass.record_of.taken (numbers_of c.in-Got.bundle)));
     }

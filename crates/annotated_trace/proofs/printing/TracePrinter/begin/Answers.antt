@@ -1,6 +1,6 @@
 use Rattle.std.proofs.Common.{◌∙◌, ◌++◌, sym, subst, ap}
 use Rattle.std.specs.Prelude.{IfErr}
-use Rattle.std.proofs.lemmas.Result.{IfOk-from_err, err_from_is_err_and}
+use Rattle.std.proofs.lemmas.Result.{err_from_is_err_and}
 use Rattle.line_model.specs.text.Text.{early}
 use Rattle.trace_text.specs.StandsFor.{IsFaultOf, IsTextFault}
 use Rattle.line_model.proofs.TextLemmas.{begun-more, ended-more}
@@ -20,9 +20,6 @@ pub returns-in_err-extend_from_slice-clause-refused : goal.returns-in_err-extend
 returns-in_err-extend_from_slice-clause-refused g c choice text s =
     let p = err_from_is_err_and c.from_residual-in_err-extend_from_slice.result c.from_residual-in_err-extend_from_slice.ensures.1 in
     subst (λ r. IfErr r (IsFaultOf (early (text ++ c.args.more.now)))) (sym p.1) (subst (IsFaultOf (early (text ++ c.args.more.now))) (sym p.2) tt)
-
-pub returns-in_err-extend_from_slice-clause-fed : goal.returns-in_err-extend_from_slice-clause-fed
-returns-in_err-extend_from_slice-clause-fed g c choice text s one = IfOk-from_err _ _ c.from_residual-in_err-extend_from_slice.ensures.0
 
 pub returns-in_err-extend_from_slice-clause-kinds : goal.returns-in_err-extend_from_slice-clause-kinds
 returns-in_err-extend_from_slice-clause-kinds g c =

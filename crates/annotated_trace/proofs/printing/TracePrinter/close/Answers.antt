@@ -1,6 +1,5 @@
 use Rattle.std.proofs.Common.{ap, Err, [], OnOk, refl, subst}
 use Rattle.line_model.specs.declared.fault.Fault.{Fault}
-use Rattle.std.proofs.lemmas.Result.{IfOk-from_err}
 use Rattle.trace_text.proofs.SourceLemmas.{passed_on, same_fault as passed_same}
 use Rattle.line_model.specs.basics.Device.{with_more}
 use Rattle.annotated_trace.specs.Printed.{HasTaken, IsPrintOf, StopsClosing}
@@ -30,9 +29,6 @@ returns-clause-kinds g c = write_kind c.send_closing.result c.send_closing.ensur
 
 pub returns-clause-write_failed : goal.returns-clause-write_failed
 returns-clause-write_failed g c w = write_cause c.send_closing.result Write _ c.send_closing.ensures.cause w
-
-pub returns-in_err-report-clause-printed : goal.returns-in_err-report-clause-printed
-returns-in_err-report-clause-printed g c choice text before s none h = IfOk-from_err _ _ c.from_residual.ensures.0
 
 pub returns-in_err-report-clause-refused : goal.returns-in_err-report-clause-refused
 returns-in_err-report-clause-refused g c choice text s = passed_on c.from_residual.result c.in_err-report.field-0.0 _ c.from_residual.ensures.1 (close_refused text c.in_err-report.field-0.0 (c.in_err-report.ensures.refused text s.trace.0))

@@ -1,7 +1,6 @@
 use Rattle.std.proofs.Common.{Err, ◌∙◌, ◌++◌, ◌∷◌, [], List, ℕ, sym, ap, refl, length}
 use Rattle.line_model.specs.declared.fault.Fault.{Fault}
 use Rattle.line_model.specs.declared.fault.Fault.TheVariants.{Write}
-use Rattle.std.proofs.lemmas.Result.{IfOk-from_err}
 use Rattle.trace_text.proofs.SourceLemmas.{passed_on, same_fault as passed_same}
 use Rattle.line_model.specs.text.Text.{begun_line, ended_lines}
 use Rattle.line_model.proofs.TextLemmas.{begun-lf}
@@ -57,27 +56,6 @@ returns-then-is_empty-clause-refused g c choice text s = whole_refused text c.cl
 
 pub returns-then-is_empty-clause-taken : goal.returns-then-is_empty-clause-taken
 returns-then-is_empty-clause-taken g c choice text before s h w = c.close.ensures.taken choice text before s (none_begun c.args.self.begun.len c.args.self.begun.items text (sym c.is_empty.ensures ∙ c.if-is_empty.true) c.args.self.begun.ok.0 s.begun) h w
-
-pub returns-then-is_empty-clause-not_written : goal.returns-then-is_empty-clause-not_written
-returns-then-is_empty-clause-not_written g c = c.close.ensures.not_written
-
-pub returns-then-is_empty-clause-kinds : goal.returns-then-is_empty-clause-kinds
-returns-then-is_empty-clause-kinds g c = c.close.ensures.kinds
-
-pub returns-then-is_empty-clause-write_failed : goal.returns-then-is_empty-clause-write_failed
-returns-then-is_empty-clause-write_failed g c = c.close.ensures.write_failed
-
-pub returns-clause-not_written : goal.returns-clause-not_written
-returns-clause-not_written g c = c.close-2.ensures.not_written
-
-pub returns-clause-kinds : goal.returns-clause-kinds
-returns-clause-kinds g c = c.close-2.ensures.kinds
-
-pub returns-clause-write_failed : goal.returns-clause-write_failed
-returns-clause-write_failed g c = c.close-2.ensures.write_failed
-
-pub returns-in_err-take_line-clause-printed : goal.returns-in_err-take_line-clause-printed
-returns-in_err-take_line-clause-printed g c choice text before s h = IfOk-from_err _ _ c.from_residual.ensures.0
 
 pub returns-in_err-take_line-clause-taken : goal.returns-in_err-take_line-clause-taken
 returns-in_err-take_line-clause-taken g c choice text before s h w = absurd (no_write {T = Fault} c.in_err-take_line.field-0.0 c.in_err-take_line.ensures.kinds (ap (λ f. Err f) (passed_same c.from_residual.result c.in_err-take_line.field-0.0 Write c.from_residual.ensures.1 w)))

@@ -59,9 +59,6 @@ returns-in-Ok-clause-fed g c choice text s =
     let next = c.in-Ok.ensures.fed choice text s in
     always c.send_held.result _ (record { trace = next.trace; begun = next.begun })
 
-pub returns-in-Ok-clause-none_held : goal.returns-in-Ok-clause-none_held
-returns-in-Ok-clause-none_held g c = c.send_held.ensures.none_held
-
 pub returns-in-Ok-clause-refused : goal.returns-in-Ok-clause-refused
 returns-in-Ok-clause-refused g c choice text s =
     on_err c.send_held.result _ _ c.send_held.ensures.write (λ f w. subst (IsRefusalOf (early (text ++ c.args.chunk.now))) (sym w) tt)

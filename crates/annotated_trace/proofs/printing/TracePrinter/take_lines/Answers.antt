@@ -1,7 +1,6 @@
 use Rattle.std.proofs.Common.{Err, ◌∙◌, ◌+◌, ℕ, List, ap, append_assoc, length-append, sym, subst, refl, length, take, [], ◌∷◌, ◌++◌, arith}
 use Rattle.line_model.specs.declared.fault.Fault.{Fault}
 use Rattle.line_model.specs.declared.fault.Fault.TheVariants.{Write}
-use Rattle.std.proofs.lemmas.Result.{IfOk-from_err}
 use Rattle.trace_text.proofs.SourceLemmas.{passed_on, same_fault as passed_same}
 use Rattle.line_model.specs.text.Text.{early}
 use Rattle.annotated_trace.specs.Printed.{IsPrintOf}
@@ -74,26 +73,11 @@ returns-clause-stopped g c choice text before s h =
     rest_stopped (HasFollowed g.O.TraceObserver g.P.Printer choice) (IsPrintOf (g.P.Printer.form choice) []) c.args.self.now c.loop-front.self (g.K.Sink.taken c.args.sink.now) (g.K.Sink.taken c.loop-front.sink) before c.args.chunk.now c.loop-front.rest.now text c.begin.new.self.held.items f p c.in_default.ensures s
     (g.met.O.TraceObserver.sound c.loop-front.self.trace (text ++ p.fed) stands.trace.0) h c.begin.ensures.held fault)
 
-pub returns-in_err-take_line-clause-fed : goal.returns-in_err-take_line-clause-fed
-returns-in_err-take_line-clause-fed g c choice text s = IfOk-from_err _ _ c.from_residual.ensures.0
-
-pub returns-in_err-take_line-clause-printed : goal.returns-in_err-take_line-clause-printed
-returns-in_err-take_line-clause-printed g c choice text before s h = IfOk-from_err _ _ c.from_residual.ensures.0
-
 pub returns-in_err-take_line-clause-kinds : goal.returns-in_err-take_line-clause-kinds
 returns-in_err-take_line-clause-kinds g c = passed_on c.from_residual.result c.in_err-take_line.field-0.0 _ c.from_residual.ensures.1 (text_kind c.in_err-take_line.field-0.0 c.in_err-take_line.ensures.kinds)
 
 pub returns-in_err-take_line-clause-write_failed : goal.returns-in_err-take_line-clause-write_failed
 returns-in_err-take_line-clause-write_failed g c w = absurd (no_write {T = Fault} c.in_err-take_line.field-0.0 c.in_err-take_line.ensures.kinds (ap (λ f. Err f) (passed_same c.from_residual.result c.in_err-take_line.field-0.0 Write c.from_residual.ensures.1 w)))
-
-pub returns-in_err-take_line-clause-rising : goal.returns-in_err-take_line-clause-rising
-returns-in_err-take_line-clause-rising g c = c.loop-front.invariant.rising
-
-pub returns-in_err-send_much-clause-fed : goal.returns-in_err-send_much-clause-fed
-returns-in_err-send_much-clause-fed g c choice text s = IfOk-from_err _ _ c.from_residual-in_err-send_much.ensures.0
-
-pub returns-in_err-send_much-clause-printed : goal.returns-in_err-send_much-clause-printed
-returns-in_err-send_much-clause-printed g c choice text before s h = IfOk-from_err _ _ c.from_residual-in_err-send_much.ensures.0
 
 pub returns-in_err-send_much-clause-rising : goal.returns-in_err-send_much-clause-rising
 returns-in_err-send_much-clause-rising g c = omega (arith, c.loop-front.invariant.rising, c.send_much.ensures.rising)
@@ -103,9 +87,6 @@ returns-in_err-send_much-clause-kinds g c = passed_on c.from_residual-in_err-sen
 
 pub returns-in_err-send_much-clause-refused : goal.returns-in_err-send_much-clause-refused
 returns-in_err-send_much-clause-refused g c choice text s = passed_on c.from_residual-in_err-send_much.result c.in_err-send_much.field-0.0 _ c.from_residual-in_err-send_much.ensures.1 (subst (IsRefusalOf (early (text ++ c.args.chunk.now))) (sym c.in_err-send_much.ensures.write) tt)
-
-pub returns-clause-rising : goal.returns-clause-rising
-returns-clause-rising g c = c.loop-front.invariant.rising
 
 pub loop-front-init : goal.loop-front-init
 loop-front-init g c = record { passed = λ choice. nothing_passed (HasFollowed g.O.TraceObserver g.P.Printer choice) (IsPrintOf (g.P.Printer.form choice) []) c.args.self.now (g.K.Sink.taken c.args.sink.now) c.args.chunk.now; rising = omega arith }

@@ -20,9 +20,6 @@ pub returns-then-was_open-clause-heard : goal.returns-then-was_open-clause-heard
 returns-then-was_open-clause-heard c es all h =
     subst (λ (l : List Event). Hears c.args.epoch (es ++ l) c.loop-event.self) (whole_list c.args.events.now c.loop-event.event-index c.loop-event-test.false) (c.loop-event.invariant.heard es all h)
 
-pub returns-then-was_open-clause-number : goal.returns-then-was_open-clause-number
-returns-then-was_open-clause-number c = c.loop-event.invariant.number
-
 pub returns-then-was_open-clause-told : goal.returns-then-was_open-clause-told
 returns-then-was_open-clause-told c es all h =
     let heard = subst (λ (l : List Event). Hears c.args.epoch (es ++ l) c.loop-event.self) (whole_list c.args.events.now c.loop-event.event-index c.loop-event-test.false) (c.loop-event.invariant.heard es all h) in
@@ -32,9 +29,6 @@ returns-then-was_open-clause-told c es all h =
 pub returns-else-was_open-clause-heard : goal.returns-else-was_open-clause-heard
 returns-else-was_open-clause-heard c es all h =
     subst (λ (l : List Event). Hears c.args.epoch (es ++ l) c.loop-event.self) (whole_list c.args.events.now c.loop-event.event-index c.loop-event-test.false) (c.loop-event.invariant.heard es all h)
-
-pub returns-else-was_open-clause-number : goal.returns-else-was_open-clause-number
-returns-else-was_open-clause-number c = c.loop-event.invariant.number
 
 pub returns-else-was_open-clause-told : goal.returns-else-was_open-clause-told
 returns-else-was_open-clause-told c es all h =

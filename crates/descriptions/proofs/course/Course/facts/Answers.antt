@@ -3,7 +3,8 @@ use Rattle.line_model.specs.observer.Calls.{all_lengths}
 use Rattle.line_model.specs.observer.Machine.{routed}
 use Rattle.line_model.specs.observer.Observer.{x25}
 use Rattle.restart_epochs.specs.Cutting.{observer}
-use Rattle.live_report.specs.LastRows.{IsKnown}
+use Rattle.live_report.specs.JudgedRows.{taker}
+use Rattle.live_report.proofs.LastLemmas.{taker_is}
 use Rattle.descriptions.specs.Facts.{IsFateOf}
 use Rattle.descriptions.proofs.FactLemmas.{events_are}
 use Rattle.descriptions.proofs.course.Course.facts.Goals as goal
@@ -11,27 +12,19 @@ use Rattle.descriptions.proofs.course.Course.facts.Goals as goal
 pub returns : goal.returns
 returns g c i earlier r l =
     let o = observer i earlier in
-    let taker = routed (x25 i) o.line r in
+    let to = routed (x25 i) o.line r in
+    let by = taker_is i to o (observer i (earlier ++ r ∷ [])) c.args.last.now.judge l.judge in
+    let events = c.events_of-events.ensures in
     record {
       number = l.number;
       side = l.side;
       packet = l.packet;
-      before = subst (λ k. IsKnown i k o c.args.last.now.before) l.channel l.before;
-      after = subst (λ k. IsKnown i k (observer i (earlier ++ r ∷ [])) c.args.last.now.after) l.channel l.after;
+      judge = l.judge;
       finding = l.finding;
       fate = subst (λ es. IsFateOf (all_lengths es) c.fate.result)
-          (events_are i o r c.args.last.now.channel taker c.args.observer.now.events.items c.events_of-events.result.now l.channel c.events_of-events.ensures.taken c.events_of-events.ensures.untaken l.came)
+          (events_are i o r (taker c.args.last.now.judge) to c.args.observer.now.events.items c.events_of-events.result.now by events.taken events.untaken l.came)
           c.fate.ensures.counted;
       reason = c.fate.ensures.reason i earlier r
-          (record {
-            number = l.number;
-            side = l.side;
-            packet = l.packet;
-            channel = l.channel;
-            before = l.before;
-            after = l.after;
-            finding = l.finding;
-            came = λ k is. c.events_of-events.ensures.taken k is ∙ l.came k is;
-          })
-          c.events_of-events.ensures.untaken;
+          (record { number = l.number; side = l.side; packet = l.packet; judge = l.judge; finding = l.finding; came = λ k is. events.taken k (by ∙ is) ∙ l.came k is })
+          events.untaken;
     }

@@ -5,7 +5,7 @@ use Rattle.line_model.specs.packets.Says.{item_of, items_of}
 use Rattle.line_model.specs.text.Text.{early_rows, head_of, rows_in}
 use Rattle.trace_text.proofs.FeedLemmas.{rows-sound}
 use Rattle.live_report.proofs.LiveLemmas.{keeps_rows, observing_of}
-use Rattle.live_report.specs.LastRows.{IsLastRow}
+use Rattle.live_report.specs.JudgedRows.{IsJudgedRow}
 use Rattle.live_report.specs.Observing.{StandsFor}
 use Rattle.descriptions.specs.RowObjects.{IsObjectWhere}
 use Rattle.descriptions.proofs.ChoiceLemmas.{items_written, headed_row, rows_written}
@@ -20,8 +20,8 @@ returns-clause-object g c i before line r text s lines head row is =
     let rows = rows-sound text s.0.reads.sound ∙ ap rows_in lines ∙ rows_written before line ∙ ap (λ o. rows_in before ++ option_to_list o) row in
     let walked = subst (λ rs. StandsFor g.C.Channel.interface_of g.C.Channel.number_of g.C.Channel.stands_for w.0 rs observer) (items_written w.0 (early_rows text) (rows_in before) r rows) w.1.observes in
     let same : w.0 ≡ i = same_interface (head_of before) w.0 i (sym (headed_row before line r row) ∙ ap head_of (sym lines) ∙ sym s.0.reads.interface ∙ w.1.header) head in
-    let last = subst (λ es. IsLastRow w.0 (items_of w.0 (rows_in before)) (item_of w.0 r) c.in-Some-kept_row.last.now es) (sym c.events.ensures) (c.in-Some-kept_row.ensures w.0 (items_of w.0 (rows_in before)) (item_of w.0 r) (walked, keeps_rows g.C.Channel.interface_of g.C.Channel.number_of g.C.Channel.stands_for c.args.trace.now text observer s.0 s.1 (sym c.observer.ensures ∙ ap (option_map (λ o. o.now)) c.in-Some.is))) in
+    let last = subst (λ es. IsJudgedRow w.0 (items_of w.0 (rows_in before)) (item_of w.0 r) c.in-Some-last_row.row.now es) (sym c.events.ensures) (c.in-Some-last_row.ensures w.0 (items_of w.0 (rows_in before)) (item_of w.0 r) (walked, keeps_rows g.C.Channel.interface_of g.C.Channel.number_of g.C.Channel.stands_for c.args.trace.now text observer s.0 s.1 (sym c.observer.ensures ∙ ap (option_map (λ o. o.now)) c.in-Some.is))) in
     let one = c.in-Some-last_digits.ensures line is (line_is_one text before line lines) in
     subst (λ j. IfSome c.usual_object.result (λ object. IsObjectWhere c.args.is_told j (items_of j (rows_in before)) (item_of j r) object.now)) same
-    (lent_object (λ object. object.now) c.usual_object.result c.args.is_told w.0 (items_of w.0 (rows_in before)) (item_of w.0 r) c.in-Some-kept_row.last.now c.events.result.now c.in-Some-quiet.row c.in-Some-last_digits.digits.now
-    c.if-not-is_told.false last (sym c.in-Some-quiet.ensures) one c.usual_object.ensures)
+    (lent_object (λ object. object.now) c.usual_object.result c.args.is_told w.0 (items_of w.0 (rows_in before)) (item_of w.0 r) c.in-Some-last_row.row.now c.events.result.now c.in-Some-last_digits.digits.now
+    c.if-not-is_told.false last one c.usual_object.ensures)

@@ -1,6 +1,5 @@
 use Rattle.std.proofs.Common.{◌≡◌, ◌∙◌, ◌≤◌, List, refl, sym, ap, subst, length, drop, arith, Err}
 use Rattle.std.specs.Prelude.{IfSome}
-use Rattle.std.proofs.lemmas.Result.{IfOk-from_err}
 use Rattle.trace_text.proofs.SourceLemmas.{passed_on, same_fault}
 use Rattle.line_model.specs.basics.Device.{with_more}
 use Rattle.line_model.specs.basics.Records.{Report}
@@ -56,9 +55,6 @@ returns-in_err-write_rest-clause-taken g c text before s has w =
     taken_last before (g.K.Sink.taken c.args.sink.now) (g.K.Sink.taken c.write_findings.new.sink) (g.K.Sink.taken c.write_rest.new.sink) (found_text text) (findings_text (drop c.args.self.told c.in_ok-report.report.findings)) (rest_text c.in_ok-report.report) (trace_report text) part.0 part.1
     split has (subst (λ b. g.K.Sink.taken c.write_findings.new.sink ≡ with_more (g.K.Sink.taken c.args.sink.now) b) behind c.in_ok-write_findings.ensures.ok) part.2 part.3
 
-pub returns-in-Some-clause-reported : goal.returns-in-Some-clause-reported
-returns-in-Some-clause-reported g c text before s has = tt
-
 pub returns-in-Some-clause-refused : goal.returns-in-Some-clause-refused
 returns-in-Some-clause-refused g c text s = absurd (apart c.args.self.refused c.in-Some.fault s.running c.in-Some.is)
 
@@ -68,17 +64,11 @@ returns-in-Some-clause-kinds g c = subst (λ f. IfSome f IsReportFault) c.in-Som
 pub returns-in-Some-clause-write_failed : goal.returns-in-Some-clause-write_failed
 returns-in-Some-clause-write_failed g c text s e = absurd (apart c.args.self.refused c.in-Some.fault s.running c.in-Some.is)
 
-pub returns-in-Some-clause-unwritten : goal.returns-in-Some-clause-unwritten
-returns-in-Some-clause-unwritten g c n = refl
-
 pub returns-in-Some-clause-taken : goal.returns-in-Some-clause-taken
 returns-in-Some-clause-taken g c text before s has e = absurd (apart c.args.self.refused c.in-Some.fault s.running c.in-Some.is)
 
 pub returns-in-Some-clause-again : goal.returns-in-Some-clause-again
 returns-in-Some-clause-again g c fault r = (ap (λ f. Err f) (same c.args.self.refused c.in-Some.fault fault c.in-Some.is r), refl)
-
-pub returns-in_err-report-clause-reported : goal.returns-in_err-report-clause-reported
-returns-in_err-report-clause-reported g c text before s has = IfOk-from_err _ _ c.from_residual.ensures.0
 
 pub returns-in_err-report-clause-refused : goal.returns-in_err-report-clause-refused
 returns-in_err-report-clause-refused g c text s = passed_on c.from_residual.result c.in_err-report.field-0.0 _ c.from_residual.ensures.1 (refuses text c.in_err-report.field-0.0 (c.in_err-report.ensures.refused text s.live))
@@ -98,26 +88,17 @@ returns-in_err-report-clause-taken g c text before s has e = absurd (unwritten c
 pub returns-in_err-report-clause-again : goal.returns-in_err-report-clause-again
 returns-in_err-report-clause-again g c fault r = absurd (apart c.args.self.refused fault c.in_default.is r)
 
-pub returns-in_err-write_findings-clause-reported : goal.returns-in_err-write_findings-clause-reported
-returns-in_err-write_findings-clause-reported g c text before s has = IfOk-from_err _ _ c.from_residual-in_err-write_findings.ensures.0
-
 pub returns-in_err-write_findings-clause-refused : goal.returns-in_err-write_findings-clause-refused
 returns-in_err-write_findings-clause-refused g c text s = passed_on c.from_residual-in_err-write_findings.result c.in_err-write_findings.field-0.0 _ c.from_residual-in_err-write_findings.ensures.1 (subst (IsRefusal text) (sym c.in_err-write_findings.ensures.write) (c.in_ok-report.ensures.told text s.live).sound)
 
 pub returns-in_err-write_findings-clause-kinds : goal.returns-in_err-write_findings-clause-kinds
 returns-in_err-write_findings-clause-kinds g c = passed_on c.from_residual-in_err-write_findings.result c.in_err-write_findings.field-0.0 _ c.from_residual-in_err-write_findings.ensures.1 (subst IsReportFault (sym c.in_err-write_findings.ensures.write) tt)
 
-pub returns-in_err-write_findings-clause-write_failed : goal.returns-in_err-write_findings-clause-write_failed
-returns-in_err-write_findings-clause-write_failed g c text s e = c.in_err-write_findings.ensures.cause
-
 pub returns-in_err-write_findings-clause-unwritten : goal.returns-in_err-write_findings-clause-unwritten
 returns-in_err-write_findings-clause-unwritten g c = passed_on c.from_residual-in_err-write_findings.result c.in_err-write_findings.field-0.0 _ c.from_residual-in_err-write_findings.ensures.1 (λ n. absurd (n c.in_err-write_findings.ensures.write))
 
 pub returns-in_err-write_findings-clause-again : goal.returns-in_err-write_findings-clause-again
 returns-in_err-write_findings-clause-again g c fault r = absurd (apart c.args.self.refused fault c.in_default.is r)
-
-pub returns-in_err-write_rest-clause-reported : goal.returns-in_err-write_rest-clause-reported
-returns-in_err-write_rest-clause-reported g c text before s has = IfOk-from_err _ _ c.from_residual-in_err-write_rest.ensures.0
 
 pub returns-in_err-write_rest-clause-refused : goal.returns-in_err-write_rest-clause-refused
 returns-in_err-write_rest-clause-refused g c text s = passed_on c.from_residual-in_err-write_rest.result c.in_err-write_rest.field-0.0 _ c.from_residual-in_err-write_rest.ensures.1 (subst (IsRefusal text) (sym c.in_err-write_rest.ensures.write) (c.in_ok-report.ensures.told text s.live).sound)
@@ -134,17 +115,8 @@ returns-in_err-write_rest-clause-unwritten g c = passed_on c.from_residual-in_er
 pub returns-in_err-write_rest-clause-again : goal.returns-in_err-write_rest-clause-again
 returns-in_err-write_rest-clause-again g c fault r = absurd (apart c.args.self.refused fault c.in_default.is r)
 
-pub returns-clause-refused : goal.returns-clause-refused
-returns-clause-refused g c text s = tt
-
-pub returns-clause-kinds : goal.returns-clause-kinds
-returns-clause-kinds g c = tt
-
 pub returns-clause-write_failed : goal.returns-clause-write_failed
 returns-clause-write_failed g c text s e = absurd (no_fault Summary _ Write e)
-
-pub returns-clause-unwritten : goal.returns-clause-unwritten
-returns-clause-unwritten g c = tt
 
 pub returns-clause-taken : goal.returns-clause-taken
 returns-clause-taken g c text before s has e = absurd (no_fault Summary _ Write e)

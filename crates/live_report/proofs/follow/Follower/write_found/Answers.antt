@@ -54,11 +54,5 @@ returns-clause-limit g c = always c.write_findings-written.result _ c.in_ok-read
 pub returns-clause-kinds : goal.returns-clause-kinds
 returns-clause-kinds g c = IfErr-weaker c.write_findings-written.result _ IsReportFault (λ f w. subst IsReportFault (sym w) tt) c.write_findings-written.ensures.write
 
-pub returns-clause-rising : goal.returns-clause-rising
-returns-clause-rising g c = c.write_findings-written.ensures.rising
-
-pub returns-in_err-read-clause-rising : goal.returns-in_err-read-clause-rising
-returns-in_err-read-clause-rising g c = c.write_findings-written.ensures.rising
-
 pub returns-in_err-read-clause-kinds : goal.returns-in_err-read-clause-kinds
 returns-in_err-read-clause-kinds g c = passed_on c.from_residual.result c.in_err-read.field-0.0 _ c.from_residual.ensures.1 (text_report c.in_err-read.field-0.0 c.in_err-read.ensures.kinds)

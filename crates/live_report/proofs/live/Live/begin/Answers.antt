@@ -4,7 +4,7 @@ use Rattle.std.specs.Option.{option_to_list}
 use Rattle.line_model.specs.text.Text.{early}
 use Rattle.line_model.specs.declared.fault.Fault.TheVariants.{Memory}
 use Rattle.line_model.specs.declared.finding.Finding.{Finding}
-use Rattle.std.proofs.lemmas.Result.{IfOk-from_err, err_from_is_err_and}
+use Rattle.std.proofs.lemmas.Result.{err_from_is_err_and}
 use Rattle.trace_text.proofs.SourceLemmas.{passed_on}
 use Rattle.trace_text.specs.StandsFor.{IsFaultOf, IsTextFault, ReadsChunk}
 use Rattle.live_report.specs.Found.{HasFound, IsFoundBy, IsFoundUpTo, found, found_at}
@@ -136,33 +136,6 @@ returns-in_err-observe_chunk-clause-few g c =
     let few = c.observe_chunk.ensures.few in
     omega (arith, few, shorter, ap (λ (xs : List Finding). length xs) c.in_ok-append_finding.ensures.ok, length-append c.args.self.now.found.items (option_to_list c.in_ok-first.first), at_most_one c.in_ok-first.first)
 
-pub returns-in_err-rest-clause-stands : goal.returns-in_err-rest-clause-stands
-returns-in_err-rest-clause-stands g c text s = IfOk-from_err _ _ c.from_residual.ensures.0
-
-pub returns-in_err-rest-clause-size : goal.returns-in_err-rest-clause-size
-returns-in_err-rest-clause-size g c = IfOk-from_err _ _ c.from_residual.ensures.0
-
-pub returns-in_err-rest-clause-limit : goal.returns-in_err-rest-clause-limit
-returns-in_err-rest-clause-limit g c = IfOk-from_err _ _ c.from_residual.ensures.0
-
-pub returns-in_err-first-clause-stands : goal.returns-in_err-first-clause-stands
-returns-in_err-first-clause-stands g c text s = IfOk-from_err _ _ c.from_residual-in_err-first.ensures.0
-
-pub returns-in_err-first-clause-size : goal.returns-in_err-first-clause-size
-returns-in_err-first-clause-size g c = IfOk-from_err _ _ c.from_residual-in_err-first.ensures.0
-
-pub returns-in_err-first-clause-limit : goal.returns-in_err-first-clause-limit
-returns-in_err-first-clause-limit g c = IfOk-from_err _ _ c.from_residual-in_err-first.ensures.0
-
-pub returns-in_err-append_finding-clause-stands : goal.returns-in_err-append_finding-clause-stands
-returns-in_err-append_finding-clause-stands g c text s = IfOk-from_err _ _ c.from_residual-in_err-append_finding.ensures.0
-
-pub returns-in_err-append_finding-clause-size : goal.returns-in_err-append_finding-clause-size
-returns-in_err-append_finding-clause-size g c = IfOk-from_err _ _ c.from_residual-in_err-append_finding.ensures.0
-
-pub returns-in_err-append_finding-clause-limit : goal.returns-in_err-append_finding-clause-limit
-returns-in_err-append_finding-clause-limit g c = IfOk-from_err _ _ c.from_residual-in_err-append_finding.ensures.0
-
 pub returns-in_err-first-clause-refused : goal.returns-in_err-first-clause-refused
 returns-in_err-first-clause-refused g c text s =
     let p = err_from_is_err_and c.from_residual-in_err-first.result c.from_residual-in_err-first.ensures.1 in
@@ -183,12 +156,3 @@ returns-in_err-append_finding-clause-kinds g c =
 
 pub returns-in_err-append_finding-clause-few : goal.returns-in_err-append_finding-clause-few
 returns-in_err-append_finding-clause-few g c = omega (arith, ap (λ (xs : List Finding). length xs) c.in_err-append_finding.ensures.refused)
-
-pub returns-in_err-observe_chunk-clause-stands : goal.returns-in_err-observe_chunk-clause-stands
-returns-in_err-observe_chunk-clause-stands g c text s = IfOk-from_err _ _ c.from_residual-in_err-observe_chunk.ensures.0
-
-pub returns-in_err-observe_chunk-clause-size : goal.returns-in_err-observe_chunk-clause-size
-returns-in_err-observe_chunk-clause-size g c = IfOk-from_err _ _ c.from_residual-in_err-observe_chunk.ensures.0
-
-pub returns-in_err-observe_chunk-clause-limit : goal.returns-in_err-observe_chunk-clause-limit
-returns-in_err-observe_chunk-clause-limit g c = IfOk-from_err _ _ c.from_residual-in_err-observe_chunk.ensures.0

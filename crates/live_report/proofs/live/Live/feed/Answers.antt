@@ -17,12 +17,3 @@ returns-clause-found g c text s =
 
 pub returns-clause-few : goal.returns-clause-few
 returns-clause-few g c none = omega (arith, c.feed_rows-answer.ensures.few, ap (λ l. length l) c.clear.ensures.items)
-
-pub returns-clause-size : goal.returns-clause-size
-returns-clause-size g c = c.feed_rows-answer.ensures.size
-
-pub returns-clause-limit : goal.returns-clause-limit
-returns-clause-limit g c = c.feed_rows-answer.ensures.limit
-
-pub returns-clause-kinds : goal.returns-clause-kinds
-returns-clause-kinds g c = c.feed_rows-answer.ensures.kinds

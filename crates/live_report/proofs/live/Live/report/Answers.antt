@@ -1,6 +1,6 @@
 use Rattle.std.proofs.Common.{◌∙◌, ◌+◌, ap, length, refl, subst, sym, Err}
 use Rattle.line_model.specs.text.Text.{ended_lines}
-use Rattle.std.proofs.lemmas.Result.{IfOk-from_err, err_from_is_err_and}
+use Rattle.std.proofs.lemmas.Result.{err_from_is_err_and}
 use Rattle.trace_text.proofs.SourceLemmas.{passed_on, same_fault}
 use Rattle.line_model.specs.declared.fault.Fault.TheVariants.{Write}
 use Rattle.line_model.specs.declared.totals.Summary.{Summary}
@@ -19,29 +19,11 @@ returns-clause-reported g c text s =
     let told = reported_by (ended_part text) c.in_ok-report.report (g.K.Sink.taken c.args.sink.now) (g.K.Sink.taken c.write_report.new.sink) (c.in_ok-report.ensures.told text s) c.in_ok-write_report.ensures.ok in
     record { sound = told.sound; taken = told.taken; counted = ap (λ r. r.summary) c.report.view_is ∙ told.counted }
 
-pub returns-clause-refused : goal.returns-clause-refused
-returns-clause-refused g c text s = tt
-
-pub returns-clause-missing : goal.returns-clause-missing
-returns-clause-missing g c text s = tt
-
-pub returns-clause-kinds : goal.returns-clause-kinds
-returns-clause-kinds g c = tt
-
-pub returns-clause-unwritten : goal.returns-clause-unwritten
-returns-clause-unwritten g c = tt
-
-pub returns-clause-taken : goal.returns-clause-taken
-returns-clause-taken g c text s = tt
-
 pub returns-clause-write_failed : goal.returns-clause-write_failed
 returns-clause-write_failed g c e = absurd (no_fault Summary _ Write e)
 
 pub returns-clause-again : goal.returns-clause-again
 returns-clause-again g c fault r = absurd (no_fault _ c.in_ok-report.report fault (c.in_ok-report.ensures.again fault r))
-
-pub returns-in_err-write_report-clause-reported : goal.returns-in_err-write_report-clause-reported
-returns-in_err-write_report-clause-reported g c text s = IfOk-from_err _ _ c.from_residual-in_err-write_report.ensures.0
 
 pub returns-in_err-write_report-clause-refused : goal.returns-in_err-write_report-clause-refused
 returns-in_err-write_report-clause-refused g c text s = passed_on c.from_residual-in_err-write_report.result c.in_err-write_report.field-0.0 _ c.from_residual-in_err-write_report.ensures.1 (subst (IsRefusal (ended_part text)) (sym c.in_err-write_report.ensures.write) (c.in_ok-report.ensures.told text s).sound)
@@ -52,17 +34,11 @@ returns-in_err-write_report-clause-missing g c text s = passed_on c.from_residua
 pub returns-in_err-write_report-clause-kinds : goal.returns-in_err-write_report-clause-kinds
 returns-in_err-write_report-clause-kinds g c = passed_on c.from_residual-in_err-write_report.result c.in_err-write_report.field-0.0 _ c.from_residual-in_err-write_report.ensures.1 (subst IsReportFault (sym c.in_err-write_report.ensures.write) tt)
 
-pub returns-in_err-write_report-clause-write_failed : goal.returns-in_err-write_report-clause-write_failed
-returns-in_err-write_report-clause-write_failed g c e = c.in_err-write_report.ensures.cause
-
 pub returns-in_err-write_report-clause-unwritten : goal.returns-in_err-write_report-clause-unwritten
 returns-in_err-write_report-clause-unwritten g c = passed_on c.from_residual-in_err-write_report.result c.in_err-write_report.field-0.0 _ c.from_residual-in_err-write_report.ensures.1 (λ n. absurd (n c.in_err-write_report.ensures.write))
 
 pub returns-in_err-write_report-clause-again : goal.returns-in_err-write_report-clause-again
 returns-in_err-write_report-clause-again g c fault r = absurd (no_fault _ c.in_ok-report.report fault (c.in_ok-report.ensures.again fault r))
-
-pub returns-in_err-report-clause-reported : goal.returns-in_err-report-clause-reported
-returns-in_err-report-clause-reported g c text s = IfOk-from_err _ _ c.from_residual.ensures.0
 
 pub returns-in_err-report-clause-refused : goal.returns-in_err-report-clause-refused
 returns-in_err-report-clause-refused g c text s = passed_on c.from_residual.result c.in_err-report.field-0.0 _ c.from_residual.ensures.1 (refuses (ended_part text) c.in_err-report.field-0.0 (c.in_err-report.ensures.refused text s))

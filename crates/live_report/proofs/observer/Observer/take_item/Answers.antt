@@ -1,13 +1,12 @@
-use Rattle.std.proofs.Common.{◌≡◌, ◌∙◌, arith, ap, subst, sym, refl, [], ◌∷◌, ◌++◌, length, map, option_to_list, Some}
-use Rattle.line_model.specs.observer.Report.{report_of}
+use Rattle.std.proofs.Common.{◌∙◌, arith, ap, subst, sym, refl, [], ◌∷◌, ◌++◌, length, map, Some}
 use Rattle.line_model.specs.pieces.Plans.{value}
 use Rattle.line_model.proofs.Posts.{length-values}
 use Rattle.restart_epochs.specs.Cutting.{given_of}
 use Rattle.restart_epochs.specs.Walks.{HasRoom, IsAdvanced}
 use Rattle.restart_epochs.proofs.Listings.{listing}
-use Rattle.live_report.specs.LastRows.{IsLastRow, KnowsLast}
+use Rattle.live_report.specs.JudgedRows.{IsJudgedRow, KnowsLast}
 use Rattle.live_report.specs.Lanes.{OpenFor}
-use Rattle.live_report.specs.Turns.{HasEvents, MayTurn, StandsAt, with_data}
+use Rattle.live_report.specs.Turns.{MayTurn, StandsAt, with_data}
 use Rattle.live_report.proofs.FindingLemmas.{finds_after}
 use Rattle.live_report.proofs.LastLemmas.{last_known}
 use Rattle.live_report.proofs.UncountedLemmas.{few_with}
@@ -63,9 +62,9 @@ returns-clause-stands g c i rs s sound =
     let here : StandsAt g.C.Channel v s.cutting.open_rows o.lanes = (lanes_at g.C.Channel.interface_of g.C.Channel.number_of g.C.Channel.stands_for s.cutting _ o v s.holds same, listing i rs s.cutting s.cut) in
     let may = subst (λ j. MayTurn step.turn j one s.cutting.open_rows) (sym (same.interface ∙ s.holds.interface)) (may_turn g.C.Channel.interface_of g.C.Channel.number_of g.C.Channel.stands_for i rs o one step s sound packet is) in
     let turned = has_turned step.turn one s.cutting.open_rows in
-    let last = c.in_ok-judged.judged.row in
+    let last = c.in_ok-judged.judged in
     let rest = c.in_ok-keep.ensures.rest in
-    let events = with_data v.epoch last.channel one c.in_ok-judged.judged.accepted c.turn.new.self.events.items in
+    let events = with_data v.epoch last.judge one c.turn.new.self.events.items in
     let known : KnowsLast i (rs ++ one ∷ []) (Some last) events =
     (last_known i rs s.cutting (cutting_after s.cutting one step) one step v last _ _ s.cut (cut_after i rs s.cutting one step s.cut packet is) (is_taken s.cutting one step) packet is
     (same.interface ∙ s.holds.interface) (same.epoch ∙ s.holds.epoch) (same.machine ∙ s.holds.line) refl
@@ -73,10 +72,8 @@ returns-clause-stands g c i rs s sound =
       number = c.in_ok-judged.ensures.number;
       side = c.in_ok-judged.ensures.side;
       packet = c.in_ok-judged.ensures.packet;
-      channel = c.in_ok-judged.ensures.channel;
-      before = c.in_ok-judged.ensures.before s.cutting.open_rows here;
-      after = c.in_ok-judged.ensures.after s.cutting.open_rows here (rows_after step.turn one s.cutting.open_rows) may turned;
-      came = subst (λ taker. HasEvents step.turn v s.cutting.open_rows one (with_data v.epoch taker one c.in_ok-judged.judged.accepted c.turn.new.self.events.items)) (sym c.in_ok-judged.ensures.channel) (c.in_ok-judged.ensures.events s.cutting.open_rows here);
+      judge = c.in_ok-judged.ensures.judge s.cutting.open_rows here (rows_after step.turn one s.cutting.open_rows) may turned;
+      came = c.in_ok-judged.ensures.events s.cutting.open_rows here;
     })
     (finds_after i rs s.cutting one step v _ s.cut packet is (same.interface ∙ s.holds.interface) (same.epoch ∙ s.holds.epoch) (c.in_ok-judged.ensures.finding s.cutting.open_rows here))) in
     stands_after g.C.Channel.interface_of g.C.Channel.number_of g.C.Channel.stands_for i rs one o _ one step s refl sound packet is
@@ -88,8 +85,8 @@ returns-clause-stands g c i rs s sound =
     let kept = sym (ap (λ k. k.keeps_rows) rest) ∙ keeps in
     subst (λ l. KnowsLast i (rs ++ one ∷ []) l c.keep.new.self.events.items) (sym (c.in_ok-keep.ensures.last kept))
     (subst (λ es. KnowsLast i (rs ++ one ∷ []) (Some last) es)
-    (sym (c.in_ok-keep.ensures.events kept ∙ ap (λ w. with_data w.epoch last.channel one c.in_ok-judged.judged.accepted c.turn.new.self.events.items) c.in_ok-judged.ensures.walk)) known))
-    (ap (λ k. k.uncounted) rest ∙ c.take.ensures i v.epoch rs one (subst (λ es. IsLastRow i rs one last (with_data v.epoch last.channel one c.in_ok-judged.judged.accepted es)) (sym c.as_slice.ensures.value) (known rs one refl)) (ap (λ w. w.interface) c.in_ok-judged.ensures.walk ∙ same.interface ∙ s.holds.interface ∙ s.cut.interface) (ap (λ x. x.length) c.item.view_is)
+    (sym (c.in_ok-keep.ensures.events kept ∙ ap (λ w. with_data w.epoch last.judge one c.turn.new.self.events.items) c.in_ok-judged.ensures.walk)) known))
+    (ap (λ k. k.uncounted) rest ∙ c.take.ensures i v.epoch rs one (subst (λ es. IsJudgedRow i rs one last (with_data v.epoch last.judge one es)) (sym c.as_slice.ensures.value) (known rs one refl)) (ap (λ w. w.interface) c.in_ok-judged.ensures.walk ∙ same.interface ∙ s.holds.interface ∙ s.cut.interface) (ap (λ x. x.length) c.item.view_is)
     (few_with g.C.Channel.interface_of g.C.Channel.number_of g.C.Channel.stands_for i rs one o s sound) (c.in_ok-judged.ensures.uncounted ∙ s.uncounted))
 
 pub returns-clause-finding : goal.returns-clause-finding
@@ -102,5 +99,4 @@ returns-clause-finding g c i rs s =
     let packet = said_here g.C.Channel.interface_of g.C.Channel.number_of g.C.Channel.stands_for c.requires.room.0 c.requires.room.1 o one s.cutting.interface c.requires.room.2 c.requires.room.3 s.holds.interface in
     let is = step_of g.C.Channel.interface_of g.C.Channel.number_of g.C.Channel.stands_for s.cutting _ o one step s.holds c.in_ok-step.ensures.step in
     let here : StandsAt g.C.Channel v s.cutting.open_rows o.lanes = (lanes_at g.C.Channel.interface_of g.C.Channel.number_of g.C.Channel.stands_for s.cutting _ o v s.holds same, listing i rs s.cutting s.cut) in
-    subst (λ found. (report_of i (rs ++ one ∷ [])).findings ≡ (report_of i rs).findings ++ option_to_list found) (sym c.finding-finding.ensures)
     (finds_after i rs s.cutting one step v _ s.cut packet is (same.interface ∙ s.holds.interface) (same.epoch ∙ s.holds.epoch) (c.in_ok-judged.ensures.finding s.cutting.open_rows here))

@@ -1,11 +1,10 @@
-use Rattle.std.proofs.Common.{◌≡◌, ◌∙◌, ap, sym, subst, ◌++◌, append-nil, length, map, refl}
+use Rattle.std.proofs.Common.{◌∙◌, ap, sym, subst, ◌++◌, append-nil, length, map, refl}
 use Rattle.std.specs.Prelude.{IfOk}
 use Rattle.line_model.specs.basics.Bounds.{IsPiece}
 use Rattle.line_model.specs.pieces.Plans.{value}
 use Rattle.restart_epochs.specs.Cutting.{HasTurned, ended_by}
-use Rattle.restart_epochs.specs.Walks.{channel_in}
 use Rattle.report_merge.specs.Gathered.{gathered}
-use Rattle.live_report.specs.Turns.{FindsAt, HasEvents, KnowsBy, MayTurn, with_data}
+use Rattle.live_report.specs.Turns.{FindsAt, HasEvents, JudgesBy, MayTurn, with_data}
 use Rattle.live_report.proofs.StandLemmas.{lanes_same}
 use Rattle.live_report.proofs.TakeLemmas.{lanes_ended, on_any}
 use Rattle.live_report.proofs.observer.Observer.turn.Goals as goal
@@ -33,30 +32,22 @@ returns-in-ToChannel-clause-ended g c rows stands reports was =
     (was ∙ ap gathered (sym (append-nil reports))
     ∙ ap (λ t. gathered (reports ++ map value (ended_by t c.args.self.now.walk.interface c.args.self.now.walk.epoch c.args.item.now.number (length reports) rows))) (sym c.in-ToChannel.is))
 
-pub returns-in-ToChannel-clause-channel : goal.returns-in-ToChannel-clause-channel
-returns-in-ToChannel-clause-channel g c = subst (λ t. IfOk c.step_channel.result (λ judged. judged.row.channel ≡ channel_in t)) (sym c.in-ToChannel.is) c.step_channel.ensures.channel
-
-pub returns-in-ToChannel-clause-before : goal.returns-in-ToChannel-clause-before
-returns-in-ToChannel-clause-before g c rows stands =
-    let walk = c.args.self.now.walk in
-    subst (λ t. IfOk c.step_channel.result (λ judged. KnowsBy t walk walk.machine rows judged.row.before)) (sym c.in-ToChannel.is) (c.step_channel.ensures.before rows stands.0)
-
-pub returns-in-ToChannel-clause-after : goal.returns-in-ToChannel-clause-after
-returns-in-ToChannel-clause-after g c rows stands after may turned =
+pub returns-in-ToChannel-clause-judge : goal.returns-in-ToChannel-clause-judge
+returns-in-ToChannel-clause-judge g c rows stands after may turned =
     let one = c.args.item.now in
     let walk = c.args.self.now.walk in
     let more = subst (λ t. HasTurned t one rows after) c.in-ToChannel.is turned in
-    subst (λ t. IfOk c.step_channel.result (λ judged. KnowsBy t walk c.args.step.now.machine after judged.row.after)) (sym c.in-ToChannel.is)
-    (c.step_channel.ensures.after rows stands.0 after more (subst (IsPiece walk.interface c.in-ToChannel.channel) (sym more.row) (subst (λ t. MayTurn t walk.interface one rows) c.in-ToChannel.is may)))
+    subst (λ t. IfOk c.step_channel.result (λ row. JudgesBy t walk c.args.step.now.machine rows after row.judge)) (sym c.in-ToChannel.is)
+    (c.step_channel.ensures.judge rows stands.0 after more (subst (IsPiece walk.interface c.in-ToChannel.channel) (sym more.row) (subst (λ t. MayTurn t walk.interface one rows) c.in-ToChannel.is may)))
 
 pub returns-in-ToChannel-clause-finding : goal.returns-in-ToChannel-clause-finding
 returns-in-ToChannel-clause-finding g c rows stands =
-    subst (λ t. IfOk c.step_channel.result (λ judged. FindsAt t c.args.step.now.finding c.args.self.now.walk rows c.args.item.now judged.row.finding)) (sym c.in-ToChannel.is) (c.step_channel.ensures.finding rows stands.0)
+    subst (λ t. IfOk c.step_channel.result (λ row. FindsAt t c.args.step.now.finding c.args.self.now.walk rows c.args.item.now row.finding)) (sym c.in-ToChannel.is) (c.step_channel.ensures.finding rows stands.0)
 
 pub returns-in-ToChannel-clause-events : goal.returns-in-ToChannel-clause-events
 returns-in-ToChannel-clause-events g c rows stands =
     let walk = c.args.self.now.walk in
-    subst (λ t. IfOk c.step_channel.result (λ judged. HasEvents t walk rows c.args.item.now (with_data walk.epoch (channel_in t) c.args.item.now judged.accepted c.step_channel.new.events.items))) (sym c.in-ToChannel.is) (c.step_channel.ensures.events rows stands.0)
+    subst (λ t. IfOk c.step_channel.result (λ row. HasEvents t walk rows c.args.item.now (with_data walk.epoch row.judge c.args.item.now c.step_channel.new.events.items))) (sym c.in-ToChannel.is) (c.step_channel.ensures.events rows stands.0)
 
 pub returns-in_ok-end_channels-in-Ends-clause-lanes : goal.returns-in_ok-end_channels-in-Ends-clause-lanes
 returns-in_ok-end_channels-in-Ends-clause-lanes g c rows stands after may turned =

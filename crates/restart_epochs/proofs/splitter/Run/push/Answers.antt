@@ -11,7 +11,7 @@ returns g c l run is route =
     let channel = c.packet_channel.ensures ∙ ap (λ (x : Item). packet_channel x.packet) c.item.view_is in
     let long : c.in-Ok.length ≡ item.length = c.in-Ok.ensures.1 ∙ ap (λ (x : Item). x.length) c.item.view_is in
     run_more l run item c.args.self.now _ is route
-    (subst (λ k. HasMore k item c.args.self.now.by_channel c.keep_row.new.rows) channel c.in_ok-keep_row.ensures.ok)
+    (subst (λ k. HasMore k item c.args.self.now.by_channel c.push.new.self) channel c.in_ok-push.ensures)
     c.in-Some-Some.ensures.1
     (ap (λ (x : Item). x.number) c.item.view_is)
     (c.in-Some-Some.ensures'.1 ∙ ap (λ n. c.args.self.now.octets + n) long)

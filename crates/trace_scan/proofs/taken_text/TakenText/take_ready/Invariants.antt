@@ -4,7 +4,7 @@ use Rattle.trace_scan.proofs.taken_text.TakenText.take_ready.Given as goal
 
 abbrev pub invariant-loop : goal.invariant-loop
 invariant-loop g l = record {
-  ready : IsFedSoFar g.P.TraceText.text l.fn.self.work.now.queue l.pass l.self.text;
+  ready : IsFedSoFar g.P.TraceText.text l.self.work.now.queue l.pass l.fn.self.sent l.self.text;
   fed : HasFedOn l.fn.pass l.pass;
-  same : l.self.work.now ≡ l.fn.self.work.now;
+  sent : l.self.sent ≡ l.fn.self.sent;
 }

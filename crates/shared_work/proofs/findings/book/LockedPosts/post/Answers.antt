@@ -1,14 +1,9 @@
-use Rattle.std.proofs.Common.{rules}
+use Rattle.std.proofs.lemmas.Result.{IfErr-weaker}
+use Rattle.shared_work.proofs.Adding.{post_fault}
 use Rattle.shared_work.proofs.findings.book.LockedPosts.post.Goals as goal
 
 pub add-requires : goal.add-requires
-add-requires g c = record { value = c.requires.value; vouched = c.requires.vouched }
-
-pub returns-clause-share : goal.returns-clause-share
-returns-clause-share g c = c.add.ensures.share
-
-pub returns-clause-refused : goal.returns-clause-refused
-returns-clause-refused g c = search rules
+add-requires g c = record { values = c.requires.values; vouched = c.requires.vouched }
 
 pub returns-clause-faults : goal.returns-clause-faults
-returns-clause-faults g c = c.add.ensures.faults
+returns-clause-faults g c = IfErr-weaker c.add.result _ _ (λ e h. post_fault _ _ e.1 h) c.add.ensures.faults

@@ -1,6 +1,0 @@
-use Rattle.std.proofs.Common.{◌≡◌, take}
-use Rattle.line_model.specs.basics.Items.{octets_of}
-use Rattle.line_model.proofs.items.kept_of_all.Given as goal
-
-abbrev pub invariant-loop-head : goal.invariant-loop-head
-invariant-loop-head l = l.kept ≡ octets_of (take l.head-index l.heads)

@@ -1,0 +1,169 @@
+//! What the rows of a piece say: parts that came whole, and rows that came one by one.
+
+ghost use Rattle.std.specs.Prelude.{◌≡◌, ◌++◌, ◌∷◌, [], length, OnErr, OnOk, IfOk, ◌==◌};
+
+use crate::items::{self, ItemRef, Items};
+use std::alloc::{AllocError, Allocator, Global};
+use std::marker::Model;
+use std::mem;
+
+/// What the rows of a piece say, in order. A part that is added keeps its memory: none of its rows is copied.
+///
+/// ```text
+///  parts   1 │ 2 │ 3    4 │ 5
+///  last    6 │ 7
+/// ```
+#[derive(Drop)]
+pub struct PieceItems<A: Allocator = Global> {
+    /// All parts but the last.
+    parts: Vec<Items<A>, A>,
+    /// The part that goes on.
+    last: Items<A>,
+    /// How many rows there are.
+    count: usize,
+}
+
+impl<A: Allocator> Model for PieceItems<A> {
+    ghost use Rattle.std.specs.Prelude.{◌≡◌, List, length};
+    ghost use Rattle.line_model.specs.basics.Records as records;
+    ghost use Rattle.line_model.specs.basics.Items.{all_items};
+
+    ghost Value = { List records.Item };
+
+    ghost view = { λ p. all_items p.parts.items p.last };
+
+    ghost invariant = { λ p. p.count ≡ length (all_items p.parts.items p.last) };
+}
+
+/// What the rows of a piece say that are left, first to last.
+#[derive(Drop)]
+pub struct Iter<'a, A: Allocator = Global> {
+    /// The rows that are left of the part that was begun.
+    begun: items::Iter<'a>,
+    parts: &'a [Items<A>],
+    last: items::Iter<'a>,
+}
+
+impl<'a, A: Allocator> Model for Iter<'a, A> {
+    ghost use Rattle.std.specs.Prelude.{List, ◌++◌};
+    ghost use Rattle.line_model.specs.basics.Records as records;
+    ghost use Rattle.line_model.specs.basics.Items.{all_items};
+
+    ghost Value = { List records.Item };
+
+    ghost view = { λ i. i.begun ++ all_items i.parts.now i.last };
+}
+
+impl<'a, A: Allocator> Iterator for Iter<'a, A> {
+    type Item = ItemRef<'a>;
+
+    ghost use Rattle.std.specs.Iterator.{YieldsFirst, item_count};
+
+    ghost next_gives = { YieldsFirst (λ left. left) };
+
+    ghost remaining = { item_count (λ left. left) };
+
+    fn next(&mut self) -> Option<ItemRef<'a>> {
+        loop {
+            if let Some(item) = self.begun.next() {
+                return Some(item);
+            }
+            let Some((part, parts)) = self.parts.split_first() else {
+                return self.last.next();
+            };
+            self.begun = part.iter();
+            self.parts = parts;
+        }
+    }
+}
+
+impl<A: Allocator> PieceItems<A> {
+    /// How many rows there are.
+    pub fn len(&self) -> usize
+        ensures { result ≡ length self.now }
+    {
+        self.count
+    }
+
+    /// Whether there is no row.
+    pub fn is_empty(&self) -> bool
+        ensures { result ≡ (length self.now == 0) }
+    {
+        self.count == 0
+    }
+
+    /// The allocator of all parts.
+    pub fn allocator(&self) -> &A {
+        self.parts.allocator()
+    }
+
+    /// What the rows say, in order.
+    pub fn iter(&self) -> Iter<'_, A>
+        ensures { result ≡ self.now }
+    {
+        Iter {
+            begun: items::Iter::none(),
+            parts: self.parts.as_slice(),
+            last: self.last.iter(),
+        }
+    }
+
+    /// Appends what a row of less than 2^32 octets says. Where memory is refused nothing changes.
+    pub fn push(&mut self, item: &ItemRef<'_>) -> Result<(), AllocError>
+        ensures ok { OnOk result (self.new ≡ self.old ++ item.now ∷ []) }
+        ensures refused { OnErr result (self.new ≡ self.old) }
+    {
+        let Some(count) = self.count.checked_add(1) else {
+            return Err(AllocError);
+        };
+        self.last.push(item)?;
+        self.count = count;
+        Ok(())
+    }
+
+    /// Appends the rows of a part, which takes no memory for them. Where memory is refused nothing changes.
+    pub fn add(&mut self, part: Items<A>) -> Result<(), AllocError>
+        ensures ok { OnOk result (self.new ≡ self.old ++ part) }
+        ensures refused { OnErr result (self.new ≡ self.old) }
+    {
+        let Some(count) = self.count.checked_add(part.len()) else {
+            return Err(AllocError);
+        };
+        self.parts.reserve(1)?;
+        let before = mem::replace(&mut self.last, part);
+        self.parts.push_reserved(before);
+        self.count = count;
+        Ok(())
+    }
+}
+
+impl<A: Allocator + Copy> PieceItems<A> {
+    /// No rows. It takes no memory.
+    pub fn new(alloc: A) -> Self
+        ensures { result ≡ [] }
+    {
+        PieceItems::of(Items::new(alloc))
+    }
+
+    /// The rows of a part. It takes no memory.
+    pub fn of(part: Items<A>) -> Self
+        ensures { result ≡ part }
+    {
+        PieceItems {
+            parts: Vec::new(*part.allocator()),
+            count: part.len(),
+            last: part,
+        }
+    }
+
+    /// The same rows once more, as one part.
+    pub fn copy(&self) -> Result<PieceItems<A>, AllocError>
+        ensures { IfOk result (λ items. items ≡ self.now) }
+    {
+        let mut rows = PieceItems::new(*self.parts.allocator());
+        for item in self.iter() {
+            rows.push(&item)?;
+        }
+        Ok(rows)
+    }
+}

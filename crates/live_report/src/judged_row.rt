@@ -1,0 +1,76 @@
+//! A row, as an observer judged it.
+
+ghost use Rattle.std.specs.Prelude.{◌≡◌, ℕ, List, Some};
+ghost use Rattle.std.specs.Bool.{OnFalse, OnTrue};
+ghost use Rattle.data_transfer.specs.Packed.{Packed};
+ghost use Rattle.line_model.specs.basics.Records.{Item};
+ghost use Rattle.line_model.specs.declared.event.Event.{Event};
+ghost use Rattle.live_report.specs.JudgedRows.{taker};
+ghost use Rattle.live_report.specs.Turns.{with_data};
+ghost use Rattle.live_report.specs.declared.judged_row.Judge.TheVariants.{Channel as OfChannel};
+
+use data_transfer::packed::FlowWord;
+use line_model::finding::Finding;
+use line_model::packet::Packet;
+use line_model::state::{RState, Side};
+
+/// The machine that judged a row, and what it knew before and after the row.
+#[derive(Clone, Copy)]
+pub enum Judge {
+    /// The restart machine, by its states.
+    Restart {
+        before: RState,
+        after: RState,
+    },
+    /// The logical channel that took the row, by its words, which `channel_run::status_word::view_in` reads.
+    Channel {
+        channel: u16,
+        before: FlowWord,
+        after: FlowWord,
+        /// How many octets of user data data with Q 0 has that the channel accepted, which is the row's one event.
+        accepted: Option<u32>,
+    },
+}
+
+impl Judge {
+    /// Whether it is a logical channel that accepted the row, which is data with Q 0.
+    #[inline(always)]
+    pub(crate) fn is_accepted(&self) -> bool
+        ensures accepted { OnTrue result ((k : ℕ) × (before : Packed) × (after : Packed) × (n : ℕ)
+            × (self.now ≡ OfChannel k before after (Some n))) }
+        ensures listed { OnFalse result ((epoch : ℕ) (r : Item) (events : List Event)
+            → with_data epoch self.now r events ≡ events) }
+    {
+        match self {
+            Judge::Restart { .. } => false,
+            Judge::Channel { accepted, .. } => accepted.is_some(),
+        }
+    }
+}
+
+/// A row, as an observer judged it.
+#[derive(Clone, Copy)]
+pub struct JudgedRow {
+    /// Its number.
+    pub number: u32,
+    /// The side that sent it.
+    pub side: Side,
+    /// Its packet.
+    pub packet: Packet,
+    /// The machine that judged it.
+    pub judge: Judge,
+    /// What it found.
+    pub finding: Option<Finding>,
+}
+
+impl JudgedRow {
+    /// The logical channel that took it; none where the restart machine judged it.
+    pub fn channel(&self) -> Option<u16>
+        ensures { result ≡ taker self.now.judge }
+    {
+        match &self.judge {
+            Judge::Restart { .. } => None,
+            Judge::Channel { channel, .. } => Some(*channel),
+        }
+    }
+}

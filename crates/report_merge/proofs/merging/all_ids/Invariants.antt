@@ -1,0 +1,6 @@
+use Rattle.std.proofs.Common.{◌≡◌, ◌++◌, drop, flat_map}
+use Rattle.line_model.specs.work.Book.{ids_of}
+use Rattle.report_merge.proofs.merging.all_ids.Given as goal
+
+abbrev pub invariant-loop-some : goal.invariant-loop-some
+invariant-loop-some g l = l.ids.items ++ ids_of (flat_map g.T.Reports.reports (drop l.some-index l.reports)) ≡ ids_of (flat_map g.T.Reports.reports l.reports)

@@ -1,0 +1,9 @@
+use Rattle.std.proofs.Common.{◌∙◌, ◌++◌, ◌∷◌, [], map, take, ap, sym}
+use Rattle.std.proofs.lemmas.List.{take_more}
+use Rattle.line_model.specs.pieces.Plans.{value}
+use Rattle.workers.proofs.Pieces.{value_more}
+use Rattle.workers.proofs.gate.Gate.run_bundle.Goals as goal
+
+pub loop-piece-preserved : goal.loop-piece-preserved
+loop-piece-preserved g c = c.in_ok-reports.ensures ∙ value_more _ _ (take c.loop-piece.piece-index c.parts.result.0.now) c.piece-item.result c.loop-piece.invariant c.in_ok-run.ensures.value
+    ∙ ap (map value) (ap (λ p. take c.loop-piece.piece-index c.parts.result.0.now ++ p ∷ []) c.piece-item.is ∙ sym (take_more c.parts.result.0.now c.loop-piece.piece-index c.piece-item.result c.loop-piece-test.true))
