@@ -136,6 +136,13 @@ struct FedText<'a, P: Plan + TraceText, A: Allocator, R> {
 }
 
 impl<'a, P: Plan + TraceText, A: Allocator + Copy, R: Wait + Clock> FedText<'a, P, A, R> {
+    /// The lines by which the text was refused after its first row.
+    fn into_refused(self) -> Option<RefusedLines<A>> {
+        let FedText { taken, .. } = self;
+        let TakenText { text, .. } = taken;
+        text.into_refused()
+    }
+
     /// Whether the text has more bytes with these than a text may have.
     fn passes_limit(&self, chunk: &[u8]) -> bool
         requires few { self.now.taken.sent + length self.now.room.items ≤ 2 ^ 30 }
@@ -439,7 +446,7 @@ fn read_all<P: Plan + TraceText, A: Allocator + Copy, S: Source, R: Wait + Clock
     match read_to_end(source, &mut fed, pass) {
         Ok(()) => {
             if let Err(fault) = fed.take_room(pass) {
-                *refused = fed.taken.text.into_refused();
+                *refused = fed.into_refused();
                 return Err(fault);
             }
             let FedText { taken, room } = fed;
@@ -447,9 +454,9 @@ fn read_all<P: Plan + TraceText, A: Allocator + Copy, S: Source, R: Wait + Clock
             finish(rt, *room.allocator(), text, work, pass)
         }
         Err(fault) => {
-            let fault = last_fault(&mut fed, fault, pass);
-            *refused = fed.taken.text.into_refused();
-            Err(fault)
+            let last = last_fault(&mut fed, fault, pass);
+            *refused = fed.into_refused();
+            Err(last)
         }
     }
 }

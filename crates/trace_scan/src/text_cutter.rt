@@ -185,6 +185,14 @@ impl<A: Allocator + Copy> TextCutter<A> {
         self.refused
     }
 
+    /// The number of the last row, where the text that was taken ends with its line; else 0.
+    fn last_number(&self) -> u32 {
+        match self.lines.end_block(0) {
+            Some(span) => span.last,
+            None => 0,
+        }
+    }
+
     /// Keeps lines that were refused after the row of this number.
     #[cold]
     fn keep_refused(&mut self, lines: &[u8], number_before: u32) {
@@ -262,7 +270,7 @@ impl<A: Allocator + Copy> TextCutter<A> {
         ensures limit { OnOk result (bytes_fed self.new.lines ≤ 2 ^ 30) }
         ensures kinds { IfErr result IsTextFault }
     {
-        let number_before = self.row.number;
+        let number_before = self.last_number();
         let mut pieces = Vec::new(*self.row.octets.allocator());
         match self.feed_into(bytes, &mut pieces) {
             Ok(()) => Ok(pieces),

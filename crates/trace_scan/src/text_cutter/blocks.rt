@@ -109,7 +109,6 @@ impl<A: Allocator + Copy> TextCutter<A> {
             unreachable!();
         };
         self.row_cutter = Some(row_cutter.cut_stretches(rows.stretches, pieces)?);
-        self.row.number = self.row.number.max(rows.span.last);
         Ok(true)
     }
 
