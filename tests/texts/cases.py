@@ -24,6 +24,8 @@ TOO_LARGE = "The text has more than 2^30 bytes: cut it after a restart confirmat
 # More rows, and more comments, than the last bytes that a refusal is explained by.
 MANY = b"".join(b"%d T 1000FB0000\n" % number for number in range(1, 20000))
 COMMENTS = b"# no row\n" * 20000
+# As many rows after them, which workers may have read by then.
+MORE = b"".join(b"%d N 1001E10000\n" % number for number in range(20001, 90000))
 # Rows after a row, so that it doesn't end with the text.
 BEHIND = b"".join(b"%d N %s\n" % (number, b"1001" * 8) for number in range(999999990, 1000000000))
 DIGITS = b"0123456789abcdefABCDEF9876543210fedcbaFEDCBA" * 2
@@ -50,6 +52,10 @@ ROWS = [
     (b"1 T -\n# a comment\n1 T -\n", 4, NUMBER, "The row's number is 1, and that of the row before is 1: numbers rise."),
     (b"9 T 1000FB0000\n# a comment\n7 N 1000FF\n", 4, NUMBER, "The row's number is 7, and that of the row before is 9: numbers rise."),
     (MANY + b"19999 T -\n1 N -\n", 20001, NUMBER, "The row's number is 19999, and that of the row before is 19999: numbers rise."),
+    (MANY + b"19999 T -\n" + MORE, 20001, NUMBER, "The row's number is 19999, and that of the row before is 19999: numbers rise."),
+    (MANY + COMMENTS + b"19999 T -\n" + MORE, 40001, NUMBER, None),
+    (MANY + b"20000 T 1G\n" + MORE, 20001, HEX, 'At column 10 stands "G", which is no hex digit.'),
+    (MANY + MORE + b"90000 X 10\n" + MANY, 90000, SIDE, 'The side is "X": T for the DTE or N for the DCE belongs there.'),
     (b"\n", 2, LINE_FORM, LAST_EMPTY),
     (b"1 T 10\n\n", 3, LINE_FORM, LAST_EMPTY),
     (b"1 T 10\n\n\n", 3, LINE_FORM, LAST_EMPTY),
@@ -60,6 +66,7 @@ ROWS = [
     (HEADER, 2, LINE_FORM, SECOND_HEADER),
     (MANY + HEADER + b"1 T 10\n", 20001, LINE_FORM, SECOND_HEADER),
     (MANY + b"# the next day\n" + HEADER + MANY, 20002, LINE_FORM, SECOND_HEADER),
+    (MANY + b"20000 T\n" + MORE, 20001, LINE_FORM, "The line has 2 words, and a row has three: its number, its side and its octets."),
     (MANY + b"20000 T\n" + HEADER + b"1 T 10\n", 20001, LINE_FORM, "The line has 2 words, and a row has three: its number, its side and its octets."),
     (b"1 T 10\n" + COMMENTS + HEADER + b"1 T 10\n", 20003, LINE_FORM, SECOND_HEADER),
     (b"1 T\n", 2, LINE_FORM, "The line has 2 words, and a row has three: its number, its side and its octets."),

@@ -9,7 +9,7 @@ use crate::channels::last_channel;
 use crate::opening::open_trace;
 use crate::options::{Form, Options, Printing};
 use crate::program::{USAGE, summary_status};
-use crate::refusing::{ScannedSource, refuse_scan};
+use crate::refusing::refuse_scan;
 use crate::rows_scan::print_rows;
 use annotated_trace::rows::Rows;
 use line_model::device::{Sink, Source};
@@ -112,13 +112,7 @@ fn run_print<S: Input, K: Output, E: Sink>(
             print_missing(alloc, printing.rows, source, &summary, errors);
             summary_status(&summary)
         }
-        Err(fault) => refuse_scan(
-            alloc,
-            ScannedSource::new(source, false),
-            sink,
-            errors,
-            fault,
-        ),
+        Err(fault) => refuse_scan(alloc, source, sink, errors, fault),
     }
 }
 

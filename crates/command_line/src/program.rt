@@ -19,7 +19,7 @@ use crate::notes::{print_note, refuse_notes, refuses_notes};
 use crate::opening::open_trace;
 use crate::options::{Form, Options, Printing, parse};
 use crate::printing::{AskedRows, print_trace};
-use crate::refusing::{ScannedSource, refuse, refuse_scan};
+use crate::refusing::{refuse, refuse_scan};
 use crate::trying::try_trace;
 use annotated_trace::rows::Rows;
 use clap::Error;
@@ -116,13 +116,7 @@ fn run_alone<S: Input, K: Output, E: Sink>(
             print_note(alloc, notes, &uncounted, errors);
             summary_status(&summary)
         }
-        Err(fault) => refuse_scan(
-            alloc,
-            ScannedSource::new(source, false),
-            sink,
-            errors,
-            fault,
-        ),
+        Err(fault) => refuse_scan(alloc, source, sink, errors, fault),
     }
 }
 
@@ -149,13 +143,7 @@ fn run_follow<S: Input, K: Output, E: Sink>(
             print_note(alloc, notes, &uncounted, errors);
             summary_status(&summary)
         }
-        Err(fault) => refuse_scan(
-            alloc,
-            ScannedSource::new(source, false),
-            sink,
-            errors,
-            fault,
-        ),
+        Err(fault) => refuse_scan(alloc, source, sink, errors, fault),
     }
 }
 
@@ -188,7 +176,7 @@ fn run_with<S: Input, K: Output, E: Sink, R: Threads + Wait + Clock + Sync>(
         &OpenGate,
     ) {
         Ok(scan) => summary_status(&scan.summary),
-        Err(fault) => refuse_scan(alloc, ScannedSource::new(source, true), sink, errors, fault),
+        Err(fault) => refuse_scan(alloc, source, sink, errors, fault),
     }
 }
 

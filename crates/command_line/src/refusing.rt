@@ -12,10 +12,10 @@ use explanations::advice::advice;
 use line_model::device::Sink;
 use line_model::fault::{Fault, Kind};
 use line_model::write_buffer::write_all;
-use std::alloc::{AllocError, Global};
+use std::alloc::Global;
 use std::io;
 use std::io::ErrorKind;
-use streams::input::{Input, LastText, OpenRefusal};
+use streams::input::{Input, OpenRefusal};
 use streams::output::Output;
 
 /// Prints a text. What standard error does not take of it is lost.
@@ -60,53 +60,15 @@ fn print_reason<E: Sink>(
     }
 }
 
-/// A source, after a scan read it.
-#[derive(Drop)]
-pub struct ScannedSource<'a, S> {
-    source: &'a S,
-    /// Whether it may have been read past the line that was refused, as workers do.
-    is_ahead: bool,
-}
-
-impl<'a, S> ScannedSource<'a, S> {
-    pub fn new(source: &'a S, is_ahead: bool) -> Self {
-        ScannedSource { source, is_ahead }
-    }
-}
-
-/// What follows the meaning of a fault whose line is not kept.
-const ASK_ALONE: &str = "With --alone x25scan says what is wrong in the line itself.";
-
-/// What is wrong with a faulty line, by the line itself where it is kept, else the meaning of its kind.
-fn line_advice(
-    alloc: Global,
-    kind: Kind,
-    last: &LastText,
-    is_kept: bool,
-) -> Result<String, AllocError> {
-    if is_kept {
-        return advice(alloc, kind, last.text.as_slice(), last.is_whole);
-    }
-    let meaning = advice(alloc, kind, &[], false)?;
-    format!(in alloc; "{meaning} {ASK_ALONE}")
-}
-
 /// Prints what is wrong with a faulty line of the trace.
-fn print_advice<S: Input, E: Sink>(
-    alloc: Global,
-    scanned: ScannedSource<'_, S>,
-    errors: &mut E,
-    kind: Kind,
-)
+fn print_advice<S: Input, E: Sink>(alloc: Global, source: &S, errors: &mut E, kind: Kind)
     ensures more { Grows (E.taken errors.old) (E.taken errors.new) }
     ensures rising { E.failures errors.old ≤ E.failures errors.new }
 {
-    let source = scanned.source;
     let Ok(last) = source.last_text(alloc) else {
         return;
     };
-    let is_kept = last.is_whole || !scanned.is_ahead || kind == Kind::TextLarge;
-    match line_advice(alloc, kind, &last, is_kept) {
+    match advice(alloc, kind, last.text.as_slice(), last.beginning) {
         Ok(sentence) => print_more(alloc, errors, source.name(), &sentence),
         Err(_) => {}
     }
@@ -151,39 +113,24 @@ pub fn refuse_write<K: Output, E: Sink>(alloc: Global, sink: &K, errors: &mut E)
 }
 
 /// Prints the second line of a fault of reading, where there is one.
-fn print_second<S: Input, E: Sink>(
-    alloc: Global,
-    scanned: ScannedSource<'_, S>,
-    errors: &mut E,
-    fault: Fault,
-)
+fn print_second<S: Input, E: Sink>(alloc: Global, source: &S, errors: &mut E, fault: Fault)
     ensures more { Grows (E.taken errors.old) (E.taken errors.new) }
     ensures rising { E.failures errors.old ≤ E.failures errors.new }
 {
     match fault {
-        Fault::Trace(_, kind) => print_advice(alloc, scanned, errors, kind),
-        Fault::Read => print_reason(
-            alloc,
-            errors,
-            scanned.source.name(),
-            scanned.source.failure(),
-        ),
+        Fault::Trace(_, kind) => print_advice(alloc, source, errors, kind),
+        Fault::Read => print_reason(alloc, errors, source.name(), source.failure()),
         _ => {}
     }
 }
 
 /// Prints a fault, and its second line.
-fn print_lines<S: Input, E: Sink>(
-    alloc: Global,
-    scanned: ScannedSource<'_, S>,
-    errors: &mut E,
-    fault: Fault,
-)
+fn print_lines<S: Input, E: Sink>(alloc: Global, source: &S, errors: &mut E, fault: Fault)
     ensures { IsSaid (fault_line fault) (E.taken errors.old) (E.taken errors.new)
         (E.failures errors.new ≡ E.failures errors.old) }
 {
     match print_fault(errors, fault) {
-        Ok(()) => print_second(alloc, scanned, errors, fault),
+        Ok(()) => print_second(alloc, source, errors, fault),
         Err(_) => {}
     }
 }
@@ -191,7 +138,7 @@ fn print_lines<S: Input, E: Sink>(
 /// Prints why a scan gave up, and returns the exit status. Where its sink did not fail, the line of the fault comes first.
 pub fn refuse_scan<S: Input, K: Output, E: Sink>(
     alloc: Global,
-    scanned: ScannedSource<'_, S>,
+    source: &S,
     sink: &K,
     errors: &mut E,
     fault: Fault,
@@ -204,7 +151,7 @@ pub fn refuse_scan<S: Input, K: Output, E: Sink>(
     match fault {
         Fault::Write => refuse_write(alloc, sink, errors),
         _ => {
-            print_lines(alloc, scanned, errors, fault);
+            print_lines(alloc, source, errors, fault);
             fault_status(fault)
         }
     }

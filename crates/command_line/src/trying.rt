@@ -7,7 +7,7 @@ ghost use Rattle.command_line.specs.Trying.{IsTryAnswer, TriesOf, cannot_try};
 use crate::opening::open_trace;
 use crate::options::Options;
 use crate::program::{USAGE, progress_choice};
-use crate::refusing::{ScannedSource, refuse_scan};
+use crate::refusing::refuse_scan;
 use line_model::device::Sink;
 use line_model::write_buffer::write_all;
 use std::alloc::Global;
@@ -42,13 +42,7 @@ fn run_try<S: Input, K: Output, E: Sink>(
     source.show_progress(progress_choice(&options));
     match try_headers(alloc, source, sink) {
         Ok(findings) => tried_status(findings),
-        Err(fault) => refuse_scan(
-            alloc,
-            ScannedSource::new(source, false),
-            sink,
-            errors,
-            fault,
-        ),
+        Err(fault) => refuse_scan(alloc, source, sink, errors, fault),
     }
 }
 

@@ -10,10 +10,12 @@ mod sentence;
 
 use crate::advice::files::{file_advice, other_text_advice};
 use crate::advice::header::headers_advice;
+use crate::advice::line::is_whole;
 use crate::advice::rows::rows_advice;
 use crate::advice::sentence::fixed_sentence;
 use crate::explanation::{Explanation, Topic};
 use crate::table::{all, explain};
+use line_model::device::Beginning;
 use line_model::fault::Kind;
 use std::alloc::{AllocError, Global};
 
@@ -26,16 +28,16 @@ fn lines_advice(
     alloc: Global,
     kind: Kind,
     text: &[u8],
-    whole: bool,
+    beginning: Beginning,
 ) -> Result<Option<String>, AllocError> {
     match kind {
-        Kind::HeaderMissing if whole && text.is_empty() => fixed_sentence(
+        Kind::HeaderMissing if is_whole(beginning) && text.is_empty() => fixed_sentence(
             alloc,
             "The text is empty.",
         ),
-        Kind::HeaderForm | Kind::HeaderRange => headers_advice(alloc, text, whole),
+        Kind::HeaderForm | Kind::HeaderRange => headers_advice(alloc, text, beginning),
         Kind::LineForm | Kind::Number | Kind::Side | Kind::Hex => {
-            rows_advice(alloc, kind, text, whole)
+            rows_advice(alloc, kind, text, beginning)
         }
         Kind::TextLarge => fixed_sentence(alloc, TOO_LARGE),
         _ => Ok(None),
@@ -53,10 +55,14 @@ fn meaning(alloc: Global, kind: Kind) -> Result<String, AllocError> {
 }
 
 /// What is wrong with a trace that was refused by a rule, in a sentence: by the lines themselves where they say more,
-/// else the meaning of the rule. The lines are the last that were read, with the faulty one and none after it that is
-/// judged; they begin with the text where `whole` is true, else in the midst of a line.
-pub fn advice(alloc: Global, kind: Kind, text: &[u8], whole: bool) -> Result<String, AllocError> {
-    if whole {
+/// else the meaning of the rule. Of the lines the first that breaks the rule is the faulty one.
+pub fn advice(
+    alloc: Global,
+    kind: Kind,
+    text: &[u8],
+    beginning: Beginning,
+) -> Result<String, AllocError> {
+    if is_whole(beginning) {
         if let Some(sentence) = file_advice(text) {
             return String::from_str(alloc, sentence);
         }
@@ -64,7 +70,7 @@ pub fn advice(alloc: Global, kind: Kind, text: &[u8], whole: bool) -> Result<Str
             return Ok(sentence);
         }
     }
-    match lines_advice(alloc, kind, text, whole)? {
+    match lines_advice(alloc, kind, text, beginning)? {
         Some(sentence) => Ok(sentence),
         None => meaning(alloc, kind),
     }

@@ -10,6 +10,17 @@ use std::alloc::Allocator;
 /// The most bytes that a source gives at once.
 pub const CHUNK: usize = 1 << 16;
 
+/// Where some bytes of a text begin.
+#[derive(Clone, Copy)]
+pub enum Beginning {
+    /// With the text.
+    Text,
+    /// With a line, after a row of this number, or after none where it is 0.
+    Line(u32),
+    /// In the midst of a line.
+    Midst,
+}
+
 /// Where a trace comes from, in chunks of any size up to 65,536 bytes, which it lends.
 pub trait Source {
     /// The bytes that it will give up to its end, where it tells them.
@@ -39,6 +50,15 @@ pub trait Source {
     /// The bytes that its last call gave.
     fn latest(&self) -> &[u8]
         ensures { result.now ≡ last_given self.now };
+
+    /// Is given whole lines of its text that were refused after more of it was read, and the number of the row before
+    /// them. A source that is asked later what is wrong with them keeps them.
+    fn keep_refused(&mut self, lines: &[u8], number_before: u32)
+        ensures left { left self.new ≡ left self.old }
+        ensures before { before self.new ≡ before self.old }
+        ensures calls { calls self.new ≡ calls self.old }
+        ensures failures { failures self.new ≡ failures self.old }
+    {}
 }
 
 /// Where a report goes.

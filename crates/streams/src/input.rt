@@ -5,7 +5,7 @@ ghost use Rattle.streams.specs.OpenFaults.{IsByItsReason};
 
 use crate::first_bytes::FirstBytes;
 use crate::progress::ShowProgress;
-use line_model::device::Source;
+use line_model::device::{Beginning, Source};
 use std::alloc::{AllocError, Global};
 use std::io;
 use thiserror::Error;
@@ -36,12 +36,12 @@ pub struct OpenRefusal {
     pub reason: io::Error,
 }
 
-/// The last bytes that a source gave, at least 65,536, or all where it gave fewer.
+/// Bytes of a text that was refused, with the faulty line among them: the lines that the source was given back, else the
+/// last bytes that it gave, at least 65,536, or all where it gave fewer.
 #[derive(Drop)]
 pub struct LastText {
     pub text: Vec<u8>,
-    /// Whether they are all that it gave.
-    pub is_whole: bool,
+    pub beginning: Beginning,
 }
 
 /// A source that begins as standard input, and turns to the trace that is opened by its name.
@@ -72,7 +72,7 @@ pub trait Input: Source {
     /// The first bytes that it gave, or fewer where memory was refused.
     fn begun(&self) -> &FirstBytes;
 
-    /// The last bytes that it gave.
+    /// The lines that it was given back, else the last bytes that it gave.
     fn last_text(&self, alloc: Global) -> Result<LastText, AllocError>;
 
     /// Chooses when it shows how far the reading is.

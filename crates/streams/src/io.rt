@@ -13,13 +13,32 @@ use crate::opener::Opener;
 use crate::output::Output;
 use crate::progress::{Progress, ShowProgress};
 use crate::shown_reader::ShownReader;
-use line_model::device::{Sink, Source};
+use line_model::device::{Beginning, Sink, Source};
 use line_model::history::Count;
 use std::alloc::{AllocError, Global};
 use std::io;
 use std::io::{Read, Write};
 use std::snapshot::Snapshot;
 use std::time::Clock;
+
+/// Lines that were refused after more of their text was read, and the number of the row before them.
+#[derive(Drop)]
+struct RefusedLines {
+    lines: Vec<u8>,
+    number_before: u32,
+}
+
+impl RefusedLines {
+    /// A copy of them, which begins with a line.
+    fn text(&self, alloc: Global) -> Result<LastText, AllocError> {
+        let mut text = Vec::new(alloc);
+        text.extend_from_slice(self.lines.as_slice())?;
+        Ok(LastText {
+            text,
+            beginning: Beginning::Line(self.number_before),
+        })
+    }
+}
 
 /// Standard input, or the file that was opened in its place, as a source. Each read is one of the reader's, into the room
 /// that keeps its last bytes.
@@ -35,6 +54,7 @@ pub struct FileInput<'a, R: Opener + Clock, I: Read + Drop, W: Write + Drop> {
     name: Option<String>,
     begun: FirstBytes,
     last_bytes: LastBytes,
+    refused: Option<RefusedLines>,
     progress: Progress<W>,
     // What the system said of the last read that failed.
     failure: Option<io::Error>,
@@ -65,6 +85,7 @@ impl<'a, R: Opener + Clock, I: Read + Drop, W: Write + Drop> FileInput<'a, R, I,
             name: None,
             begun: FirstBytes::new(alloc),
             last_bytes: LastBytes::new(),
+            refused: None,
             progress,
             failure: None,
             calls: Count::new(),
@@ -155,6 +176,16 @@ impl<R: Opener + Clock, I: Read + Drop, W: Write + Drop> Source for FileInput<'_
     fn latest(&self) -> &[u8] {
         self.last_bytes.latest()
     }
+
+    fn keep_refused(&mut self, lines: &[u8], number_before: u32) {
+        let mut kept = Vec::new(self.alloc);
+        if kept.extend_from_slice(lines).is_ok() {
+            self.refused = Some(RefusedLines {
+                lines: kept,
+                number_before,
+            });
+        }
+    }
 }
 
 impl<R: Opener + Clock, I: Read + Drop, W: Write + Drop> Input for FileInput<'_, R, I, W> {
@@ -187,10 +218,13 @@ impl<R: Opener + Clock, I: Read + Drop, W: Write + Drop> Input for FileInput<'_,
     }
 
     fn last_text(&self, alloc: Global) -> Result<LastText, AllocError> {
-        Ok(LastText {
-            text: self.last_bytes.text(alloc)?,
-            is_whole: self.last_bytes.is_whole(),
-        })
+        match &self.refused {
+            Some(refused) => refused.text(alloc),
+            None => Ok(LastText {
+                text: self.last_bytes.text(alloc)?,
+                beginning: self.last_bytes.beginning(),
+            }),
+        }
     }
 
     fn show_progress(&mut self, when: ShowProgress) {

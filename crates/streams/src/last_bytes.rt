@@ -1,11 +1,11 @@
 //! The last bytes that a reader gave, where they were read.
 
-ghost use Rattle.std.specs.Prelude.{◌≡◌, ℕ, ◌+◌, ◌<◌, ◌≤◌, ◌^◌, List, [], ◌++◌, IfOk, OnErr, OnOk, length, true};
+ghost use Rattle.std.specs.Prelude.{◌≡◌, ℕ, ◌+◌, ◌<◌, ◌≤◌, ◌^◌, List, [], ◌++◌, IfOk, OnErr, OnOk, if◌then◌else◌, length, true};
 ghost use Rattle.std.specs.Io.KnownBytes.{Consumes, IsAtEnd, Keeps};
 ghost use Rattle.streams.specs.LastBytes.{HasRead, IsEndOf, bytes_of, last_read};
 
 use crate::stretch::Stretch;
-use line_model::device::CHUNK;
+use line_model::device::{Beginning, CHUNK};
 use std::alloc::{AllocError, Global};
 use std::io;
 use std::io::Read;
@@ -55,11 +55,15 @@ impl LastBytes {
         }
     }
 
-    /// Whether it has all that was given.
-    pub fn is_whole(&self) -> bool
-        ensures { result ≡ self.now.whole }
+    /// Where what it has begins.
+    pub fn beginning(&self) -> Beginning
+        ensures { result ≡ (if self.now.whole then Beginning.Text else Beginning.Midst) }
     {
-        self.whole
+        if self.whole {
+            Beginning::Text
+        } else {
+            Beginning::Midst
+        }
     }
 
     fn latest_stretch(&self) -> &Stretch

@@ -22,7 +22,7 @@ use crate::block_queues::{BlockQueues, IN_FLIGHT};
 use crate::blocks::TraceText;
 use crate::blocks_out::BlocksOut;
 use crate::taken_text::TakenText;
-use crate::text_cutter::{RowCutter, TextCutter};
+use crate::text_cutter::{RefusedLines, RowCutter, TextCutter};
 use line_model::device::Source;
 use line_model::fault::Fault;
 use line_model::finding::Finding;
@@ -136,6 +136,13 @@ struct FedText<'a, P: Plan + TraceText, A: Allocator, R> {
 }
 
 impl<'a, P: Plan + TraceText, A: Allocator + Copy, R: Wait + Clock> FedText<'a, P, A, R> {
+    /// The lines by which the text was refused after its first row.
+    fn into_refused(self) -> Option<RefusedLines<A>> {
+        let FedText { taken, .. } = self;
+        let TakenText { text, .. } = taken;
+        text.into_refused()
+    }
+
     /// Whether the text has more bytes with these than a text may have.
     fn passes_limit(&self, chunk: &[u8]) -> bool
         requires few { self.now.taken.sent + length self.now.room.items ≤ 2 ^ 30 }
@@ -414,11 +421,13 @@ fn last_fault<P: Plan + TraceText, A: Allocator + Copy, R: Wait + Clock>(
 }
 
 /// Reads a source to its end. The pieces of its trace are fed as soon as they are known whole. What was given is taken
-/// before the failure of the source is returned, so that it hides no faulty line.
+/// before the failure of the source is returned, so that it hides no faulty line. Where lines are refused, they are kept
+/// apart.
 fn read_all<P: Plan + TraceText, A: Allocator + Copy, S: Source, R: Wait + Clock>(
     source: &mut S,
     fed: FedText<'_, P, A, R>,
     pass: &mut FeederPass<A>,
+    refused: &mut Option<RefusedLines<A>>,
 ) -> Result<Read<A>, Fault>
     requires queue { pass.old.queue ≡ fed.taken.work.now.queue }
     requires first { (pass.old.record_of.fed ≡ 0) × (pass.old.record_of.ends ≡ 0) }
@@ -436,12 +445,31 @@ fn read_all<P: Plan + TraceText, A: Allocator + Copy, S: Source, R: Wait + Clock
     let mut fed = fed;
     match read_to_end(source, &mut fed, pass) {
         Ok(()) => {
-            fed.take_room(pass)?;
+            if let Err(fault) = fed.take_room(pass) {
+                *refused = fed.into_refused();
+                return Err(fault);
+            }
             let FedText { taken, room } = fed;
             let TakenText { rt, work, text, .. } = taken;
             finish(rt, *room.allocator(), text, work, pass)
         }
-        Err(fault) => Err(last_fault(&mut fed, fault, pass)),
+        Err(fault) => {
+            let last = last_fault(&mut fed, fault, pass);
+            *refused = fed.into_refused();
+            Err(last)
+        }
+    }
+}
+
+/// Gives a source the lines that were refused.
+fn give_back<A: Allocator, S: Source>(source: &mut S, refused: Option<RefusedLines<A>>)
+    ensures left { S.left source.new ≡ S.left source.old }
+    ensures before { S.before source.new ≡ S.before source.old }
+    ensures calls { S.calls source.new ≡ S.calls source.old }
+    ensures failures { S.failures source.new ≡ S.failures source.old }
+{
+    if let Some(refused) = refused {
+        source.keep_refused(refused.lines.as_slice(), refused.number_before);
     }
 }
 
@@ -485,7 +513,9 @@ impl<'a, P: Plan + TraceText, A: Allocator + Copy, S: Source> Feed<P, A>
             },
             room: Vec::new(alloc),
         };
-        let outcome = Some(read_all(source, fed, pass));
+        let mut refused = None;
+        let outcome = Some(read_all(source, fed, pass, &mut refused));
+        give_back(source, refused);
         ReadingTask {
             source,
             alloc,

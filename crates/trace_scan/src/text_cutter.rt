@@ -33,6 +33,13 @@ pub(crate) fn item_of_row<'a, A: Allocator>(
     row.item(decode(interface, row.octets.as_slice()))
 }
 
+/// Whole lines that were refused, and the number of the row before them, or 0.
+#[derive(Drop)]
+pub struct RefusedLines<A: Allocator = Global> {
+    pub lines: Vec<u8, A>,
+    pub number_before: u32,
+}
+
 /// The cutter of a text whose header was read.
 #[derive(Drop)]
 pub struct RowCutter<A: Allocator = Global> {
@@ -151,6 +158,8 @@ pub struct TextCutter<A: Allocator = Global> {
     row: ReadRow<A>,
     /// Made once the first row was read.
     row_cutter: Option<RowCutter<A>>,
+    /// The lines by which the text was refused after its first row; none where memory for them was refused.
+    refused: Option<RefusedLines<A>>,
 }
 
 impl<A: Allocator + Copy> TextCutter<A> {
@@ -167,6 +176,32 @@ impl<A: Allocator + Copy> TextCutter<A> {
                 octets: Vec::new(alloc),
             },
             row_cutter: None,
+            refused: None,
+        }
+    }
+
+    /// The lines by which the text was refused after its first row.
+    pub fn into_refused(self) -> Option<RefusedLines<A>> {
+        self.refused
+    }
+
+    /// The number of the last row, where the text that was taken ends with its line; else 0.
+    fn last_number(&self) -> u32 {
+        match self.lines.end_block(0) {
+            Some(span) => span.last,
+            None => 0,
+        }
+    }
+
+    /// Keeps lines that were refused after the row of this number.
+    #[cold]
+    fn keep_refused(&mut self, lines: &[u8], number_before: u32) {
+        let mut kept = Vec::new(*self.row.octets.allocator());
+        if number_before > 0 && kept.extend_from_slice(lines).is_ok() {
+            self.refused = Some(RefusedLines {
+                lines: kept,
+                number_before,
+            });
         }
     }
 
@@ -235,9 +270,15 @@ impl<A: Allocator + Copy> TextCutter<A> {
         ensures limit { OnOk result (bytes_fed self.new.lines ≤ 2 ^ 30) }
         ensures kinds { IfErr result IsTextFault }
     {
+        let number_before = self.last_number();
         let mut pieces = Vec::new(*self.row.octets.allocator());
-        self.feed_into(bytes, &mut pieces)?;
-        Ok(pieces)
+        match self.feed_into(bytes, &mut pieces) {
+            Ok(()) => Ok(pieces),
+            Err(fault) => {
+                self.keep_refused(bytes, number_before);
+                Err(fault)
+            }
+        }
     }
 
     /// The text has ended, and its last line may lack its LF: all its rows are cut. The pieces that are known whole with
@@ -260,6 +301,7 @@ impl<A: Allocator + Copy> TextCutter<A> {
             lines,
             mut row,
             row_cutter,
+            ..
         } = self;
         let end = lines.end_row(&mut row)?;
         let mut row_cutter = row_cutter_of(*row.octets.allocator(), &end.interface, row_cutter);

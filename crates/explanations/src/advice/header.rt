@@ -1,9 +1,10 @@
 //! What is wrong with the form of a header.
 
-use crate::advice::line::{number_in, space_advice};
+use crate::advice::line::{begins_line, number_in, space_advice};
 use crate::advice::quoted::quoted;
 use crate::advice::ranges::{Numbers, range_advice};
 use crate::advice::sentence::{fixed_sentence, quoting_sentence, some_sentence};
+use line_model::device::Beginning;
 use std::alloc::{AllocError, Global};
 
 /// A header of the first form, as an example.
@@ -200,14 +201,13 @@ fn first_line_advice(alloc: Global, line: &[u8]) -> Result<Option<String>, Alloc
     }
 }
 
-/// What is wrong with the header among some lines, its first that is no comment. The lines begin with the text where
-/// `whole` is true, else in the midst of a line.
+/// What is wrong with the header among some lines, its first that is no comment.
 pub fn headers_advice(
     alloc: Global,
     text: &[u8],
-    whole: bool,
+    beginning: Beginning,
 ) -> Result<Option<String>, AllocError> {
-    let mut line_began = whole;
+    let mut line_began = begins_line(beginning);
     for line in text.split(|byte| *byte == b'\n') {
         if line_began && !line.starts_with(b"#") {
             return header_advice(alloc, line);

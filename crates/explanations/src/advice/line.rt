@@ -1,8 +1,25 @@
 //! A line, its words and the spaces between them.
 
 use crate::advice::sentence::{fixed_sentence, some_sentence};
+use line_model::device::Beginning;
 use memchr::{memchr, memmem};
 use std::alloc::{AllocError, Global};
+
+/// Whether some bytes of a text begin with it.
+pub fn is_whole(beginning: Beginning) -> bool {
+    match beginning {
+        Beginning::Text => true,
+        _ => false,
+    }
+}
+
+/// Whether they begin with a line.
+pub fn begins_line(beginning: Beginning) -> bool {
+    match beginning {
+        Beginning::Midst => false,
+        _ => true,
+    }
+}
 
 /// The column of a place in a line.
 fn column(place: usize) -> usize {

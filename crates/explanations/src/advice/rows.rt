@@ -1,8 +1,11 @@
 //! What is wrong with a row.
 
-use crate::advice::line::{RETURN, empty_advice, ends_in_return, number_in, space_advice};
+use crate::advice::line::{
+    RETURN, begins_line, empty_advice, ends_in_return, is_whole, number_in, space_advice,
+};
 use crate::advice::quoted::quoted;
 use crate::advice::sentence::{fixed_sentence, quoting_sentence, some_sentence};
+use line_model::device::Beginning;
 use line_model::fault::Kind;
 use std::alloc::{AllocError, Global};
 
@@ -212,12 +215,12 @@ struct LinesSeen {
 }
 
 impl LinesSeen {
-    /// No line was seen. They begin with the text where `whole` is true, else in the midst of a line.
-    fn none(whole: bool) -> Self {
+    /// No line was seen.
+    fn none(beginning: Beginning) -> Self {
         LinesSeen {
-            header_came: !whole,
-            line_began: whole,
-            row_came: whole,
+            header_came: !is_whole(beginning),
+            line_began: begins_line(beginning),
+            row_came: begins_line(beginning),
             may_have_header: false,
         }
     }
@@ -235,17 +238,25 @@ impl LinesSeen {
     }
 }
 
-/// What is wrong with the first row of some lines that breaks a rule, if one does. The lines begin with the text where
-/// `whole` is true, else in the midst of a line. A line like a header is a faulty row where a row came before it, or where
-/// no other line breaks the rule.
+/// The number of the row before some bytes, where it is known.
+fn number_before(beginning: Beginning) -> Option<u32> {
+    match beginning {
+        Beginning::Text => Some(0),
+        Beginning::Line(number) => Some(number),
+        Beginning::Midst => None,
+    }
+}
+
+/// What is wrong with the first row of some lines that breaks a rule, if one does. A line like a header is a faulty row
+/// where a row came before it, or where no other line breaks the rule.
 pub fn rows_advice(
     alloc: Global,
     kind: Kind,
     text: &[u8],
-    whole: bool,
+    beginning: Beginning,
 ) -> Result<Option<String>, AllocError> {
-    let mut seen = LinesSeen::none(whole);
-    let mut before = if whole { Some(0) } else { None };
+    let mut seen = LinesSeen::none(beginning);
+    let mut before = number_before(beginning);
     let mut end: usize = 0;
     // No line begins after the line feed at the end.
     let lines = text.strip_suffix(b"\n").unwrap_or(text);

@@ -3,7 +3,7 @@
 ghost use Rattle.streams.specs.OpenFaults.{IsByItsReason};
 
 use command_line::program::program;
-use line_model::device::{Sink, Source};
+use line_model::device::{Beginning, Sink, Source};
 use std::alloc::{AllocError, Global};
 use std::io;
 use std::io::ErrorKind;
@@ -98,7 +98,7 @@ impl Input for CutInput<'_> {
         text.extend_from_slice(&self.text[..given])?;
         Ok(LastText {
             text,
-            is_whole: true,
+            beginning: Beginning::Text,
         })
     }
 

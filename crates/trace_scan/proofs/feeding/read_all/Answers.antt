@@ -1,7 +1,7 @@
-use Rattle.std.proofs.Common.{◌∙◌, ◌≡◌, ◌<◌, ℕ, List, [], Some, Err, ap, length, subst, sym}
+use Rattle.std.proofs.Common.{◌∙◌, ◌≡◌, ℕ, List, [], Some, Err, ap, length, subst, sym}
 use Rattle.std.specs.Prelude.{IfErr, IfOk}
-use Rattle.std.proofs.lemmas.Result.{IfErr-weaker, IfOk-weaker, err_from_is_err_and}
-use Rattle.trace_scan.specs.Readings.{HasRead, IsFaultWithin, IsReadOf, IsRefusal, lag_of}
+use Rattle.std.proofs.lemmas.Result.{IfErr-weaker, IfOk-weaker}
+use Rattle.trace_scan.specs.Readings.{IsFaultWithin, IsReadOf, IsRefusal, lag_of}
 use Rattle.trace_scan.proofs.Courses.{all_taken, at_end, end_stopped, has_read, nothing_fed, plan_expected, plan_whole, stop_fed, stop_held, stop_read, told_taken, whole_taken}
 use Rattle.trace_scan.proofs.Parts.{taken_length}
 use Rattle.trace_scan.proofs.feeding.read_all.Goals as goal
@@ -17,32 +17,29 @@ read_to_end-requires-clause-expected g c = plan_expected g.P.Plan.pieces g.P.Tra
 pub take_room-requires-clause-held : goal.take_room-requires-clause-held
 take_room-requires-clause-held g c = c.in-Ok.ensures.whole.fed.held
 
-pub returns-in_err-take_room-in-Ok-clause-read : goal.returns-in_err-take_room-in-Ok-clause-read
-returns-in_err-take_room-in-Ok-clause-read g c =
+pub returns-in-Err-take_room-clause-read : goal.returns-in-Err-take_room-clause-read
+returns-in-Err-take_room-clause-read g c =
     let w = c.in-Ok.ensures.whole in
-    let refused = c.in_err-take_room-in-Ok.field-0.0 in
-    let is = err_from_is_err_and c.from_residual.result c.from_residual.ensures.1 in
-    let within = subst (λ n. IsFaultWithin g.P.TraceText.text n refused) (sym w.fed.size) c.in_err-take_room-in-Ok.ensures.refused in
-    subst (λ r. HasRead (g.S.Source.left c.args.source.now) (g.S.Source.left c.read_to_end.new.source) (g.S.Source.before c.read_to_end.new.source) (g.S.Source.failures c.args.source.now < g.S.Source.failures c.read_to_end.new.source) c.take_room.new.pass.pieces r)
-    (sym (is.1 ∙ ap (λ f. Err f) is.2))
-    (has_read g.P.TraceText.text (g.S.Source.left c.args.source.now) (g.S.Source.left c.read_to_end.new.source) (g.S.Source.before c.read_to_end.new.source) _ _ c.take_room.new.pass.pieces (Err refused) c.requires.text w (λ all e. tt) tt
-    (λ all e. end_stopped g.P.TraceText.text _ _ _ _ refused all c.requires.text w within e) within.kinds)
+    let refused = c.in-Err-take_room.fault in
+    let within = subst (λ n. IsFaultWithin g.P.TraceText.text n refused) (sym w.fed.size) c.in-Err-take_room.ensures.refused in
+    has_read g.P.TraceText.text (g.S.Source.left c.args.source.now) (g.S.Source.left c.read_to_end.new.source) (g.S.Source.before c.read_to_end.new.source) _ _ c.take_room.new.pass.pieces (Err refused) c.requires.text w (λ all e. tt) tt
+    (λ all e. end_stopped g.P.TraceText.text _ _ _ _ refused all c.requires.text w within e) within.kinds
 
 pub finish-requires-clause-ready : goal.finish-requires-clause-ready
 finish-requires-clause-ready g c =
     let w = c.in-Ok.ensures.whole in
-    let so = c.in_ok-take_room-in-Ok.ensures.held.cut in
-    let size : length so.taken ≡ length w.text = sym (taken_length so.taken _ so.cut.taken) ∙ c.in_ok-take_room-in-Ok.ensures.all ∙ c.in_ok-take_room-in-Ok.ensures.sent ∙ sym w.fed.size in (
+    let so = c.in_default.ensures.held.cut in
+    let size : length so.taken ≡ length w.text = sym (taken_length so.taken _ so.cut.taken) ∙ c.in_default.ensures.all ∙ c.in_default.ensures.sent ∙ sym w.fed.size in (
       so.taken,
       so.cut,
       plan_whole g.P.Plan.pieces g.P.TraceText.text so.taken c.requires.plan (whole_taken g.P.TraceText.text (g.S.Source.left c.args.source.now) _ _ w.text so.taken c.requires.text w.source (all_taken g.P.TraceText.text w.text so.taken w.fed.begins so.begins size)),
     )
 
-pub returns-in_ok-take_room-in-Ok-clause-read : goal.returns-in_ok-take_room-in-Ok-clause-read
-returns-in_ok-take_room-in-Ok-clause-read g c =
+pub returns-in_default-clause-read : goal.returns-in_default-clause-read
+returns-in_default-clause-read g c =
     let w = c.in-Ok.ensures.whole in
-    let so = c.in_ok-take_room-in-Ok.ensures.held.cut in
-    let size : length so.taken ≡ length w.text = sym (taken_length so.taken _ so.cut.taken) ∙ c.in_ok-take_room-in-Ok.ensures.all ∙ c.in_ok-take_room-in-Ok.ensures.sent ∙ sym w.fed.size in
+    let so = c.in_default.ensures.held.cut in
+    let size : length so.taken ≡ length w.text = sym (taken_length so.taken _ so.cut.taken) ∙ c.in_default.ensures.all ∙ c.in_default.ensures.sent ∙ sym w.fed.size in
     let is = all_taken g.P.TraceText.text w.text so.taken w.fed.begins so.begins size in
     let told : (all : List ℕ) → g.S.Source.left c.args.source.now ≡ Some all → so.taken ≡ w.text = λ all e. told_taken g.P.TraceText.text (g.S.Source.left c.args.source.now) w.text so.taken all c.requires.text is e in
     has_read g.P.TraceText.text (g.S.Source.left c.args.source.now) (g.S.Source.left c.read_to_end.new.source) (g.S.Source.before c.read_to_end.new.source) _ _ c.finish.new.pass.pieces c.finish.result c.requires.text w
@@ -53,16 +50,16 @@ returns-in_ok-take_room-in-Ok-clause-read g c =
 
 -- ---- reading has stopped
 
-pub last_fault-requires-clause-held : goal.last_fault-requires-clause-held
-last_fault-requires-clause-held g c = let u = c.in-Err.ensures.stopped in stop_held g.P.TraceText.text _ _ _ _ _ _ u.fed u.last c.in-Err.fault u.why
+pub last_fault-last-requires-clause-held : goal.last_fault-last-requires-clause-held
+last_fault-last-requires-clause-held g c = let u = c.in-Err.ensures.stopped in stop_held g.P.TraceText.text _ _ _ _ _ _ u.fed u.last c.in-Err.fault u.why
 
 pub returns-in-Err-clause-read : goal.returns-in-Err-clause-read
 returns-in-Err-clause-read g c =
-    stop_read g.P.TraceText.text (g.S.Source.left c.args.source.now) (g.S.Source.left c.read_to_end.new.source) (g.S.Source.before c.read_to_end.new.source) _ _ _ _ _ _ _ c.last_fault.new.pass.pieces c.in-Err.fault c.last_fault.result c.requires.text c.in-Err.ensures.stopped
-    c.last_fault.ensures.other c.last_fault.ensures.read (λ e. c.in-Err.ensures.read_failed (ap (λ f. Err f) e))
+    stop_read g.P.TraceText.text (g.S.Source.left c.args.source.now) (g.S.Source.left c.read_to_end.new.source) (g.S.Source.before c.read_to_end.new.source) _ _ _ _ _ _ _ c.last_fault-last.new.pass.pieces c.in-Err.fault c.last_fault-last.result c.requires.text c.in-Err.ensures.stopped
+    c.last_fault-last.ensures.other c.last_fault-last.ensures.read (λ e. c.in-Err.ensures.read_failed (ap (λ f. Err f) e))
 
 pub returns-in-Err-clause-kept : goal.returns-in-Err-clause-kept
-returns-in-Err-clause-kept g c = let u = c.in-Err.ensures.stopped in (c.last_fault.ensures.fed c.args.pass.now (stop_fed g.P.TraceText.text _ _ _ _ _ _ u.fed u.last c.in-Err.fault u.why)).kept
+returns-in-Err-clause-kept g c = let u = c.in-Err.ensures.stopped in (c.last_fault-last.ensures.fed c.args.pass.now (stop_fed g.P.TraceText.text _ _ _ _ _ _ u.fed u.last c.in-Err.fault u.why)).kept
 
 pub returns-in-Err-clause-queue : goal.returns-in-Err-clause-queue
-returns-in-Err-clause-queue g c = let u = c.in-Err.ensures.stopped in (c.last_fault.ensures.fed c.args.pass.now (stop_fed g.P.TraceText.text _ _ _ _ _ _ u.fed u.last c.in-Err.fault u.why)).same
+returns-in-Err-clause-queue g c = let u = c.in-Err.ensures.stopped in (c.last_fault-last.ensures.fed c.args.pass.now (stop_fed g.P.TraceText.text _ _ _ _ _ _ u.fed u.last c.in-Err.fault u.why)).same
