@@ -15,7 +15,7 @@ use Rattle.line_model.specs.declared.state.StateName.TheVariants.{P1, P2, P3, P4
 use Rattle.line_model.specs.declared.event.How.{How}
 use Rattle.line_model.specs.declared.event.How as how
 use Rattle.line_model.specs.declared.event.What.{What}
-use Rattle.line_model.specs.declared.event.What.TheVariants.{Up, Data as DataHeard}
+use Rattle.line_model.specs.declared.event.What.TheVariants.{Up, Data as DataAccepted}
 use Rattle.line_model.specs.basics.Choice.{first_fault}
 use Rattle.line_model.specs.basics.Records.{Item}
 use Rattle.line_model.specs.packets.Classes.{header_length, packet_class}
@@ -28,7 +28,7 @@ use Rattle.line_model.specs.channels.Pad.{form_fault, settings_of}
 use Rattle.line_model.specs.channels.Verdicts.{Verdict}
 use Rattle.line_model.specs.channels.Verdicts.Verdict.{Transfers}
 use Rattle.line_model.specs.channels.ChannelStep.{Judged, Outcome, and_then, channel_step, counts_of, ending, entering, failing, heard_of, judged, opening, report_nothing, verdict, verdict_step}
-use Rattle.line_model.specs.channels.Gaps.{Certainty, Doubts, GapChannel, LastData, Owed, WhileAdrift, drifting, has_doubts, is_nothing_owed, largest_terms, no_doubts, of_both}
+use Rattle.line_model.specs.channels.Gaps.{Certainty, Doubts, GapChannel, LastData, Owed, WhileAdrift, drifting, is_nothing_owed, largest_terms, no_doubts, of_both}
 use Rattle.line_model.specs.channels.Gaps.Certainty.{Adrift, Certain, Settled}
 use Rattle.line_model.specs.channels.Gaps.Owed.{NoIndication, ResetIndication, RestartIndication}
 
@@ -37,7 +37,7 @@ pub record GapOutcome : Type 0 where
   pub reported : List What
   pub after : GapChannel
 
--- an outcome of the channel that its packets say, with what is certain after it
+-- an outcome of the channel, with what is certain after it
 abbrev pub with_certainty : GapChannel → Certainty → Outcome → GapOutcome
 with_certainty g t o = record { reported = o.reported; after = record g { channel = o.after; certainty = t } }
 
@@ -47,13 +47,13 @@ passing g = record { reported = []; after = g }
 
 -- Adrift: nothing is a finding, and a packet with a fault of format does nothing.
 
--- what a packet without a fault of format says of a channel adrift
+-- what a packet without a fault of format does on a channel adrift
 pub data AdriftEntry : Type 0 where
-  OpensCall Accepts Clears ConfirmsClear Resets ConfirmsReset Carries SaysNothing : AdriftEntry
+  OpensCall Accepts Clears ConfirmsClear Resets ConfirmsReset Carries DoesNothing : AdriftEntry
 
--- packets of call set-up and clearing say nothing of a permanent circuit
+-- packets of call set-up and clearing do nothing on a permanent circuit
 abbrev pub of_call : (permanent : Bool) → AdriftEntry → AdriftEntry
-of_call true e = SaysNothing
+of_call true e = DoesNothing
 of_call false e = e
 
 -- the entry of a class
@@ -69,7 +69,7 @@ adrift_entry p InterruptConfirm = Carries
 adrift_entry p Data = Carries
 adrift_entry p Rr = Carries
 adrift_entry p Rnr = Carries
-adrift_entry p k = SaysNothing
+adrift_entry p k = DoesNothing
 
 -- the largest packet that any call may agree to (7.2.2.1)
 abbrev pub largest_size : ℕ
@@ -182,8 +182,8 @@ receive_by (Some h) o = Some h.receive
 receive_by None o = o
 
 -- P(R) of a packet, if it has one
-abbrev pub receive_said : Item → Option ℕ
-receive_said r = receive_by (header_in r.packet) (receive_in r.packet)
+abbrev pub receive_of : Item → Option ℕ
+receive_of r = receive_by (header_in r.packet) (receive_in r.packet)
 
 -- that data packet, where nothing is owed
 abbrev pub acknowledged_data : WhileAdrift → Side → (receive : ℕ) → Option LastData
@@ -235,7 +235,7 @@ last_after m x None None v = v
 -- data counts, though nothing of it is judged
 abbrev pub data_reported : Interface → Item → Option DataHeader → List What
 data_reported i r None = []
-data_reported i r (Some h) = DataHeard r.side (heard_of i r h).length ∷ []
+data_reported i r (Some h) = DataAccepted r.side (heard_of i r h).length ∷ []
 
 -- a packet of data transfer that settles the channel, or not
 abbrev pub adrift_received : Interface → Item → WhileAdrift → GapChannel → (receive : Option ℕ) → (acknowledged : Option LastData) → GapOutcome
@@ -250,7 +250,7 @@ adrift_received i r a g o l = record {
   reported = data_reported i r (header_in r.packet);
   after = record g {
     channel = entering D1 false g.channel;
-    certainty = Adrift (record a { last = last_after i.modulus r.side (header_in r.packet) (receive_said r) a.last });
+    certainty = Adrift (record a { last = last_after i.modulus r.side (header_in r.packet) (receive_of r) a.last });
   };
 }
 
@@ -258,7 +258,7 @@ adrift_received i r a g o l = record {
 abbrev pub adrift_carried : Interface → Item → WhileAdrift → GapChannel → GapOutcome
 adrift_carried i r a g = elim (is_resetting (other r.side) g.channel.state) [
   | true ↦ with_certainty g (Adrift a) (report_nothing g.channel)
-  | false ↦ adrift_received i r a g (receive_said r) (option_and_then (acknowledged_data a r.side) (receive_said r))
+  | false ↦ adrift_received i r a g (receive_of r) (option_and_then (acknowledged_data a r.side) (receive_of r))
 ]
 
 -- a packet of data transfer, which brings a call up that was not
@@ -284,7 +284,7 @@ adrift_step_by Resets by_gap i n r a g =
 adrift_step_by ConfirmsReset by_gap i n r a g =
     adrift_reset i n (owed_after r.side ConfirmsReset a.owed) a D1 g
 adrift_step_by Carries by_gap i n r a g = adrift_transfer i n r a g
-adrift_step_by SaysNothing by_gap i n r a g = passing g
+adrift_step_by DoesNothing by_gap i n r a g = passing g
 
 -- a packet on a channel adrift
 abbrev pub adrift_step : (by_gap : How) → Interface → (channel : ℕ) → Item → WhileAdrift → GapChannel → GapOutcome
@@ -403,10 +403,10 @@ doubts_after_data x a b = record b {
 }
 
 -- a data packet that is accepted on a channel that was completed for it
-abbrev pub hearing_in_doubt : (modulus : ℕ) → Side → (size : ℕ) → AcceptedData → Counts → Option (List ℕ) → Doubts → Channel → SettledOutcome
-hearing_in_doubt m x size p v message b d = record {
+abbrev pub accepting_in_doubt : (modulus : ℕ) → Side → (size : ℕ) → AcceptedData → Counts → Option (List ℕ) → Doubts → Channel → SettledOutcome
+accepting_in_doubt m x size p v message b d = record {
   outcome = record {
-    reported = DataHeard x p.length ∷ settings_in_doubt x message;
+    reported = DataAccepted x p.length ∷ settings_in_doubt x message;
     after = record d {
       heard = d.heard ++ p ∷ [];
       acknowledged = edge_in_doubt m (of_side x b.numbers) x (sent x (d.heard ++ p ∷ [])) v.acknowledged;
@@ -421,7 +421,7 @@ alike_in_doubt m x s size p v b d c =
     let hs : List AcceptedData = may_be_begun b.hidden size x d.heard in
     elim (is_mixed b.hidden (of_side x b.sequences) p hs) [
       | true ↦ failing_in_doubt x s INCONSISTENT_Q_BIT_SETTING b c
-      | false ↦ hearing_in_doubt m x size p v (message_in_doubt b.hidden (of_side x b.sequences) size p hs d) b d
+      | false ↦ accepting_in_doubt m x size p v (message_in_doubt b.hidden (of_side x b.sequences) size p hs d) b d
     ]
 
 -- a data packet by its numbers
@@ -454,9 +454,15 @@ abbrev pub doubts_in : ChannelState → Doubts → Doubts
 doubts_in (Transfer transfer.TheVariants.D1) b = b
 doubts_in s b = no_doubts b.hidden
 
--- what is certain of a settled channel after a packet: the doubts about a call end with it
+-- whether a channel is in d1
+abbrev pub is_in_d1 : ChannelState → Bool
+is_in_d1 (Transfer transfer.TheVariants.D1) = true
+is_in_d1 s = false
+
+-- what is certain of a settled channel after a packet: the doubts about a call end with it, those about a permanent circuit
+-- with a reset
 abbrev pub certainty_with : Doubts → Channel → Certainty
-certainty_with b c = elim (is_open c || has_doubts b) [ true ↦ Settled b | false ↦ Certain ]
+certainty_with b c = elim (is_open c || is_in_d1 c.state) [ true ↦ Settled b | false ↦ Certain ]
 
 -- a settled channel after a packet
 abbrev pub settled_outcome : GapChannel → SettledOutcome → GapOutcome

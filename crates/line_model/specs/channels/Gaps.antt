@@ -41,14 +41,14 @@ pub record Doubts : Type 0 where
   pub interrupts : Sides Bool
   pub sequences : Sides Bool
 
--- all that a channel says is certain; or it is adrift, where the call is certain and whether it came up; or an
+-- all of a channel is certain; or it is adrift, where the call is certain and whether it came up; or an
 -- acknowledgement has settled it, and a few things are in doubt
 pub data Certainty : Type 0 where
   Certain : Certainty
   Adrift : WhileAdrift → Certainty
   Settled : Doubts → Certainty
 
--- a channel of a recording with gaps: what the packets alone say of it, whether it may lie in an interface that restarts,
+-- a channel of a recording with gaps: what its recorded packets alone show, whether it may lie in an interface that restarts,
 -- and what is certain
 pub record GapChannel : Type 0 where
   pub channel : Channel
@@ -66,14 +66,6 @@ of_both x = record { of_t = x; of_n = x }
 -- only the call that is open may hide another one
 abbrev pub no_doubts : (hidden : Bool) → Doubts
 no_doubts h = record { hidden = h; numbers = of_both false; interrupts = of_both false; sequences = of_both false }
-
--- whether a side is in doubt about something
-abbrev pub is_any : Sides Bool → Bool
-is_any v = v.of_t || v.of_n
-
--- whether something is in doubt that a reset makes certain
-abbrev pub has_doubts : Doubts → Bool
-has_doubts b = is_any b.numbers || is_any b.interrupts || is_any b.sequences
 
 -- a channel adrift on which no data packet was seen yet
 abbrev pub drifting : Owed → (hidden : Bool) → Certainty
@@ -105,7 +97,7 @@ idle_name false o = waiting_name o
 
 -- what a gap leaves of a channel: the call, and whether it came up
 abbrev pub left_by_gap : Interface → (channel : ℕ) → Channel → Channel
-left_by_gap i n c = with_largest_terms (is_hidden_by_gap i n c) i (entering (idle_name (is_in_transfer c) c.opening) false c)
+left_by_gap i n c = with_largest_terms (is_hidden_by_gap i n c) i (entering (idle_name (is_permanent i n || is_in_transfer c) c.opening) false c)
 
 -- the indication that a state owes
 abbrev pub indication_of : ChannelState → Owed
@@ -113,7 +105,7 @@ indication_of (Setup setup.TheVariants.P7) = ClearIndication
 indication_of (Transfer transfer.TheVariants.D3) = ResetIndication
 indication_of _ = NoIndication
 
--- what a channel owes by what its packets say
+-- the indication that a channel owes
 abbrev pub owed_by : Channel → Owed
 owed_by c = elim c.owed [ true ↦ indication_of c.state | false ↦ NoIndication ]
 
@@ -137,9 +129,9 @@ pub data EpochStart : Type 0 where
   Drifting : (restart_owed : Bool) → EpochStart
 
 -- the restart indication, where it is owed
-abbrev pub restart_owed_as : Bool → Owed
-restart_owed_as true = RestartIndication
-restart_owed_as false = NoIndication
+abbrev pub restart_indication : Bool → Owed
+restart_indication true = RestartIndication
+restart_indication false = NoIndication
 
 -- a channel without a call as an epoch begins
 abbrev pub fresh_by : EpochStart → Interface → (channel : ℕ) → GapChannel
@@ -147,5 +139,5 @@ fresh_by Restarted i n = certain (channel_in (fresh_state false (is_permanent i 
 fresh_by (Drifting w) i n = record {
   channel = channel_in (fresh_state false (is_permanent i n));
   restarting = true;
-  certainty = drifting (restart_owed_as w) false;
+  certainty = drifting (restart_indication w) false;
 }
