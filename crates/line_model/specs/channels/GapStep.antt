@@ -149,8 +149,8 @@ coming_up xs c = record { reported = Up ∷ []; after = record (entering P4 fals
 abbrev pub adrift_acceptance : Interface → Side → List ℕ → WhileAdrift → GapChannel → GapOutcome
 adrift_acceptance i x xs a g = elim (is_open g.channel && not (is_in_transfer g.channel)) [
   | true ↦
-    let hidden : Bool = a.hidden || is_own_acceptance x g.channel.opening in
-    with_certainty g (Adrift (record a { hidden = hidden })) (coming_up (terms_of_acceptance hidden i xs) g.channel)
+      let hidden : Bool = a.hidden || is_own_acceptance x g.channel.opening in
+      with_certainty g (Adrift (record a { hidden = hidden })) (coming_up (terms_of_acceptance hidden i xs) g.channel)
   | false ↦ passing g
 ]
 
@@ -265,9 +265,9 @@ adrift_carried i r a g = elim (is_resetting (other r.side) g.channel.state) [
 abbrev pub adrift_transfer : Interface → (channel : ℕ) → Item → WhileAdrift → GapChannel → GapOutcome
 adrift_transfer i n r a g = elim (is_in_use i n g.channel) [
   | true ↦
-    let up : Outcome = brought_up i g.channel in
-    let o : GapOutcome = adrift_carried i r (record a { hidden = hidden_when_up a g.channel }) (record g { channel = up.after }) in
-    record { reported = up.reported ++ o.reported; after = o.after }
+      let up : Outcome = brought_up i g.channel in
+      let o : GapOutcome = adrift_carried i r (record a { hidden = hidden_when_up a g.channel }) (record g { channel = up.after }) in
+      record { reported = up.reported ++ o.reported; after = o.after }
   | false ↦ passing g
 ]
 
