@@ -6,3 +6,5 @@ pub mod Sequences
 pub mod Pad
 pub mod Verdicts
 pub mod ChannelStep
+pub mod Gaps
+pub mod GapStep
