@@ -1,5 +1,6 @@
 //! What is remembered of each call for the objects after the report.
 
+use crate::causes::Causes;
 use crate::facts::{EndedCall, RowFacts};
 use crate::times::Time;
 use line_model::event::What;
@@ -15,20 +16,11 @@ pub struct CodeCount {
     pub count: u64,
 }
 
-/// The cause and the diagnostic code of the packet that cleared a call.
-#[derive(Clone, Copy)]
-pub struct Clearing {
-    /// The cause.
-    pub cause: Option<u8>,
-    /// The diagnostic code.
-    pub diagnostic: Option<u8>,
-}
-
 /// What is remembered of a call.
 #[derive(Drop)]
 pub struct CallMemory<A: Allocator> {
-    /// The packet that cleared it.
-    pub clearing: Option<Clearing>,
+    /// Those of the packet that cleared it.
+    pub causes: Causes,
     /// The codes of its rows' findings, in the order of their first ones.
     pub codes: Vec<CodeCount, A>,
     /// When it was opened.
@@ -41,7 +33,7 @@ impl<A: Allocator> CallMemory<A> {
     /// A call that a row opened.
     fn new(alloc: A, start: Option<Time>) -> Self {
         CallMemory {
-            clearing: None,
+            causes: Causes::none(),
             codes: Vec::new(alloc),
             start,
             end: None,
@@ -110,10 +102,7 @@ impl<A: Allocator + Copy> Calls<A> {
             }
         }
         if let Some(call) = self.get_mut(facts.calls.cleared) {
-            call.clearing = Some(Clearing {
-                cause: facts.octets.get(3).copied(),
-                diagnostic: facts.octets.get(4).copied(),
-            });
+            call.causes = Causes::of(facts.octets);
         }
         Ok(())
     }

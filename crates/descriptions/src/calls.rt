@@ -1,26 +1,24 @@
 //! The fields of call packets in words.
 
+use crate::facts::RowFacts;
 use crate::prose::{Prose, address, say_number};
-use line_model::interface::Interface;
-use line_model::packet::Class;
-use packet_decode::decode::class_of;
-use packet_decode::fields::{CallFields, call_fields};
+use packet_decode::fields::CallFields;
 
 /// The first octet of the user data of a PAD call (X.29 clause 4.1).
 const PAD: u8 = 1;
 
-/// What a call packet says; nothing where it has a fault. `fast_before` says whether the packet that opened the call
-/// asked fast select.
-pub fn call<P: Prose>(out: &mut P, interface: &Interface, octets: &[u8], fast_before: bool) {
-    let fields = match class_of(interface, octets) {
-        Class::Call => call_fields(interface, octets, false),
-        Class::Accepted => call_fields(interface, octets, fast_before),
-        _ => return,
-    };
-    match fields {
-        Ok(fields) => say_fields(out, &fields),
-        Err(_) => out.say(", its fields can't be read"),
+/// What a call packet says, where it has no fault.
+pub fn call<P: Prose>(out: &mut P, facts: &RowFacts<'_>) {
+    match facts.call_fields() {
+        Some(Ok(fields)) => say_fields(out, &fields),
+        Some(Err(_)) => out.say(", its fields can't be read"),
+        None => {}
     }
+}
+
+/// Whether user data is that of a PAD call.
+pub fn is_pad(user_data: &[u8]) -> bool {
+    !user_data.is_empty() && user_data[0] == PAD
 }
 
 fn say_fields<P: Prose>(out: &mut P, fields: &CallFields<'_>) {
@@ -65,7 +63,7 @@ fn say_user_data<P: Prose>(out: &mut P, user_data: &[u8]) {
     }
     out.say(", user data ");
     out.octets(user_data);
-    if user_data[0] == PAD {
+    if is_pad(user_data) {
         out.say(" of a PAD call");
     }
 }

@@ -1,28 +1,57 @@
-//! The names of causes (X.25 clauses 5.2.3, 5.4.3 and 5.5.1).
+//! The causes of packets that clear, reset or restart, and their names (X.25 clauses 5.2.3, 5.4.3 and 5.5.1).
 
-use explanations::explanation::Explanation;
 use explanations::lookup::{clearing_cause_row, resetting_cause_row, restarting_cause_row};
 
-/// The name of a cause with this row, of which those from 128 on have none.
-fn cause_name(row: Option<&'static Explanation>, cause: u8) -> &'static str {
-    match row {
-        Some(row) => row.name,
-        None if cause >= 128 => "DTE originated",
-        None => "no cause of the Recommendation",
+/// The cause and the diagnostic code of a packet, as far as it has them.
+#[derive(Clone, Copy)]
+pub struct Causes {
+    /// The cause.
+    pub cause: Option<u8>,
+    /// The diagnostic code.
+    pub diagnostic: Option<u8>,
+}
+
+impl Causes {
+    /// Neither.
+    pub fn none() -> Self {
+        Causes {
+            cause: None,
+            diagnostic: None,
+        }
+    }
+
+    /// Those of the octets of a clear, reset or restart packet.
+    pub fn of(octets: &[u8]) -> Self {
+        Causes {
+            cause: octets.get(3).copied(),
+            diagnostic: octets.get(4).copied(),
+        }
     }
 }
 
-/// The cause of a clear request or indication (X.25 Table 5-7).
-pub fn clearing_cause(cause: u8) -> &'static str {
-    cause_name(clearing_cause_row(cause), cause)
+/// The table that names the causes of a packet.
+#[derive(Clone, Copy)]
+pub enum CauseTable {
+    /// Of clear requests and indications (X.25 Table 5-7).
+    Clearing,
+    /// Of reset requests and indications (X.25 Table 5-8).
+    Resetting,
+    /// Of restart requests and indications (X.25 Table 5-9).
+    Restarting,
 }
 
-/// The cause of a reset request or indication (X.25 Table 5-8).
-pub fn resetting_cause(cause: u8) -> &'static str {
-    cause_name(resetting_cause_row(cause), cause)
-}
-
-/// The cause of a restart request or indication (X.25 Table 5-9).
-pub fn restarting_cause(cause: u8) -> &'static str {
-    cause_name(restarting_cause_row(cause), cause)
+impl CauseTable {
+    /// The name of a cause; those from 128 on have none.
+    pub fn name(self, cause: u8) -> &'static str {
+        let row = match self {
+            CauseTable::Clearing => clearing_cause_row(cause),
+            CauseTable::Resetting => resetting_cause_row(cause),
+            CauseTable::Restarting => restarting_cause_row(cause),
+        };
+        match row {
+            Some(row) => row.name,
+            None if cause >= 128 => "DTE originated",
+            None => "no cause of the Recommendation",
+        }
+    }
 }

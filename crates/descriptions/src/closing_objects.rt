@@ -4,11 +4,10 @@ ghost use Rattle.std.specs.Prelude.{◌≡◌, ◌<◌, IfErr, OnErr};
 ghost use Rattle.annotated_trace.specs.Printed.{HasTaken};
 ghost use Rattle.descriptions.specs.Sent.{IsAnything};
 
-use crate::call_memory::{CallMemory, Calls, Clearing};
-use crate::causes::clearing_cause;
-use crate::diagnostics::diagnostic;
+use crate::call_memory::{CallMemory, Calls};
+use crate::causes::CauseTable;
 use crate::json::{Json, Out};
-use crate::packet_members::address_member;
+use crate::packet_members::{address_member, cause_members};
 use crate::row_head::code_digits;
 use crate::row_members::{reason_word, time_member};
 use crate::sending::Sending;
@@ -123,7 +122,7 @@ fn call_object<O: Out, A: Allocator + Copy>(
     }
     match calls.get(number) {
         Some(call) => {
-            clearing_members(json, call.clearing);
+            cause_members(json, &call.causes, CauseTable::Clearing);
             codes_member(json, call);
             time_member(json, ",\"start\":", call.start);
             time_member(json, ",\"seconds\":", length(call));
@@ -138,28 +137,6 @@ fn length<A: Allocator>(call: &CallMemory<A>) -> Option<Time> {
     let end = call.end?;
     let start = call.start?;
     end.since(&start)
-}
-
-/// The cause and the diagnostic code by which a call was cleared.
-fn clearing_members<O: Out>(json: &mut Json<O>, clearing: Option<Clearing>) {
-    let cause = match clearing {
-        Some(clearing) => clearing.cause,
-        None => None,
-    };
-    json.member(",\"cause\":");
-    match cause {
-        Some(value) => json.named(value, clearing_cause(value)),
-        None => json.null(),
-    }
-    let code = match clearing {
-        Some(clearing) => clearing.diagnostic,
-        None => None,
-    };
-    json.member(",\"diagnostic\":");
-    match code {
-        Some(value) => json.named(value, diagnostic(value)),
-        None => json.null(),
-    }
 }
 
 /// The findings of a call's rows, by their codes.

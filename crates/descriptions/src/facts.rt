@@ -10,10 +10,11 @@ use channel_run::run::View;
 use channel_run::status_word::view_in;
 use line_model::event::{Event, How, What};
 use line_model::interface::Interface;
-use line_model::packet::{DataHeader, Packet, PacketKind};
+use line_model::packet::{Class, DataHeader, Packet, PacketKind};
 use live_report::judged_row::{Judge, JudgedRow};
 use live_report::uncounted::Reason;
-use packet_decode::decode::header_length;
+use packet_decode::decode::{class_of, header_length};
+use packet_decode::fields::{CallFields, call_fields};
 
 /// What became of the data of a row.
 #[derive(Clone, Copy)]
@@ -94,7 +95,7 @@ pub struct RowFacts<'a> {
     pub message: Option<&'a [u8]>,
 }
 
-impl RowFacts<'_> {
+impl<'a> RowFacts<'a> {
     /// What was known before it of the logical channel that took it.
     pub fn view_before(&self) -> Option<View> {
         match &self.last.judge {
@@ -103,8 +104,17 @@ impl RowFacts<'_> {
         }
     }
 
+    /// What a call packet says, or the code of its first fault; none where it is no call packet.
+    pub fn call_fields(&self) -> Option<Result<CallFields<'a>, u8>> {
+        match class_of(self.interface, self.octets) {
+            Class::Call => Some(call_fields(self.interface, self.octets, false)),
+            Class::Accepted => Some(call_fields(self.interface, self.octets, self.was_fast())),
+            _ => None,
+        }
+    }
+
     /// Whether the call that was open before it asked fast select.
-    pub fn was_fast(&self) -> bool {
+    fn was_fast(&self) -> bool {
         match self.view_before() {
             Some(view) => view.fast,
             None => false,

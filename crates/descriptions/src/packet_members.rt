@@ -1,6 +1,7 @@
 //! The fields of a packet, as members of an object.
 
-use crate::causes::{clearing_cause, resetting_cause, restarting_cause};
+use crate::calls::is_pad;
+use crate::causes::{CauseTable, Causes};
 use crate::diagnostics::diagnostic;
 use crate::facts::{RowFacts, user_octets};
 use crate::json::{Json, Out};
@@ -9,14 +10,10 @@ use crate::prose::Prose;
 use explanations::lookup::parameter_row;
 use line_model::address::Address;
 use line_model::event::{Entry, Event, What};
-use line_model::packet::{Class, DataHeader, Packet, PacketKind};
+use line_model::packet::{DataHeader, Packet, PacketKind};
 use line_model::state::Side;
-use packet_decode::decode::class_of;
-use packet_decode::fields::{CallFields, call_fields};
+use packet_decode::fields::CallFields;
 use pad::message::{Message, MessageCode, read_message};
-
-/// The first octet of the user data of a PAD call (X.29 clause 4.1).
-const PAD: u8 = 1;
 
 /// A side of the interface, as the report prints it.
 pub fn side_word(side: Side) -> &'static str {
@@ -29,11 +26,8 @@ pub fn side_word(side: Side) -> &'static str {
 /// The members that say what the packet of a row has.
 pub fn packet_members<O: Out>(json: &mut Json<O>, facts: &RowFacts<'_>) {
     match &facts.last.packet {
-        Packet::Restart => cause_members(json, facts.octets, Causes::Restarting),
-        Packet::Diagnostic => match facts.octets {
-            [_, _, _, code, ..] => diagnostic_member(json, *code),
-            _ => json.null_member(",\"diagnostic\":"),
-        },
+        Packet::Restart => row_causes(json, facts, CauseTable::Restarting),
+        Packet::Diagnostic => diagnostic_member(json, facts.octets.get(3).copied()),
         Packet::Channel { kind, .. } => kind_members(json, facts, kind),
         _ => {}
     }
@@ -43,8 +37,8 @@ pub fn packet_members<O: Out>(json: &mut Json<O>, facts: &RowFacts<'_>) {
 fn kind_members<O: Out>(json: &mut Json<O>, facts: &RowFacts<'_>, kind: &PacketKind) {
     match kind {
         PacketKind::Call | PacketKind::Accepted => call_members(json, facts),
-        PacketKind::Clear => cause_members(json, facts.octets, Causes::Clearing),
-        PacketKind::Reset => cause_members(json, facts.octets, Causes::Resetting),
+        PacketKind::Clear => row_causes(json, facts, CauseTable::Clearing),
+        PacketKind::Reset => row_causes(json, facts, CauseTable::Resetting),
         PacketKind::Data(Some(header)) => data_members(json, facts, header),
         PacketKind::Rr(Some(number)) | PacketKind::Rnr(Some(number)) => {
             json.number_member(",\"receive\":", u64::from(*number))
@@ -56,47 +50,28 @@ fn kind_members<O: Out>(json: &mut Json<O>, facts: &RowFacts<'_>, kind: &PacketK
     }
 }
 
-/// A diagnostic code by number and name.
-fn diagnostic_member<O: Out>(json: &mut Json<O>, code: u8) {
+/// A diagnostic code by number and name, null where there is none.
+fn diagnostic_member<O: Out>(json: &mut Json<O>, code: Option<u8>) {
     json.member(",\"diagnostic\":");
-    json.named(code, diagnostic(code));
-}
-
-/// Which packets a cause is of.
-#[derive(Clone, Copy)]
-enum Causes {
-    Clearing,
-    Resetting,
-    Restarting,
-}
-
-impl Causes {
-    /// The name of a cause.
-    fn name(self, cause: u8) -> &'static str {
-        match self {
-            Causes::Clearing => clearing_cause(cause),
-            Causes::Resetting => resetting_cause(cause),
-            Causes::Restarting => restarting_cause(cause),
-        }
+    match code {
+        Some(code) => json.named(code, diagnostic(code)),
+        None => json.null(),
     }
 }
 
-/// The cause and the diagnostic code of a packet, as far as it has them.
-fn cause_members<O: Out>(json: &mut Json<O>, octets: &[u8], causes: Causes) {
-    match octets {
-        [_, _, _, cause, rest @ ..] => {
-            json.member(",\"cause\":");
-            json.named(*cause, causes.name(*cause));
-            match rest {
-                [code, ..] => diagnostic_member(json, *code),
-                [] => json.null_member(",\"diagnostic\":"),
-            }
-        }
-        _ => {
-            json.null_member(",\"cause\":");
-            json.null_member(",\"diagnostic\":");
-        }
+/// The cause and the diagnostic code of a row's packet.
+fn row_causes<O: Out>(json: &mut Json<O>, facts: &RowFacts<'_>, table: CauseTable) {
+    cause_members(json, &Causes::of(facts.octets), table);
+}
+
+/// A cause by number and name and a diagnostic code, each null where there is none.
+pub fn cause_members<O: Out>(json: &mut Json<O>, causes: &Causes, table: CauseTable) {
+    json.member(",\"cause\":");
+    match causes.cause {
+        Some(cause) => json.named(cause, table.name(cause)),
+        None => json.null(),
     }
+    diagnostic_member(json, causes.diagnostic);
 }
 
 /// The members of a data packet.
@@ -184,12 +159,7 @@ pub fn address_member<O: Out>(json: &mut Json<O>, beginning: &str, address: &Add
 
 /// The members of a call packet without a fault.
 fn call_members<O: Out>(json: &mut Json<O>, facts: &RowFacts<'_>) {
-    let fast_before = match class_of(facts.interface, facts.octets) {
-        Class::Call => false,
-        Class::Accepted => facts.was_fast(),
-        _ => return,
-    };
-    if let Ok(fields) = call_fields(facts.interface, facts.octets, fast_before) {
+    if let Some(Ok(fields)) = facts.call_fields() {
         field_members(json, &fields);
     }
 }
@@ -215,8 +185,7 @@ fn field_members<O: Out>(json: &mut Json<O>, fields: &CallFields<'_>) {
     } else {
         json.hex(fields.user_data);
     }
-    let is_pad = !fields.user_data.is_empty() && fields.user_data[0] == PAD;
-    json.flag_member(is_pad, ",\"pad\":true", ",\"pad\":false");
+    json.flag_member(is_pad(fields.user_data), ",\"pad\":true", ",\"pad\":false");
 }
 
 /// A value for data from the called DTE, and one for data from the calling DTE.

@@ -1,7 +1,7 @@
 //! What a packet is: its name, its logical channel and its fields.
 
 use crate::calls::call;
-use crate::causes::{clearing_cause, resetting_cause, restarting_cause};
+use crate::causes::{CauseTable, Causes};
 use crate::diagnostics::diagnostic;
 use crate::facts::{RowFacts, user_octets};
 use crate::names;
@@ -22,19 +22,16 @@ pub fn packet<P: Prose>(out: &mut P, facts: &RowFacts<'_>) {
             out.say(names::side(side));
             out.say(": ");
             out.say(names::packet(side, packet));
-            interface_fields(out, facts.octets, packet)
+            interface_fields(out, facts, packet)
         }
     }
 }
 
 /// The fields of a packet that is on no logical channel.
-fn interface_fields<P: Prose>(out: &mut P, octets: &[u8], packet: &Packet) {
+fn interface_fields<P: Prose>(out: &mut P, facts: &RowFacts<'_>, packet: &Packet) {
     match packet {
-        Packet::Restart => match octets {
-            [_, _, _, value, rest @ ..] => cause(out, *value, restarting_cause(*value), rest),
-            _ => {}
-        },
-        Packet::Diagnostic => match octets {
+        Packet::Restart => causes(out, facts, CauseTable::Restarting),
+        Packet::Diagnostic => match facts.octets {
             [_, _, _, code, ..] => say_diagnostic(out, *code),
             _ => {}
         },
@@ -45,20 +42,9 @@ fn interface_fields<P: Prose>(out: &mut P, octets: &[u8], packet: &Packet) {
 /// The fields of a packet on a logical channel.
 fn channel_fields<P: Prose>(out: &mut P, facts: &RowFacts<'_>, kind: &PacketKind) {
     match kind {
-        PacketKind::Call | PacketKind::Accepted => call(
-            out,
-            facts.interface,
-            facts.octets,
-            facts.was_fast(),
-        ),
-        PacketKind::Clear => match facts.octets {
-            [_, _, _, value, rest @ ..] => cause(out, *value, clearing_cause(*value), rest),
-            _ => {}
-        },
-        PacketKind::Reset => match facts.octets {
-            [_, _, _, value, rest @ ..] => cause(out, *value, resetting_cause(*value), rest),
-            _ => {}
-        },
+        PacketKind::Call | PacketKind::Accepted => call(out, facts),
+        PacketKind::Clear => causes(out, facts, CauseTable::Clearing),
+        PacketKind::Reset => causes(out, facts, CauseTable::Resetting),
         PacketKind::Data(Some(header)) => data(
             out,
             header,
@@ -77,13 +63,15 @@ fn channel_fields<P: Prose>(out: &mut P, facts: &RowFacts<'_>, kind: &PacketKind
     }
 }
 
-/// A cause by number and name, and the diagnostic code behind it, if there is one.
-fn cause<P: Prose>(out: &mut P, value: u8, name: &str, rest: &[u8]) {
-    say_number(out, ", cause ", u64::from(value));
-    bracketed(out, name);
-    match rest {
-        [code, ..] => say_diagnostic(out, *code),
-        [] => {}
+/// A cause by number and name, and the diagnostic code after it, where the packet has them.
+fn causes<P: Prose>(out: &mut P, facts: &RowFacts<'_>, table: CauseTable) {
+    let said = Causes::of(facts.octets);
+    if let Some(cause) = said.cause {
+        say_number(out, ", cause ", u64::from(cause));
+        bracketed(out, table.name(cause));
+    }
+    if let Some(code) = said.diagnostic {
+        say_diagnostic(out, code);
     }
 }
 
