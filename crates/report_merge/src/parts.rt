@@ -1,6 +1,6 @@
 //! What pieces give, as their reports come.
 
-ghost use Rattle.std.specs.Prelude.{◌≡◌, ◌+◌, ◌<◌, ◌^◌, ◌++◌, ◌∷◌, [], List, length, IfOk, IfErr, OnOk};
+ghost use Rattle.std.specs.Prelude.{◌≡◌, ◌+◌, ◌<◌, ◌^◌, ◌++◌, ◌∷◌, [], List, length, IfOk, IfErr, OnErr, OnOk};
 ghost use Rattle.line_model.specs.basics.Records as records;
 ghost use Rattle.line_model.specs.declared.interface.Interface.{Interface};
 ghost use Rattle.line_model.specs.observer.Report.{report_of};
@@ -18,6 +18,23 @@ use line_model::report::Report;
 use line_model::totals::{Summary, Totals};
 use std::alloc::{AllocError, Allocator};
 use std::marker::Model;
+
+/// Appends records to a list. They become the list where it is empty, and are not copied then. Where memory is refused
+/// nothing changes.
+fn append_to<T: Drop, A: Allocator>(
+    list: &mut Vec<T, A>,
+    records: Vec<T, A>,
+) -> Result<(), AllocError>
+    ensures ok { OnOk result (list.new.items ≡ list.old.items ++ records.items) }
+    ensures refused { OnErr result (list.new.items ≡ list.old.items) }
+{
+    let mut records = records;
+    if list.is_empty() {
+        *list = records;
+        return Ok(());
+    }
+    list.append(&mut records)
+}
 
 /// What some pieces give, put together.
 #[derive(Drop)]
@@ -118,8 +135,8 @@ impl<A: Allocator + Clone> Parts<A> {
             return Err(AllocError);
         };
         let Parts {
-            mut findings,
-            mut calls,
+            findings,
+            calls,
             octets,
             segments,
             ..
@@ -127,8 +144,8 @@ impl<A: Allocator + Clone> Parts<A> {
         self.pieces = pieces;
         self.octets += octets;
         self.segments += segments;
-        self.findings.append(&mut findings)?;
-        self.calls.append(&mut calls)?;
+        append_to(&mut self.findings, findings)?;
+        append_to(&mut self.calls, calls)?;
         Ok(())
     }
 

@@ -4,6 +4,7 @@ ghost use Rattle.std.specs.Prelude.{◌≤◌, ◌∷◌, ◌^◌, All, IfOk, le
 ghost use Rattle.std.specs.List.Sorted.{IsStrictlyIncreasing};
 
 mod refused;
+mod split;
 
 use crate::checks::holds_for;
 use line_model::finding::{Code, Finding};

@@ -17,6 +17,7 @@ use restart_epochs::splitter::Splitter;
 use restart_epochs::stretch::Stretch;
 use std::alloc::{AllocError, Allocator, Global};
 use std::marker::{Brand, Model, PhantomData};
+use std::mem;
 use trace_text::lines::Lines;
 use trace_text::lines::block::BlockSpan;
 
@@ -48,6 +49,8 @@ pub struct Block<P: TraceText, A: Allocator = Global> {
     pub place: u32,
     pub start: Start,
     pub bytes: Vec<u8, A>,
+    /// Lists for its rows by channel, whose memory is used again.
+    pub lists: RowsByChannel<A>,
     pub text: PhantomData<P>,
 }
 
@@ -98,8 +101,8 @@ struct RowsSoFar<A: Allocator = Global> {
 }
 
 impl<A: Allocator + Copy> RowsSoFar<A> {
-    /// Before the first row. It takes no memory.
-    fn new(alloc: A, start: &Start) -> Self
+    /// Before the first row. It uses these lists again, and takes no memory.
+    fn new(alloc: A, start: &Start, lists: RowsByChannel<A>) -> Self
         ensures interface { result.interface ≡ start.now.interface }
         ensures none { AreRead start.now.machine [] result }
     {
@@ -107,7 +110,7 @@ impl<A: Allocator + Copy> RowsSoFar<A> {
             interface: start.interface,
             is_empty: true,
             first: 0,
-            splitter: Splitter::new(alloc, start.machine, RowsByChannel::new(alloc)),
+            splitter: Splitter::new(alloc, start.machine, lists),
         }
     }
 
@@ -151,12 +154,19 @@ impl<A: Allocator + Copy> RowsSoFar<A> {
     }
 }
 
-/// The rows of a block that is read after this. `None`: a line is faulty, the last line has no LF, or memory is refused.
-fn rows_of<A: Allocator + Copy>(alloc: A, start: &Start, bytes: &[u8]) -> Option<BlockRows<A>>
+/// The rows of a block that is read after this. It leaves the lists for the next block. `None`: a line is faulty, the last
+/// line has no LF, or memory is refused; the memory of the lists is given up then.
+fn rows_of<A: Allocator + Copy>(
+    alloc: A,
+    start: &Start,
+    bytes: &[u8],
+    lists: &mut RowsByChannel<A>,
+) -> Option<BlockRows<A>>
     ensures { IfSome result (IsReadAs start.now bytes.now) }
 {
     let mut lines = Lines::at_rows(alloc, &start.interface);
-    let mut rows = RowsSoFar::new(alloc, start);
+    let used = mem::replace(lists, RowsByChannel::new(alloc));
+    let mut rows = RowsSoFar::new(alloc, start, used);
     let mut row = ReadRow {
         number: 0,
         side: Side::T,
@@ -165,7 +175,8 @@ fn rows_of<A: Allocator + Copy>(alloc: A, start: &Start, bytes: &[u8]) -> Option
     };
     rows.add_lines(bytes, &mut lines, &mut row).ok()?;
     let span = lines.end_block(rows.first)?;
-    let (stretches, _) = rows.splitter.end().ok()?;
+    let (stretches, left) = rows.splitter.end().ok()?;
+    *lists = left;
     Some(BlockRows { span, stretches })
 }
 
@@ -174,7 +185,14 @@ impl<P: TraceText, A: Allocator + Copy> Block<P, A> {
     pub fn read(self) -> ReadBlock<P, A>
         ensures { result ≡ self }
     {
-        let rows = rows_of(*self.bytes.allocator(), &self.start, self.bytes.as_slice());
-        ReadBlock { block: self, rows }
+        let mut block = self;
+        let alloc = *block.bytes.allocator();
+        let rows = rows_of(
+            alloc,
+            &block.start,
+            block.bytes.as_slice(),
+            &mut block.lists,
+        );
+        ReadBlock { block, rows }
     }
 }

@@ -6,6 +6,7 @@ ghost use Rattle.trace_scan.specs.TextBlocks.{IsBlockAt};
 
 use crate::block_queues::{BlockQueues, BlockSizes, MOST_BLOCKS};
 use crate::blocks::{Block, ReadBlock, TraceText};
+use restart_epochs::rows_by_channel::RowsByChannel;
 use std::alloc::{AllocError, Allocator, Global};
 use std::sync::Wait;
 use std::time::Clock;
@@ -19,6 +20,13 @@ fn is_at<P: TraceText, A: Allocator>(read: &ReadBlock<P, A>, place: u32, most: u
     read.block.place == place && read.block.bytes.len() <= most
 }
 
+/// The memory of a block that was taken, for the next ones.
+#[derive(Drop)]
+pub struct UsedBlock<A: Allocator = Global> {
+    pub bytes: Vec<u8, A>,
+    pub lists: RowsByChannel<A>,
+}
+
 /// The blocks that were handed out and not taken yet, as the reading thread knows of them.
 #[derive(Drop)]
 pub struct BlocksOut<'a, P: TraceText, A: Allocator = Global> {
@@ -29,6 +37,8 @@ pub struct BlocksOut<'a, P: TraceText, A: Allocator = Global> {
     count: usize,
     /// The rooms of bytes that were taken, for the next ones.
     rooms: Vec<Vec<u8, A>, A>,
+    /// The lists of blocks that were taken, for the next ones.
+    lists: Vec<RowsByChannel<A>, A>,
 }
 
 impl<'a, P: TraceText, A: Allocator + Copy> BlocksOut<'a, P, A> {
@@ -39,6 +49,7 @@ impl<'a, P: TraceText, A: Allocator + Copy> BlocksOut<'a, P, A> {
             early: Vec::new(alloc),
             count: 0,
             rooms: Vec::new(alloc),
+            lists: Vec::new(alloc),
         }
     }
 
@@ -58,6 +69,20 @@ impl<'a, P: TraceText, A: Allocator + Copy> BlocksOut<'a, P, A> {
     /// Keeps the room of bytes that were taken. It is given up where memory is refused.
     pub fn keep_room(&mut self, bytes: Vec<u8, A>) {
         drop(self.rooms.push(bytes));
+    }
+
+    /// Lists for the rows of a block by channel: those of a block that was taken, if there are some.
+    pub fn lists(&mut self) -> RowsByChannel<A> {
+        match self.lists.pop() {
+            Some(lists) => lists,
+            None => RowsByChannel::new(*self.lists.allocator()),
+        }
+    }
+
+    /// Keeps the memory of a block that was taken. It is given up where memory is refused.
+    pub fn keep(&mut self, used: UsedBlock<A>) {
+        self.keep_room(used.bytes);
+        drop(self.lists.push(used.lists));
     }
 
     /// How the text is cut into blocks.

@@ -49,9 +49,9 @@ impl<'a, P: Plan + TraceText, A: Allocator + Copy, R: Wait + Clock> TakenText<'a
         ensures sent { self.new.sent ≡ self.old.sent }
         ensures refused { IfErr result (IsFaultWithin P.text self.old.sent) }
     {
-        let (pieces, bytes) = self.text.take_block(block)?;
+        let (pieces, used) = self.text.take_block(block)?;
         feed_pieces(self.rt, self.work, pieces, pass);
-        self.blocks.keep_room(bytes);
+        self.blocks.keep(used);
         Ok(())
     }
 
@@ -185,6 +185,7 @@ impl<'a, P: Plan + TraceText, A: Allocator + Copy, R: Wait + Clock> TakenText<'a
             place: self.sent,
             start,
             bytes: lines,
+            lists: self.blocks.lists(),
             text: PhantomData,
         };
         match self.blocks.hand_out(self.rt, block) {

@@ -1,5 +1,5 @@
 -- Pieces that a witness knows, and their reports.
-use Rattle.std.proofs.Common.{◌≡◌, ℕ, suc, ◌+◌, zero, List, [], ◌∷◌, ◌++◌, Some, length, map, ap, sym, refl, ◌∙◌, subst, arith}
+use Rattle.std.proofs.Common.{◌≡◌, ℕ, suc, zero, List, [], ◌∷◌, ◌++◌, Some, length, map, ap, sym, refl, ◌∙◌, subst, arith}
 use Rattle.std.specs.Prelude.{All, slice_get}
 use Rattle.line_model.specs.basics.Records.{Piece}
 use Rattle.std.proofs.lemmas.List.{map-append}

@@ -9,12 +9,12 @@ use crate::joining::join_all;
 use crate::starting::{ReadyWorkers, Started, start_all};
 use line_model::fault::Fault;
 use line_model::piece::Plan;
+use rayon::scope;
 use shared_work::findings::{Ledgers, Share};
 use shared_work::queue::FeederPass;
 use std::alloc::{Allocator, Global};
 use std::sync::Wait;
-use std::thread;
-use std::thread::{Scope, Threads};
+use std::thread::{Scope, Threads, scope_env};
 use std::time::Clock;
 
 /// What became of the task, the pass that has fed, the shares of all workers, and the first of the workers' faults.
@@ -98,8 +98,8 @@ pub fn run_scoped<
     ensures refused { IfErr result (λ e. T.unfed task e.0
         × ((e.1 ≡ Fault.Memory) ⊎ (e.1 ≡ Fault.Start))) }
 {
-    thread::scope(
-        thread::scope_env(),
+    scope(
+        scope_env(),
         rt,
         move |scope| -> Result<RunOutcome<T, Share<L>, A>, (T, Fault)>
             requires { (0 < ready.count) × T.can_feed task × W.handles handler.now ready.queue }

@@ -16,6 +16,7 @@ ghost use Rattle.trace_scan.specs.TextCuts.{HasCut, HasTaken, OfCut, OfTaken, kn
 
 use super::{RowCutter, TextCutter};
 use crate::blocks::{Block, BlockRows, ReadBlock, Start, TraceText};
+use crate::blocks_out::UsedBlock;
 use line_model::fault::Fault;
 use line_model::piece::Piece;
 use restart_epochs::stretch::Stretch;
@@ -113,11 +114,11 @@ impl<A: Allocator + Copy> TextCutter<A> {
     }
 
     /// Takes the next block of the text: its rows where it was read apart and follows the text that was taken, or else
-    /// its bytes. Returns the pieces that are known whole with it, and the list of its bytes, which may be used again.
+    /// its bytes. Returns the pieces that are known whole with it, and the memory of the block, which may be used again.
     pub fn take_block<P: TraceText>(
         &mut self,
         read: ReadBlock<P, A>,
-    ) -> Result<(Vec<Piece<A>, A>, Vec<u8, A>), Fault>
+    ) -> Result<(Vec<Piece<A>, A>, UsedBlock<A>), Fault>
         requires { (text : List ℕ) × HasTaken text self.old }
         ensures taken { OfTaken self.old (λ text.
             OnOk result (HasTaken (text ++ read.bytes) self.new)) }
@@ -131,14 +132,19 @@ impl<A: Allocator + Copy> TextCutter<A> {
         ensures kinds { IfErr result IsTextFault }
     {
         let ReadBlock { block, rows } = read;
-        let Block { start, bytes, .. } = block;
+        let Block {
+            start,
+            bytes,
+            lists,
+            ..
+        } = block;
         if let Some(rows) = rows {
             let mut pieces = Vec::new(*self.row.octets.allocator());
             if self.take_rows(&start, rows, &mut pieces)? {
-                return Ok((pieces, bytes));
+                return Ok((pieces, UsedBlock { bytes, lists }));
             }
         }
         let pieces = self.feed(bytes.as_slice())?;
-        Ok((pieces, bytes))
+        Ok((pieces, UsedBlock { bytes, lists }))
     }
 }

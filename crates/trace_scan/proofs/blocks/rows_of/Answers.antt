@@ -18,4 +18,4 @@ returns g c =
     let items = items_of start.interface (early_rows text) in
     read_as start at.heading c.args.bytes.now c.in_ok-span.span (record { span = c.in_ok-span.span; stretches = c.in_ok-stretches.stretches })
     (c.in_ok-span.ensures.span start.interface at.heading c.args.bytes.now at.is to.reads to.rows.first) refl
-    (of_ok c.end.result (λ s. IsSplit start.machine items s.0.items) (c.in_ok-stretches.stretches, c.in_ok-stretches.field-0-1) c.in_ok-stretches.ensures.value (c.end.ensures start.machine items (split_under start.machine start.interface text c.add_lines.new.lines c.add_lines.new.self same to)))
+    (of_ok c.end.result (λ s. IsSplit start.machine items s.0.items) (c.in_ok-stretches.stretches, c.in_ok-stretches.left) c.in_ok-stretches.ensures.value (c.end.ensures start.machine items (split_under start.machine start.interface text c.add_lines.new.lines c.add_lines.new.self same to)))
