@@ -8,6 +8,7 @@ pub mod diagnostic;
 pub mod event;
 pub mod fault;
 pub mod finding;
+pub mod gap;
 pub mod history;
 pub mod interface;
 pub mod items;

@@ -16,6 +16,11 @@ use Rattle.line_model.specs.declared.event.How.{How}
 use Rattle.line_model.specs.declared.event.How as how
 use Rattle.line_model.specs.declared.event.What.{What}
 use Rattle.line_model.specs.declared.event.What.TheVariants.{Up, Data as DataAccepted}
+use Rattle.line_model.specs.declared.gap.Owed.{Owed}
+use Rattle.line_model.specs.declared.gap.Owed.TheVariants.{NoIndication, ResetIndication, RestartIndication}
+use Rattle.line_model.specs.declared.gap.LastData.{LastData}
+use Rattle.line_model.specs.declared.gap.AdriftEntry.{AdriftEntry}
+use Rattle.line_model.specs.declared.gap.AdriftEntry.TheVariants.{OpensCall, Accepts, Clears, ConfirmsClear, Resets, ConfirmsReset, Carries, DoesNothing}
 use Rattle.line_model.specs.basics.Choice.{first_fault}
 use Rattle.line_model.specs.basics.Records.{Item}
 use Rattle.line_model.specs.packets.Classes.{header_length, packet_class}
@@ -28,9 +33,8 @@ use Rattle.line_model.specs.channels.Pad.{form_fault, settings_of}
 use Rattle.line_model.specs.channels.Verdicts.{Verdict}
 use Rattle.line_model.specs.channels.Verdicts.Verdict.{Transfers}
 use Rattle.line_model.specs.channels.ChannelStep.{Judged, Outcome, and_then, channel_step, counts_of, ending, entering, failing, heard_of, judged, opening, report_nothing, verdict, verdict_step}
-use Rattle.line_model.specs.channels.Gaps.{Certainty, Doubts, GapChannel, LastData, Owed, WhileAdrift, drifting, is_nothing_owed, largest_terms, no_doubts, of_both}
+use Rattle.line_model.specs.channels.Gaps.{Certainty, Doubts, GapChannel, WhileAdrift, drifting, is_nothing_owed, largest_terms, no_doubts, of_both}
 use Rattle.line_model.specs.channels.Gaps.Certainty.{Adrift, Certain, Settled}
-use Rattle.line_model.specs.channels.Gaps.Owed.{NoIndication, ResetIndication, RestartIndication}
 
 -- what a row reports, and the channel after it
 pub record GapOutcome : Type 0 where
@@ -46,10 +50,6 @@ abbrev pub passing : GapChannel → GapOutcome
 passing g = record { reported = []; after = g }
 
 -- Adrift: nothing is a finding, and a packet with a fault of format does nothing.
-
--- what a packet without a fault of format does on a channel adrift
-pub data AdriftEntry : Type 0 where
-  OpensCall Accepts Clears ConfirmsClear Resets ConfirmsReset Carries DoesNothing : AdriftEntry
 
 -- packets of call set-up and clearing do nothing on a permanent circuit
 abbrev pub of_call : (permanent : Bool) → AdriftEntry → AdriftEntry

@@ -9,22 +9,18 @@ use Rattle.line_model.specs.declared.state.ChannelState.{ChannelState}
 use Rattle.line_model.specs.declared.state.ChannelState.TheVariants.{Setup, Transfer}
 use Rattle.line_model.specs.declared.state.StateName.{StateName}
 use Rattle.line_model.specs.declared.state.StateName.TheVariants.{P1, P2, P3, P4}
+use Rattle.line_model.specs.declared.gap.Owed.{Owed}
+use Rattle.line_model.specs.declared.gap.Owed.TheVariants.{NoIndication, ClearIndication, ResetIndication, RestartIndication}
+use Rattle.line_model.specs.declared.gap.LastData.{LastData}
+use Rattle.line_model.specs.declared.gap.EpochStart.{EpochStart}
+use Rattle.line_model.specs.declared.gap.EpochStart.TheVariants.{Restarted, Drifting}
 use Rattle.line_model.specs.channels.Channels.{Channel, Opening, Sides, channel_in, fresh_state, is_in_transfer, is_open, is_permanent}
 use Rattle.line_model.specs.channels.ChannelStep.{entering}
-
--- the indication of the DCE that was owed as the gap came: of a clearing (p7), of a reset (d3), of a restart (r3)
-pub data Owed : Type 0 where
-  NoIndication ClearIndication ResetIndication RestartIndication : Owed
 
 -- whether no indication was owed
 abbrev pub is_nothing_owed : Owed → Bool
 is_nothing_owed NoIndication = true
 is_nothing_owed _ = false
-
--- the last data packet of a side on a channel adrift: the number after its P(S), and the last P(R) of its side in it or after it
-pub record LastData : Type 0 where
-  pub next : ℕ
-  pub receive : ℕ
 
 -- of a channel adrift: what was owed at the gap, whether another call may be hidden behind the one that is open, and the
 -- last data packet of each side since the last gap, call, clear, reset or reset confirmation
@@ -121,12 +117,6 @@ gap_step i n all_channels g = record {
   restarting = g.restarting || all_channels;
   certainty = drifting (owed_at_gap g.certainty g.channel) (is_hidden_by_gap i n g.channel);
 }
-
--- how an epoch begins: in r1 after a restart that was recorded; or adrift, after a gap of all channels, where a restart
--- indication may have been owed
-pub data EpochStart : Type 0 where
-  Restarted : EpochStart
-  Drifting : (restart_owed : Bool) → EpochStart
 
 -- the restart indication, where it is owed
 abbrev pub restart_indication : Bool → Owed
