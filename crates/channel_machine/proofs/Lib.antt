@@ -17,3 +17,4 @@ pub mod PackedLemmas
 pub mod CommonRows
 pub mod SaidData
 pub mod CallFaults
+pub mod Drifting

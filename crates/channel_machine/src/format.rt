@@ -87,7 +87,7 @@ fn at_most(most: usize, length: usize) -> Option<u8>
 }
 
 /// The fault of a packet that is shorter or longer than it may be.
-fn between(least: usize, most: usize, length: usize) -> Option<u8>
+pub(crate) fn between(least: usize, most: usize, length: usize) -> Option<u8>
     ensures fault { result ≡ outside least most length }
     ensures within { IfNone result (length ≤ most) }
 {

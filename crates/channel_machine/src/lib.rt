@@ -4,6 +4,7 @@
 pub mod channel;
 mod events;
 mod format;
+pub mod gaps;
 mod judging;
 mod machine;
 mod messages;

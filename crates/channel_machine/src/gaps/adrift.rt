@@ -1,0 +1,232 @@
+//! What gaps and packets of call set-up, clearing and resets do to a channel adrift.
+
+ghost use Rattle.std.specs.Prelude.{ℕ, ◌≡◌, ◌||◌, List, None, IfNone, IfOk, option_map, false};
+ghost use Rattle.line_model.specs.channels.Channels.{Channel, is_in_transfer, is_permanent};
+ghost use Rattle.channel_machine.specs.TermsStand.{opened_of};
+ghost use Rattle.line_model.specs.channels.ChannelStep.{and_then};
+ghost use Rattle.line_model.specs.channels.FlowControl.{is_side};
+ghost use Rattle.line_model.specs.declared.state.Side.TheVariants.{T};
+ghost use Rattle.line_model.specs.packets.Facilities.{fields_of};
+ghost use Rattle.packet_decode.specs.Shown.{shown, IsUsable};
+ghost use Rattle.channel_machine.specs.Gaps.{idle_name, is_hidden_by_gap, largest_terms, left_by_gap, waiting_name};
+ghost use Rattle.channel_machine.specs.GapStep.{adrift_call, brought_up, coming_up, in_state, terms_of_acceptance, calling_state, cleared_by, resetting_state};
+ghost use Rattle.channel_machine.specs.Reached.{IsUnanswered};
+ghost use Rattle.channel_machine.specs.Channels.{Stands, Does, Comes, IsUnchanged, IsMemory};
+
+use crate::channel::StatusChannel;
+use crate::events::EventOrigin;
+use crate::status::StatusStore;
+use crate::terms::{Opened, Terms};
+use line_model::event::{Event, How, What};
+use line_model::fault::Fault;
+use line_model::state::{ChannelState, Side, StateName};
+use packet_decode::fields::CallFields;
+use std::alloc::Allocator;
+
+/// The state of a channel with a call that is not up.
+fn waiting_name(call: Option<Opened>) -> StateName
+    ensures { (c : Channel) → call ≡ option_map opened_of c.opening
+        → result ≡ waiting_name c.opening }
+{
+    match call {
+        None => StateName::P1,
+        Some(opened) => {
+            if opened.out {
+                StateName::P2
+            } else {
+                StateName::P3
+            }
+        }
+    }
+}
+
+/// The state in which the calling side waits.
+pub(crate) fn calling_state(side: Side) -> StateName
+    ensures { result ≡ calling_state side }
+{
+    match side {
+        Side::T => StateName::P2,
+        Side::N => StateName::P3,
+    }
+}
+
+/// Whether a call of a side is outgoing.
+fn is_outgoing(side: Side) -> bool
+    ensures { result ≡ is_side T side }
+{
+    matches!(side, Side::T)
+}
+
+/// The end of a call by the side that clears it.
+pub(crate) fn cleared_by(side: Side) -> How
+    ensures { result ≡ cleared_by side }
+{
+    match side {
+        Side::T => How::T,
+        Side::N => How::N,
+    }
+}
+
+/// The state in which a side resets.
+pub(crate) fn resetting_state(side: Side) -> StateName
+    ensures { result ≡ resetting_state side }
+{
+    match side {
+        Side::T => StateName::D2,
+        Side::N => StateName::D3,
+    }
+}
+
+impl<A: Allocator + Clone, S: StatusStore> StatusChannel<A, S> {
+    /// Whether the channel is in a state of data transfer.
+    pub(crate) fn is_in_transfer(&self) -> bool
+        ensures { (c : Channel) → Stands self.now c
+            → result ≡ is_in_transfer c }
+    {
+        matches!(self.status.state(), ChannelState::Transfer(_))
+    }
+
+    /// Whether another call may be hidden behind the one that is open, where a gap comes.
+    pub(crate) fn is_hidden_by_gap(&self) -> bool
+        ensures { (c : Channel) → Stands self.now c
+            → result ≡ is_hidden_by_gap self.now.terms.interface self.now.channel c }
+    {
+        !self.status.interface().is_permanent(self.channel) && self.status.call().is_some()
+    }
+
+    /// Leaves of the channel what a gap leaves: its call, and whether it came up.
+    pub(crate) fn drift(&mut self)
+        ensures interface { self.new.terms.interface ≡ self.old.terms.interface }
+        ensures channel { self.new.channel ≡ self.old.channel }
+        ensures stands { (c : Channel) → Stands self.old c
+            → Stands self.new (left_by_gap self.old.terms.interface self.old.channel c) }
+    {
+        let state = self.idle_name();
+        let terms = self.status.terms();
+        if self.is_hidden_by_gap() {
+            self.enter(state, false, &terms.largest());
+        } else {
+            self.enter(state, false, &terms);
+        }
+    }
+
+    /// The state that says no more than whether a call is open and whether it came up.
+    fn idle_name(&self) -> StateName
+        ensures { (c : Channel) → Stands self.now c → result ≡ idle_name
+            (is_permanent self.now.terms.interface self.now.channel || is_in_transfer c) c.opening }
+    {
+        if self.status.interface().is_permanent(self.channel) || self.is_in_transfer() {
+            StateName::P4
+        } else {
+            waiting_name(self.status.call())
+        }
+    }
+
+    /// Brings a call up that was not, by a packet that is no acceptance.
+    pub(crate) fn bring_up(
+        &mut self,
+        origin: EventOrigin,
+        events: &mut Vec<Event, A>,
+    ) -> Result<(), Fault>
+        ensures does { Comes result origin self.old self.new events.old.items events.new.items
+            (brought_up self.old.terms.interface) }
+        ensures unchanged { IsUnchanged result self.old self.new events.old.items events.new.items }
+        ensures memory { IsMemory result }
+    {
+        if self.is_in_transfer() {
+            return Ok(());
+        }
+        self.come_up(origin, events)
+    }
+
+    /// Brings a call up under the largest terms.
+    pub(crate) fn come_up(
+        &mut self,
+        origin: EventOrigin,
+        events: &mut Vec<Event, A>,
+    ) -> Result<(), Fault>
+        ensures does { Comes result origin self.old self.new events.old.items events.new.items
+            (coming_up (largest_terms self.old.terms.interface)) }
+        ensures unchanged { IsUnchanged result self.old self.new events.old.items events.new.items }
+        ensures memory { IsMemory result }
+    {
+        events.reserve(1)?;
+        events.push_reserved(origin.event(What::Up));
+        let terms = self.status.terms().largest();
+        self.enter(StateName::P4, false, &terms);
+        Ok(())
+    }
+
+    /// An acceptance of a call that is not up: under its terms, or under the largest where another call may be hidden.
+    pub(crate) fn accept_adrift(
+        &mut self,
+        origin: EventOrigin,
+        hidden: bool,
+        fields: &CallFields<'_>,
+        events: &mut Vec<Event, A>,
+    ) -> Result<(), Fault>
+        requires usable { IsUsable self.old.terms.interface fields.now }
+        ensures does { (c : Channel) (xs : List ℕ) → shown fields.now ≡ fields_of xs
+            → (hidden ≡ false → IsUnanswered c) → Stands self.old c
+            → IfOk result (λ _. Does origin self.old self.new events.old.items events.new.items
+            (coming_up (terms_of_acceptance hidden self.old.terms.interface xs) c)) }
+        ensures unchanged { IsUnchanged result self.old self.new events.old.items events.new.items }
+        ensures memory { IsMemory result }
+    {
+        if hidden {
+            self.come_up(origin, events)
+        } else {
+            self.go_up(origin, fields, StateName::P4, events)
+        }
+    }
+
+    /// A reset or its confirmation on a channel with a call, which it brings up.
+    pub(crate) fn reset_adrift(
+        &mut self,
+        origin: EventOrigin,
+        to: StateName,
+        events: &mut Vec<Event, A>,
+    ) -> Result<(), Fault>
+        ensures does { Comes result origin self.old self.new events.old.items events.new.items
+            (λ c. and_then (brought_up self.old.terms.interface c) (in_state to)) }
+        ensures unchanged { IsUnchanged result self.old self.new events.old.items events.new.items }
+        ensures memory { IsMemory result }
+    {
+        self.bring_up(origin, events)?;
+        let terms = self.status.terms();
+        self.enter(to, false, &terms);
+        Ok(())
+    }
+
+    /// Opens a call on a channel adrift; the one before ends by a gap.
+    pub(crate) fn call_adrift(
+        &mut self,
+        origin: EventOrigin,
+        side: Side,
+        fields: &CallFields<'_>,
+        by_gap: How,
+        events: &mut Vec<Event, A>,
+    ) -> Result<(), Fault>
+        requires usable { IsUsable self.old.terms.interface fields.now }
+        ensures does { (c : Channel) (xs : List ℕ) → shown fields.now ≡ fields_of xs
+            → IfNone c.opening (c.accepting ≡ None) → Stands self.old c
+            → IfOk result (λ _. Does origin self.old self.new events.old.items events.new.items
+            (adrift_call by_gap side xs c)) }
+        ensures unchanged { IsUnchanged result self.old self.new events.old.items events.new.items }
+        ensures memory { IsMemory result }
+    {
+        let to = calling_state(side);
+        let out = is_outgoing(side);
+        events.reserve(2)?;
+        self.end(origin, by_gap, to, false, events);
+        events.push_reserved(origin.event(What::Open {
+            out,
+            called: fields.called.copied(),
+            calling: fields.calling.copied(),
+            reverse: fields.reverse,
+        }));
+        let terms = Terms::opened(self.status.interface(), out, fields);
+        self.enter(to, false, &terms);
+        Ok(())
+    }
+}

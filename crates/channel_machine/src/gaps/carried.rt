@@ -1,0 +1,128 @@
+//! The numbers of packets of data transfer on a channel adrift.
+
+ghost use Rattle.std.specs.Prelude.{◌≡◌, ◌<◌, ◌+◌, ◌%◌, None};
+ghost use Rattle.line_model.specs.channels.Channels.{of_side, other};
+ghost use Rattle.channel_machine.specs.Gaps as gaps;
+ghost use Rattle.channel_machine.specs.GapStep.{acknowledged_data, last_after, with_receive};
+
+use crate::gaps::kinds::Owed;
+use line_model::packet::DataHeader;
+use line_model::state::Side;
+use std::marker::Model;
+
+/// The last data packet of a side on a channel adrift.
+#[derive(Clone, Copy, Debug, PartialEq, Eq)]
+pub struct LastData {
+    /// The number after its P(S).
+    pub next: u8,
+    /// The last P(R) of its side, in it or after it.
+    pub receive: u8,
+}
+
+/// What is known of a channel adrift beside its call.
+#[derive(Drop)]
+pub struct WhileAdrift {
+    owed: Owed,
+    hidden: bool,
+    of_t: Option<LastData>,
+    of_n: Option<LastData>,
+}
+
+impl Model for WhileAdrift {
+    ghost use Rattle.channel_machine.specs.Gaps as gaps;
+    ghost use Rattle.channel_machine.specs.GapView.{drifting_of};
+
+    ghost Value = { gaps.WhileAdrift };
+
+    ghost view = { drifting_of };
+}
+
+impl WhileAdrift {
+    /// No data packet was seen yet.
+    pub(crate) fn new(owed: Owed, hidden: bool) -> WhileAdrift
+        ensures { result ≡ record { owed = owed; hidden = hidden; last = gaps.of_both None } }
+    {
+        WhileAdrift {
+            owed,
+            hidden,
+            of_t: None,
+            of_n: None,
+        }
+    }
+
+    /// The last data packet of a side.
+    fn last(&self, side: Side) -> Option<LastData>
+        ensures { result ≡ of_side side self.now.last }
+    {
+        match side {
+            Side::T => self.of_t,
+            Side::N => self.of_n,
+        }
+    }
+
+    /// The data packet of the other side that a P(R) of a side acknowledges, where nothing is owed.
+    pub(crate) fn acknowledged(&self, side: Side, receive: u8) -> Option<LastData>
+        ensures { result ≡ acknowledged_data self.now side receive }
+    {
+        if !self.owed.is_nothing() {
+            return None;
+        }
+        match self.last(side.other()) {
+            Some(last) => {
+                if last.next == receive {
+                    Some(last)
+                } else {
+                    None
+                }
+            }
+            None => None,
+        }
+    }
+
+    /// After a packet of a side that does not settle the channel: a data packet is the last one of its side, and another
+    /// P(R) replaces that of the last one.
+    pub(crate) fn receive(
+        &mut self,
+        modulus: u8,
+        side: Side,
+        header: Option<DataHeader>,
+        receive: Option<u8>,
+    )
+        requires modulus { 0 < modulus }
+        ensures { self.new ≡ record self.old { last = last_after modulus side header receive self.old.last } }
+    {
+        let last = match header {
+            Some(header) => Some(last_data(modulus, &header)),
+            None => match receive {
+                Some(receive) => with_receive(receive, self.last(side)),
+                None => return,
+            },
+        };
+        match side {
+            Side::T => self.of_t = last,
+            Side::N => self.of_n = last,
+        }
+    }
+}
+
+/// What is kept of a data packet.
+fn last_data(modulus: u8, header: &DataHeader) -> LastData
+    requires modulus { 0 < modulus }
+    ensures { result ≡ record { next = (header.now.send + 1) % modulus; receive = header.now.receive } }
+{
+    let next = (u16::from(header.send) + 1) % u16::from(modulus);
+    LastData {
+        next: next as u8,
+        receive: header.receive,
+    }
+}
+
+/// A data packet after which its side sent another P(R).
+fn with_receive(receive: u8, last: Option<LastData>) -> Option<LastData>
+    ensures { result ≡ with_receive receive last }
+{
+    match last {
+        Some(last) => Some(LastData { receive, ..last }),
+        None => None,
+    }
+}
