@@ -6,10 +6,10 @@ use Rattle.line_model.specs.declared.state.Side.{Side}
 use Rattle.line_model.specs.declared.state.Side.TheVariants.{T, N}
 use Rattle.line_model.specs.channels.Channels.{Channel, channel_in, fresh_state, is_permanent, is_transfer}
 use Rattle.line_model.specs.channels.ChannelStep.{entering}
-use Rattle.channel_machine.specs.declared.gaps.kinds.Owed.TheVariants.{NoIndication}
-use Rattle.channel_machine.specs.Gaps.EpochStart.{Restarted, Drifting}
+use Rattle.line_model.specs.declared.gap.Owed.TheVariants.{NoIndication}
+use Rattle.line_model.specs.channels.Gaps.EpochStart.{Restarted, Drifting}
 use Rattle.line_model.specs.packets.Formats.{for_side, is_out}
-use Rattle.channel_machine.specs.Gaps.{GapChannel, drifting, fresh_by, gap_step, idle_name, largest_terms, with_largest_terms}
+use Rattle.line_model.specs.channels.Gaps.{GapChannel, drifting, fresh_by, gap_step, idle_name, largest_terms, with_largest_terms}
 use Rattle.channel_machine.specs.Largest.{largest_values}
 use Rattle.channel_machine.specs.Terms.{AreUsable, IsBelow}
 use Rattle.channel_machine.specs.TermsStand.{Agreed, TermsStand, values_in_force}

@@ -13,7 +13,5 @@ pub mod PackedStatus
 pub mod Channels
 pub mod Moves
 pub mod Entries
-pub mod Gaps
-pub mod GapStep
 pub mod GapView
 pub mod Largest

@@ -8,8 +8,8 @@ ghost use Rattle.line_model.specs.channels.FlowControl.{is_side};
 ghost use Rattle.line_model.specs.declared.state.Side.TheVariants.{T};
 ghost use Rattle.line_model.specs.packets.Facilities.{fields_of};
 ghost use Rattle.packet_decode.specs.Shown.{shown, IsUsable};
-ghost use Rattle.channel_machine.specs.Gaps.{idle_name, is_hidden_by_gap, largest_terms, left_by_gap, waiting_name};
-ghost use Rattle.channel_machine.specs.GapStep.{adrift_call, brought_up, coming_up, in_state, terms_of_acceptance, calling_state, cleared_by, resetting_state};
+ghost use Rattle.line_model.specs.channels.Gaps.{idle_name, is_hidden_by_gap, largest_terms, left_by_gap, waiting_name};
+ghost use Rattle.line_model.specs.channels.GapStep.{adrift_call, brought_up, coming_up, in_state, terms_of_acceptance, calling_state, cleared_by, resetting_state};
 ghost use Rattle.channel_machine.specs.Reached.{IsUnanswered};
 ghost use Rattle.channel_machine.specs.Channels.{Stands, Does, Comes, IsUnchanged, IsMemory};
 

@@ -2,22 +2,14 @@
 
 ghost use Rattle.std.specs.Prelude.{◌≡◌, ◌<◌, ◌+◌, ◌%◌, None};
 ghost use Rattle.line_model.specs.channels.Channels.{of_side, other};
-ghost use Rattle.channel_machine.specs.Gaps as gaps;
-ghost use Rattle.channel_machine.specs.GapStep.{acknowledged_data, last_after, with_receive};
+ghost use Rattle.line_model.specs.channels.Gaps as gaps;
+ghost use Rattle.line_model.specs.channels.GapStep.{acknowledged_data, last_after, with_receive};
 
-use crate::gaps::kinds::Owed;
+use crate::gaps::kinds::is_nothing_owed;
+use line_model::gap::{LastData, Owed};
 use line_model::packet::DataHeader;
 use line_model::state::Side;
 use std::marker::Model;
-
-/// The last data packet of a side on a channel adrift.
-#[derive(Clone, Copy, Debug, PartialEq, Eq)]
-pub struct LastData {
-    /// The number after its P(S).
-    pub next: u8,
-    /// The last P(R) of its side, in it or after it.
-    pub receive: u8,
-}
 
 /// What is known of a channel adrift beside its call.
 #[derive(Drop)]
@@ -29,7 +21,7 @@ pub struct WhileAdrift {
 }
 
 impl Model for WhileAdrift {
-    ghost use Rattle.channel_machine.specs.Gaps as gaps;
+    ghost use Rattle.line_model.specs.channels.Gaps as gaps;
     ghost use Rattle.channel_machine.specs.GapView.{drifting_of};
 
     ghost Value = { gaps.WhileAdrift };
@@ -64,7 +56,7 @@ impl WhileAdrift {
     pub(crate) fn acknowledged(&self, side: Side, receive: u8) -> Option<LastData>
         ensures { result ≡ acknowledged_data self.now side receive }
     {
-        if !self.owed.is_nothing() {
+        if !is_nothing_owed(self.owed) {
             return None;
         }
         match self.last(side.other()) {

@@ -6,7 +6,7 @@ ghost use Rattle.line_model.specs.basics.Bounds.{IsSaid};
 ghost use Rattle.line_model.specs.channels.Channels.{Channel};
 ghost use Rattle.channel_machine.specs.Channels.{Stands};
 ghost use Rattle.channel_machine.specs.Contents.{AreOf, AreUsable};
-ghost use Rattle.channel_machine.specs.GapStep.{adrift_fault};
+ghost use Rattle.line_model.specs.channels.GapStep.{adrift_fault};
 
 use crate::channel::StatusChannel;
 use crate::format::{Contents, between};

@@ -1,6 +1,6 @@
 use Rattle.std.proofs.Common.{sym, subst}
 use Rattle.std.specs.Prelude.{IfOk}
-use Rattle.channel_machine.specs.GapStep.{coming_up, terms_of_acceptance}
+use Rattle.line_model.specs.channels.GapStep.{coming_up, terms_of_acceptance}
 use Rattle.channel_machine.specs.Channels.{Does}
 use Rattle.channel_machine.proofs.channel.StatusChannel.accept_adrift.Goals as goal
 

@@ -1,5 +1,5 @@
 use Rattle.std.proofs.Common.{◌≡◌, ◌∙◌, ap, [], ◌∷◌, ◌++◌, Some}
-use Rattle.channel_machine.specs.Gaps.{largest_terms}
+use Rattle.line_model.specs.channels.Gaps.{largest_terms}
 use Rattle.channel_machine.specs.Largest.{largest_values}
 use Rattle.channel_machine.specs.Agreed.{agreed_of}
 use Rattle.channel_machine.specs.Channels.{Known}

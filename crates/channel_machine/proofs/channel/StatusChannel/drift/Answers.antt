@@ -3,7 +3,7 @@ use Rattle.line_model.specs.declared.interface.Interface.{Interface}
 use Rattle.line_model.specs.declared.state.StateName.{StateName}
 use Rattle.line_model.specs.channels.Channels.{Channel, is_in_transfer, is_permanent}
 use Rattle.line_model.specs.channels.ChannelStep.{entering}
-use Rattle.channel_machine.specs.Gaps.{idle_name, largest_terms, with_largest_terms}
+use Rattle.line_model.specs.channels.Gaps.{idle_name, largest_terms, with_largest_terms}
 use Rattle.channel_machine.specs.Largest.{largest_values}
 use Rattle.channel_machine.specs.Agreed.{agreed_of}
 use Rattle.channel_machine.specs.Channels.{Known, Stands}

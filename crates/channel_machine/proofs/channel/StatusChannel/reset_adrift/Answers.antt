@@ -1,6 +1,6 @@
 use Rattle.std.proofs.Common.{◌≡◌, sym, ◌∙◌, ap, subst, append-nil}
 use Rattle.line_model.specs.channels.ChannelStep.{Outcome}
-use Rattle.channel_machine.specs.GapStep.{brought_up, in_state}
+use Rattle.line_model.specs.channels.GapStep.{brought_up, in_state}
 use Rattle.channel_machine.specs.Agreed.{agreed_of}
 use Rattle.channel_machine.specs.Channels.{Does, Known}
 use Rattle.channel_machine.specs.TermsStand.{TermsStand}
