@@ -65,7 +65,7 @@ class Packed(unittest.TestCase):
         self.assertIn(b"x25scan --try-headers <(gzip -dc guessed.trace.gz) tries others", done.stderr)
         line = f'"{SCANNER}" --try-headers <(gzip -dc guessed.trace.gz) | head -n 1'
         done = subprocess.run(["bash", "-c", line], cwd=self.folder, capture_output=True, timeout=SECONDS)
-        self.assertEqual(done.stdout, b"# findings  uncounted     octets  header\n", done.stderr)
+        self.assertEqual(done.stdout, b"# answered unanswered unexplained   findings  uncounted     octets  header\n", done.stderr)
         self.pack(CAPTURE, "day.pcap.gz")
         self.page("day.pcap.gz")
         self.assertEqual(Page(self.folder / "day.html").facts["again"]["all"], "day.pcap.gz")

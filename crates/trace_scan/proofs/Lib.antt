@@ -12,6 +12,8 @@ pub mod Parts
 pub mod ScanLemmas
 pub mod ThreadedLemmas
 pub mod FollowLemmas
+pub mod ReactionLemmas
+pub mod RankLemmas
 pub mod TrialLemmas
 pub mod WalkedLemmas
 pub mod TrialsLemmas

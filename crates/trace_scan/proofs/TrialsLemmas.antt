@@ -13,8 +13,9 @@ use Rattle.line_model.specs.basics.Records.{Row, ReadRow}
 use Rattle.line_model.specs.packets.Says.{is_unqualified, items_of, read_octets, read_row}
 use Rattle.line_model.proofs.Saying.{said_count}
 use Rattle.channel_run.specs.declared.run.Channel.{Ghosts as Machine}
-use Rattle.trace_scan.specs.Tried.{HasWalked, tally_of}
-use Rattle.trace_scan.specs.TriedLines.{tried_by}
+use Rattle.trace_scan.specs.Reactions.{reactions_in}
+use Rattle.trace_scan.specs.Tried.{HasWalked}
+use Rattle.trace_scan.specs.TriedLines.{tried_by, tried_with}
 use Rattle.trace_scan.specs.Trials.{AreTrials, IsTrace, SaidRows, with_row}
 use Rattle.trace_scan.specs.declared.trial.Trial.{Trial}
 use Rattle.trace_scan.proofs.Rows.{row_said}
@@ -73,10 +74,10 @@ all_on_way m (suc n) items more [] (t ∷ ts) le all = absurd all
 all_on_way m (suc n) items more (i ∷ is) [] le all = absurd all
 
 -- what they counted
-pub tried_all : {A C : Type 0} (m : Machine C A) (items : SaidRows) (is : List Interface) (ts : List (Trial A C)) → AreTrials m items is ts → map tried_by ts ≡ map (λ (h : Interface). record { header = h; tally = tally_of h (items h) }) is
+pub tried_all : {A C : Type 0} (m : Machine C A) (items : SaidRows) (is : List Interface) (ts : List (Trial A C)) → AreTrials m items is ts → map tried_by ts ≡ map (λ (h : Interface). tried_with h (items h)) is
 tried_all m items [] [] all = refl
 tried_all m items (i ∷ is) (t ∷ ts) all =
-    let own : tried_by t ≡ record { header = i; tally = tally_of i (items i) } = λ j. record { header = all.0.interface j; tally = all.0.tally j } in
+    let own : tried_by t ≡ tried_with i (items i) = λ j. record { header = all.0.interface j; tally = all.0.tally j; reactions = reactions_in (all.0.watch j) } in
     (λ j. own j ∷ tried_all m items is ts all.1 j)
 tried_all m items [] (t ∷ ts) all = absurd all
 tried_all m items (i ∷ is) [] all = absurd all

@@ -9,8 +9,7 @@ use Rattle.trace_text.specs.Sources.{IsFedAll, IsRefusedBy}
 use Rattle.trace_scan.specs.Headers.{headers_tried}
 use Rattle.trace_scan.specs.Readings.{IsRefusal}
 use Rattle.trace_scan.specs.Scan.{IsScanFault}
-use Rattle.trace_scan.specs.Tried.{tally_of}
-use Rattle.trace_scan.specs.TriedLines.{AreTriedLines, HasTried, fewest, rank, tried_text}
+use Rattle.trace_scan.specs.TriedLines.{AreTriedLines, HasTried, fewest, rank, tried_text, tried_with}
 use Rattle.trace_scan.specs.declared.trial.Trial.{Trial}
 use Rattle.trace_scan.specs.declared.tried_lines.Tried.{Tried}
 use Rattle.trace_scan.proofs.ScanLemmas.{end_refused, report_scan}
@@ -95,7 +94,7 @@ no_write f h w = subst IsTextFault w h
 
 -- the lines of a text whose trials are these
 pub lines_of_trials : {A C : Type 0} (m : Machine C A) (text : List ℕ) (ts : List (Trial A C)) (tried : List Tried) → (t : IsTriedText m text ts)
-    → ((is : List Interface) (items : SaidRows) → AreTrials m items is ts → IsPermutation (map (λ (h : Interface). record { header = h; tally = tally_of h (items h) }) is) tried)
+    → ((is : List Interface) (items : SaidRows) → AreTrials m items is ts → IsPermutation (map (λ (h : Interface). tried_with h (items h)) is) tried)
     → IsNonDecreasingBy rank tried → AreTriedLines text (tried_text tried) (fewest tried)
 lines_of_trials m text ts tried t all sorted = record {
   sound = t.sound;

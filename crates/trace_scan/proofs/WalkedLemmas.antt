@@ -25,6 +25,12 @@ use Rattle.live_report.specs.Observing.{AreItems}
 use Rattle.trace_scan.specs.Tried.{AreLanesOf, HasWalked, IsFew, IsLaneOf, events_after, states_after, tally_of, uncounted_in}
 use Rattle.trace_scan.specs.declared.trial.Tally.{Tally}
 use Rattle.trace_scan.specs.declared.trial.Trial.{Trial}
+use Rattle.line_model.specs.observer.Observer.{routing}
+use Rattle.line_model.specs.declared.state.RState.{RState}
+use Rattle.trace_scan.specs.Watched.{Watched}
+use Rattle.restart_epochs.specs.Walks.{IsStep, turn_of}
+use Rattle.trace_scan.specs.Reactions.{reaction_on, watch_turn, watched}
+use Rattle.trace_scan.proofs.ReactionLemmas.{watched_more}
 use Rattle.trace_scan.proofs.TrialLemmas.{Steps, count_more, few_uncounted, octets_more, one_uncounted, packets_more}
 
 -- ---- a trace has few rows
@@ -64,6 +70,7 @@ pub record Takes {A C : Type 0} (m : Machine C A) (states : ℕ → Channel) (r 
   pub lanes : AreLanesOf m before.walk.interface before.walk.epoch (states_after step.turn before.walk.interface states r) turned
   pub same : step.epoch ≡ before.walk.epoch → after.lanes ≡ turned
   pub renewed : step.epoch ≢ before.walk.epoch → after.lanes ≡ no_lanes
+  pub watch : (i : Interface) → before.walk.interface ≡ i → after.watch ≡ watch_turn step.turn (reaction_on step.turn i before.walk.machine.state step.machine.state states r) before.watch
 
 -- what is counted of a row with these events, if it has one finding at the most
 pub record Counts (i : Interface) (r : Item) (found : List Finding) (es : List Event) (before after : Tally) : Type 0 where
@@ -118,6 +125,18 @@ tally_after i rs r step before after was s c =
     c.octets ∙ (λ j. (was j).octets + sym s.left.octets j) ∙ sym (octets_more i rs r) in
     λ j. record { findings = findings j; packets = packets j; octets = octets j }
 
+watch_same : (i : Interface) (states : ℕ → Channel) (r : Item) (t u : Turn) (a b c d : RState) (w v : Watched) → t ≡ u → a ≡ b → c ≡ d → w ≡ v → watch_turn t (reaction_on t i a c states r) w ≡ watch_turn u (reaction_on u i b d states r) v
+watch_same i states r t u a b c d w v turn before after same = λ j. watch_turn (turn j) (reaction_on (turn j) i (before j) (after j) states r) (same j)
+
+-- what is watched after a row
+pub watch_after : {A C : Type 0} (m : Machine C A) (i : Interface) (rs : List Item) (r : Item) (step : Step) (before after : Trial A C) (turned : OpenLanes C) → HasWalked m i rs before → IsStep before.walk.machine before.walk.epoch r step
+    → Takes m (observer i rs).states r step before after turned → after.watch ≡ watched i (rs ++ r ∷ [])
+watch_after m i rs r step before after turned w is t =
+    t.watch i w.interface
+    ∙ watch_same i (observer i rs).states r step.turn _ _ _ _ _ before.watch _ (is.turn ∙ ap (λ l. turn_of r.packet (routing l r).route) w.line) (ap (λ l. l.state) w.line)
+    (ap (λ l. l.state) is.machine ∙ ap (λ l. (routing l r).after.state) w.line) w.watch
+    ∙ sym (watched_more i rs r)
+
 pub few_after : (i : Interface) (rs : List Item) (r : Item) (found : List Finding) (es : List Event) (epoch packets next_epoch next_packets : ℕ) (before after : Tally) → IsFew rs epoch packets before → length (found ++ findings_of es) ≤ 1
     → next_epoch ≤ epoch + 1 → next_packets ≡ packets + 1 → Counts i r found es before after → IsFew (rs ++ r ∷ []) next_epoch next_packets after
 few_after i rs r found es epoch packets next_epoch next_packets before after few one epochs rows c =
@@ -135,13 +154,14 @@ pub walked_after : {A C : Type 0} (m : Machine C A) (i : Interface) (rs : List I
     → length (option_to_list step.finding ++ findings_of (events_after step.turn i (observer i rs).epoch (observer i rs).states r)) ≤ 1
     → Takes m (observer i rs).states r step before after turned
     → Counts i r (option_to_list step.finding) (events_after step.turn i (observer i rs).epoch (observer i rs).states r) before.tally after.tally
-    → HasWalked m i (rs ++ r ∷ []) after
-walked_after m i rs r step before after turned w s one t c = record {
+    → IsStep before.walk.machine before.walk.epoch r step → HasWalked m i (rs ++ r ∷ []) after
+walked_after m i rs r step before after turned w s one t c is = record {
   interface = t.interface ∙ w.interface;
   line = t.line ∙ sym s.line;
   epoch = t.epoch ∙ sym s.epoch;
   lanes = lanes_after m i rs r step before after turned w s t;
   tally = tally_after i rs r step before.tally after.tally w.tally s c;
+  watch = watch_after m i rs r step before after turned w is t;
   few = few_after i rs r (option_to_list step.finding) (events_after step.turn i (observer i rs).epoch (observer i rs).states r) before.walk.epoch before.walk.packets after.walk.epoch after.walk.packets before.tally after.tally w.few one
       (omega (arith, t.epoch, s.next, w.epoch)) t.packets c;
 }

@@ -6,11 +6,11 @@ use Rattle.line_model.specs.basics.Records.{Row}
 use Rattle.line_model.specs.declared.interface.Interface.{Interface}
 use Rattle.line_model.specs.text.Header.{interface_with}
 
--- the windows that are tried with a modulus: 1 to 7, or up to 127 by doubling
+-- the windows that are tried with a modulus: 1 to 7, or 1 to 8 and then up to 127 by doubling
 abbrev pub windows : (modulus : ℕ) → List ℕ
 windows modulus =
     if modulus == 8 then 1 ∷ 2 ∷ 3 ∷ 4 ∷ 5 ∷ 6 ∷ 7 ∷ []
-    else 1 ∷ 2 ∷ 4 ∷ 8 ∷ 16 ∷ 32 ∷ 64 ∷ 127 ∷ []
+    else 1 ∷ 2 ∷ 3 ∷ 4 ∷ 5 ∷ 6 ∷ 7 ∷ 8 ∷ 16 ∷ 32 ∷ 64 ∷ 127 ∷ []
 
 -- an interface with another modulus, window and packet size, where these keep the rules of a header
 abbrev pub with_numbers : Interface → (modulus window size : ℕ) → Option Interface

@@ -6,6 +6,8 @@ pub mod Follow
 pub mod Threaded
 pub mod Headers
 pub mod Lags
+pub mod Watched
+pub mod Reactions
 pub mod Tried
 pub mod Trials
 pub mod TriedLines

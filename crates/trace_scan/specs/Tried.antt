@@ -17,6 +17,7 @@ use Rattle.restart_epochs.specs.declared.walk.Turn.{Turn}
 use Rattle.restart_epochs.specs.declared.walk.Turn.TheVariants.{ToChannel}
 use Rattle.live_report.specs.Observing.{AreItems}
 use Rattle.live_report.specs.Uncounted.{counts_data, is_data, left_out, user_octets}
+use Rattle.trace_scan.specs.Reactions.{watched}
 use Rattle.trace_scan.specs.declared.trial.Tally.{Tally}
 use Rattle.trace_scan.specs.declared.trial.Trial.{Trial}
 
@@ -70,6 +71,7 @@ pub record HasWalked {A C : Type 0} (m : Machine C A) (i : Interface) (rs : List
   pub epoch : t.walk.epoch ≡ (observer i rs).epoch
   pub lanes : AreLanesOf m i (observer i rs).epoch (observer i rs).states t.lanes
   pub tally : t.tally ≡ tally_of i rs
+  pub watch : t.watch ≡ watched i rs
   pub few : IsFew rs t.walk.epoch t.walk.packets t.tally
 
 -- it walked other rows, and this one may come after them

@@ -2,13 +2,16 @@
 use Rattle.std.specs.Prelude.{◌≡◌, ℕ, ◌+◌, ◌-◌, ◌*◌, ◌^◌, Bool, true, false, not, ◌==◌, ◌&&◌, List, [], ◌∷◌, ◌++◌, length, map, flat_map, take, Option, Some, None, codes, decimal}
 use Rattle.std.specs.List.Sorted.{IsNonDecreasingBy, IsPermutation}
 use Rattle.line_model.specs.basics.Device.{with_more}
-use Rattle.line_model.specs.basics.Records.{Row}
+use Rattle.line_model.specs.basics.Records.{Item, Row}
 use Rattle.line_model.specs.basics.Written.{HasFront}
 use Rattle.line_model.specs.declared.interface.Interface.{Interface}
 use Rattle.line_model.specs.packets.Says.{items_of}
 use Rattle.line_model.specs.text.Text.{fault, head, rows}
 use Rattle.trace_scan.specs.Headers.{headers_tried}
+use Rattle.trace_scan.specs.Reactions.{reactions_in, reactions_of}
 use Rattle.trace_scan.specs.Tried.{tally_of}
+use Rattle.trace_scan.specs.declared.reactions.Reactions.{Reactions}
+use Rattle.trace_scan.specs.declared.trial.Tally.{Tally}
 use Rattle.trace_scan.specs.declared.trial.Trial.{Trial}
 use Rattle.trace_scan.specs.declared.tried_lines.Tried.{Tried}
 
@@ -49,27 +52,43 @@ header_line i = form_of (is_first_form i) i
 abbrev pub column : (width : ℕ) → ℕ → List ℕ
 column width n = take (width - length (decimal n)) (codes "            ") ++ decimal n
 
--- what was counted, in columns, and the header
+-- how the DCE reacted, in columns
+abbrev pub reaction_columns : Reactions → List ℕ
+reaction_columns r = column 10 r.answered ++ (column 11 r.unanswered ++ column 12 r.unexplained)
+
+-- what was counted, in columns
+abbrev pub tally_columns : Tally → List ℕ
+tally_columns t = column 11 t.findings ++ (column 11 t.packets ++ column 11 t.octets)
+
+-- both, and the header
 abbrev pub tried_line : Tried → List ℕ
-tried_line t = column 10 t.tally.findings ++ (column 11 t.tally.packets ++ (column 11 t.tally.octets ++ (codes "  " ++ header_line t.header)))
+tried_line t = reaction_columns t.reactions ++ (tally_columns t.tally ++ (codes "  " ++ header_line t.header))
 
 -- the names of the columns
 abbrev pub heading : List ℕ
-heading = codes "# findings  uncounted     octets  header\n"
+heading = codes "# answered unanswered unexplained   findings  uncounted     octets  header\n"
 
 abbrev pub tried_text : List Tried → List ℕ
 tried_text ts = heading ++ flat_map tried_line ts
 
--- the header of a trial, and what it counted
+-- the header of a trial, how the DCE reacted, and what was counted
 abbrev pub tried_by : {A C : Type 0} → Trial A C → Tried
-tried_by t = record { header = t.walk.interface; tally = t.tally }
+tried_by t = record { header = t.walk.interface; tally = t.tally; reactions = reactions_in t.watch }
 
 -- ---- their order
 
+-- first the fewest errors that the DCE did not answer and indications that it did not owe, then the most errors that it answered
+abbrev pub reaction_rank : Reactions → ℕ
+reaction_rank r = (r.unanswered + r.unexplained) * 2 ^ 32 + (2 ^ 32 - 1 - r.answered)
+
 -- fewest findings first, then fewest data packets that were not counted, then fewest octets of them, then the smaller window, then the smaller
 -- packet size: as one number, in which each stands below the one before it
+abbrev pub tally_rank : Tried → ℕ
+tally_rank t = (((t.tally.findings * 2 ^ 32 + t.tally.packets) * 2 ^ 32 + t.tally.octets) * 2 ^ 8 + t.header.window) * 2 ^ 16 + t.header.size
+
+-- the place in the order of the lines: by the reactions of the DCE, then by what was counted
 abbrev pub rank : Tried → ℕ
-rank t = (((t.tally.findings * 2 ^ 32 + t.tally.packets) * 2 ^ 32 + t.tally.octets) * 2 ^ 8 + t.header.window) * 2 ^ 16 + t.header.size
+rank t = reaction_rank t.reactions * 2 ^ 120 + tally_rank t
 
 -- the findings of the first line
 abbrev pub fewest : List Tried → ℕ
@@ -78,9 +97,13 @@ fewest (t ∷ ts) = t.tally.findings
 
 -- ---- what is printed of a text
 
--- each header that is tried on some rows, with what they count under it
+-- a header with how the DCE reacts under it, and what is counted
+abbrev pub tried_with : Interface → List Item → Tried
+tried_with h rs = record { header = h; tally = tally_of h rs; reactions = reactions_of h rs }
+
+-- each header that is tried on some rows, with what they come to under it
 abbrev pub tried_on : Interface → List Row → List Tried
-tried_on i rs = map (λ h. record { header = h; tally = tally_of h (items_of h rs) }) (headers_tried i rs)
+tried_on i rs = map (λ h. tried_with h (items_of h rs)) (headers_tried i rs)
 
 -- of a text without a fault: the line of each header that is tried on it, once and best first, and the findings of the first
 pub record AreTriedLines (text bytes : List ℕ) (findings : ℕ) : Type 0 where

@@ -8,6 +8,7 @@ pub mod feeding;
 pub mod following;
 pub mod gate;
 mod headers;
+mod reactions;
 mod reading;
 pub mod scan;
 mod taken_text;

@@ -15,16 +15,20 @@ ghost use Rattle.channel_run.specs.Run.{row_events};
 ghost use Rattle.restart_epochs.specs.OpenLanes.{no_lanes, value_at};
 ghost use Rattle.restart_epochs.specs.Walks.{channel_in};
 ghost use Rattle.live_report.specs.Observing.{AreItems};
+ghost use Rattle.trace_scan.specs.Reactions.{channel_reaction, reaction_on, reactions_in};
 ghost use Rattle.trace_scan.specs.Tried.{AreLanesOf, HasWalked, IsLaneOf, MayWalk, events_after, states_after, uncounted_in};
 
+use crate::reactions::{self, Reaction, Reactions, Watch};
 use crate::text_cutter::item_of_row;
 use channel_run::run::Channel;
+use channel_run::status_word::view_in;
 use line_model::event::Event;
 use line_model::fault::Fault;
 use line_model::finding::Finding;
 use line_model::interface::Interface;
 use line_model::items::ItemRef;
 use line_model::row::ReadRow;
+use line_model::state::RState;
 use live_report::uncounted;
 use packet_decode::decode::header_length;
 use restart_epochs::channel_table::ChannelTable;
@@ -156,14 +160,15 @@ fn take_out<A: Allocator + Copy, C: Channel<A>>(
     Ok(machine)
 }
 
-/// Steps the logical channel of a row, and appends its events. Fails only when memory is refused.
+/// Steps the logical channel of a row, appends its events, and returns what the row does there to an indication that is
+/// owed. Fails only when memory is refused.
 fn step_lane<A: Allocator + Copy, C: Channel<A>>(
     walk: &EpochWalk<A>,
     channel: u16,
     item: &ItemRef<'_>,
     events: &mut Vec<Event, A>,
     lanes: &mut ChannelTable<C, A>,
-) -> Result<(), Fault>
+) -> Result<Reaction, Fault>
     requires item { IsItem walk.now.interface channel item.now }
     requires lanes { (states : ℕ → channels.Channel)
         × AreLanesOf C.Channel walk.now.interface walk.now.epoch states lanes.old }
@@ -176,13 +181,19 @@ fn step_lane<A: Allocator + Copy, C: Channel<A>>(
         → AreLanesOf C.Channel walk.now.interface walk.now.epoch states lanes.old
         → OnOk result (events.new.items ≡ events.old.items
         ++ row_events walk.now.interface walk.now.epoch channel (states channel) item.now) }
+    ensures reaction { (states : ℕ → channels.Channel)
+        → AreLanesOf C.Channel walk.now.interface walk.now.epoch states lanes.old
+        → IfOk result (λ reaction. reaction
+        ≡ channel_reaction walk.now.interface channel (states channel) item.now) }
     ensures memory { IfErr result (λ fault. fault ≡ Memory) }
 {
     let alloc = *events.allocator();
     let mut machine = take_out(alloc, &walk.interface, walk.epoch, channel, lanes)?;
+    let before = view_in(&machine.word());
     machine.step(walk.epoch, item, events)?;
+    let after = view_in(&machine.word());
     lanes.put(channel, machine);
-    Ok(())
+    Ok(reactions::channel_reaction(before.state, before.owed, after.owed, item))
 }
 
 /// The rows of a trace so far, under one header. It keeps what the logical channels are and what was counted, so it takes
@@ -193,6 +204,7 @@ pub struct Trial<A: Allocator, C: Channel<A>> {
     /// The logical channels that have rows in the epoch that goes on.
     lanes: ChannelTable<C, A>,
     pub tally: Tally,
+    watch: Watch<A>,
 }
 
 impl<A: Allocator + Copy, C: Channel<A>> Trial<A, C> {
@@ -204,6 +216,7 @@ impl<A: Allocator + Copy, C: Channel<A>> Trial<A, C> {
             walk: EpochWalk::new(alloc, header),
             lanes: ChannelTable::new(alloc),
             tally: Tally::none(),
+            watch: Watch::new(alloc),
         }
     }
 
@@ -214,20 +227,30 @@ impl<A: Allocator + Copy, C: Channel<A>> Trial<A, C> {
         self.walk.interface
     }
 
-    /// Steps the logical channel that a row goes to. The caller lends the list `events`, which has the events of the row
-    /// afterwards.
+    /// How the DCE reacted.
+    pub fn reactions(&self) -> Reactions
+        ensures { result ≡ reactions_in self.now.watch }
+    {
+        self.watch.reactions()
+    }
+
+    /// Steps the logical channel that a row goes to, and returns what the row does to an indication that is owed: there, or
+    /// by the restart machine, whose state is `after` then. The caller lends the list `events`, which has the events of the
+    /// row afterwards.
     fn turn(
         &mut self,
         turn: Turn,
+        after: RState,
         item: &ItemRef<'_>,
         events: &mut Vec<Event, A>,
-    ) -> Result<(), Fault>
+    ) -> Result<Reaction, Fault>
         requires item { IfSome (channel_in turn) (λ k. IsItem self.old.walk.interface k item.now) }
         requires lanes { (states : ℕ → channels.Channel)
             × AreLanesOf C.Channel self.old.walk.interface self.old.walk.epoch states
             self.old.lanes }
         ensures walk { self.new.walk ≡ self.old.walk }
         ensures tally { self.new.tally ≡ self.old.tally }
+        ensures watch { self.new.watch ≡ self.old.watch }
         ensures lanes { (states : ℕ → channels.Channel)
             → AreLanesOf C.Channel self.old.walk.interface self.old.walk.epoch states self.old.lanes
             → OnOk result (AreLanesOf C.Channel self.old.walk.interface self.old.walk.epoch
@@ -236,6 +259,10 @@ impl<A: Allocator + Copy, C: Channel<A>> Trial<A, C> {
             → AreLanesOf C.Channel self.old.walk.interface self.old.walk.epoch states self.old.lanes
             → OnOk result (events.new.items ≡ events_after turn self.old.walk.interface
             self.old.walk.epoch states item.now) }
+        ensures reaction { (states : ℕ → channels.Channel)
+            → AreLanesOf C.Channel self.old.walk.interface self.old.walk.epoch states self.old.lanes
+            → IfOk result (λ reaction. reaction ≡ reaction_on turn self.old.walk.interface
+            self.old.walk.machine.state after states item.now) }
         ensures memory { IfErr result (λ fault. fault ≡ Memory) }
     {
         events.clear();
@@ -243,7 +270,7 @@ impl<A: Allocator + Copy, C: Channel<A>> Trial<A, C> {
             Turn::ToChannel(channel) => {
                 step_lane(&self.walk, channel, item, events, &mut self.lanes)
             }
-            _ => Ok(()),
+            _ => Ok(reactions::restart_reaction(self.walk.machine.state(), after, item)),
         }
     }
 
@@ -251,6 +278,7 @@ impl<A: Allocator + Copy, C: Channel<A>> Trial<A, C> {
     fn renew(&mut self, epoch: u32)
         ensures walk { self.new.walk ≡ self.old.walk }
         ensures tally { self.new.tally ≡ self.old.tally }
+        ensures watch { self.new.watch ≡ self.old.watch }
         ensures same { epoch ≡ self.old.walk.epoch → self.new.lanes ≡ self.old.lanes }
         ensures renewed { epoch ≢ self.old.walk.epoch → self.new.lanes ≡ no_lanes }
     {
@@ -269,8 +297,9 @@ impl<A: Allocator + Copy, C: Channel<A>> Trial<A, C> {
     {
         let item = item_of_row(&self.walk.interface, row);
         let step = self.walk.step(&item)?;
-        self.turn(step.turn, &item, events)?;
+        let reaction = self.turn(step.turn, step.machine.state(), &item, events)?;
         self.tally.count(&self.walk.interface, &item, step.finding, events.as_slice());
+        self.watch.take(step.turn, reaction)?;
         self.renew(step.epoch);
         self.walk.advance(step);
         self.walk.findings.clear();

@@ -1,14 +1,15 @@
 //! The lines of the headers that were tried, best first.
 
-ghost use Rattle.std.specs.Prelude.{◌≡◌, ◌<◌, ◌≤◌, List, IfErr, IfOk, OnErr, OnOk, flat_map, map};
+ghost use Rattle.std.specs.Prelude.{◌≡◌, ◌<◌, ◌≤◌, ◌^◌, List, IfErr, IfOk, OnErr, OnOk, flat_map, map};
+ghost use Rattle.std.specs.Ordering.{nat_cmp};
 ghost use Rattle.std.specs.List.Sorted.{IsNonDecreasingBy, IsPermutation};
 ghost use Rattle.line_model.specs.basics.Written.{PutsTo, TakesAll, TakesFront};
 ghost use Rattle.line_model.specs.declared.fault.Fault.TheVariants.{Memory};
 ghost use Rattle.line_model.specs.declared.interface.Interface.{Interface as AnyInterface};
-ghost use Rattle.trace_scan.specs.TriedLines.{column, fewest, first_numbers, header_line, is_first_form, joining, named, ranges, rank, tried_by, tried_line, tried_text};
-ghost use Rattle.trace_scan.specs.Tried.{tally_of};
+ghost use Rattle.trace_scan.specs.TriedLines.{column, fewest, first_numbers, header_line, is_first_form, joining, named, ranges, rank, reaction_columns, reaction_rank, tally_columns, tally_rank, tried_by, tried_line, tried_text, tried_with};
 ghost use Rattle.trace_scan.specs.Trials.{AreTrials, SaidRows};
 
+use crate::reactions::Reactions;
 use crate::trial::{Tally, Trial};
 use channel_run::run::Channel;
 use itoa::Buffer;
@@ -17,30 +18,53 @@ use line_model::fault::Fault;
 use line_model::interface::Interface;
 use line_model::write_buffer::WriteBuffer;
 use std::alloc::{AllocError, Allocator};
+use std::cmp::Ordering;
 
 /// Spaces before a number.
 const SPACES: &[u8] = b"            ";
 
 /// The names of the columns.
-const HEADING: &[u8] = b"# findings  uncounted     octets  header\n";
+const HEADING: &[u8] =
+    b"# answered unanswered unexplained   findings  uncounted     octets  header\n";
 
-/// A header that was tried, and what the rows count under it.
+/// A header that was tried, and what the rows come to under it.
 #[derive(Clone, Copy)]
 pub struct Tried {
     pub header: Interface,
+    /// How the DCE reacted.
+    pub reactions: Reactions,
+    /// What was counted.
     pub tally: Tally,
 }
 
 impl Tried {
-    /// Its place in the order of the lines, as one number.
-    fn rank(self) -> u128
-        ensures { result ≡ rank self }
+    /// Its place by the reactions of the DCE, as one number.
+    fn reaction_rank(self) -> u128
+        ensures { result ≡ reaction_rank self.reactions }
+    {
+        let reactions = self.reactions;
+        let disagreements = u128::from(reactions.unanswered) + u128::from(reactions.unexplained);
+        disagreements * 4_294_967_296 + u128::from(u32::MAX - reactions.answered)
+    }
+
+    /// Its place among those with the same reactions, as one number.
+    fn tally_rank(self) -> u128
+        ensures rank { result ≡ tally_rank self }
+        ensures few { result < 2 ^ 120 }
     {
         let mut rank = u128::from(self.tally.findings);
         rank = rank * 4_294_967_296 + u128::from(self.tally.packets);
         rank = rank * 4_294_967_296 + u128::from(self.tally.octets);
         rank = rank * 256 + u128::from(self.header.window);
         rank * 65_536 + u128::from(self.header.size)
+    }
+
+    /// Which of two comes first in the order of the lines.
+    fn compare(&self, other: &Tried) -> Ordering
+        ensures { result ≡ nat_cmp (rank self.now) (rank other.now) }
+    {
+        let by_reactions = self.reaction_rank().cmp(&other.reaction_rank());
+        by_reactions.then(self.tally_rank().cmp(&other.tally_rank()))
     }
 }
 
@@ -55,6 +79,7 @@ fn outcomes<A: Allocator + Copy, C: Channel<A>>(
     for trial in trials {
         tried.push(Tried {
             header: trial.header(),
+            reactions: trial.reactions(),
             tally: trial.tally,
         })?;
     }
@@ -66,7 +91,7 @@ fn sorted<A: Allocator>(mut tried: Vec<Tried, A>) -> Vec<Tried, A>
     ensures permutation { IsPermutation tried.items result.items }
     ensures sorted { IsNonDecreasingBy rank result.items }
 {
-    tried.sort_unstable_by_key(|tried| tried.rank());
+    tried.sort_unstable_by(|one, other| one.compare(other));
     tried
 }
 
@@ -78,7 +103,7 @@ pub fn best_first<A: Allocator + Copy, C: Channel<A>>(
     ensures all { (headers : List AnyInterface) (items : SaidRows)
         → AreTrials C.Channel items headers trials.now
         → IfOk result (λ tried. IsPermutation
-        (map (λ h. record { header = h; tally = tally_of h (items h) }) headers) tried.items) }
+        (map (λ h. tried_with h (items h)) headers) tried.items) }
     ensures sorted { IfOk result (λ tried. IsNonDecreasingBy rank tried.items) }
     ensures memory { IfErr result (λ fault. fault ≡ Memory) }
 {
@@ -114,6 +139,24 @@ fn put_column<W: Sink>(out: &mut WriteBuffer, sink: &mut W, width: usize, number
     let digits = buffer.format(number).as_bytes();
     out.put(sink, &SPACES[..width.saturating_sub(digits.len())]);
     out.put(sink, digits);
+}
+
+/// Puts how the DCE reacted.
+fn put_reactions<W: Sink>(out: &mut WriteBuffer, sink: &mut W, reactions: Reactions)
+    ensures { PutsTo W.Sink sink.old sink.new out.old out.new (reaction_columns reactions) }
+{
+    put_column(out, sink, 10, reactions.answered);
+    put_column(out, sink, 11, reactions.unanswered);
+    put_column(out, sink, 12, reactions.unexplained);
+}
+
+/// Puts what was counted.
+fn put_tally<W: Sink>(out: &mut WriteBuffer, sink: &mut W, tally: Tally)
+    ensures { PutsTo W.Sink sink.old sink.new out.old out.new (tally_columns tally) }
+{
+    put_column(out, sink, 11, tally.findings);
+    put_column(out, sink, 11, tally.packets);
+    put_column(out, sink, 11, tally.octets);
 }
 
 /// Puts what both forms of a header say first.
@@ -173,9 +216,8 @@ fn put_header<W: Sink>(out: &mut WriteBuffer, sink: &mut W, header: &Interface)
 fn put_line<W: Sink>(out: &mut WriteBuffer, sink: &mut W, tried: &Tried)
     ensures { PutsTo W.Sink sink.old sink.new out.old out.new (tried_line tried.now) }
 {
-    put_column(out, sink, 10, tried.tally.findings);
-    put_column(out, sink, 11, tried.tally.packets);
-    put_column(out, sink, 11, tried.tally.octets);
+    put_reactions(out, sink, tried.reactions);
+    put_tally(out, sink, tried.tally);
     out.put(sink, b"  ");
     put_header(out, sink, &tried.header);
 }

@@ -1,8 +1,9 @@
-use Rattle.std.proofs.Common.{◌∙◌, ◌++◌, sym, subst, ℕ, Some}
+use Rattle.std.proofs.Common.{◌∙◌, ◌++◌, ap, sym, subst, ℕ, Some}
 use Rattle.line_model.specs.basics.Bounds.{IsItem}
 use Rattle.line_model.specs.channels.ChannelStep.{channel_step}
 use Rattle.channel_run.specs.Run.{row_events}
 use Rattle.trace_scan.specs.Tried.{IsLaneOf}
+use Rattle.trace_scan.proofs.ReactionLemmas.{reaction_same}
 use Rattle.trace_scan.proofs.TrialLanes.{put_back}
 use Rattle.trace_scan.proofs.trial.step_lane.Goals as goal
 
@@ -30,3 +31,17 @@ returns-clause-events g c states lanes =
     let k : ℕ = c.args.channel in
     let own = subst (λ x. IsLaneOf g.C.Channel i e k (states k) (Some x)) (sym c.deref_mut.ensures.value) (c.in_ok-machine.ensures.out states lanes) in
     c.in_ok-step.ensures.events (states k) own.2 ∙ (λ j. c.args.events.now.items ++ row_events (own.0 j) e (own.1 j) (states k) c.args.item.now)
+
+pub returns-clause-reaction : goal.returns-clause-reaction
+returns-clause-reaction g c states lanes =
+    let i = c.args.walk.now.interface in
+    let e = c.args.walk.now.epoch in
+    let k : ℕ = c.args.channel in
+    let out = c.in_ok-machine.ensures.out states lanes in
+    let was = subst (λ x. IsLaneOf g.C.Channel i e k (states k) (Some x)) (sym c.deref.ensures) out in
+    let own = subst (λ x. IsLaneOf g.C.Channel i e k (states k) (Some x)) (sym c.deref_mut.ensures.value) out in
+    let next = subst (g.C.Channel.stands_for c.step.new.self) (λ j. (channel_step (own.0 j) (own.1 j) (states k) c.args.item.now).after) (c.in_ok-step.ensures.stands (states k) own.2) in
+    let before = c.word.ensures (states k) was.2 in
+    let after = c.word-2.ensures _ (subst (λ x. g.C.Channel.stands_for x (channel_step i k (states k) c.args.item.now).after) (sym c.deref-2.ensures) next) in
+    c.channel_reaction.ensures
+    ∙ reaction_same c.args.item.now _ _ _ _ _ _ (ap (λ v. v.owed) c.view_in-before.ensures ∙ before.owed) (ap (λ v. v.owed) c.view_in-after.ensures ∙ after.owed) (ap (λ v. v.state) c.view_in-before.ensures ∙ before.state)

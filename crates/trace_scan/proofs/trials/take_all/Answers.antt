@@ -1,4 +1,5 @@
 use Rattle.std.proofs.Common.{◌≡◌, ◌+◌, ℕ, suc, ap, sym, subst, arith, length, set}
+use Rattle.std.proofs.lemmas.Result.{IfOk-from_err}
 use Rattle.trace_scan.specs.Trials.{AreTrials, with_row}
 use Rattle.trace_scan.proofs.TrialsLemmas.{AreOnWay, all_on_way, next_on_way, one_on_way, written}
 use Rattle.trace_scan.proofs.trials.take_all.Goals as goal
@@ -23,3 +24,6 @@ returns-clause-trials g c = λ headers items all sound.
     let same : length c.loop-trial.trial-items ≡ length c.args.trials.now.items = omega (arith, c.loop-trial.auto.trial-items, whole) in
     subst (λ ts. AreTrials g.C.Channel (with_row items c.args.row.now) headers ts) (sym (written c.loop-trial.trial-items c.args.trials.now.items c.args.trials.now.len len same))
     (all_on_way g.C.Channel c.loop-trial.trial-index items (with_row items c.args.row.now) headers c.loop-trial.trial-items (omega (arith, c.loop-trial-test.false, same, whole)) (c.loop-trial.invariant headers items all sound))
+
+pub returns-in_err-take-clause-trials : goal.returns-in_err-take-clause-trials
+returns-in_err-take-clause-trials g c = λ headers items all sound. IfOk-from_err _ _ c.from_residual.ensures.0

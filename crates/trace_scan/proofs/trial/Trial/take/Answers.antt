@@ -5,7 +5,9 @@ use Rattle.line_model.specs.packets.Says.{item_read}
 use Rattle.line_model.proofs.Saying.{last_said}
 use Rattle.restart_epochs.specs.Cutting.{observer}
 use Rattle.restart_epochs.specs.Walks.{channel_in}
+use Rattle.trace_scan.specs.Reactions.{reaction_on, watch_turn}
 use Rattle.trace_scan.specs.Tried.{HasWalked, events_after}
+use Rattle.trace_scan.proofs.ReactionLemmas.{roomy}
 use Rattle.trace_scan.proofs.TrialLemmas.{item_of_turn, none_found, steps}
 use Rattle.trace_scan.proofs.WalkedLemmas.{counts_under, few_next, few_octets, lanes_under, one_after, turned_under, walked_after}
 use Rattle.trace_scan.proofs.trial.Trial.take.Goals as goal
@@ -33,22 +35,27 @@ turn-requires-clause-lanes g c =
 pub count-requires-clause-findings : goal.count-requires-clause-findings
 count-requires-clause-findings g c =
     let next = c.requires.next in
-    omega (arith, ap (λ t. t.findings) c.in_ok-turn.ensures.tally, next.2.few.findings, few_next next.0 next.1 (item_read next.0 c.args.row.now) next.3)
+    omega (arith, ap (λ t. t.findings) c.in_ok-reaction.ensures.tally, next.2.few.findings, few_next next.0 next.1 (item_read next.0 c.args.row.now) next.3)
 
 pub count-requires-clause-packets : goal.count-requires-clause-packets
 count-requires-clause-packets g c =
     let next = c.requires.next in
-    omega (arith, ap (λ t. t.packets) c.in_ok-turn.ensures.tally, next.2.few.uncounted, few_next next.0 next.1 (item_read next.0 c.args.row.now) next.3)
+    omega (arith, ap (λ t. t.packets) c.in_ok-reaction.ensures.tally, next.2.few.uncounted, few_next next.0 next.1 (item_read next.0 c.args.row.now) next.3)
 
 pub count-requires-clause-octets : goal.count-requires-clause-octets
 count-requires-clause-octets g c =
     let next = c.requires.next in
-    omega (arith, ap (λ t. t.octets) c.in_ok-turn.ensures.tally, next.2.few.octets, few_octets next.0 next.1 (item_read next.0 c.args.row.now) next.3, ap (λ x. x.length) c.item_of_row-item.ensures)
+    omega (arith, ap (λ t. t.octets) c.in_ok-reaction.ensures.tally, next.2.few.octets, few_octets next.0 next.1 (item_read next.0 c.args.row.now) next.3, ap (λ x. x.length) c.item_of_row-item.ensures)
+
+pub take-requires : goal.take-requires
+take-requires g c =
+    let next = c.requires.next in
+    roomy next.0 next.1 c.turn.new.self.watch (c.in_ok-reaction.ensures.watch ∙ next.2.watch) (few_next next.0 next.1 (item_read next.0 c.args.row.now) next.3)
 
 pub advance-requires-clause-packets : goal.advance-requires-clause-packets
 advance-requires-clause-packets g c =
     let next = c.requires.next in
-    let same = ap (λ w. w.packets) (c.renew.ensures.walk ∙ c.in_ok-turn.ensures.walk) ∙ c.in_ok-step.ensures.same.packets in
+    let same = ap (λ w. w.packets) (c.renew.ensures.walk ∙ c.in_ok-reaction.ensures.walk) ∙ c.in_ok-step.ensures.same.packets in
     omega (arith, same, next.2.few.rows, few_next next.0 next.1 (item_read next.0 c.args.row.now) next.3)
 
 pub returns-clause-walked : goal.returns-clause-walked
@@ -56,7 +63,7 @@ returns-clause-walked g c i rows w sound =
     let one = c.item_of_row-item.result in
     let step = c.in_ok-step.step in
     let same = c.in_ok-step.ensures.same in
-    let turned = c.in_ok-turn.ensures in
+    let turned = c.in_ok-reaction.ensures in
     let o = observer i rows in
     let row_is : one ≡ item_read i c.args.row.now = c.item_of_row-item.ensures ∙ (λ j. item_read (w.interface j) c.args.row.now) in
     let stepped = steps i rows one _ _ step w.line w.epoch c.in_ok-step.ensures.step in
@@ -67,6 +74,7 @@ returns-clause-walked g c i rows w sound =
       walk = record { interface = c.advance.new.self.interface; machine = c.advance.new.self.machine; epoch = c.advance.new.self.epoch; packets = c.advance.new.self.packets; findings = c.clear.new.self };
       lanes = c.renew.new.self.lanes;
       tally = c.renew.new.self.tally;
+      watch = c.renew.new.self.watch;
     })) row_is
     (walked_after g.C.Channel i rows one step c.args.self.now _ c.turn.new.self.lanes w stepped one_found
     (record {
@@ -77,8 +85,10 @@ returns-clause-walked g c i rows w sound =
       lanes = turned_under g.C.Channel c.step.new.self.interface c.args.self.now.walk.interface c.step.new.self.epoch c.args.self.now.walk.epoch step.turn o.states one c.turn.new.self.lanes same.interface same.epoch (turned.lanes o.states lanes);
       same = λ e. c.renew.ensures.same (e ∙ sym (ap (λ v. v.epoch) turned.walk ∙ same.epoch));
       renewed = λ ne. c.renew.ensures.renewed (λ e. ne (e ∙ ap (λ v. v.epoch) turned.walk ∙ same.epoch));
+      watch = λ k e. c.renew.ensures.watch ∙ c.in_ok-take.ensures.taken
+          ∙ (λ j. watch_turn step.turn ((turned.reaction o.states lanes ∙ (λ h. reaction_on step.turn ((same.interface ∙ e) h) (same.machine h).state (c.state.ensures h) o.states one)) j) (turned.watch j));
     })
     (counts_under i c.turn.new.self.walk.interface one (option_to_list step.finding) (events_after step.turn i o.epoch o.states one) c.as_slice.result.now c.args.self.now.tally c.turn.new.self.tally c.count.new.self c.renew.new.self.tally
     (ap (λ v. v.interface) turned.walk ∙ same.interface ∙ w.interface)
     (c.as_slice.ensures.value ∙ turned.events o.states lanes ∙ (λ j. events_after step.turn ((same.interface ∙ w.interface) j) ((same.epoch ∙ w.epoch) j) o.states one))
-    turned.tally c.renew.ensures.tally one_found c.count.ensures.findings c.count.ensures.packets c.count.ensures.octets))
+    turned.tally c.renew.ensures.tally one_found c.count.ensures.findings c.count.ensures.packets c.count.ensures.octets) c.in_ok-step.ensures.step)
