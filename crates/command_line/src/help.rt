@@ -21,7 +21,7 @@ Options:
       --rows              Print a JSON object for each row, and then those of the report
       --channel <N>       Annotate only the rows of this logical channel; with --rows, print only those
       --call <N>          Annotate only the rows of this call of the report; with --rows, print only those
-      --try-headers       Print how many findings each window and packet size gives, best first
+      --try-headers       Print how each window and packet size explains the rows, best first
       --progress          Print each second on standard error how far the reading is
       --notes             Print on standard error how much data was not counted, and why, in one thread
       --explain [<WORD>]  Explain a word or a line that is printed, or list all words, and scan nothing
