@@ -1,6 +1,7 @@
 """The interface: restarts, their gaps, and what each row shows."""
 from __future__ import annotations
 
+import copy
 from dataclasses import dataclass, replace
 
 from model import codes
@@ -64,6 +65,18 @@ class Observer:
         self.shown: list[Shown] = []
         self.row = 0
         self.peak: tuple[int, int | None] = (0, None)
+
+    def copy(self) -> Observer:
+        """An observer of the same interface that reads on by itself."""
+        other = copy.copy(self)
+        other.channels = dict(self.channels)
+        other.shown = list(self.shown)
+        return other
+
+    def is_like(self, other: Observer) -> bool:
+        """Whether another observer is in the same state and has shown as much."""
+        ours = (self.epoch, self.state, self.channels, len(self.shown))
+        return ours == (other.epoch, other.state, other.channels, len(other.shown))
 
     def read(self, row: Row) -> None:
         """Reads the next row."""
