@@ -54,9 +54,10 @@ def read_header(line: str) -> Interface:
         raise Refused(NOT_A_HEADER)
     numbers = [read_number(word, NOT_A_HEADER) for word in pairs[1::2]]
     if form == 1:
-        permanent, channels = numbers[3:]
-        numbers = [*numbers[:4], permanent, channels, channels]
-    return Interface(form, *numbers, is_joined)
+        # All channels that are no permanent circuits are two-way.
+        numbers = [*numbers[:4], numbers[3], numbers[4], numbers[4]]
+    modulus, window, size, permanent, incoming, two_way, channels = numbers
+    return Interface(form, modulus, window, size, permanent, incoming, two_way, channels, is_joined)
 
 
 def read_gap(interface: Interface, number: int, word: str) -> GapRow:
@@ -90,7 +91,8 @@ def read_row(interface: Interface, last_number: int, line: str) -> Row:
 
 def read_trace(text: str) -> Trace:
     """Reads a trace. Fails with the first line that is refused."""
-    interface, rows = None, []
+    interface: Interface | None = None
+    rows: list[Row] = []
     for number, line in enumerate(text.removesuffix("\n").split("\n"), 1):
         if line[:1] == "#":
             continue
