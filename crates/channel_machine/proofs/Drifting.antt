@@ -7,7 +7,7 @@ use Rattle.line_model.specs.declared.state.Side.TheVariants.{T, N}
 use Rattle.line_model.specs.channels.Channels.{Channel, channel_in, fresh_state, is_permanent, is_transfer}
 use Rattle.line_model.specs.channels.ChannelStep.{entering}
 use Rattle.line_model.specs.declared.gap.Owed.TheVariants.{NoIndication}
-use Rattle.line_model.specs.channels.Gaps.EpochStart.{Restarted, Drifting}
+use Rattle.line_model.specs.declared.gap.EpochStart.TheVariants.{Restarted, Drifting}
 use Rattle.line_model.specs.packets.Formats.{for_side, is_out}
 use Rattle.line_model.specs.channels.Gaps.{GapChannel, drifting, fresh_by, gap_step, idle_name, largest_terms, with_largest_terms}
 use Rattle.channel_machine.specs.Largest.{largest_values}
