@@ -1,6 +1,5 @@
 -- What was not counted of some rows and of one more.
-use Rattle.std.proofs.Common.{◌≡◌, ◌∙◌, sym, ap, subst, refl, ℕ, ◌+◌, ◌-◌, ◌<◌, ◌≤◌, ◌^◌, Bool, true, false, ◌||◌, not, cond, List, [], ◌∷◌, ◌++◌, length, filter, min, sum_by, Option, Some, None, Result, Ok, Err, OnOk, append-nil, append_assoc, length-append, arith}
-use Rattle.std.specs.Bool.{OnFalse, OnTrue}
+use Rattle.std.proofs.Common.{◌≡◌, ◌∙◌, sym, ap, subst, refl, ℕ, ◌+◌, ◌-◌, ◌<◌, ◌≤◌, ◌^◌, Bool, true, false, ◌||◌, cond, List, [], ◌∷◌, ◌++◌, length, filter, min, sum_by, Option, Some, None, Result, Ok, Err, OnOk, append-nil, append_assoc, length-append, arith}
 use Rattle.std.proofs.lemmas.List.Elements.{filter-append}
 use Rattle.std.proofs.lemmas.List.Sums.{sum_by-append, sum_by-cons, sum_by_push}
 use Rattle.line_model.specs.declared.event.Event.{Event}
@@ -94,11 +93,6 @@ was_counted i earlier r row events k before after accepted l by counted =
     let more = observer i (earlier ++ r ∷ []) in
     let taker = routed (x25 i) o.line r in
     none_if (is_data r.packet) (reason_by i taker o r) (counted_on i o more r events taker k before after accepted (subst (IsJudge i taker o more) by l.judge) l.came counted)
-
--- what follows from a fact follows unless the fact does not hold
-pub unless : (b : Bool) (P Q : Type 0) → OnTrue b P → (P → Q) → OnFalse (not b) Q
-unless true P Q h f = f h
-unless false P Q h f = tt
 
 -- ---- rows one by one
 

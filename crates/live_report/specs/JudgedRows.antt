@@ -1,7 +1,6 @@
 -- A row, as an observer judged it.
 use Rattle.std.specs.Prelude.{◌≡◌, ℕ, List, [], ◌∷◌, ◌++◌, Option, Some, None, MatchOption, option_to_list}
 use Rattle.line_model.specs.declared.event.Event.{Event}
-use Rattle.line_model.specs.declared.finding.Finding.{Finding}
 use Rattle.line_model.specs.declared.interface.Interface.{Interface}
 use Rattle.line_model.specs.declared.state.RState.{RState}
 use Rattle.line_model.specs.basics.Records.{Item}
@@ -37,10 +36,6 @@ IsTaker i k b a _ = ⊥
 abbrev pub IsJudge : Interface → (taker : Option ℕ) → (before after : Observer LineState Channel) → Judge → Type 0
 IsJudge i None b a j = IsRestart b.line.state a.line.state j
 IsJudge i (Some k) b a j = IsTaker i k (b.states k) (a.states k) j
-
--- the row of an item, by the machine that judged it and what it found
-abbrev pub judged_row : Item → Judge → Option Finding → JudgedRow
-judged_row r by found = record { number = r.number; side = r.side; packet = r.packet; judge = by; finding = found }
 
 -- a row after others, as it was judged: its number, its side and its packet, the machine that judged it, what it found, and the events on
 -- the channel that took it

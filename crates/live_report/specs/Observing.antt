@@ -15,10 +15,8 @@ use Rattle.restart_epochs.specs.OpenRows.{rows_of}
 use Rattle.restart_epochs.specs.Cutting.{Cutting, IsCutting, StandsFor as IsCutterOf, given_of}
 use Rattle.report_merge.specs.Gathered.{gathered}
 use Rattle.live_report.specs.declared.observer.Observer.{Observer}
-use Rattle.live_report.specs.JudgedRows.{IsJudgedRow, KnowsLast}
-use Rattle.live_report.specs.declared.judged_row.JudgedRow.{JudgedRow}
-use Rattle.live_report.specs.Turns.{with_data}
-use Rattle.live_report.specs.Uncounted.{uncounted_of, AreFew}
+use Rattle.live_report.specs.JudgedRows.{KnowsLast}
+use Rattle.live_report.specs.Uncounted.{uncounted_of}
 use Rattle.live_report.specs.declared.uncounted.Uncounted.{Uncounted}
 use Rattle.live_report.specs.Lanes.{OpenFor, begun_piece}
 
@@ -70,14 +68,6 @@ HasWalked m i rows o = StandsFor m.interface_of m.number_of m.stands_for i rows 
 -- it has walked these rows, and keeps the last one
 abbrev pub HasKept : {A C : Type 0} → Machine C A → Interface → List Item → Observer A C → Type 0
 HasKept m i rows o = HasWalked m i rows o × (o.keeps_rows ≡ true)
-
--- more than the finding of a row was noted: all but its row, its events and the data that was not counted is as before
-abbrev pub IsNoted : {A C : Type 0} → (old new : Observer A C) → Type 0
-IsNoted old new = new ≡ record old { last = new.last; events = new.events; uncounted = new.uncounted }
-
--- an observer of some rows counts the data of one more, as it was judged with the events that are listed
-abbrev pub CountsOn : {A C : Type 0} → Interface → (earlier : List Item) → Item → Observer A C → JudgedRow → Type 0
-CountsOn i earlier r o row = IsJudgedRow i earlier r row (with_data o.walk.epoch row.judge r o.events.items) × (o.walk.interface ≡ i) × AreFew (earlier ++ r ∷ []) × (o.uncounted ≡ uncounted_of i earlier)
 
 -- the piece of a channel in the open epoch
 abbrev pub open_piece : Cutting → (channel : ℕ) → Piece

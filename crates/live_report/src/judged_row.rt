@@ -1,21 +1,16 @@
 //! A row, as an observer judged it.
 
-ghost use Rattle.std.specs.Prelude.{◌≡◌, ◌++◌, ◌∷◌, [], ℕ, List, None, Some};
+ghost use Rattle.std.specs.Prelude.{◌≡◌, ℕ, List, Some};
 ghost use Rattle.std.specs.Bool.{OnFalse, OnTrue};
 ghost use Rattle.data_transfer.specs.Packed.{Packed};
 ghost use Rattle.line_model.specs.basics.Records.{Item};
 ghost use Rattle.line_model.specs.declared.event.Event.{Event};
-ghost use Rattle.line_model.specs.declared.interface.Interface.{Interface as AnyInterface};
-ghost use Rattle.restart_epochs.specs.Cutting.{observer};
-ghost use Rattle.live_report.specs.JudgedRows.{judged_row, taker, IsJudgedRow};
+ghost use Rattle.live_report.specs.JudgedRows.{taker};
 ghost use Rattle.live_report.specs.Turns.{with_data};
-ghost use Rattle.live_report.specs.Uncounted.{reason_at};
 ghost use Rattle.live_report.specs.declared.judged_row.Judge.TheVariants.{Channel as OfChannel};
 
-use crate::uncounted::is_data;
 use data_transfer::packed::FlowWord;
 use line_model::finding::Finding;
-use line_model::items::ItemRef;
 use line_model::packet::Packet;
 use line_model::state::{RState, Side};
 
@@ -51,20 +46,9 @@ impl Judge {
             Judge::Channel { accepted, .. } => accepted.is_some(),
         }
     }
-
-    /// Whether a packet is data that was judged so, and was not accepted as data with Q 0.
-    #[inline(always)]
-    pub(crate) fn leaves_out(&self, packet: &Packet) -> bool
-        ensures { OnFalse result ((i : AnyInterface) (earlier : List Item) (r : Item) (row : JudgedRow)
-            (epoch : ℕ) (events : List Event) → row.judge ≡ self.now → row.packet ≡ packet.now
-            → IsJudgedRow i earlier r row (with_data epoch self.now r events)
-            → reason_at i (observer i earlier) r ≡ None) }
-    {
-        is_data(packet) && !self.is_accepted()
-    }
 }
 
-/// A row, as an observer judged it. It is made only where rows are kept, and of data that was not counted.
+/// A row, as an observer judged it.
 #[derive(Clone, Copy)]
 pub struct JudgedRow {
     /// Its number.
@@ -80,19 +64,6 @@ pub struct JudgedRow {
 }
 
 impl JudgedRow {
-    /// A row of an item, by the machine that judged it and what it found.
-    pub(crate) fn new(item: &ItemRef<'_>, judge: Judge, finding: Option<Finding>) -> Self
-        ensures { result ≡ judged_row item.now judge finding }
-    {
-        JudgedRow {
-            number: item.number,
-            side: item.side,
-            packet: item.packet,
-            judge,
-            finding,
-        }
-    }
-
     /// The logical channel that took it; none where the restart machine judged it.
     pub fn channel(&self) -> Option<u16>
         ensures { result ≡ taker self.now.judge }

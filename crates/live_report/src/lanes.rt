@@ -2,17 +2,15 @@
 
 ghost use Rattle.std.specs.Prelude.{◌≡◌, ◌<◌, ◌++◌, ◌∷◌, [], IfErr, IfOk, OnOk, length};
 ghost use Rattle.line_model.specs.basics.Bounds.{IsPiece};
-ghost use Rattle.line_model.specs.basics.Records.{Piece};
 ghost use Rattle.line_model.specs.declared.fault.Fault.TheVariants.{Memory};
-ghost use Rattle.restart_epochs.specs.OpenLanes.{HasListed};
 ghost use Rattle.restart_epochs.specs.OpenRows.{OpenRows, rows_of, HasMore};
-ghost use Rattle.channel_run.specs.Live.{channel_so_far, StandsFor};
+ghost use Rattle.channel_run.specs.Live.{channel_so_far};
 ghost use Rattle.channel_run.specs.Run.{row_events};
 ghost use Rattle.channel_run.specs.Taken.{data_in, finding_in};
 ghost use Rattle.live_report.specs.Lanes.{FindsOn, IsOut, LanesStandFor};
 ghost use Rattle.live_report.specs.Turns.{walked_piece, OfLanes, TakesOn, with_data};
 
-use crate::judged_row::Judge;
+use crate::judged_row::{Judge, JudgedRow};
 use channel_run::live::{LiveChannel, Taken};
 use channel_run::run::Channel;
 use line_model::event::Event;
@@ -41,34 +39,13 @@ fn take_out<A: Allocator + Copy, C: Channel<A>>(
     if let Some(live) = lanes.take(channel) {
         return Ok(live);
     }
-    let live = begin(alloc, interface, epoch, channel, lanes)?;
-    Ok(live)
-}
-
-/// Lists a channel, and begins its live channel. Each row would clear the room of a fresh channel were this compiled into
-/// its caller.
-#[inline(never)]
-fn begin<A: Allocator + Copy, C: Channel<A>>(
-    alloc: A,
-    interface: &Interface,
-    epoch: u32,
-    channel: u16,
-    lanes: &mut ChannelTable<LiveChannel<A, C>, A>,
-) -> Result<Box<LiveChannel<A, C>, A>, Fault>
-    ensures stands { IfOk result (λ live. (p : Piece) → p.interface ≡ interface.now
-        → p.channel ≡ channel → p.epoch ≡ epoch → p.items ≡ []
-        → StandsFor C.interface_of C.number_of C.stands_for live.value p) }
-    ensures listed { OnOk result (HasListed channel lanes.old lanes.new) }
-    ensures room { OnOk result (channel < length lanes.new.lanes) }
-    ensures memory { IfErr result (λ fault. fault ≡ Memory) }
-{
     lanes.list(channel)?;
     let live = Box::new(alloc, LiveChannel::fresh(alloc, interface, channel, epoch)?)?;
     Ok(live)
 }
 
-/// Steps the live channel of a channel by its next row, and returns what was known of it before and after, and
-/// what the row found. The list has the row's events, except that of accepted data with Q 0. Fails only when memory is refused.
+/// Steps the live channel of a channel by its next row, and returns the row as it was judged. The list has the row's events,
+/// except that of accepted data with Q 0. Fails only when memory is refused.
 #[inline(always)]
 pub(crate) fn step_channel<A: Allocator + Copy, C: Channel<A>>(
     walk: &EpochWalk<A>,
@@ -76,7 +53,7 @@ pub(crate) fn step_channel<A: Allocator + Copy, C: Channel<A>>(
     item: &ItemRef<'_>,
     events: &mut Vec<Event, A>,
     lanes: &mut ChannelTable<LiveChannel<A, C>, A>,
-) -> Result<(Judge, Option<Finding>), Fault>
+) -> Result<JudgedRow, Fault>
     requires room { (rows : OpenRows)
         × LanesStandFor C.Channel walk.now.interface walk.now.epoch rows lanes.old
         × IsPiece walk.now.interface channel (rows_of rows channel ++ item.now ∷ []) }
@@ -84,14 +61,17 @@ pub(crate) fn step_channel<A: Allocator + Copy, C: Channel<A>>(
         → HasMore channel item.now rows after
         → IsPiece walk.now.interface channel (rows_of after channel)
         → OnOk result (LanesStandFor C.Channel walk.now.interface walk.now.epoch after lanes.new)) }
+    ensures number { IfOk result (λ row. row.number ≡ item.now.number) }
+    ensures side { IfOk result (λ row. row.side ≡ item.now.side) }
+    ensures packet { IfOk result (λ row. row.packet ≡ item.now.packet) }
     ensures judge { OfLanes C.Channel walk.now lanes.old (λ rows. (after : OpenRows)
         → HasMore channel item.now rows after
         → IsPiece walk.now.interface channel (rows_of after channel)
-        → IfOk result (λ judged. TakesOn walk.now channel rows after judged.0)) }
+        → IfOk result (λ row. TakesOn walk.now channel rows after row.judge)) }
     ensures finding { OfLanes C.Channel walk.now lanes.old (λ rows.
-        IfOk result (λ judged. FindsOn (walked_piece walk.now channel rows) item.now judged.1)) }
+        IfOk result (λ row. FindsOn (walked_piece walk.now channel rows) item.now row.finding)) }
     ensures events { OfLanes C.Channel walk.now lanes.old (λ rows.
-        IfOk result (λ judged. with_data walk.now.epoch judged.0 item.now events.new.items
+        IfOk result (λ row. with_data walk.now.epoch row.judge item.now events.new.items
         ≡ row_events walk.now.interface walk.now.epoch channel
         (channel_so_far (walked_piece walk.now channel rows)) item.now)) }
     ensures memory { IfErr result (λ fault. fault ≡ Memory) }
@@ -103,13 +83,18 @@ pub(crate) fn step_channel<A: Allocator + Copy, C: Channel<A>>(
     let (accepted, finding) = parts(taken);
     let after = live.word();
     lanes.put(channel, live);
-    let judge = Judge::Channel {
-        channel,
-        before,
-        after,
-        accepted,
-    };
-    Ok((judge, finding))
+    Ok(JudgedRow {
+        number: item.number,
+        side: item.side,
+        packet: item.packet,
+        judge: Judge::Channel {
+            channel,
+            before,
+            after,
+            accepted,
+        },
+        finding,
+    })
 }
 
 /// The octets of accepted data with Q 0, and the finding, of what a row did to its channel.

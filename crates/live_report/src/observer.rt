@@ -12,11 +12,11 @@ ghost use Rattle.report_merge.specs.Gathered.{gathered};
 ghost use Rattle.channel_run.specs.Live.{channel_so_far};
 ghost use Rattle.channel_run.specs.Views.{IsViewOf};
 ghost use Rattle.live_report.specs.Lanes.{LanesStandFor};
-ghost use Rattle.live_report.specs.JudgedRows.{judged_row, IsJudgedRow};
+ghost use Rattle.live_report.specs.JudgedRows.{IsJudgedRow};
 ghost use Rattle.live_report.specs.Uncounted.{uncounted_of};
 ghost use Rattle.live_report.specs.declared.judged_row.Judge.TheVariants.{Restart};
 ghost use Rattle.live_report.specs.Turns.{FindsBy, HasEvents, JudgesBy, MayTurn, OfOpen, StandsAt, with_data};
-ghost use Rattle.live_report.specs.Observing.{open_piece, CountsOn, HasKept, HasWalked, IsHolding, IsNoted, IsObserver, MayWalk, ReturnsFinding, ReturnsReport, WalksOn};
+ghost use Rattle.live_report.specs.Observing.{open_piece, HasKept, HasWalked, IsHolding, IsObserver, MayWalk, ReturnsFinding, ReturnsReport, WalksOn};
 
 use crate::ending::end_channels;
 use crate::judged_row::{Judge, JudgedRow};
@@ -57,16 +57,26 @@ pub struct Observer<A: Allocator, C: Channel<A>> {
     uncounted: Uncounted,
 }
 
-/// The restart machine, which judged a row in a state, and what it found.
-#[inline(always)]
-fn judged_on_line(before: RState, step: &Step) -> (Judge, Option<Finding>)
-    ensures { result ≡ (Restart before step.now.machine.state, step.now.finding) }
+/// A row of a packet that no channel takes, which the restart machine judged in a state.
+fn judged_on_line(item: &ItemRef<'_>, before: RState, step: &Step) -> JudgedRow
+    ensures { result ≡ record {
+      number = item.now.number;
+      side = item.now.side;
+      packet = item.now.packet;
+      judge = Restart before step.now.machine.state;
+      finding = step.now.finding;
+    } }
 {
-    let judge = Judge::Restart {
-        before,
-        after: step.machine.state(),
-    };
-    (judge, step.finding)
+    JudgedRow {
+        number: item.number,
+        side: item.side,
+        packet: item.packet,
+        judge: Judge::Restart {
+            before,
+            after: step.machine.state(),
+        },
+        finding: step.finding,
+    }
 }
 
 impl<A: Allocator + Copy, C: Channel<A>> Observer<A, C> {
@@ -86,10 +96,10 @@ impl<A: Allocator + Copy, C: Channel<A>> Observer<A, C> {
         }
     }
 
-    /// Steps the channel that a row goes to, or ends the channels that it ends, and returns the machine that judged the row and
-    /// what it found. Fails only when memory is refused.
+    /// Steps the channel that a row goes to, or ends the channels that it ends, and returns the row as it was judged. Fails only
+    /// when memory is refused.
     #[inline(always)]
-    fn turn(&mut self, step: &Step, item: &ItemRef<'_>) -> Result<(Judge, Option<Finding>), Fault>
+    fn turn(&mut self, step: &Step, item: &ItemRef<'_>) -> Result<JudgedRow, Fault>
         requires room { (rows : OpenRows) × (reports : List records.PieceReport)
             × StandsAt C.Channel self.old.walk rows self.old.lanes × (self.old.ended ≡ gathered reports)
             × MayTurn step.now.turn self.old.walk.interface item.now rows }
@@ -105,15 +115,18 @@ impl<A: Allocator + Copy, C: Channel<A>> Observer<A, C> {
             → self.old.ended ≡ gathered reports
             → OnOk result (self.new.ended ≡ gathered (reports ++ map value (ended_by step.now.turn
             self.old.walk.interface self.old.walk.epoch item.now.number (length reports) rows)))) }
+        ensures number { IfOk result (λ row. row.number ≡ item.now.number) }
+        ensures side { IfOk result (λ row. row.side ≡ item.now.side) }
+        ensures packet { IfOk result (λ row. row.packet ≡ item.now.packet) }
         ensures judge { OfOpen C.Channel self.old.walk self.old.lanes (λ rows. (after : OpenRows)
             → MayTurn step.now.turn self.old.walk.interface item.now rows
             → HasTurned step.now.turn item.now rows after
-            → IfOk result (λ judged. JudgesBy step.now.turn self.old.walk step.now.machine rows after judged.0)) }
+            → IfOk result (λ row. JudgesBy step.now.turn self.old.walk step.now.machine rows after row.judge)) }
         ensures finding { OfOpen C.Channel self.old.walk self.old.lanes (λ rows.
-            IfOk result (λ judged. FindsBy step.now self.old.walk rows item.now judged.1)) }
+            IfOk result (λ row. FindsBy step.now self.old.walk rows item.now row.finding)) }
         ensures events { OfOpen C.Channel self.old.walk self.old.lanes (λ rows.
-            IfOk result (λ judged. HasEvents step.now.turn self.old.walk rows item.now
-            (with_data self.old.walk.epoch judged.0 item.now self.new.events.items))) }
+            IfOk result (λ row. HasEvents step.now.turn self.old.walk rows item.now
+            (with_data self.old.walk.epoch row.judge item.now self.new.events.items))) }
         ensures memory { IfErr result (λ fault. fault ≡ Memory) }
     {
         match step.turn {
@@ -122,9 +135,9 @@ impl<A: Allocator + Copy, C: Channel<A>> Observer<A, C> {
             }
             Turn::Ends => {
                 end_channels(Some(item.number), &mut self.lanes, &mut self.ended)?;
-                Ok(judged_on_line(self.walk.machine.state(), step))
+                Ok(judged_on_line(item, self.walk.machine.state(), step))
             }
-            Turn::Stays => Ok(judged_on_line(self.walk.machine.state(), step)),
+            Turn::Stays => Ok(judged_on_line(item, self.walk.machine.state(), step)),
         }
     }
 
@@ -216,57 +229,31 @@ impl<A: Allocator + Copy, C: Channel<A>> Observer<A, C> {
         ensures memory { IfErr result (λ fault. fault ≡ Memory) }
     {
         let step = self.walk.step(item)?;
-        let (judge, finding) = self.turn(&step, item)?;
-        self.note(judge, finding, item)?;
+        let judged = self.turn(&step, item)?;
+        let finding = judged.finding;
+        self.uncounted.take(
+            &self.walk.interface,
+            item.length,
+            &judged,
+            self.events.as_slice(),
+        );
+        self.keep(judged, item)?;
         self.walk.advance(step);
         Ok(finding)
     }
 
-    /// Notes what is asked of a row beside its finding. Fails only when memory is refused.
+    /// Where rows are kept, keeps a row as it was judged, and lists the event of accepted data with Q 0. Fails only when
+    /// memory is refused.
     #[inline(always)]
-    fn note(
-        &mut self,
-        judge: Judge,
-        finding: Option<Finding>,
-        item: &ItemRef<'_>,
-    ) -> Result<(), Fault>
-        ensures rest { OnOk result (IsNoted self.old self.new) }
-        ensures last { self.old.keeps_rows ≡ true
-            → OnOk result (self.new.last ≡ Some (judged_row item.now judge finding)) }
-        ensures events { self.old.keeps_rows ≡ true → OnOk result (self.new.events.items
-            ≡ with_data self.old.walk.epoch judge item.now self.old.events.items) }
-        ensures uncounted { (i : AnyInterface) (earlier : List records.Item)
-            → CountsOn i earlier item.now self.old (judged_row item.now judge finding)
-            → OnOk result (self.new.uncounted ≡ uncounted_of i (earlier ++ item.now ∷ [])) }
-        ensures keeps { self.new.keeps_rows ≡ self.old.keeps_rows }
-        ensures memory { IfErr result (λ fault. fault ≡ Memory) }
-    {
-        if !self.keeps_rows && !judge.leaves_out(&item.packet) {
-            return Ok(());
-        }
-        self.keep(JudgedRow::new(item, judge, finding), item)
-    }
-
-    /// Counts the data of a row that was not counted; where rows are kept, keeps it as it was judged, and lists the event of
-    /// accepted data with Q 0. Fails only when memory is refused.
-    #[inline(never)]
     fn keep(&mut self, row: JudgedRow, item: &ItemRef<'_>) -> Result<(), Fault>
-        ensures rest { OnOk result (IsNoted self.old self.new) }
+        ensures rest { OnOk result (self.new
+            ≡ record self.old { last = self.new.last; events = self.new.events }) }
         ensures last { self.old.keeps_rows ≡ true → OnOk result (self.new.last ≡ Some row) }
         ensures events { self.old.keeps_rows ≡ true → OnOk result (self.new.events.items
             ≡ with_data self.old.walk.epoch row.judge item.now self.old.events.items) }
-        ensures uncounted { (i : AnyInterface) (earlier : List records.Item)
-            → CountsOn i earlier item.now self.old row
-            → OnOk result (self.new.uncounted ≡ uncounted_of i (earlier ++ item.now ∷ [])) }
         ensures keeps { self.new.keeps_rows ≡ self.old.keeps_rows }
         ensures memory { IfErr result (λ fault. fault ≡ Memory) }
     {
-        self.uncounted.take(
-            &self.walk.interface,
-            item.length,
-            &row,
-            self.events.as_slice(),
-        );
         if !self.keeps_rows {
             return Ok(());
         }

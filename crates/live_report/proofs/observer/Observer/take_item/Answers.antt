@@ -4,7 +4,7 @@ use Rattle.line_model.proofs.Posts.{length-values}
 use Rattle.restart_epochs.specs.Cutting.{given_of}
 use Rattle.restart_epochs.specs.Walks.{HasRoom, IsAdvanced}
 use Rattle.restart_epochs.proofs.Listings.{listing}
-use Rattle.live_report.specs.JudgedRows.{judged_row, IsJudgedRow, KnowsLast}
+use Rattle.live_report.specs.JudgedRows.{IsJudgedRow, KnowsLast}
 use Rattle.live_report.specs.Lanes.{OpenFor}
 use Rattle.live_report.specs.Turns.{MayTurn, StandsAt, with_data}
 use Rattle.live_report.proofs.FindingLemmas.{finds_after}
@@ -45,10 +45,10 @@ turn-requires-clause-pieces g c =
 pub advance-requires-clause-packets : goal.advance-requires-clause-packets
 advance-requires-clause-packets g c =
     let s = c.requires.room.2 in
-    omega (arith, ap (λ o. o.walk.packets) c.in_ok-note.ensures.rest, ap (λ w. w.packets) c.in_ok-judge.ensures.walk, c.in_ok-step.ensures.same.packets, s.holds.packets, s.bounds.rows, s.bounds.last)
+    omega (arith, ap (λ o. o.walk.packets) c.in_ok-keep.ensures.rest, ap (λ w. w.packets) c.in_ok-judged.ensures.walk, c.in_ok-step.ensures.same.packets, s.holds.packets, s.bounds.rows, s.bounds.last)
 
 pub advance-requires-clause-room : goal.advance-requires-clause-room
-advance-requires-clause-room g c = subst (λ w. HasRoom w c.in_ok-step.step) (sym (ap (λ o. o.walk) c.in_ok-note.ensures.rest ∙ c.in_ok-judge.ensures.walk)) c.in_ok-step.ensures.room
+advance-requires-clause-room g c = subst (λ w. HasRoom w c.in_ok-step.step) (sym (ap (λ o. o.walk) c.in_ok-keep.ensures.rest ∙ c.in_ok-judged.ensures.walk)) c.in_ok-step.ensures.room
 
 pub returns-clause-stands : goal.returns-clause-stands
 returns-clause-stands g c i rs s sound =
@@ -62,36 +62,32 @@ returns-clause-stands g c i rs s sound =
     let here : StandsAt g.C.Channel v s.cutting.open_rows o.lanes = (lanes_at g.C.Channel.interface_of g.C.Channel.number_of g.C.Channel.stands_for s.cutting _ o v s.holds same, listing i rs s.cutting s.cut) in
     let may = subst (λ j. MayTurn step.turn j one s.cutting.open_rows) (sym (same.interface ∙ s.holds.interface)) (may_turn g.C.Channel.interface_of g.C.Channel.number_of g.C.Channel.stands_for i rs o one step s sound packet is) in
     let turned = has_turned step.turn one s.cutting.open_rows in
-    let last = judged_row one c.in_ok-judge.judge c.in_ok-judge.finding in
-    let rest = c.in_ok-note.ensures.rest in
+    let last = c.in_ok-judged.judged in
+    let rest = c.in_ok-keep.ensures.rest in
     let events = with_data v.epoch last.judge one c.turn.new.self.events.items in
     let known : KnowsLast i (rs ++ one ∷ []) (Some last) events =
     (last_known i rs s.cutting (cutting_after s.cutting one step) one step v last _ _ s.cut (cut_after i rs s.cutting one step s.cut packet is) (is_taken s.cutting one step) packet is
     (same.interface ∙ s.holds.interface) (same.epoch ∙ s.holds.epoch) (same.machine ∙ s.holds.line) refl
     (record {
-      number = refl;
-      side = refl;
-      packet = refl;
-      judge = c.in_ok-judge.ensures.judge s.cutting.open_rows here (rows_after step.turn one s.cutting.open_rows) may turned;
-      came = c.in_ok-judge.ensures.events s.cutting.open_rows here;
+      number = c.in_ok-judged.ensures.number;
+      side = c.in_ok-judged.ensures.side;
+      packet = c.in_ok-judged.ensures.packet;
+      judge = c.in_ok-judged.ensures.judge s.cutting.open_rows here (rows_after step.turn one s.cutting.open_rows) may turned;
+      came = c.in_ok-judged.ensures.events s.cutting.open_rows here;
     })
-    (finds_after i rs s.cutting one step v _ s.cut packet is (same.interface ∙ s.holds.interface) (same.epoch ∙ s.holds.epoch) (c.in_ok-judge.ensures.finding s.cutting.open_rows here))) in
+    (finds_after i rs s.cutting one step v _ s.cut packet is (same.interface ∙ s.holds.interface) (same.epoch ∙ s.holds.epoch) (c.in_ok-judged.ensures.finding s.cutting.open_rows here))) in
     stands_after g.C.Channel.interface_of g.C.Channel.number_of g.C.Channel.stands_for i rs one o _ one step s refl sound packet is
-    (holds_after g.C.Channel.interface_of g.C.Channel.number_of g.C.Channel.stands_for i rs s.cutting (map value (given_of i rs)) one step o _ v s.cut packet is s.holds same (subst (λ w. IsAdvanced step w c.advance.new.self) (ap (λ k. k.walk) rest ∙ c.in_ok-judge.ensures.walk) c.advance.ensures) (length-values (given_of i rs) ∙ sym s.cut.given)
-    (ap (λ k. k.ended) rest ∙ c.in_ok-judge.ensures.ended s.cutting.open_rows here (map value (given_of i rs)) s.holds.ended)
+    (holds_after g.C.Channel.interface_of g.C.Channel.number_of g.C.Channel.stands_for i rs s.cutting (map value (given_of i rs)) one step o _ v s.cut packet is s.holds same (subst (λ w. IsAdvanced step w c.advance.new.self) (ap (λ k. k.walk) rest ∙ c.in_ok-judged.ensures.walk) c.advance.ensures) (length-values (given_of i rs) ∙ sym s.cut.given)
+    (ap (λ k. k.ended) rest ∙ c.in_ok-judged.ensures.ended s.cutting.open_rows here (map value (given_of i rs)) s.holds.ended)
     (subst (OpenFor g.C.Channel.interface_of g.C.Channel.number_of g.C.Channel.stands_for v.interface v.epoch (rows_after step.turn one s.cutting.open_rows)) (sym (ap (λ k. k.lanes) rest))
-    (c.in_ok-judge.ensures.lanes s.cutting.open_rows here (rows_after step.turn one s.cutting.open_rows) may turned)))
+    (c.in_ok-judged.ensures.lanes s.cutting.open_rows here (rows_after step.turn one s.cutting.open_rows) may turned)))
     (λ keeps.
     let kept = sym (ap (λ k. k.keeps_rows) rest) ∙ keeps in
-    subst (λ l. KnowsLast i (rs ++ one ∷ []) l c.note.new.self.events.items) (sym (c.in_ok-note.ensures.last kept))
+    subst (λ l. KnowsLast i (rs ++ one ∷ []) l c.keep.new.self.events.items) (sym (c.in_ok-keep.ensures.last kept))
     (subst (λ es. KnowsLast i (rs ++ one ∷ []) (Some last) es)
-    (sym (c.in_ok-note.ensures.events kept ∙ ap (λ w. with_data w.epoch last.judge one c.turn.new.self.events.items) c.in_ok-judge.ensures.walk)) known))
-    (c.in_ok-note.ensures.uncounted i rs (
-      subst (λ w. IsJudgedRow i rs one last (with_data w.epoch last.judge one c.turn.new.self.events.items)) (sym c.in_ok-judge.ensures.walk) (known rs one refl),
-      ap (λ w. w.interface) c.in_ok-judge.ensures.walk ∙ same.interface ∙ s.holds.interface ∙ s.cut.interface,
-      few_with g.C.Channel.interface_of g.C.Channel.number_of g.C.Channel.stands_for i rs one o s sound,
-      c.in_ok-judge.ensures.uncounted ∙ s.uncounted,
-    ))
+    (sym (c.in_ok-keep.ensures.events kept ∙ ap (λ w. with_data w.epoch last.judge one c.turn.new.self.events.items) c.in_ok-judged.ensures.walk)) known))
+    (ap (λ k. k.uncounted) rest ∙ c.take.ensures i v.epoch rs one (subst (λ es. IsJudgedRow i rs one last (with_data v.epoch last.judge one es)) (sym c.as_slice.ensures.value) (known rs one refl)) (ap (λ w. w.interface) c.in_ok-judged.ensures.walk ∙ same.interface ∙ s.holds.interface ∙ s.cut.interface) (ap (λ x. x.length) c.item.view_is)
+    (few_with g.C.Channel.interface_of g.C.Channel.number_of g.C.Channel.stands_for i rs one o s sound) (c.in_ok-judged.ensures.uncounted ∙ s.uncounted))
 
 pub returns-clause-finding : goal.returns-clause-finding
 returns-clause-finding g c i rs s =
@@ -103,4 +99,4 @@ returns-clause-finding g c i rs s =
     let packet = said_here g.C.Channel.interface_of g.C.Channel.number_of g.C.Channel.stands_for c.requires.room.0 c.requires.room.1 o one s.cutting.interface c.requires.room.2 c.requires.room.3 s.holds.interface in
     let is = step_of g.C.Channel.interface_of g.C.Channel.number_of g.C.Channel.stands_for s.cutting _ o one step s.holds c.in_ok-step.ensures.step in
     let here : StandsAt g.C.Channel v s.cutting.open_rows o.lanes = (lanes_at g.C.Channel.interface_of g.C.Channel.number_of g.C.Channel.stands_for s.cutting _ o v s.holds same, listing i rs s.cutting s.cut) in
-    (finds_after i rs s.cutting one step v _ s.cut packet is (same.interface ∙ s.holds.interface) (same.epoch ∙ s.holds.epoch) (c.in_ok-judge.ensures.finding s.cutting.open_rows here))
+    (finds_after i rs s.cutting one step v _ s.cut packet is (same.interface ∙ s.holds.interface) (same.epoch ∙ s.holds.epoch) (c.in_ok-judged.ensures.finding s.cutting.open_rows here))

@@ -37,17 +37,17 @@ returns-in-ToChannel-clause-judge g c rows stands after may turned =
     let one = c.args.item.now in
     let walk = c.args.self.now.walk in
     let more = subst (λ t. HasTurned t one rows after) c.in-ToChannel.is turned in
-    subst (λ t. IfOk c.step_channel.result (λ judged. JudgesBy t walk c.args.step.now.machine rows after judged.0)) (sym c.in-ToChannel.is)
+    subst (λ t. IfOk c.step_channel.result (λ row. JudgesBy t walk c.args.step.now.machine rows after row.judge)) (sym c.in-ToChannel.is)
     (c.step_channel.ensures.judge rows stands.0 after more (subst (IsPiece walk.interface c.in-ToChannel.channel) (sym more.row) (subst (λ t. MayTurn t walk.interface one rows) c.in-ToChannel.is may)))
 
 pub returns-in-ToChannel-clause-finding : goal.returns-in-ToChannel-clause-finding
 returns-in-ToChannel-clause-finding g c rows stands =
-    subst (λ t. IfOk c.step_channel.result (λ judged. FindsAt t c.args.step.now.finding c.args.self.now.walk rows c.args.item.now judged.1)) (sym c.in-ToChannel.is) (c.step_channel.ensures.finding rows stands.0)
+    subst (λ t. IfOk c.step_channel.result (λ row. FindsAt t c.args.step.now.finding c.args.self.now.walk rows c.args.item.now row.finding)) (sym c.in-ToChannel.is) (c.step_channel.ensures.finding rows stands.0)
 
 pub returns-in-ToChannel-clause-events : goal.returns-in-ToChannel-clause-events
 returns-in-ToChannel-clause-events g c rows stands =
     let walk = c.args.self.now.walk in
-    subst (λ t. IfOk c.step_channel.result (λ judged. HasEvents t walk rows c.args.item.now (with_data walk.epoch judged.0 c.args.item.now c.step_channel.new.events.items))) (sym c.in-ToChannel.is) (c.step_channel.ensures.events rows stands.0)
+    subst (λ t. IfOk c.step_channel.result (λ row. HasEvents t walk rows c.args.item.now (with_data walk.epoch row.judge c.args.item.now c.step_channel.new.events.items))) (sym c.in-ToChannel.is) (c.step_channel.ensures.events rows stands.0)
 
 pub returns-in_ok-end_channels-in-Ends-clause-lanes : goal.returns-in_ok-end_channels-in-Ends-clause-lanes
 returns-in_ok-end_channels-in-Ends-clause-lanes g c rows stands after may turned =
