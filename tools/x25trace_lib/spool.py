@@ -1,6 +1,7 @@
 """The rows and comments of a trace: how they are written, and where they wait for a header that is not known yet."""
 from __future__ import annotations
 
+import os
 import tempfile
 from collections.abc import Iterator, Sequence
 
@@ -55,6 +56,8 @@ class Spool:
             self.write()
 
     def write(self) -> None:
+        """Writes what is kept to the end of the file."""
+        self.file.seek(0, os.SEEK_END)
         self.file.write("".join(self.lines))
         self.lines.clear()
 
@@ -63,10 +66,11 @@ class Spool:
         """Whether frame numbers can number the rows, or there are too many."""
         return self.number <= self.last_number
 
-    def replay(self, circuits: Sequence[xot.Circuit]) -> Iterator[str]:
-        """The text of the trace after its header, in parts."""
+    def replay(self, circuits: Sequence[xot.Circuit], most: int = LAST_NUMBER) -> Iterator[str]:
+        """The text of the trace after its header, in parts, up to so many rows."""
         self.write()
         self.file.seek(0)
+        self.circuits.clear()
         rows, lines = Rows(self.by_frames, self.has_comments), list[str]()
         row, channels = rows.row, dict[str, int | None]({"0": None})
         for line in self.file:
@@ -88,6 +92,9 @@ class Spool:
             lines.append(row(int(frame), words, time))
             if circuit:
                 self.keep(circuit, rows.number)
+            most -= 1
+            if not most:
+                break
             if len(lines) > self.MOST_LINES:
                 yield "".join(lines)
                 lines.clear()

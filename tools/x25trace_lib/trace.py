@@ -14,10 +14,12 @@ from x25tools_lib.refusals import Refusal, Why
 from x25tools_lib.sides import Side
 
 from .channels import assign
-from .estimate import Estimator, estimates, header_of, hidden
+from .estimate import Estimator, estimates, header_of, seen_of
+from .evidence import Evidence, largest, ranked_first
 from .frames import Frame
 from .halves import halves_of
 from .packets import LONGEST, channel_of
+from .ranking import MOST_ROWS, Ranker
 from .reading import Reading
 from .spool import Spool
 
@@ -27,8 +29,10 @@ LARGEST_TEXT = 1 << 30
 class Trace:
     """What is gathered of a capture until its trace can be written."""
 
-    def __init__(self, ledger: Ledger, reading: Reading, wishes: Wishes, has_comments: bool) -> None:
-        self.ledger, self.reading, self.wishes = ledger, reading, wishes
+    def __init__(
+        self, ledger: Ledger, reading: Reading, wishes: Wishes, has_comments: bool, ranker: Ranker = Ranker(),
+    ) -> None:
+        self.ledger, self.reading, self.wishes, self.ranker = ledger, reading, wishes, ranker
         self.spool = Spool(has_comments)
         self.estimator = Estimator()
         reading.xot.on_end = self.estimator.forget
@@ -86,11 +90,14 @@ class Trace:
     def head(self, name: str) -> Head:
         """What the trace says before its rows."""
         header = self.header()
-        head = Head(header.line(), estimates=estimates(self.wishes, header, self.estimator))
+        evidence = self.evidence(header)
+        header.window = evidence.values.get("WIN", header.window)
+        header.size = evidence.values.get("SIZE", header.size)
+        head = Head(header.line(), estimates=estimates(self.wishes, header, evidence))
         head.comments.append(f"from {name} by x25trace, {self.reading.frames} frames; a row has the number of its frame")
         if head.estimates:
             head.comments.append(notes.estimates_text(head.estimates))
-        if words := hidden(self.wishes, header, self.estimator):
+        for words in evidence.sentences():
             self.ledger.say(words)
             head.comments.append(words)
         head.comments += self.doubts(header)
@@ -99,6 +106,21 @@ class Trace:
         head.comments += [it.text for it in head.halves]
         self.ledger.lack(head.halves)
         return head
+
+    def evidence(self, header: Header) -> Evidence:
+        """What the window and the packet size rest on, which data shows and no option gives."""
+        seen = seen_of(self.wishes, header, self.estimator)
+        if not seen:
+            return Evidence()
+        ranking = self.ranker.ranked(self.beginning(header))
+        if not ranking:
+            return largest(seen, self.ranker.why)
+        return ranked_first(ranking, header, seen, self.spool.rows <= MOST_ROWS)
+
+    def beginning(self, header: Header) -> Iterator[str]:
+        """The text of the trace up to the last row that is tried, in parts."""
+        yield header.line() + "\n"
+        yield from self.spool.replay(self.reading.xot.circuits, MOST_ROWS)
 
     def doubts(self, header: Header) -> Iterator[str]:
         """What a reader of the header should know."""

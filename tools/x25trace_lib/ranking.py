@@ -1,0 +1,73 @@
+"""The headers that x25scan tries on the first rows of a trace, the best first."""
+from __future__ import annotations
+
+import subprocess
+import tempfile
+from collections.abc import Iterable
+from dataclasses import dataclass
+
+from x25tools_lib.notes import Head
+
+# So many rows are tried.
+MOST_ROWS = 100_000
+COLUMNS = ["#", "answered", "unanswered", "unexplained", "findings", "uncounted", "octets", "header"]
+# Why no headers are tried.
+NO_SCANNER = "x25scan is not there to try others"
+FOLLOWED = "--follow tries no others"
+
+
+@dataclass(frozen=True)
+class Tried:
+    """A header that was tried: its MOD, WIN and SIZE, how the DCE reacts under it, and its findings."""
+
+    numbers: dict[str, int]
+    answered: int
+    unanswered: int
+    unexplained: int
+    findings: int
+
+    @property
+    def reactions(self) -> tuple[int, int, int]:
+        """How the DCE reacts."""
+        return self.answered, self.unanswered, self.unexplained
+
+
+@dataclass(frozen=True)
+class Ranker:
+    """The x25scan that tries headers; where there is none, why."""
+
+    program: str | None = None
+    why: str = NO_SCANNER
+
+    def ranked(self, trace: Iterable[str]) -> list[Tried]:
+        """The headers that are tried on a trace in parts, the best first; none where x25scan tries none."""
+        if self.program is None:
+            return []
+        with tempfile.TemporaryFile("w+", encoding="ascii", newline="\n") as file:
+            file.writelines(trace)
+            file.seek(0)
+            words = [self.program, "--try-headers"]
+            try:
+                done = subprocess.run(words, stdin=file, stdout=subprocess.PIPE, encoding="ascii", errors="replace", check=False)
+            except OSError:
+                return []
+        return ranking_of(done.stdout) if done.returncode in (0, 1) else []
+
+
+def ranking_of(output: str) -> list[Tried]:
+    """The headers of what x25scan prints, the best first; none where it is no such table."""
+    heading, *lines = output.split("\n")
+    if heading.split() != COLUMNS:
+        return []
+    try:
+        return [tried_of(line) for line in lines if line]
+    except (ValueError, LookupError):
+        return []
+
+
+def tried_of(line: str) -> Tried:
+    """The header of a line. Raises ValueError or LookupError where the line has another form."""
+    *counts, header = line.split(maxsplit=len(COLUMNS) - 2)
+    numbers = Head(header).numbers
+    answered, unanswered, unexplained, findings, *_ = map(int, counts)
+    return Tried({name: int(numbers[name]) for name in ("MOD", "WIN", "SIZE")}, answered, unanswered, unexplained, findings)
