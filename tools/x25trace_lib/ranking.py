@@ -2,9 +2,8 @@
 from __future__ import annotations
 
 import subprocess
-import tempfile
-from collections.abc import Iterable
 from dataclasses import dataclass
+from typing import IO
 
 from x25tools_lib.notes import Head
 
@@ -39,18 +38,14 @@ class Ranker:
     program: str | None = None
     why: str = NO_SCANNER
 
-    def ranked(self, trace: Iterable[str]) -> list[Tried]:
-        """The headers that are tried on a trace in parts, the best first; none where x25scan tries none."""
-        if self.program is None:
+    def ranked(self, trace: IO[str]) -> list[Tried]:
+        """The headers that are tried on a trace in an open file, the best first; none where x25scan tries none."""
+        words = [str(self.program), "--try-headers"]
+        trace.seek(0)
+        try:
+            done = subprocess.run(words, stdin=trace, stdout=subprocess.PIPE, encoding="ascii", errors="replace", check=False)
+        except OSError:
             return []
-        with tempfile.TemporaryFile("w+", encoding="ascii", newline="\n") as file:
-            file.writelines(trace)
-            file.seek(0)
-            words = [self.program, "--try-headers"]
-            try:
-                done = subprocess.run(words, stdin=file, stdout=subprocess.PIPE, encoding="ascii", errors="replace", check=False)
-            except OSError:
-                return []
         return ranking_of(done.stdout) if done.returncode in (0, 1) else []
 
 

@@ -1,7 +1,6 @@
 """The rows and comments of a trace: how they are written, and where they wait for a header that is not known yet."""
 from __future__ import annotations
 
-import os
 import tempfile
 from collections.abc import Iterator, Sequence
 
@@ -38,7 +37,8 @@ class Spool:
         self.rows = 0
         self.has_comments, self.last_number = has_comments, last_number
         self.number = 0
-        # The first circuits of the rows that were written.
+        # How many rows were written again, and the first circuits of these.
+        self.replayed = 0
         self.circuits: list[Circuit] = []
 
     def note(self, words: str) -> None:
@@ -56,8 +56,6 @@ class Spool:
             self.write()
 
     def write(self) -> None:
-        """Writes what is kept to the end of the file."""
-        self.file.seek(0, os.SEEK_END)
         self.file.write("".join(self.lines))
         self.lines.clear()
 
@@ -66,11 +64,10 @@ class Spool:
         """Whether frame numbers can number the rows, or there are too many."""
         return self.number <= self.last_number
 
-    def replay(self, circuits: Sequence[xot.Circuit], most: int = LAST_NUMBER) -> Iterator[str]:
-        """The text of the trace after its header, in parts, up to so many rows."""
+    def replay(self, circuits: Sequence[xot.Circuit], first: int = 0) -> Iterator[str]:
+        """The text of the trace after its header, in parts, of which one ends with the last of the first rows."""
         self.write()
         self.file.seek(0)
-        self.circuits.clear()
         rows, lines = Rows(self.by_frames, self.has_comments), list[str]()
         row, channels = rows.row, dict[str, int | None]({"0": None})
         for line in self.file:
@@ -92,10 +89,8 @@ class Spool:
             lines.append(row(int(frame), words, time))
             if circuit:
                 self.keep(circuit, rows.number)
-            most -= 1
-            if not most:
-                break
-            if len(lines) > self.MOST_LINES:
+            self.replayed += 1
+            if len(lines) > self.MOST_LINES or self.replayed == first:
                 yield "".join(lines)
                 lines.clear()
         yield "".join(lines)
