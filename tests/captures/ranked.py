@@ -18,8 +18,8 @@ GIVE = "give --win and --size where you know them"
 SECONDS = 60
 
 
-def tried(window, size, answered=0, unanswered=0, unexplained=0, findings=0, modulus=8):
-    return Tried({"MOD": modulus, "WIN": window, "SIZE": size}, answered, unanswered, unexplained, findings)
+def tried(window, size, *counts):
+    return Tried({"MOD": 8, "WIN": window, "SIZE": size}, (*counts, *[0] * (6 - len(counts))))
 
 
 def header(window=3, size=256):
@@ -71,14 +71,18 @@ class Decided(unittest.TestCase):
         ranking = [tried(2, 128, 3), tried(2, 256, 3), tried(3, 128, 0, 0, 3)]
         evidence = self.judged(ranking, {"WIN": 3, "SIZE": 256}, [
             "WIN 2: with it the DCE answers 3 of 3 findings",
-            "SIZE 128 is a guess, the smallest that gives no finding: give --size where you know it"])
-        self.assertEqual(evidence.source("SIZE"), "a guess: the smallest that gives no finding")
+            "SIZE 128 is a guess, the smallest that fits: give --size where you know it"])
+        self.assertEqual(evidence.source("SIZE"), "a guess: the smallest that fits")
 
     def test_nothing(self):
-        ranking = [tried(1, 16), tried(1, 32), tried(2, 16), tried(2, 32)]
-        self.judged(ranking, {"WIN": 1, "SIZE": 16}, [f"WIN 1 and SIZE 16 are a guess, the smallest that give no finding: {GIVE}"])
-        ranking = [tried(2, 16, findings=1), tried(3, 16, findings=1)]
-        self.judged(ranking, {"WIN": 3, "SIZE": 16}, [f"WIN 2 and SIZE 16 are a guess, the smallest that give the fewest findings: {GIVE}"])
+        """The first header, or that of what was seen if its counts are the same."""
+        ranking = [tried(1, 16), tried(1, 32), tried(2, 16), tried(2, 32), tried(3, 256, 0, 0, 0, 1)]
+        self.judged(ranking, {"WIN": 3, "SIZE": 256}, [f"WIN 1 and SIZE 16 are a guess, the smallest that fit: {GIVE}"])
+        ranking = [tried(1, 16, 0, 0, 0, 1), tried(3, 256, 0, 0, 0, 1)]
+        self.judged(ranking, {"WIN": 3, "SIZE": 256}, [f"WIN 3 and SIZE 256 are a guess, the smallest that fit: {GIVE}"])
+        ranking = [tried(1, 16, 1), tried(3, 256, 1)]
+        evidence = ranked_first(ranking, header(), {"WIN": 3, "SIZE": 256}, True)
+        self.assertEqual(evidence.values, {"WIN": 1, "SIZE": 16}, "the DCE answers one")
 
     def test_beginning(self):
         """The first rows decide the window; the size is the largest that was seen in all of them."""
@@ -142,6 +146,18 @@ class Asked(unittest.TestCase):
             header, errors = self.traced(script)
             self.assertIn(" WIN 1 SIZE 16 ", header)
             self.assertIn(f"WIN 1 and SIZE 16 are the largest seen, as {NO_SCANNER}: ", errors)
+
+
+    def test_followed(self):
+        """With --follow the rows go to x25scan, and no headers are tried."""
+        with tempfile.TemporaryDirectory() as folder:
+            scanner = pathlib.Path(folder, "x25scan")
+            scanner.write_text("#!/bin/sh\necho \"$@\" >&2\ncat > /dev/null\n")
+            scanner.chmod(0o755)
+            done = subprocess.run([PROGRAM, "--follow", "--scanner", scanner, FILES / "ethernet.pcap"], capture_output=True,
+                                  text=True, timeout=SECONDS, check=False)
+        self.assertIn(f"WIN 1 and SIZE 16 are the largest seen, as {FOLLOWED}: ", done.stderr)
+        self.assertNotIn("--try-headers", done.stderr)
 
 
 class First(unittest.TestCase):

@@ -41,28 +41,23 @@ class Evidence:
         if basis is Basis.ANSWERS:
             return f"with it {self.answers}"
         if basis is Basis.GUESS:
-            return f"a guess: the smallest that gives {self.fewest}"
+            return "a guess: the smallest that fits"
         return LARGEST[name] if basis else STANDARD
 
     @property
     def answers(self) -> str:
         """How many findings the DCE answers."""
-        answered, unanswered, _ = self.best.reactions if self.best else (0, 0, 0)
+        answered, unanswered = self.best.counts[:2] if self.best else (0, 0)
         owed = answered + unanswered
         return "the DCE answers the one finding" if owed == 1 else f"the DCE answers {answered:,} of {owed:,} findings"
-
-    @property
-    def fewest(self) -> str:
-        """How many findings the best header has."""
-        return "the fewest findings" if self.best and self.best.findings else "no finding"
 
     def sentences(self) -> Iterator[str]:
         """What the numbers rest on, and which of them options should give."""
         if names := self.on(Basis.ANSWERS):
             yield f"{self.shown(names)}: with {'them' if len(names) > 1 else 'it'} {self.answers}"
         if names := self.on(Basis.GUESS):
-            are = "are a guess, the smallest that give" if len(names) > 1 else "is a guess, the smallest that gives"
-            yield f"{self.shown(names)} {are} {self.fewest}: {advice(names)}"
+            are = "are a guess, the smallest that fit" if len(names) > 1 else "is a guess, the smallest that fits"
+            yield f"{self.shown(names)} {are}: {advice(names)}"
         if names := self.on(Basis.LARGEST):
             are = f"{'are' if len(names) > 1 else 'is'} the largest seen, as {self.why}"
             yield f"{self.shown(names)} {are}: data that broke a smaller value is not found, so {advice(names)}"
@@ -96,10 +91,17 @@ def ranked_first(ranking: Sequence[Tried], header: Header, seen: dict[str, int],
     candidates = [it for it in ranking if fixed.items() <= it.numbers.items()]
     if not candidates:
         return largest(seen, NONE_TRIED)
-    best, undecided = candidates[0], Basis.GUESS if is_whole else Basis.LARGEST
+    best, undecided = best_of(candidates, others), Basis.GUESS if is_whole else Basis.LARGEST
     bases = {name: Basis.ANSWERS if is_decided(name, best, candidates) else undecided for name in seen}
     values = {name: seen[name] if basis is Basis.LARGEST else best.numbers[name] for name, basis in bases.items()}
     return Evidence(values, bases, best, UNDECIDED)
+
+
+def best_of(candidates: Sequence[Tried], seen: dict[str, int]) -> Tried:
+    """The first one. Where the DCE answers nothing, it is the one with the largest numbers seen, if that has the same counts."""
+    best = candidates[0]
+    same = (it for it in candidates if it.numbers == seen and it.counts == best.counts)
+    return best if best.answered else next(same, best)
 
 
 def is_decided(name: str, best: Tried, candidates: Sequence[Tried]) -> bool:

@@ -17,18 +17,20 @@ FOLLOWED = "--follow tries no others"
 
 @dataclass(frozen=True)
 class Tried:
-    """A header that was tried: its MOD, WIN and SIZE, how the DCE reacts under it, and its findings."""
+    """A header that was tried: its MOD, WIN and SIZE, and its counts, a number for each column."""
 
     numbers: dict[str, int]
-    answered: int
-    unanswered: int
-    unexplained: int
-    findings: int
+    counts: tuple[int, ...]
 
     @property
-    def reactions(self) -> tuple[int, int, int]:
-        """How the DCE reacts."""
-        return self.answered, self.unanswered, self.unexplained
+    def answered(self) -> int:
+        """The findings that the DCE answers under it."""
+        return self.counts[0]
+
+    @property
+    def reactions(self) -> tuple[int, ...]:
+        """How the DCE reacts under it: findings that it answers, those that it does not, and answers to none."""
+        return self.counts[:3]
 
 
 @dataclass(frozen=True)
@@ -64,5 +66,4 @@ def tried_of(line: str) -> Tried:
     """The header of a line. Raises ValueError or LookupError where the line has another form."""
     *counts, header = line.split(maxsplit=len(COLUMNS) - 2)
     numbers = Head(header).numbers
-    answered, unanswered, unexplained, findings, *_ = map(int, counts)
-    return Tried({name: int(numbers[name]) for name in ("MOD", "WIN", "SIZE")}, answered, unanswered, unexplained, findings)
+    return Tried({name: int(numbers[name]) for name in ("MOD", "WIN", "SIZE")}, tuple(map(int, counts)))
