@@ -18,6 +18,8 @@ from link_cases import conversation, packets_of
 FILES = pathlib.Path(__file__).resolve().parent / "files"
 PROGRAM = FILES.parent.parent.parent / "bin" / "x25trace"
 SECONDS = 60
+# The x25scan that tries headers, as the suite names it.
+SCANNER = pathlib.Path()
 
 
 def wait_for_more(running):
@@ -32,7 +34,7 @@ def wait_for_more(running):
 
 
 def run(*words, **streams):
-    return subprocess.run([PROGRAM, *words], capture_output=True, timeout=SECONDS, **streams)
+    return subprocess.run([PROGRAM, "--scanner", SCANNER, *words], capture_output=True, timeout=SECONDS, **streams)
 
 
 class Refused(unittest.TestCase):
