@@ -186,7 +186,8 @@ class Streams(unittest.TestCase):
     """Streams that are closed, folders, or end early: never a traceback."""
 
     def through_shell(self, words):
-        done = subprocess.run(["bash", "-c", f'"$0" {words}', PROGRAM], capture_output=True, cwd=FILES, timeout=SECONDS)
+        command = ["bash", "-c", f'"$0" --scanner "$1" {words}', PROGRAM, SCANNER]
+        done = subprocess.run(command, capture_output=True, cwd=FILES, timeout=SECONDS)
         self.assertNotIn(b"Traceback", done.stderr)
         self.assertNotIn(b"Fatal", done.stderr)
         return done.returncode, done.stdout, done.stderr.splitlines()
