@@ -18,6 +18,8 @@ from link_cases import conversation, packets_of
 FILES = pathlib.Path(__file__).resolve().parent / "files"
 PROGRAM = FILES.parent.parent.parent / "bin" / "x25trace"
 SECONDS = 60
+# The x25scan that tries headers, as the suite names it.
+SCANNER = pathlib.Path()
 
 
 def wait_for_more(running):
@@ -32,7 +34,7 @@ def wait_for_more(running):
 
 
 def run(*words, **streams):
-    return subprocess.run([PROGRAM, *words], capture_output=True, timeout=SECONDS, **streams)
+    return subprocess.run([PROGRAM, "--scanner", SCANNER, *words], capture_output=True, timeout=SECONDS, **streams)
 
 
 class Refused(unittest.TestCase):
@@ -184,7 +186,8 @@ class Streams(unittest.TestCase):
     """Streams that are closed, folders, or end early: never a traceback."""
 
     def through_shell(self, words):
-        done = subprocess.run(["bash", "-c", f'"$0" {words}', PROGRAM], capture_output=True, cwd=FILES, timeout=SECONDS)
+        command = ["bash", "-c", f'"$0" --scanner "$1" {words}', PROGRAM, SCANNER]
+        done = subprocess.run(command, capture_output=True, cwd=FILES, timeout=SECONDS)
         self.assertNotIn(b"Traceback", done.stderr)
         self.assertNotIn(b"Fatal", done.stderr)
         return done.returncode, done.stdout, done.stderr.splitlines()

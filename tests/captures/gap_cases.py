@@ -105,7 +105,7 @@ def gap_that_is_given_up():
 
 
 def gap_of_an_acknowledgement():
-    """The RR that lets the window go on was not recorded: the estimate does not take it for a window of three."""
+    """The RR that lets the window go on was not recorded: a window of three gives no finding, and no answer of the DCE decides."""
     talk, frames = begun()
     frames += [talk.a(data(0)), talk.a(data(1))]
     talk.b(ready(2))
@@ -121,12 +121,11 @@ def gap_of_an_acknowledgement():
         11 T 1001130000
         12 N 100117
     """), text("""
-        F 8 T d1 1
-        C 1 1 1 out - - 4 5 11 T 2 2 0 0 2
-        A - 1 2
+        C 1 1 1 out - - 4 5 11 T 4 4 0 0 4
+        A - 1 4
         P 1 5
-        Z 9 1 1 2 2
-    """), "", 2)
+        Z 9 0 1 4 4
+    """), "", 3)
 
 
 def cases():

@@ -10,6 +10,7 @@ import tempfile
 import unittest
 import zlib
 
+import calls
 import cases
 from calls import run
 from forms import ethernet, pcap, record
@@ -105,7 +106,7 @@ class Captures(unittest.TestCase):
             pathlib.Path(name).write_bytes(gzip.compress((FILES / name).read_bytes(), 1))
             with self.subTest(case.name), contextlib.redirect_stderr(io.StringIO()):
                 with contextlib.redirect_stdout(io.StringIO()) as out:
-                    status = command.main([*case.words.split(), name])
+                    status = command.main(["--scanner", str(calls.SCANNER), *case.words.split(), name])
                 self.assertEqual((status, out.getvalue()), (case.status, (FILES / f"{case.name}.trace").read_text()))
 
     def rows(self, done):

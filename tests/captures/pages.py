@@ -6,6 +6,7 @@ import pathlib
 import re
 import unittest
 
+import calls
 from x25trace_lib import command
 
 HERE = pathlib.Path(__file__).resolve().parent
@@ -19,10 +20,10 @@ CALL = re.compile(
 class Pages(unittest.TestCase):
     def test_outputs(self):
         os.chdir(HERE / "files")
-        calls = CALL.findall(PAGE.read_text())
-        self.assertGreater(len(calls), 2)
-        for words, sent, output in calls:
+        found = CALL.findall(PAGE.read_text())
+        self.assertGreater(len(found), 2)
+        for words, sent, output in found:
             out, errors = io.StringIO(), io.StringIO()
             with contextlib.redirect_stdout(out), contextlib.redirect_stderr(errors):
-                command.main(words.split())
+                command.main(["--scanner", str(calls.SCANNER), *words.split()])
             self.assertEqual(("" if sent else out.getvalue()) + errors.getvalue(), output, words)

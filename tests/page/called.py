@@ -61,7 +61,7 @@ class Called(unittest.TestCase):
         done = self.run_page(CAPTURE)
         self.assertEqual((done.returncode, self.there()), (0, ["ethernet.html"]), done.stderr)
         for words in (b"header: X25 1 MOD 8 WIN 1 SIZE 16 PVC 0 SVC 1", b"estimated from what was seen: MOD 8 (",
-                      b"WIN 1 and SIZE 16 are estimated, so "):
+                      b"WIN 1 and SIZE 16 are a guess, the smallest that fit: "):
             self.assertIn(b"x25page: " + words, done.stderr)
         facts = Page(self.folder / "ethernet.html").facts
         self.assertEqual(facts["numbers"][1][:2], ["WIN", "1"])

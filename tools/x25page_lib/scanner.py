@@ -9,7 +9,6 @@ from typing import Any, BinaryIO
 
 from x25tools_lib import json_text
 from x25tools_lib.refusals import PageWhy, Refusal
-from x25tools_lib.scanner import SCANNER
 
 from .facts import Facts
 
@@ -39,8 +38,8 @@ Watch = Callable[[Iterator[dict[str, Any]]], Iterator[dict[str, Any]]]
 class Scanner:
     """A program x25scan."""
 
-    def __init__(self, program: str | None) -> None:
-        self.words = [str(program or SCANNER)]
+    def __init__(self, program: str) -> None:
+        self.words = [program]
         self.explained_topics: dict[str, Explained] = {}
 
     def objects(self, trace: BinaryIO) -> Iterator[dict[str, Any]]:

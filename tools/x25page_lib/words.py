@@ -7,6 +7,7 @@ from collections.abc import Sequence
 
 from x25tools_lib.options import Words, check, option_among, header_words, reading_words, side_words
 from x25tools_lib.refusals import PageWhy, Why
+from x25tools_lib.scanner import SCANNER
 
 REASONS = ", ".join(why.value for why in (*Why, *PageWhy))
 NAMES_OF_PAGES = """\
@@ -74,6 +75,7 @@ def parsed(arguments: Sequence[str]) -> argparse.Namespace:
     """The words of a command line, which may be refused."""
     words = parser().parse_args(arguments)
     check(words, parser())
+    words.scanner = words.scanner or str(SCANNER)
     words.has_several = words.is_each or words.is_comparison
     if words.page == "-":
         parser().error("the page is a file: -o names it")

@@ -106,8 +106,10 @@ def header_words(group: argparse._ArgumentGroup) -> None:
     channel = number(0, LAST_CHANNEL)
     last = number(1, LAST_CHANNEL)
     group.add_argument("--mod", dest="modulus", type=int, choices=(8, 128), help="the modulus of packets")
-    group.add_argument("--win", dest="window", metavar="N", type=number(1, 127), help="the default window")
-    group.add_argument("--size", metavar="N", type=size, help="the default packet size, in octets")
+    group.add_argument("--win", dest="window", metavar="N", type=number(1, 127),
+                       help="the default window; if it is left out, x25scan tries which one explains the packets best")
+    group.add_argument("--size", metavar="N", type=size,
+                       help="the default packet size, in octets; if it is left out, it is tried in the same way")
     group.add_argument("--pvc", dest="permanent", metavar="N", type=channel, help="the last permanent channel")
     group.add_argument("--svc", dest="calls", metavar="N", type=last, help="the last channel")
     group.add_argument("--in", dest="incoming", metavar="N", type=channel, help="the last channel for incoming calls")

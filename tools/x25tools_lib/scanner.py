@@ -1,5 +1,16 @@
 """Where the program x25scan is."""
+from __future__ import annotations
+
 import pathlib
 
+ROOT = pathlib.Path(__file__).resolve().parents[2]
 # The launcher builds the program where there is none.
-SCANNER = pathlib.Path(__file__).resolve().parents[2] / "bin" / "x25scan"
+SCANNER = ROOT / "bin" / "x25scan"
+# What the launcher builds. An installed program has no launcher.
+BUILT = ROOT / "crates" / "x25scan" / "out" / "x25scan"
+
+
+def built() -> str | None:
+    """The program that is there without a build; None where there is none."""
+    program = BUILT if (ROOT / "crates").is_dir() else SCANNER
+    return str(program) if program.exists() else None

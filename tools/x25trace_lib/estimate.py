@@ -8,6 +8,7 @@ from x25tools_lib.notes import Estimate
 from x25tools_lib.refusals import Refusal, Why
 from x25tools_lib.sides import Side
 
+from .evidence import Evidence
 from .packets import MODULI, PACKET_SIZES, SET_UP, WINDOWS, Type, channel_of, facilities_of
 from .xot import Circuit
 
@@ -170,27 +171,23 @@ def header_of(wishes: Wishes, estimator: Estimator, permanent: int, highest: int
     return header
 
 
-def hidden(wishes: Wishes, header: Header, estimator: Estimator) -> str | None:
-    """What the estimates of the window and the size hide, or None where both are given or no data was seen."""
-    seen = []
+def seen_of(wishes: Wishes, header: Header, estimator: Estimator) -> dict[str, int]:
+    """The window and the packet size of a header that no option gives, and data shows."""
+    seen = {}
     if wishes.window is None and estimator.most:
-        seen.append(f"WIN {header.window}")
+        seen["WIN"] = header.window
     if wishes.size is None and estimator.largest:
-        seen.append(f"SIZE {header.size}")
-    if not seen:
-        return None
-    estimates = f"{' and '.join(seen)} {'are' if len(seen) > 1 else 'is'} estimated"
-    return f"{estimates}, so data that broke a smaller value is not found: give --win and --size where you know them"
+        seen["SIZE"] = header.size
+    return seen
 
 
-def estimates(wishes: Wishes, header: Header, estimator: Estimator) -> list[Estimate]:
+def estimates(wishes: Wishes, header: Header, evidence: Evidence) -> list[Estimate]:
     """The numbers that no option gave."""
-    standard = "the default: no data was seen"
     last = wishes.calls or wishes.outgoing
     words = {
         "MOD": (wishes.modulus, header.modulus, "the general format identifiers"),
-        "WIN": (wishes.window, header.window, "the most data not acknowledged" if estimator.most else standard),
-        "SIZE": (wishes.size, header.size, "the largest user data" if estimator.largest else standard),
+        "WIN": (wishes.window, header.window, evidence.source("WIN")),
+        "SIZE": (wishes.size, header.size, evidence.source("SIZE")),
         "PVC": (wishes.permanent, header.permanent, "channels with data and no call"),
         "OUT" if header.second_form else "SVC": (last, header.outgoing, "the channels used"),
     }

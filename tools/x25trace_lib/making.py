@@ -10,12 +10,19 @@ from typing import IO
 from x25tools_lib.ledger import Ledger
 from x25tools_lib.notes import Head
 from x25tools_lib.options import chosen
+from x25tools_lib.scanner import built
 from x25tools_lib.streams import Waiting, title_of
 
 from .captures import Captures
+from .ranking import FOLLOWED, Ranker
 from .reading import Reading
 from .source import Source
 from .trace import Trace
+
+
+def ranker_of(words: argparse.Namespace) -> Ranker:
+    """What tries the headers of a trace, which is not followed."""
+    return Ranker(None, FOLLOWED) if getattr(words, "is_followed", False) else Ranker(words.scanner or built())
 
 
 def gathered(
@@ -24,7 +31,7 @@ def gathered(
     """What the trace of the captures that are named is made of; the first one may be open, and looked at."""
     choices, wishes = chosen(words)
     captures = Captures(words.captures, choices.kinds, ledger, waiting, first)
-    trace = Trace(ledger, Reading(ledger, choices), wishes, has_comments)
+    trace = Trace(ledger, Reading(ledger, choices), wishes, has_comments, ranker_of(words))
     trace.gather(captures.frames())
     return trace
 

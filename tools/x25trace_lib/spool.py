@@ -37,7 +37,8 @@ class Spool:
         self.rows = 0
         self.has_comments, self.last_number = has_comments, last_number
         self.number = 0
-        # The first circuits of the rows that were written.
+        # How many rows were written again, and the first circuits of these.
+        self.replayed = 0
         self.circuits: list[Circuit] = []
 
     def note(self, words: str) -> None:
@@ -63,8 +64,8 @@ class Spool:
         """Whether frame numbers can number the rows, or there are too many."""
         return self.number <= self.last_number
 
-    def replay(self, circuits: Sequence[xot.Circuit]) -> Iterator[str]:
-        """The text of the trace after its header, in parts."""
+    def replay(self, circuits: Sequence[xot.Circuit], first: int = 0) -> Iterator[str]:
+        """The text of the trace after its header, in parts, of which one ends with the last of the first rows."""
         self.write()
         self.file.seek(0)
         rows, lines = Rows(self.by_frames, self.has_comments), list[str]()
@@ -88,7 +89,8 @@ class Spool:
             lines.append(row(int(frame), words, time))
             if circuit:
                 self.keep(circuit, rows.number)
-            if len(lines) > self.MOST_LINES:
+            self.replayed += 1
+            if len(lines) > self.MOST_LINES or self.replayed == first:
                 yield "".join(lines)
                 lines.clear()
         yield "".join(lines)

@@ -1,8 +1,11 @@
 """The trace of a capture: its packets are spooled and seen, then the header, the rows and the counts are written."""
 from __future__ import annotations
 
+import tempfile
 from collections import Counter
 from collections.abc import Iterable, Iterator
+from functools import partial
+from itertools import chain
 from typing import IO
 
 from x25tools_lib import notes
@@ -12,12 +15,15 @@ from x25tools_lib.ledger import Ledger, Reason
 from x25tools_lib.notes import Head, comment
 from x25tools_lib.refusals import Refusal, Why
 from x25tools_lib.sides import Side
+from x25tools_lib.streams import CHUNK
 
 from .channels import assign
-from .estimate import Estimator, estimates, header_of, hidden
+from .estimate import Estimator, estimates, header_of, seen_of
+from .evidence import Evidence, largest, ranked_first
 from .frames import Frame
 from .halves import halves_of
 from .packets import LONGEST, channel_of
+from .ranking import MOST_ROWS, NO_SCANNER, Ranker
 from .reading import Reading
 from .spool import Spool
 
@@ -27,8 +33,10 @@ LARGEST_TEXT = 1 << 30
 class Trace:
     """What is gathered of a capture until its trace can be written."""
 
-    def __init__(self, ledger: Ledger, reading: Reading, wishes: Wishes, has_comments: bool) -> None:
-        self.ledger, self.reading, self.wishes = ledger, reading, wishes
+    def __init__(
+        self, ledger: Ledger, reading: Reading, wishes: Wishes, has_comments: bool, ranker: Ranker = Ranker(),
+    ) -> None:
+        self.ledger, self.reading, self.wishes, self.ranker = ledger, reading, wishes, ranker
         self.spool = Spool(has_comments)
         self.estimator = Estimator()
         reading.xot.on_end = self.estimator.forget
@@ -83,14 +91,15 @@ class Trace:
         assign(used, header, self.ledger)
         return header
 
-    def head(self, name: str) -> Head:
+    def head(self, name: str, header: Header, evidence: Evidence) -> Head:
         """What the trace says before its rows."""
-        header = self.header()
-        head = Head(header.line(), estimates=estimates(self.wishes, header, self.estimator))
+        header.window = evidence.values.get("WIN", header.window)
+        header.size = evidence.values.get("SIZE", header.size)
+        head = Head(header.line(), estimates=estimates(self.wishes, header, evidence))
         head.comments.append(f"from {name} by x25trace, {self.reading.frames} frames; a row has the number of its frame")
         if head.estimates:
             head.comments.append(notes.estimates_text(head.estimates))
-        if words := hidden(self.wishes, header, self.estimator):
+        for words in evidence.sentences():
             self.ledger.say(words)
             head.comments.append(words)
         head.comments += self.doubts(header)
@@ -99,6 +108,25 @@ class Trace:
         head.comments += [it.text for it in head.halves]
         self.ledger.lack(head.halves)
         return head
+
+    def evidence(self, header: Header, rows: Iterator[str], beginning: IO[str]) -> Evidence:
+        """What the window and the packet size rest on, which data shows and no option gives.
+
+        The text of the rows that are tried goes to a file, which is left where it begins.
+        """
+        seen = seen_of(self.wishes, header, self.estimator)
+        if not seen or self.ranker.program is None:
+            return largest(seen, self.ranker.why)
+        place = beginning.write(header.line() + "\n")
+        for part in rows:
+            beginning.write(part)
+            if self.spool.replayed >= MOST_ROWS:
+                break
+        ranking = self.ranker.ranked(beginning)
+        beginning.seek(place)
+        if not ranking:
+            return largest(seen, NO_SCANNER)
+        return ranked_first(ranking, header, seen, self.spool.rows <= MOST_ROWS)
 
     def doubts(self, header: Header) -> Iterator[str]:
         """What a reader of the header should know."""
@@ -109,19 +137,22 @@ class Trace:
         if not self.spool.by_frames:
             yield "the frames are too many to number the rows by them, which count from 1"
 
-    def parts(self, head: Head) -> Iterator[str]:
+    def parts(self, head: Head, rows: Iterable[str]) -> Iterator[str]:
         """The text of the trace, in parts."""
         yield from map(comment, head.comments)
         yield head.header + "\n"
-        yield from self.spool.replay(self.reading.xot.circuits)
+        yield from rows
         yield from map(comment, self.ledger.lines())
 
     def write(self, name: str, out: IO[str]) -> Head:
         """Writes the trace; returns what it says besides its rows."""
-        head, size = self.head(name), 0
-        for part in self.parts(head):
-            size += len(part)
-            out.write(part)
+        header, size = self.header(), 0
+        rows = self.spool.replay(self.reading.xot.circuits, MOST_ROWS)
+        with tempfile.TemporaryFile("w+", encoding="ascii", newline="\n") as beginning:
+            head = self.head(name, header, self.evidence(header, rows, beginning))
+            for part in self.parts(head, chain(iter(partial(beginning.read, CHUNK), ""), rows)):
+                size += len(part)
+                out.write(part)
         if size > LARGEST_TEXT:
             words = f"the trace has {size} bytes, and x25scan reads {LARGEST_TEXT}: split the capture"
             self.ledger.damaged(Reason.LARGE_TEXT, words)

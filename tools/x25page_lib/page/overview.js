@@ -65,15 +65,14 @@ function duration() {
 
 function headerLine() {
   const chips = facts.numbers.map(([name, value, source]) => make("span", { class: source ? "chip estimated" : "chip" },
-    word("header", name), value && ` ${value}`, source && make("small", {}, "estimated from ", make("br"), source)));
-  const guessed = facts.numbers.some(([name, , source]) => source && ["WIN", "SIZE"].includes(name));
+    word("header", name), value && ` ${value}`, source && make("small", {}, "estimated: ", make("br"), source)));
+  const isEstimated = facts.numbers.some(([name, , source]) => source && ["WIN", "SIZE"].includes(name));
   return make("div", { class: "card header" },
     make("h2", {}, "The header"),
     make("p", { class: "chips" }, chips.length ? chips : make("code", {}, facts.header)),
-    guessed && make("p", { class: "muted" },
-      "An estimated WIN or SIZE is the smallest that fits what was seen, ",
-      "so data that broke a smaller one is not found. ",
-      "Give --win and --size where you know them."));
+    isEstimated && make("p", { class: "muted" },
+      "Each estimated number says on what it rests. Where WIN or SIZE does not rest on answers of the DCE, ",
+      "data that broke a smaller one is not found. Give --win and --size where you know them."));
 }
 
 function howToTryAll() {
