@@ -170,12 +170,30 @@ def capture_problems(scanner: str) -> list[str]:
     return found + ([] if waits in piped.errors else [f"it says {piped.errors!r}"])
 
 
+def form_problems(scanner: str, form: str) -> list[str]:
+    """With --json or --rows the objects are those that x25scan prints of the same trace, after a signal too."""
+    trace = EXAMPLE.read_bytes()
+    whole = runner.run([scanner, form], trace)
+    found = runner.differences(runner.run([TRACER, "--follow", form, "--scanner", scanner, EXAMPLE]), (1, whole.output, None))
+    with watching(scanner, form) as running:
+        before = first_finding(running, trace, whole.output)
+        running.send_signal(signal.SIGINT)
+        outcome = ended(running, before)
+    return found + runner.differences(outcome, (1, whole.output, INTERRUPTED.encode()))
+
+
 def refused_problems(words: Words, status: int, said: bytes) -> list[str]:
     """Where there is no trace, x25scan reports nothing, and the status is that of x25trace."""
     with tempfile.TemporaryDirectory() as folder:
         command = [TRACER, "--follow", "--scanner", script(folder, READER.format(1)), *words]
         outcome = runner.run(command, b"")
     return runner.differences(outcome, (status, b"", re.compile(b"(?s).*x25trace: " + re.escape(said) + b".*")))
+
+
+def alone_problems(form: str) -> list[str]:
+    """A form of the report without the report is refused."""
+    said = re.compile(f"(?s).*x25trace: {form} is a form of the report, which --follow prints\n".encode())
+    return runner.differences(runner.run([TRACER, form, CAPTURE]), (64, b"", said))
 
 
 def signals(scanner: str) -> Iterator[runner.Case]:
@@ -200,6 +218,9 @@ def cases(scanner: str) -> Iterator[runner.Case]:
         if path.with_suffix(".report").exists():
             yield runner.Case(f"x25trace --follow {path.name}", trace_problems, scanner, path)
     yield runner.Case("a capture that is followed", capture_problems, scanner)
+    for form in ("--json", "--rows"):
+        yield runner.Case(f"x25trace --follow {form}", form_problems, scanner, form)
+        yield runner.Case(f"{form} alone", alone_problems, form)
     yield runner.Case("an empty input", refused_problems, ["-"], 2, b"Empty: standard input has no octet")
     yield runner.Case("no such capture", refused_problems, ["/nowhere/day.pcap"], 2, b"Absent: there is no file ")
     yield runner.Case("an option of captures", refused_problems, ["--win", "2", EXAMPLE], 64, b"--win is of captures, and ")

@@ -23,7 +23,7 @@ from .live import Live
 from .making import file_of, gathered
 from .reading import Reading
 from .source import Source, first_source
-from .words import check_trace, parsed
+from .words import check_trace, forms_of, parsed
 
 
 def say(words: object) -> None:
@@ -111,7 +111,7 @@ def run(words: argparse.Namespace, waiting: Waiting, out: TextIO) -> Status:
 
 def follow(words: argparse.Namespace, waiting: Waiting) -> int:
     """Has x25scan follow the trace; returns its status, or that of a trace that could not be made."""
-    follower = Follower(words.scanner, waiting)
+    follower = Follower(words.scanner, forms_of(words), waiting)
     try:
         if run(words, waiting, follower.out) is Status.REFUSED:
             return Status.INTERRUPTED if waiting.interrupted else Status.REFUSED

@@ -5,6 +5,7 @@ import contextlib
 import os
 import signal
 import subprocess
+from collections.abc import Sequence
 from types import FrameType
 from typing import TextIO, cast
 
@@ -22,15 +23,19 @@ def shield() -> None:
 
 
 class Follower:
-    """A program x25scan that follows the trace, in a session of its own, so Ctrl-C at the terminal doesn't reach it."""
+    """A program x25scan that follows the trace, in a session of its own, so Ctrl-C at the terminal doesn't reach it.
 
-    def __init__(self, scanner: str | None, waiting: Waiting) -> None:
+    Forms are options of x25scan for the form of its report.
+    """
+
+    def __init__(self, scanner: str | None, forms: Sequence[str], waiting: Waiting) -> None:
         self.waiting, self.name = waiting, str(scanner or SCANNER)
         waiting.handle(*ENDINGS)
         # Where x25scan has ended, the next write fails.
         signal.signal(signal.SIGPIPE, signal.SIG_IGN)
         self.process = subprocess.Popen(
-            [self.name, "--follow"], stdin=subprocess.PIPE, encoding="ascii", start_new_session=True, preexec_fn=shield,
+            [self.name, "--follow", *forms], stdin=subprocess.PIPE, encoding="ascii", start_new_session=True,
+            preexec_fn=shield,
         )
         signal.signal(signal.SIGCHLD, self.look)
         self.look()

@@ -21,6 +21,7 @@ examples:
   x25trace --as x25 debug.txt           a hex dump of packets, with a line I or O before each
   tcpdump -U -w - | x25trace --follow --mod 8 --win 2 --size 128 --pvc 0 --svc 64 -
   tail -n +1 -F line.trace | x25trace --follow -
+  tail -n +1 -F line.trace | x25trace --follow --json - | jq .
   x25trace day.pcap0 day.pcap1          the files of a rotated capture, in their order
 
 {FOLLOWING}
@@ -34,7 +35,7 @@ exit status:
   130 it was interrupted (SIGINT): the trace has what was read before
 """
 # The options that a trace may have.
-OF_TRACES = ("is_followed", "scanner")
+OF_TRACES = ("is_followed", "is_json", "has_rows", "scanner")
 
 
 def parser() -> Words:
@@ -54,6 +55,10 @@ def parser() -> Words:
     words.add_argument("--follow", dest="is_followed", action="store_true",
                        help="have x25scan read the trace while it is written: print its findings as they come, and after "
                        "Ctrl-C the whole report")
+    words.add_argument("--json", dest="is_json", action="store_true",
+                       help="with --follow, print the report as JSON lines: an object for each line")
+    words.add_argument("--rows", dest="has_rows", action="store_true",
+                       help="with --follow, print a JSON object for each row as it comes, and at the end those of the report")
     words.add_argument("--no-times", dest="has_comments", action="store_false",
                        help="leave out the comment '#@ SECONDS FRAME' before each row: the time of its frame since 1970 "
                        "(UTC), or -, and the number of the frame")
@@ -69,10 +74,18 @@ def parser() -> Words:
     return words
 
 
+def forms_of(words: argparse.Namespace) -> list[str]:
+    """The options of x25scan for the form of the report that is followed."""
+    given = {"--json": words.is_json, "--rows": words.has_rows}
+    return [option for option, is_given in given.items() if is_given]
+
+
 def parsed(arguments: Sequence[str]) -> argparse.Namespace:
     """The words of a command line, which may be refused."""
     words = parser().parse_args(arguments)
     check(words, parser())
+    if (forms := forms_of(words)) and not words.is_followed:
+        parser().error(f"{forms[0]} is a form of the report, which --follow prints")
     if words.comments is not None and words.is_followed:
         parser().error("--follow prints a report, and --comments writes a capture: they do not go together")
     if words.comments is not None and any(map(is_pipe, words.captures)):
