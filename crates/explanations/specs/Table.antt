@@ -137,16 +137,32 @@ resetting_cause_keys = all_of topic.TheVariants.ResettingCause (map decimal (0 �
 abbrev pub restarting_cause_keys : List Key
 restarting_cause_keys = all_of topic.TheVariants.RestartingCause (map decimal (0 ∷ 1 ∷ 3 ∷ 7 ∷ 127 ∷ []))
 
--- the terms
+-- the terms of recordings and of what is counted
 abbrev pub term_keys : List Key
-term_keys = all_of topic.TheVariants.Term (codes "window" ∷ codes "frame" ∷ [])
+term_keys = all_of topic.TheVariants.Term
+    (codes "window" ∷ codes "frame" ∷ codes "trace" ∷ codes "row" ∷ codes "octet" ∷ codes "segment" ∷ codes "interface" ∷ codes "gap" ∷ codes "LAPB" ∷ codes "XOT" ∷ [])
+
+-- the terms of packets
+abbrev pub packet_term_keys : List Key
+packet_term_keys = all_of topic.TheVariants.Term
+    (codes "packet" ∷ codes "P(S)" ∷ codes "P(R)" ∷ codes "M" ∷ codes "D" ∷ codes "Q" ∷ codes "RR" ∷ codes "RNR" ∷ codes "REJ" ∷ codes "interrupt" ∷ codes "diagnostic" ∷ [])
+
+-- the terms of calls
+abbrev pub call_term_keys : List Key
+call_term_keys = all_of topic.TheVariants.Term
+    (codes "call" ∷ codes "PVC" ∷ codes "reset" ∷ codes "clear" ∷ codes "restart" ∷ codes "facility" ∷ codes "reverse charging" ∷ codes "fast select" ∷ codes "PAD" ∷ [])
+
+-- the time-outs of requests (X.25 Annex D)
+abbrev pub time_out_keys : List Key
+time_out_keys = all_of topic.TheVariants.Term
+    (codes "T10" ∷ codes "T11" ∷ codes "T12" ∷ codes "T13" ∷ codes "T20" ∷ codes "T21" ∷ codes "T22" ∷ codes "T23" ∷ [])
 
 -- all words that are explained, in the order of the table; a word may stand more than once
 abbrev pub table_keys : List Key
 table_keys =
     field_keys ++ report_field_keys ++ state_keys ++ flow_code_keys ++ packet_code_keys ++ message_keys ++ header_word_keys
     ++ kind_keys ++ refusal_keys ++ status_keys ++ clearing_cause_keys ++ resetting_cause_keys ++ restarting_cause_keys ++ term_keys
-    ++ parameter_keys
+    ++ packet_term_keys ++ call_term_keys ++ time_out_keys ++ parameter_keys
 
 -- the rows of the table, section after section
 abbrev pub rows : List (Bor (List Explanation)) → List Explanation

@@ -34,6 +34,7 @@ topic_document Message = codes "/usr/share/doc/x25scan/RULES.md"
 topic_document Parameter = codes "/usr/share/doc/x25scan/RULES.md"
 topic_document Kind = codes "/usr/share/doc/x25scan/TRACE.md"
 topic_document Header = codes "/usr/share/doc/x25scan/TRACE.md"
+topic_document Term = codes "/usr/share/doc/x25scan/CODES.md"
 topic_document _ = codes "/usr/share/doc/x25scan/REPORT.md"
 
 -- parts of a text, one after the other

@@ -108,6 +108,7 @@ impl Topic {
             Topic::State | Topic::Code | Topic::Message | Topic::Parameter =>
                 "/usr/share/doc/x25scan/RULES.md",
             Topic::Kind | Topic::Header => "/usr/share/doc/x25scan/TRACE.md",
+            Topic::Term => "/usr/share/doc/x25scan/CODES.md",
             _ => "/usr/share/doc/x25scan/REPORT.md",
         }
     }

@@ -3,6 +3,7 @@
 #![tactic(auto)]
 
 pub mod advice;
+mod call_terms;
 mod clearing_causes;
 pub mod explanation;
 mod fields;
@@ -12,6 +13,7 @@ mod kinds;
 pub mod lookup;
 mod messages;
 mod packet_codes;
+mod packet_terms;
 mod parameters;
 mod refusals;
 mod report_fields;
@@ -22,3 +24,4 @@ mod statuses;
 pub mod table;
 mod terms;
 pub mod text;
+mod time_outs;

@@ -3,6 +3,7 @@
 ghost use Rattle.std.specs.Prelude.{◌≡◌, ◌++◌, IfOk, OnOk, map};
 ghost use Rattle.explanations.specs.Table.{explanations_of, is_of, key, of_topic, rows, table_keys};
 
+use crate::call_terms::call_terms;
 use crate::clearing_causes::clearing_causes;
 use crate::explanation::Explanation;
 use crate::fields::fields;
@@ -11,6 +12,7 @@ use crate::header_words::header_words;
 use crate::kinds::kinds;
 use crate::messages::messages;
 use crate::packet_codes::packet_codes;
+use crate::packet_terms::packet_terms;
 use crate::parameters::parameters;
 use crate::refusals::refusals;
 use crate::report_fields::report_fields;
@@ -19,10 +21,11 @@ use crate::restarting_causes::restarting_causes;
 use crate::states::states;
 use crate::statuses::statuses;
 use crate::terms::terms;
+use crate::time_outs::time_outs;
 use std::alloc::{AllocError, Global};
 
 /// How many sections the table has.
-pub const SECTIONS: usize = 15;
+pub const SECTIONS: usize = 18;
 
 /// The table: its sections, each the words of one part of what the program prints or reads. It explains all words of the
 /// report, of a header and of the refusals, the causes and some terms, and no other.
@@ -44,6 +47,9 @@ pub fn all() -> [&'static [Explanation]; SECTIONS]
         resetting_causes(),
         restarting_causes(),
         terms(),
+        packet_terms(),
+        call_terms(),
+        time_outs(),
         parameters(),
     ]
 }

@@ -5,7 +5,7 @@ ghost use Rattle.explanations.specs.Table.{key, term_keys};
 
 use crate::explanation::{Explanation, Topic};
 
-const TERMS: [Explanation; 2] = [
+const TERMS: [Explanation; 10] = [
     Explanation {
         topic: Topic::Term,
         word: "window",
@@ -28,9 +28,97 @@ const TERMS: [Explanation; 2] = [
         example: "#@ 1700000003.000003 152",
         trace: "",
     },
+    Explanation {
+        topic: Topic::Term,
+        word: "trace",
+        name: "trace",
+        meaning: "What x25scan reads: a text with comments, one header, and a line for each packet in the order in which they passed.",
+        when: "x25trace writes one of a capture; /usr/share/doc/x25scan/TRACE.md has the form.",
+        clause: "profile",
+        definition: "crates/line_model/specs/text/Text.antt",
+        example: "X25 1 MOD 8 WIN 2 SIZE 128 PVC 0 SVC 4",
+        trace: "",
+    },
+    Explanation {
+        topic: Topic::Term,
+        word: "row",
+        name: "row",
+        meaning: "A line of a trace with a packet: its number, the side that sent it (T or N), and its octets in hex.",
+        when: "Findings and calls name rows by their numbers, as --rows prints them.",
+        clause: "profile",
+        definition: "crates/line_model/specs/text/RowLine.antt",
+        example: "1 T 10010B0000",
+        trace: "",
+    },
+    Explanation {
+        topic: Topic::Term,
+        word: "octet",
+        name: "octet",
+        meaning: "Eight bits: a byte. A trace writes each octet as two hex digits.",
+        when: "Lengths, and the sums of user data, count octets.",
+        clause: "profile",
+        definition: "crates/line_model/specs/basics/Octets.antt",
+        example: "5 T 100104AA",
+        trace: "",
+    },
+    Explanation {
+        topic: Topic::Term,
+        word: "segment",
+        name: "segment",
+        meaning: "The unit that is charged: up to 64 octets of user data of one data packet. So 65 octets are two segments, and no octets are none.",
+        when: "Segments come last in C, A and Z lines.",
+        clause: "profile",
+        definition: "crates/line_model/specs/observer/Calls.antt",
+        example: "A - 1 2",
+        trace: "tests/traces/worked/full-window.trace",
+    },
+    Explanation {
+        topic: Topic::Term,
+        word: "interface",
+        name: "interface",
+        meaning: "The line between one DTE and its DCE, with its logical channels, modulus, window and packet size. A recording is of one interface.",
+        when: "The header of a trace describes it.",
+        clause: "X.25 Annex A",
+        definition: "crates/line_model/src/interface.rt",
+        example: "X25 1 MOD 8 WIN 2 SIZE 128 PVC 0 SVC 4",
+        trace: "",
+    },
+    Explanation {
+        topic: Topic::Term,
+        word: "gap",
+        name: "gap",
+        meaning: "Octets or frames that a capture lacks, though the numbers of TCP or LAPB show that they were sent.",
+        when: "x25trace writes a comment where one is, and has status 1. Findings after it may come from the packets that are missing.",
+        clause: "profile",
+        definition: "tools/x25trace_lib/xot.py",
+        example: "x25trace: the trace has gaps: findings after one may come from packets that were not recorded",
+        trace: "",
+    },
+    Explanation {
+        topic: Topic::Term,
+        word: "LAPB",
+        name: "link access procedure, balanced",
+        meaning: "The link level below the packets: frames with numbers and check sequences of their own. An I frame holds one packet.",
+        when: "x25trace reads captures of it, leaves repeated frames out, and says where frames are missing. x25scan sees packets alone.",
+        clause: "X.25 2",
+        definition: "tools/x25trace_lib/lapb.py",
+        example: "x25trace --as lapb day.pcap",
+        trace: "",
+    },
+    Explanation {
+        topic: Topic::Term,
+        word: "XOT",
+        name: "X.25 over TCP",
+        meaning: "Packets on a TCP connection to port 1998, with a header of 4 octets before each. A connection carries one virtual circuit.",
+        when: "x25trace reads captures of it.",
+        clause: "RFC 1613",
+        definition: "tools/x25trace_lib/xot.py",
+        example: "x25trace day.pcap",
+        trace: "",
+    },
 ];
 
-/// The terms.
+/// The terms of recordings and of what is counted.
 pub fn terms() -> &'static [Explanation]
     ensures { map key result.now ≡ term_keys }
 {
