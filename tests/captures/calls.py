@@ -12,7 +12,7 @@ import termios
 import time
 import unittest
 
-from forms import cooked_1, enhanced, ethernet, interface, pcap, section, snoop
+from forms import Talk, cooked_1, enhanced, ethernet, interface, pcap, section, snoop
 from link_cases import conversation, packets_of
 
 FILES = pathlib.Path(__file__).resolve().parent / "files"
@@ -66,6 +66,26 @@ class Refused(unittest.TestCase):
 
     def test_other_file(self):
         self.refused(b"\x7fELF\2\1\1" + bytes(100), "UnknownFormat")
+
+    def test_what_is_said_of_another_file(self):
+        reads = "no pcap, pcapng, snoop, hex dump or trace; it begins with"
+        said = (
+            (b"\xff\xd8\xff\xe0\0\x10JFIF", f"{reads} FF D8 FF E0; editcap -F pcapng FILE OUT.pcapng turns what Wireshark opens"),
+            (b"\n# The program\nreads\n", f'{reads} "# The program"'),
+            (b"a line of more than 24 octets", f'{reads} "a line of more than 24 o"'),
+            ("X25 1 MOD 8".encode("utf-16"), "a text in UTF-16; iconv -f UTF-16 -t ASCII FILE turns a trace or a hex dump into one that is read"),
+        )
+        for octets, words in said:
+            self.assertIn(f"UnknownFormat: standard input is {words}\n".encode(), run("-", input=octets).stderr)
+
+    def test_what_is_said_of_a_capture_without_packets(self):
+        web = Talk(ports=(2000, 80))
+        for octets, words in (
+            (pcap(1, []), "the capture has no frame"),
+            (pcap(1, [bytes(14)]), "no packet of X.25 in 1 frame"),
+            (pcap(1, [ethernet(it) for it in web.open()]), "no packet of X.25 in 3 frames: XOT is looked for on TCP port 1998, and --port N names another"),
+        ):
+            self.assertIn(f"NoPacket: {words}\n".encode(), run("-", input=octets).stderr)
 
     def test_file_that_editcap_turns(self):
         for start in (b"TRSNIFF data    \x1a", b"XCP\0002.0", b"RTSS", b"GMBU", b"\x1c\0\1\xac", b"\xab\1\0\x1c"):

@@ -31,7 +31,6 @@ HEADINGS = (
     ("MOD", "MOD (word of the header): modulus"),
     ("WIN", "WIN (word of the header): default window"),
     ("SIZE", "SIZE (word of the header): default packet size"),
-    ("PVC", "PVC (word of the header): permanent virtual circuits"),
     ("SVC", "SVC (word of the header): virtual calls"),
     ("IN", "IN (word of the header): incoming calls only"),
     ("TWO", "TWO (word of the header): two-way channels"),
@@ -43,6 +42,25 @@ HEADINGS = (
     ("ship absent", "57 (cause of a clear): ship absent"),
     ("window", "window (term): window"),
     ("frame", "frame (term): frame"),
+    ("segment", "segment (term): segment"),
+    ("virtual call", "call (term): virtual call"),
+    ("permanent virtual circuit", "PVC (term): permanent virtual circuit"),
+    ("P(S)", "P(S) (term): packet send sequence number"),
+    ("P(R)", "P(R) (term): packet receive sequence number"),
+    ("M bit", "M (term): M bit"),
+    ("Q", "Q (term): Q bit"),
+    ("RR", "RR (term): receive ready"),
+    ("reset", "reset (term): reset"),
+    ("clear", "clear (term): clear"),
+    ("diagnostic", "diagnostic (term): diagnostic code of a packet"),
+    ("facilities", "facility (term): facilities"),
+    ("fast select", "fast select (term): fast select"),
+    ("PAD", "PAD (term): packet assembly/disassembly facility"),
+    ("LAPB", "LAPB (term): link access procedure, balanced"),
+    ("X.25 over TCP", "XOT (term): X.25 over TCP"),
+    ("gap", "gap (term): gap"),
+    ("T21", "T21 (term): time-out of a call request"),
+    ("term restart", "restart (term): restart of the interface"),
     ("out of memory", "memory (refusal): out of memory"),
     ("write failed", "write (refusal): write failed"),
     ("x25scan: read failed", "read (refusal): read failed"),
@@ -83,13 +101,15 @@ SEVERAL = (
     ("status", 5, "no finding"),
     ("header", 10, "beginning of the header"),
     ("field", 28, "number of a row"),
-    ("call", 2, "call"),
+    ("call", 3, "call"),
+    ("packet", 2, "number of a row"),
+    ("PVC", 2, "permanent virtual circuits"),
     ("cause", 28, "DTE originated"),
     ("cause 9", 2, "out of order"),
     ("cause 1", 3, "number busy"),
     ("local procedure error", 3, "local procedure error"),
-    ("term", 2, "window"),
-    ("restart", 1, "restart"),
+    ("term", 38, "window"),
+    ("restart", 2, "restart"),
     ("x25scan: piece 3 posted twice", 3, "piece I posted twice"),
 )
 
@@ -137,5 +157,5 @@ def explain_cases():
         errors = f"x25scan: no such word: {word} (x25scan --explain lists them)\n".encode()
         yield RunCase(f"{word!r} is not explained", ("--explain", word), status=64, errors=errors)
     first = rb"F \(line of the report\): finding\nC \(line of the report\): call\n"
-    listed = re.compile(first + rb"(?:[^\n]+\n){181}22 \(PAD parameter\): page wait\n")
+    listed = re.compile(first + rb"(?:[^\n]+\n){217}22 \(PAD parameter\): page wait\n")
     yield RunCase("all words are listed", ("--explain",), output=listed)

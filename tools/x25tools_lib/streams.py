@@ -58,7 +58,7 @@ def open_input(name: str) -> BinaryIO:
             raise Refusal(Why.UNREADABLE, "standard input is closed")
         return sys.stdin.buffer
     if os.path.isdir(name):
-        raise Refusal(Why.FOLDER, f"{name} is a folder")
+        raise Refusal(Why.FOLDER, f"{name} is a folder: x25page --each {name} -o PAGES writes a page for each file in it")
     try:
         return open(name, "rb")
     except FileNotFoundError as fault:

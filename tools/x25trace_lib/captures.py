@@ -28,6 +28,9 @@ COMPRESSED = {
     b"\x04\x22\x4d\x18": "lz4 -d",
     b"PK\x03\x04": "unzip",
 }
+BOMS_OF_UTF16 = (b"\xff\xfe", b"\xfe\xff")
+# So many octets of a text are shown.
+SHOWN = 24
 TURN = "editcap -F pcapng FILE OUT.pcapng"
 # Other files of recorded frames, which Wireshark reads.
 OTHER_FORMS = {
@@ -56,7 +59,8 @@ def form_of(source: Source, kinds: dict[int | None, str]) -> type[Form]:
     if not start:
         if source.damages:
             raise Refusal(Why.COMPRESSED, f"{source.name}: {source.damages[0]}")
-        raise Refusal(Why.EMPTY, f"{source.name} has no octet")
+        words = "a recorder may write nothing before it ends; tcpdump -U writes each frame at once"
+        raise Refusal(Why.EMPTY, f"{source.name} has no octet: {words}")
     if start.startswith(SNOOP_MAGIC):
         return Snoop
     for magic, program in COMPRESSED.items():
@@ -70,12 +74,27 @@ def form_of(source: Source, kinds: dict[int | None, str]) -> type[Form]:
         words = f"{source.name} is a trace, which stands alone; docs/GUIDE.md says how several become one"
         raise Refusal(Why.UNKNOWN_FORMAT, words)
     if not is_dump(start):
-        words = f"{source.name} is no pcap, pcapng, snoop or hex dump; it begins with {start[:4].hex(' ').upper()}"
-        raise Refusal(Why.UNKNOWN_FORMAT, f"{words}; {TURN} turns what Wireshark opens")
+        raise Refusal(Why.UNKNOWN_FORMAT, f"{source.name} is {unknown_form(start)}")
     if None not in kinds:
         words = f"{source.name}, a hex dump, does not say what it holds; --as KIND does: {KINDS_TEXT}"
         raise Refusal(Why.KIND_MISSING, words)
     return HexDump
+
+
+def unknown_form(start: bytes) -> str:
+    """What a file is that is not read, by what it begins with, and what to do with it."""
+    if start.startswith(BOMS_OF_UTF16):
+        return "a text in UTF-16; iconv -f UTF-16 -t ASCII FILE turns a trace or a hex dump into one that is read"
+    words = f"no pcap, pcapng, snoop, hex dump or trace; it begins with {beginning(start)}"
+    return words if words.endswith('"') else f"{words}; {TURN} turns what Wireshark opens"
+
+
+def beginning(start: bytes) -> str:
+    """What a file begins with: the first words of a text, else octets in hex."""
+    line = start.lstrip()[:SHOWN].partition(b"\n")[0].rstrip()
+    if line and line.isascii() and line.decode("ascii").isprintable():
+        return f'"{line.decode("ascii")}"'
+    return start[:4].hex(" ").upper()
 
 
 BINARY = (*MAGICS, MAGIC, SNOOP_MAGIC, *COMPRESSED, *OTHER_FORMS)

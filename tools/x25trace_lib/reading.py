@@ -75,8 +75,14 @@ class Reading:
     def no_packet(self) -> Refusal:
         """The refusal of a capture that has no packet."""
         kinds = " and ".join(sorted(self.tried.union(self.choices.kinds.values())))
-        hint = f", with frames read as {kinds}: another KIND of --as may be right" if kinds else ""
-        return Refusal(Why.NO_PACKET, f"no packet of X.25 in {self.frames} frames{hint}")
+        frames = f"{self.frames} frames" if self.frames > 1 else "1 frame"
+        words = f"no packet of X.25 in {frames}" if self.frames else "the capture has no frame"
+        if kinds:
+            words += f", with frames read as {kinds}: another KIND of --as may be right"
+        elif self.ledger.counts[Reason.OTHER_PORT]:
+            ports = " or ".join(map(str, self.choices.ports))
+            words += f": XOT is looked for on TCP port {ports}, and --port N names another"
+        return Refusal(Why.NO_PACKET, words)
 
     def unknown(self, frame: Frame) -> Found:
         """What a frame of an unknown link type holds. The first frame of a user link type decides whether it is LAPB."""

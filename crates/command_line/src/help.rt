@@ -39,6 +39,7 @@ Examples:
   x25scan --try-headers day.trace       print which window and packet size explain the rows best
   x25trace day.pcap | x25scan           read a capture
   x25scan --explain 22                  explain a word of the report or of a refusal
+  x25scan --explain 'P(S)'              explain a term, such as window, gap or T21
   x25scan --explain 'F 5 T d1 1'        explain each word of a line of the report
 
 Exit status:
