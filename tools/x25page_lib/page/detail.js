@@ -78,7 +78,7 @@ function showDetail(row) {
         make("button", { type: "button", click: closeDetail }, "close"))),
     row.fault ? faultCard(row.fault, row.side) : "",
     make("dl", { class: "call-facts" },
-      factsOf(row).map(([name, value]) => make("div", {}, make("dt", {}, name),
+      factsOf(row).map(([name, value]) => make("div", {}, make("dt", {}, word("term", name)),
       make("dd", {}, ...[value].flat(3).map((it) => (it instanceof Node ? it : String(it))))))),
     octetsOf(row));
 }

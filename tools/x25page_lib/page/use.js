@@ -18,7 +18,7 @@ function addTable(id, title, words, table, more) {
 
 function requestTable() {
   const columns = [
-    { name: "Time-out", value: (it) => it[0], show: (it) => [make("b", {}, it[0]), ` ${it[1]} s`] },
+    { name: "Time-out", value: (it) => it[0], show: (it) => [make("b", {}, word("term", it[0])), ` ${it[1]} s`] },
     { name: "Request", value: (it) => it[2] },
     { name: "Sent by", value: (it) => SIDES[it[3]] },
     number("Requests", (it) => it[4], { falls: true }),
@@ -42,7 +42,7 @@ function waitTable() {
     { name: "Time-out", value: (it) => it[0], show: (it) => {
       const limit = limits.get(it[0])[1];
       const isLate = it[5] !== null && it[5] > limit;
-      return [`${it[0]}, ${limit} s`, isLate && make("small", { class: "late" }, "the wait was longer")];
+      return [word("term", it[0]), `, ${limit} s`, isLate && make("small", { class: "late" }, "the wait was longer")];
     } },
     { name: "How it ended", value: (it) => ENDS[it[6]] },
   ];
