@@ -109,16 +109,13 @@ data_few a f b i s r (Some h) c most =
     let enough = most (heard_of i r h).length (omega arith) in
     omega arith
 
-counting_few : (a : ℕ) (f : ℕ → ℕ) (x : Side) (s : StateName) (r : Result Counts ℕ) (c : Channel) → total (weighing a f) (counting x s r c).reported ≤ a
-counting_few a f x s (Err m) c = failing_few a f x s m c
-counting_few a f x s (Ok v) c = omega arith
+counting_few : (a : ℕ) (f : ℕ → ℕ) (b : ℕ) (x : Side) (s : StateName) (r : Result Counts ℕ) (c : Channel) → a ≤ b → total (weighing a f) (counting x s r c).reported ≤ b
+counting_few a f b x s (Err m) c enough = let few = failing_few a f x s m c in omega arith
+counting_few a f b x s (Ok v) c enough = omega arith
 
 transferring_few : (a : ℕ) (f : ℕ → ℕ) (b : ℕ) (i : Interface) (s : StateName) (k : Class) (r : Item) (c : Channel) → IsMost a f b r → total (weighing a f) (transferring i s k r c).reported ≤ b
 transferring_few a f b i s Data r c most = data_few a f b i s r (header_in r.packet) c most
-transferring_few a f b i s k r c most =
-    let few = counting_few a f r.side s _ c in
-    let enough = most 0 (omega arith) in
-    omega arith
+transferring_few a f b i s k r c most = counting_few a f b r.side s _ c (let enough = most 0 (omega arith) in omega arith)
 
 verdict_few : (a : ℕ) (f : ℕ → ℕ) (b : ℕ) (i : Interface) (s : StateName) (r : Item) (v : Verdict) (c : Channel) → IsMost a f b r → total (weighing a f) (verdict_step i s r v c).reported ≤ b
 verdict_few a f b i s r (Fails t n) c most =
@@ -164,4 +161,4 @@ piece_few a f most h i e k c (r ∷ items) end =
 
 pub total-ones : {X : Type 0} (xs : List X) → total (λ x. 1) xs ≡ length xs
 total-ones [] = refl
-total-ones (x ∷ xs) = ap (λ n. 1 + n) (total-ones xs)
+total-ones (x ∷ xs) = omega (arith, total-ones xs)

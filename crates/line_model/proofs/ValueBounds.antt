@@ -1,5 +1,5 @@
 -- What a piece is worth is within its rows.
-use Rattle.std.proofs.Common.{◌≡◌, ℕ, ◌+◌, ◌≤◌, Bool, cond, not, ◌||◌, Option, List, [], ◌∷◌, length, map, sym, ap, subst, arith}
+use Rattle.std.proofs.Common.{◌≡◌, ℕ, ◌+◌, ◌≤◌, Bool, cond, not, ◌||◌, Option, List, [], ◌∷◌, map, sym, ap, subst, arith}
 use Rattle.std.specs.Prelude.{option_map, take_while}
 use Rattle.std.specs.List.{AllByRecursion}
 use Rattle.std.proofs.lemmas.List.Sums.{take_while-cons}
@@ -65,7 +65,7 @@ value_bounds p h =
     let one = piece_of_one p.interface p.epoch p.channel c p.items end in
     let octets = octets_weight es in
     let segments = segments_weight es in
-    let within = piece_few 0 octets_by (λ r. r.length) (λ r n few. few) p.interface p.epoch p.channel c p.items end in
+    let within = piece_few 0 octets_by (λ r. r.length) (λ r n few. omega (arith, few)) p.interface p.epoch p.channel c p.items end in
     let whole = total-sum_by (λ (i : Item). i.length) p.items in
     let rounded = fewer_segments es in
     let findings = findings_weight es in
