@@ -38,10 +38,10 @@ length-numbers (p ∷ ps) = ap suc (length-numbers ps)
 
 -- who knows more pieces vouches for no fewer reports
 pub vouches-front : (ran : Piece → PieceReport → Type 0) (xs ys zs : List Piece) (r : PieceReport) → zs ≡ xs ++ ys → IsRunOfOne ran xs r → IsRunOfOne ran zs r
-vouches-front ran xs ys zs r e v = (v.0, subst (λ l. HasPiece l v.0) (sym e) (has-front xs ys v.0 v.1), v.2)
+vouches-front ran xs ys zs r e v = (v.0, subst (λ l. HasPiece l v.0) (sym e) (has-front xs ys v.0 v.1), v.2, v.3)
 
 pub vouches-back : (ran : Piece → PieceReport → Type 0) (xs ys zs : List Piece) (r : PieceReport) → zs ≡ xs ++ ys → IsRunOfOne ran ys r → IsRunOfOne ran zs r
-vouches-back ran xs ys zs r e v = (v.0, subst (λ l. HasPiece l v.0) (sym e) (has-back xs ys v.0 v.1), v.2)
+vouches-back ran xs ys zs r e v = (v.0, subst (λ l. HasPiece l v.0) (sym e) (has-back xs ys v.0 v.1), v.2, v.3)
 
 some-is : (x p : Piece) → Some x ≡ Some p → x ≡ p
 some-is x p e = cc
@@ -53,10 +53,10 @@ fed-one fed (x ∷ xs) p (suc k) all e = fed-one fed xs p k (λ j d lt. all (suc
 
 -- what a witness vouches for is the value of a piece that was fed
 pub value-of-fed : (ran : Piece → PieceReport → Type 0) (fed pieces : List Piece) (r : PieceReport) → All (IsFed fed) pieces → IsRunOfOne ran pieces r → IsValue (Some fed) r
-value-of-fed ran fed pieces r all v = subst (IsValue (Some fed)) (sym v.2.0) (value_is (Some fed) v.0 (refl, fed-one fed pieces v.0 v.1.0 all v.1.1))
+value-of-fed ran fed pieces r all v = subst (IsValue (Some fed)) (sym v.2) (value_is (Some fed) v.0 (refl, fed-one fed pieces v.0 v.1.0 all v.1.1))
 
 pub run-of-fed : (ran : Piece → PieceReport → Type 0) (fed pieces : List Piece) (r : PieceReport) → All (IsFed fed) pieces → IsRunOfOne ran pieces r → IsRunOfOne ran fed r
-run-of-fed ran fed pieces r all v = (v.0, (v.0.id, fed-one fed pieces v.0 v.1.0 all v.1.1), v.2)
+run-of-fed ran fed pieces r all v = (v.0, (v.0.id, fed-one fed pieces v.0 v.1.0 all v.1.1), v.2, v.3)
 
 -- the values of pieces, and of one more
 pub value_more : (rs : List PieceReport) (r : PieceReport) (ps : List Piece) (p : Piece) → rs ≡ map value ps → r ≡ value p → rs ++ r ∷ [] ≡ map value (ps ++ p ∷ [])

@@ -5,4 +5,4 @@ use Rattle.workers.proofs.gate.Gate.run_bundle.Given as goal
 
 abbrev pub invariant-loop-piece : goal.invariant-loop-piece
 invariant-loop-piece g l = (l.reports ≡ map value (take l.piece-index l.front))
-    × All (λ p. g.Self.Gate.ran l.fn.self.now p (value p)) (take l.piece-index l.front)
+    × All (λ p. g.Self.Gate.ran l.fn.self p (value p)) (take l.piece-index l.front)

@@ -19,7 +19,7 @@ pub post-requires-clause-vouched : goal.post-requires-clause-vouched
 post-requires-clause-vouched g c =
     let pieces = c.witness_of.ensures.witness.1 ∙ ap (λ v. v.pieces) c.loop.invariant.pass in
     let ran = g.L.QueueName.ran in
-    let runs = λ k d lt. c.requires.queue.2 _ _ (c.in_ok-reports.ensures.ran k d lt) in
+    let runs : All (λ p. ran p (value p)) c.args.bundle.now = λ k d lt. c.requires.queue.2 _ _ (c.in_ok-reports.ensures.ran k d lt) in
     subst (λ l. All (IsRunOfOne ran l) c.loop.reports) (sym pieces) (subst (All (IsRunOfOne ran c.args.pass.now.pieces)) (sym c.loop.invariant.values) (runs_of ran c.args.pass.now.pieces c.args.bundle.now c.requires.taken runs))
 
 pub loop-preserved : goal.loop-preserved
