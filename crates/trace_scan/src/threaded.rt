@@ -31,13 +31,15 @@ use workers::{Crew, Gate, Gathered, Worked, work_through};
 
 /// What the reading thread read, and what the workers made of its pieces.
 #[derive(Drop)]
-struct ScanParts<A: Allocator = Global> {
-    read: Read<A>,
-    gathered: Gathered<A, BundleReport<A>>,
+pub struct ScanParts<A: Allocator = Global> {
+    /// What was read.
+    pub read: Read<A>,
+    /// The reports of the pieces, with their sums.
+    pub gathered: Gathered<A, BundleReport<A>>,
 }
 
-/// The reading thread's fault stands before that of a worker.
-fn first_fault<A: Allocator>(
+/// Returns what was read and made. The fault of the reading thread comes before that of a worker, which is refused memory.
+pub fn first_fault<A: Allocator>(
     outcome: Option<Result<Read<A>, Fault>>,
     gathered: Result<Gathered<A, BundleReport<A>>, Fault>,
 ) -> Result<ScanParts<A>, Fault>
