@@ -1,6 +1,6 @@
 -- Where reading and working stop, and what the workers' reports are.
 use Rattle.std.proofs.Common.{◌≡◌, ◌∙◌, sym, ap, subst, refl, ℕ, ◌+◌, ◌^◌, true, List, [], ◌∷◌, length, take, Option, Some, None, Result, Ok, Err, ◌⊎◌, inl, inr}
-use Rattle.std.specs.Prelude.{All, IfErr, IfOk, IfSome, MatchResult, is_some, is_ok, map}
+use Rattle.std.specs.Prelude.{All, IfErr, IfOk, IfSome, MatchResult, is_ok, map}
 use Rattle.std.proofs.lemmas.List.Sorted.{All-permutation, IsPermutation-sym}
 use Rattle.std.specs.List.Sorted.{IsStrictlyIncreasing}
 use Rattle.line_model.specs.declared.fault.Fault.{Fault}
