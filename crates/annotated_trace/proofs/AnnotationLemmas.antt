@@ -10,7 +10,7 @@ use Rattle.line_model.specs.declared.finding.Finding.{Finding}
 use Rattle.line_model.specs.declared.totals.Summary.{Summary}
 use Rattle.trace_text.specs.ObserverAnswers.{found_in}
 use Rattle.annotated_trace.specs.Annotation.{Annotated, AreComments, AreMarked, IsAnnotatedLine, IsAnnotation, IsAnnotationOf, IsMarked, IsMarkedWhere, IsUnmarked, all_lines, bare_lines, with_comments}
-use Rattle.annotated_trace.specs.Annotators.{HasFirstOf, IsAnnotated}
+use Rattle.annotated_trace.specs.Annotating.{HasFirstOf, IsAnnotated}
 use Rattle.annotated_trace.specs.Marking.{HasRightComments, HaveMarksOf, IsToldRightly}
 use Rattle.annotated_trace.specs.Printed.{HasAppended, IsPrintOf}
 use Rattle.annotated_trace.specs.Printers.{HasFirstPrint, HasFirstPrintOf, HasPrintBefore, HasPrinted, IsFirstOfClosing, IsFirstOfLines, IsPrinted}
@@ -76,10 +76,6 @@ pub annotation_of : (choice : Rows) (ls : List Line) (bytes : List ℕ) → IsPr
 annotation_of choice ls bytes h =
     let a = print_is_annotated choice [] ls bytes h in
     record { annotated = a.annotated; bare = a.bare; written = a.written; comments = a.comments; marked = a.marked }
-
-pub print_of : (choice : Rows) (ls : List Line) (bytes : List ℕ) → IsAnnotationOf choice ls bytes → IsPrintOf (IsAnnotatedLine choice) [] ls bytes
-print_of choice ls bytes h =
-    subst (λ ms. IsPrintOf (IsAnnotatedLine choice) [] ms bytes) h.bare (subst (IsPrintOf (IsAnnotatedLine choice) [] (bare_lines h.annotated)) (sym h.written) (annotated_is_print choice [] h.annotated h.comments h.marked))
 
 -- ---- what a sink has of one print it has of another
 

@@ -21,14 +21,6 @@ behind_of : (choice : Rows) (findings : List Finding) (behind : List Line) → A
 behind_of All findings behind h = h
 behind_of (Chosen channel call) findings behind h = h
 
-pub marks_alone : (findings : List Finding) (before after : List ℕ) → HasMarksOf findings before after → HasCommentsOf All false findings before after
-marks_alone findings before after h = record {
-  behind = h.marks;
-  written = h.written;
-  comments = h.comments;
-  marks = subst (AreMarksOf findings) (sym h.all) h.marks_are;
-}
-
 pub notes_and_marks : (choice : Rows) (findings : List Finding) (before mid after : List ℕ) (notes : List Line) → mid ≡ before ++ text notes → AreNotes notes → HasMarksOf findings mid after → HasCommentsOf choice true findings before after
 notes_and_marks choice findings before mid after notes e n h =
     let all : marks_in (notes ++ h.marks) ≡ h.marks = marks_in-append notes h.marks ∙ ap (λ xs. xs ++ marks_in h.marks) (notes_mark_nothing notes n) ∙ h.all in

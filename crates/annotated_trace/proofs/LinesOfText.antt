@@ -1,5 +1,5 @@
 -- The lines of a text that is written as lines.
-use Rattle.std.proofs.Common.{◌≡◌, ◌∙◌, sym, ap, refl, ℕ, Bool, true, false, List, [], ◌∷◌, ◌++◌, length, cond, ◌||◌, arith, append_assoc, append-nil, length-append}
+use Rattle.std.proofs.Common.{◌≡◌, ◌∙◌, sym, ap, refl, ℕ, Bool, true, false, List, [], ◌∷◌, ◌++◌, length, cond, ◌||◌, arith, append_assoc, length-append}
 use Rattle.std.specs.List.{list_any, AllByRecursion}
 use Rattle.line_model.specs.text.Text.{Line, begun_line, ended_lines, is_lf, line_or_none, lines_of, onto_begun, onto_first_line, size_of}
 use Rattle.line_model.specs.traces.Traces.{text}
@@ -39,9 +39,6 @@ ended_text (l ∷ ls) h = ended_first l (text ls) h.0 ∙ ap (λ ms. l ∷ ms) (
 pub begun_text : (ls : List Line) → AreLines ls → begun_line (text ls) ≡ []
 begun_text [] h = refl
 begun_text (l ∷ ls) h = begun_behind l (text ls) h.0 ∙ begun_text ls h.1
-
-pub lines_of_text : (ls : List Line) → AreLines ls → lines_of (text ls) ≡ ls
-lines_of_text ls h = ap (λ es. es ++ line_or_none (begun_line (text ls))) (ended_text ls h) ∙ ap (λ b. ls ++ line_or_none b) (begun_text ls h) ∙ append-nil ls
 
 pub text_append : (xs ys : List Line) → text (xs ++ ys) ≡ text xs ++ text ys
 text_append [] ys = refl

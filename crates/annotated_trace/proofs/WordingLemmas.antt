@@ -59,9 +59,6 @@ kept_after before mid now more e h = (more ++ h.0, h.1 ∙ ap (λ xs. xs ++ h.0)
 pub more_added : (before bytes more now : List ℕ) → BeginsWith before bytes → now ≡ bytes ++ more → BeginsWith before now
 more_added before bytes more now h e = (h.0 ++ more, e ∙ ap (λ xs. xs ++ more) h.1 ∙ append_assoc before h.0 more)
 
-pub then_added : (before mid now : List ℕ) → BeginsWith before mid → BeginsWith mid now → BeginsWith before now
-then_added before mid now h k = more_added before mid k.0 now h k.1
-
 -- where bytes may have been appended
 pub may_be_added : (v : Bool) (before bytes more now : List ℕ) → BeginsWith before bytes → now ≡ cond v (bytes ++ more) bytes → BeginsWith before now
 may_be_added true before bytes more now h e = more_added before bytes more now h e
@@ -78,9 +75,6 @@ both_one xs ys h k = list_any-append is_lf xs ys ∙ ap (λ v. v || list_any is_
 
 pub plain_words : (bytes : List ℕ) → length bytes ≤ 8000 → IsWords (plain bytes)
 plain_words bytes h = record { one = plain_one bytes; short = omega (arith, h, plain_length bytes) }
-
-pub words_room : (said words : List ℕ) → length (take (8000 - length said) words) ≤ 8000 - length said
-words_room said words = omega (arith, length-take (8000 - length said) words)
 
 -- all that there was room for
 pub words_said : (said words : List ℕ) → IsWords said → said ++ plain (take (8000 - length said) words) ≡ with_words said words
@@ -147,9 +141,6 @@ note_added bytes words h w = record {
 
 pub note_ended : (bytes words : List ℕ) → AreNoteBytes bytes → IsWords words → ended_lines (bytes ++ text (note_line words ∷ [])) ≡ ended_lines bytes ++ note_line words ∷ []
 note_ended bytes words h w = line_added bytes (note_line words) h.whole (note_one words w)
-
-pub no_notes : AreNoteBytes []
-no_notes = record { notes = tt; whole = refl }
 
 pub last_note : (words : List ℕ) → IsWords words → AreNotes (note_or_none words)
 last_note [] h = tt

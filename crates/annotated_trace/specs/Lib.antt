@@ -6,6 +6,5 @@ pub mod Marking
 pub mod Printed
 pub mod Printers
 pub mod Printing
-pub mod Annotators
 pub mod Annotating
 pub mod Laws

@@ -14,7 +14,7 @@ use trace_text::trace_observer::TraceObserver;
 
 /// Writes a trace again that a source gives, each line with its comments as soon as its LF was read, and answers the last
 /// line of its report as numbers. It refuses by the first faulty line as soon as it is known, and has written the lines
-/// before it; where a device fails; for want of memory; and as `Annotator::end`.
+/// before it; where a device fails; for want of memory; and as `TracePrinter::end`.
 pub fn annotate<A: Allocator + Copy, O: TraceObserver<A>, D: Describer<A, O>, S: Source, K: Sink>(
     alloc: A,
     trace: O,

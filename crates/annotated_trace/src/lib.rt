@@ -3,7 +3,6 @@
 
 pub mod annotating;
 pub mod annotation;
-pub mod annotator;
 mod closing;
 mod commenting;
 pub mod describer;

@@ -306,18 +306,6 @@ pub open_calls_are : (closed new : List CallRecord) (c : OpenCall) (epoch channe
 open_calls_are closed new c epoch channel es all h r is step =
     step ∙ ap (λ x. closed ++ x ∷ []) (is h.own h.counts) ∙ sym (open_calls closed c epoch channel es all h) ∙ sym (of_one epoch channel es all)
 
--- an event that opens a call, behind calls that are closed
-pub opened_behind : (closed : List CallRecord) (c : OpenCall) (epoch channel : ℕ) (es : List Event) (e : Event) → AllByRecursion (IsOf epoch channel) es → IsOf epoch channel e
-    → closed ≡ calls_of es → opening_of c ≡ e → Counts c.counts [] → IsOpenIn closed c (es ++ e ∷ [])
-opened_behind closed c epoch channel es e all of earlier is counts = record {
-  before = es;
-  own = [];
-  whole = ap (λ x. es ++ x ∷ []) (sym is);
-  within = tt;
-  earlier = earlier;
-  counts = counts;
-}
-
 -- an event that opens none, where no call is open
 pub stays_closed : (closed : List CallRecord) (epoch channel : ℕ) (es : List Event) (e : Event) → AllByRecursion (IsOf epoch channel) es → IsOf epoch channel e → IsClosedIn closed es → is_opening e ≡ false
     → IsClosedIn closed (es ++ e ∷ [])

@@ -1,3 +1,2 @@
-pub mod DataCounts
 pub mod LiveLemmas
 pub mod Worth

@@ -28,15 +28,14 @@ use Rattle.line_model.specs.observer.Report.{findings_of}
 use Rattle.line_model.specs.pieces.Plans.{row_numbered, piece_events}
 use Rattle.line_model.specs.declared.event.How.TheVariants.{Restart}
 use Rattle.line_model.specs.declared.event.What.TheVariants.{End}
-use Rattle.line_model.proofs.EventWeights.{octets_weight, segments_weight, fewer_segments}
+use Rattle.line_model.proofs.EventWeights.{octets_weight, segments_weight, fewer_segments, findings_weight, packets_weight}
 use Rattle.line_model.proofs.ValueBounds.{value_bounds}
-use Rattle.line_model.proofs.OneFinding.{founds, step_one}
+use Rattle.line_model.proofs.RowWeights.{piece_few, row_few, stamp_weight, total-ones}
 use Rattle.call_accounts.specs.Counted.{IsCountable}
 use Rattle.call_accounts.specs.SoFar.{IsOf}
 use Rattle.channel_run.specs.Run.{data_events, row_events, end_events}
 use Rattle.channel_run.specs.Tally.{IsWithin}
 use Rattle.channel_run.specs.Live.{channel_after, channel_so_far, so_far, with_item}
-use Rattle.channel_run.proofs.DataCounts.{piece_packets}
 use Rattle.call_accounts.proofs.CountedLemmas.{sum-more}
 use Rattle.call_accounts.proofs.PlaceLemmas.{countable_before}
 
@@ -87,14 +86,6 @@ row_of_channel i e k c r = stamp_of e k r (channel_step i k c r).reported
 
 -- ---- at most one finding
 
-few_findings : (e : ℕ) (k : Option ℕ) (r : Item) (ws : List What) → length (findings_of (map event_of (stamp e k r ws))) ≡ founds ws
-few_findings e k r [] = refl
-few_findings e k r (w ∷ ws) = at w (few_findings e k r ws)
-  where
-    at : (w : What) → length (findings_of (map event_of (stamp e k r ws))) ≡ founds ws → length (findings_of (map event_of (stamp e k r (w ∷ ws)))) ≡ founds (w ∷ ws)
-    at (Found x s c) h = omega arith
-    at w h = omega arith
-
 first_alone : (fs : List Finding) → length fs ≤ 1 → option_to_list (slice_get fs 0) ≡ fs
 first_alone [] h = refl
 first_alone (f ∷ []) h = refl
@@ -102,8 +93,9 @@ first_alone (f ∷ g ∷ fs) h = absurd (omega arith)
 
 pub one_finding : (i : Interface) (e k : ℕ) (c : Channel) (r : Item) (es : List Event) (found : Option Finding) → es ≡ row_events i e k c r → found ≡ slice_get (findings_of es) 0 → option_to_list found ≡ findings_of (row_events i e k c r)
 one_finding i e k c r es found is first =
-    let one = step_one i k c r in
-    let same = few_findings e (Some k) r (channel_step i k c r).reported in
+    let one = row_few 1 (λ n. 0) 1 i k c r (λ n few. omega arith) in
+    let same = findings_weight (map event_of (stamp e (Some k) r (channel_step i k c r).reported)) in
+    let own = stamp_weight 1 (λ n. 0) e (Some k) r (channel_step i k c r).reported in
     ap option_to_list (first ∙ ap (λ l. slice_get (findings_of l) 0) is) ∙ first_alone (findings_of (row_events i e k c r)) (omega arith)
 
 -- ---- the events of a row, under the channel's own names
@@ -115,6 +107,14 @@ events_are none es c r n is is_none interface epoch number =
     sym (λ j. es ++ data_events (epoch j) (number j) r n) ∙ is ∙ (λ j. is_none j ++ row_events (interface j) (epoch j) (number j) c r)
 
 -- ---- bounds
+
+-- a piece has no more data packets than rows
+piece_packets : (p : Piece) → length (all_lengths (piece_events p)) ≤ length p.items
+piece_packets p =
+    let same = packets_weight (piece_events p) in
+    let few = piece_few 0 (λ n. 1) (λ r. 1) (λ r n few. omega arith) p.interface p.epoch p.channel (fresh p.interface p.epoch p.channel) p.items (option_map row_numbered p.end) in
+    let each = total-ones p.items in
+    omega arith
 
 pub piece_countable : (p : Piece) → IsPiece p.interface p.channel p.items → IsCountable (piece_events p)
 piece_countable p h =

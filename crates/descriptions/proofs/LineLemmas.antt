@@ -36,8 +36,7 @@ use Rattle.descriptions.specs.Facts.{IsFateOf}
 use Rattle.descriptions.specs.Lines.{Puts, PutsPlain}
 use Rattle.descriptions.specs.RowObjects.{IsObjectWhere, IsRowObject, channel_word, counted_word, events_at, finding_word, named_channel, row_head, state_at, state_members, word_after, word_before}
 use Rattle.descriptions.specs.UsualObjects.{IsUsualObject, amount_word, is_d1, is_quiet, is_settled, leaves_settled, usual_head}
-use Rattle.descriptions.specs.declared.facts.Fate.{Fate}
-use Rattle.descriptions.specs.declared.facts.Fate.TheVariants.{Counted, NoData, NotCounted}
+use Rattle.descriptions.specs.declared.facts.Fate.TheVariants.{Counted}
 use Rattle.descriptions.proofs.ObjectLemmas.{words_are}
 
 -- ---- bytes before others
@@ -86,12 +85,6 @@ pub number_put : (n : ℕ) (a b : Option (List ℕ)) → n < 2 ^ 64 → Puts (de
 number_put n a b few put = plain_put (decimal n) a b (digits_one (decimal n) (digits_decimal (numerals_by_value (AllDigits 10) tells_digits) n (omega (arith, few)))) put
 
 -- ---- what was counted
-
-pub null_put : (lengths : List ℕ) (fate : Fate) (a b : Option (List ℕ)) → ((octets segments : ℕ) → ¬ (fate ≡ Counted octets segments)) → IsFateOf lengths fate → Puts (codes "null") a b → Puts (counted_word lengths) a b
-null_put [] fate a b other h put = put
-null_put (n ∷ ns) (Counted octets segments) a b other h put = absurd (other octets segments refl)
-null_put (n ∷ ns) NoData a b other h put = absurd h
-null_put (n ∷ ns) (NotCounted reason) a b other h put = absurd h
 
 pub counted_put : (lengths : List ℕ) (octets segments : ℕ) (a b : Option (List ℕ)) → IsFateOf lengths (Counted octets segments)
     → Puts (amount_word octets segments) a b → Puts (counted_word lengths) a b

@@ -6,5 +6,4 @@ pub mod laws;
 mod lines;
 mod objects;
 pub mod sink;
-pub mod text;
 pub mod words;

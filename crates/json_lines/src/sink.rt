@@ -1,6 +1,5 @@
 //! A sink that gives another one the objects of the lines that it takes. Who has a `&mut` to that one lends it
-//! (`line_model::lending`); a scan, or whatever writes a report, writes to a `JsonSink`, and the sink comes back, as in
-//! `crate::text`.
+//! (`line_model::lending`); a scan, or whatever writes a report, writes to a `JsonSink`, and `finish` gives the sink back.
 
 ghost use Rattle.std.specs.Prelude.{◌≡◌, ℕ, List, [], Option};
 ghost use Rattle.json_lines.specs.Standing.{Stands};

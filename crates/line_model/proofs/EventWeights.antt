@@ -1,5 +1,5 @@
 -- Sums over events, by their contents.
-use Rattle.std.proofs.Common.{◌≡◌, ℕ, ◌+◌, ◌/◌, ◌≤◌, cond, List, [], ◌∷◌, ◌++◌, length, map, refl, ap, arith}
+use Rattle.std.proofs.Common.{◌≡◌, ℕ, ◌+◌, ◌/◌, ◌≤◌, List, [], ◌∷◌, ◌++◌, length, map, refl, ap, arith}
 use Rattle.std.specs.Prelude.{sum, sum_by}
 use Rattle.std.proofs.lemmas.List.Sums.{sum_by-cons}
 use Rattle.line_model.specs.declared.state.Side.TheVariants.{T, N}
@@ -10,7 +10,7 @@ use Rattle.line_model.specs.basics.Records.{Item}
 use Rattle.line_model.specs.observer.MachineEvents.{RowEvent}
 use Rattle.line_model.specs.observer.Observer.{event_of}
 use Rattle.line_model.specs.observer.Calls.{lengths_from, all_lengths, segments_of}
-use Rattle.line_model.specs.observer.Report.{findings_of, is_finding}
+use Rattle.line_model.specs.observer.Report.{findings_of}
 
 abbrev pub total : {X : Type 0} → (X → ℕ) → List X → ℕ
 total f [] = 0
@@ -24,13 +24,18 @@ pub total-sum_by : {X : Type 0} (f : X → ℕ) (xs : List X) → sum_by f xs �
 total-sum_by f [] = refl
 total-sum_by f (x ∷ xs) = omega (arith, sum_by-cons f x xs, total-sum_by f xs)
 
--- the weight of a finding, and of a data packet by its octets
+-- a finding weighs a, a data packet what its octets do, and calls and settings nothing
+abbrev pub weighing : ℕ → (ℕ → ℕ) → What → ℕ
+weighing a f (Found x s c) = a
+weighing a f (Data x n) = f n
+weighing a f w = 0
+
+-- findings alone, each by one; and data packets alone, by their octets
 abbrev pub found_by : What → ℕ
-found_by w = cond (is_finding w) 1 0
+found_by w = weighing 1 (λ n. 0) w
 
 abbrev pub heard_by : (ℕ → ℕ) → What → ℕ
-heard_by q (Data x n) = q n
-heard_by q w = 0
+heard_by q w = weighing 0 q w
 
 abbrev pub octets_by : ℕ → ℕ
 octets_by n = n
@@ -54,6 +59,15 @@ findings_weight (e ∷ es) = at e.what (findings_weight es)
     at : (w : What) → length (findings_of es) ≡ weight found_by es
         → length (findings_of (record { epoch = e.epoch; channel = e.channel; packet = e.packet; what = w } ∷ es)) ≡ found_by w + weight found_by es
     at (Found x s c) h = omega arith
+    at w h = omega arith
+
+pub packets_weight : (es : List Event) → length (all_lengths es) ≡ weight (heard_by (λ n. 1)) es
+packets_weight [] = refl
+packets_weight (e ∷ es) = at e.what (packets_weight es)
+  where
+    at : (w : What) → length (all_lengths es) ≡ weight (heard_by (λ n. 1)) es
+        → length (all_lengths (record { epoch = e.epoch; channel = e.channel; packet = e.packet; what = w } ∷ es)) ≡ heard_by (λ n. 1) w + weight (heard_by (λ n. 1)) es
+    at (Data x n) h = omega arith
     at w h = omega arith
 
 pub octets_weight : (es : List Event) → sum (all_lengths es) ≡ weight (heard_by octets_by) es

@@ -1,8 +1,8 @@
 -- Rows in two lists: what is appended to both comes to stand behind the others.
-use Rattle.std.proofs.Common.{◌≡◌, ◌∙◌, ap, ap₂, refl, ℕ, suc, ◌+◌, ◌≤◌, List, [], ◌∷◌, ◌++◌, length, length-append, length-drop, take, drop, arith}
+use Rattle.std.proofs.Common.{◌≡◌, ◌∙◌, ap, ap₂, refl, ℕ, suc, ◌+◌, ◌≤◌, List, [], ◌∷◌, ◌++◌, length, length-drop, take, drop, arith}
 use Rattle.std.proofs.Math.Seq.{take-length}
 use Rattle.std.proofs.lemmas.List.{take-append-le, drop-append-le}
-use Rattle.std.proofs.lemmas.List.Sums.{sum_by-append, sum_by-cons}
+use Rattle.std.proofs.lemmas.List.Sums.{sum_by-cons}
 use Rattle.line_model.specs.basics.Records.{Item}
 use Rattle.line_model.specs.basics.Items.{items_of, octets_of}
 use Rattle.line_model.specs.declared.items.Head.{Head}
@@ -35,10 +35,6 @@ items-push (g ∷ hs) os h more e len =
     let few : kept g ≤ length os = omega (arith, e, first) in
     ap₂ (λ l rest. item_of g l ∷ rest) (take-append-le (kept g) os more few)
     (ap (items_of (hs ++ h ∷ [])) (drop-append-le (kept g) os more few) ∙ items-push hs (drop (kept g) os) h more (behind_first g hs os e) len)
-
--- both lists grow by as much
-pub octets-push : (hs : List Head) (os : List ℕ) (h : Head) (more : List ℕ) → octets_of hs ≡ length os → kept h ≡ length more → octets_of (hs ++ h ∷ []) ≡ length (os ++ more)
-octets-push hs os h more e len = omega (arith, sum_by-append kept hs (h ∷ []), length-append os more, e, len)
 
 -- there is a row for each head
 pub items-length : (hs : List Head) (os : List ℕ) → length (items_of hs os) ≡ length hs

@@ -18,7 +18,6 @@ pub mod Schedules
 pub mod WorkedTraces
 pub mod OneFinding
 pub mod Findings
-mod FirstForm
 pub mod BookTotals
 pub mod Marks
 pub mod EventKinds
@@ -38,7 +37,7 @@ pub mod PeakOfCalls
 pub mod InOrder
 pub mod PacketClass
 pub mod EventWeights
-pub mod DataLengths
+pub mod RowWeights
 pub mod ValueBounds
 pub mod RowsSoFar
 pub mod ItemLemmas

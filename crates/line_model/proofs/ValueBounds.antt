@@ -1,79 +1,22 @@
 -- What a piece is worth is within its rows.
-use Rattle.std.proofs.Common.{◌≡◌, ℕ, ◌+◌, ◌≤◌, Bool, true, false, cond, not, ◌||◌, Option, Some, None, List, [], ◌∷◌, length, map, refl, sym, ◌∙◌, ap, subst, arith}
+use Rattle.std.proofs.Common.{◌≡◌, ℕ, ◌+◌, ◌≤◌, Bool, cond, not, ◌||◌, Option, List, [], ◌∷◌, map, sym, ap, subst, arith}
 use Rattle.std.specs.Prelude.{option_map, take_while}
 use Rattle.std.specs.List.{AllByRecursion}
 use Rattle.std.proofs.lemmas.List.Sums.{take_while-cons}
-use Rattle.std.proofs.lemmas.List.{map-append}
-use Rattle.line_model.specs.declared.interface.Interface.{Interface}
 use Rattle.line_model.specs.declared.event.What.{What}
 use Rattle.line_model.specs.declared.event.What.TheVariants.{Open, End, Data}
 use Rattle.line_model.specs.declared.event.Event.{Event}
 use Rattle.line_model.specs.basics.Records.{Item, Piece, CallRecord}
-use Rattle.line_model.specs.channels.Channels.{Channel, fresh, is_open}
-use Rattle.line_model.specs.channels.ChannelStep.{channel_step}
-use Rattle.line_model.specs.observer.MachineEvents.{stamp}
+use Rattle.line_model.specs.channels.Channels.{Channel, fresh}
 use Rattle.line_model.specs.pieces.Pieces.{piece_value}
-use Rattle.line_model.specs.observer.Observer.{x25, event_of, restart_end_if}
+use Rattle.line_model.specs.observer.Observer.{x25, event_of}
 use Rattle.line_model.specs.observer.Calls.{is_end, is_opening, members, record_of, calls_of}
 use Rattle.line_model.specs.pieces.Plans.{row_numbered, piece_events, value}
 use Rattle.line_model.specs.basics.Bounds.{IsPiece, IsPieceReport}
-use Rattle.line_model.proofs.EventWeights.{total, total-append, total-sum_by, found_by, heard_by, octets_by, segments_by, weight, findings_weight, octets_weight, segments_weight, sides_weight, fewer_segments}
+use Rattle.line_model.proofs.EventWeights.{total, total-sum_by, heard_by, octets_by, segments_by, weight, findings_weight, octets_weight, segments_weight, sides_weight, fewer_segments}
 use Rattle.line_model.proofs.CallRecords.{XEvent}
 use Rattle.line_model.proofs.PieceCalls.{IsOf, piece_of_one, alongside_all}
-use Rattle.line_model.proofs.OneFinding.{founds, step_one}
-use Rattle.line_model.proofs.DataLengths.{octets_told, row_data}
-
--- ---- the rows of a piece
-
-stamp_weight : (e : ℕ) (k : Option ℕ) (r : Item) (ws : List What) → weight (heard_by octets_by) (map event_of (stamp e k r ws)) ≡ octets_told ws
-stamp_weight e k r [] = refl
-stamp_weight e k r (w ∷ ws) = let more = stamp_weight e k r ws in omega arith
-
-end_weight : (e : ℕ) (k : Option ℕ) (r : Item) (b : Bool) → weight (heard_by octets_by) (map event_of (stamp e k r (restart_end_if b))) ≡ 0
-end_weight e k r true = refl
-end_weight e k r false = refl
-
--- the events of a row, and those of the rows behind it
-row_parts : (f : What → ℕ) (i : Interface) (e k : ℕ) (c : Channel) (r : Item) (rs : List Item) (end : Option Item)
-    → weight f (map event_of (piece_value (x25 i) e k c (r ∷ rs) end))
-    ≡ weight f (map event_of (stamp e (Some k) r (channel_step i k c r).reported)) + weight f (map event_of (piece_value (x25 i) e k (channel_step i k c r).after rs end))
-row_parts f i e k c r rs end =
-    ap (weight f) (map-append event_of (stamp e (Some k) r (channel_step i k c r).reported) (piece_value (x25 i) e k (channel_step i k c r).after rs end))
-    ∙ total-append (λ v. f v.what) (map event_of (stamp e (Some k) r (channel_step i k c r).reported)) (map event_of (piece_value (x25 i) e k (channel_step i k c r).after rs end))
-
-few_octets : (i : Interface) (e k : ℕ) (c : Channel) (items : List Item) (end : Option Item)
-    → weight (heard_by octets_by) (map event_of (piece_value (x25 i) e k c items end)) ≤ total (λ i. i.length) items
-few_octets i e k c [] None = omega arith
-few_octets i e k c [] (Some r) = let none = end_weight e (Some k) r (is_open c) in omega arith
-few_octets i e k c (r ∷ items) end =
-    let ws : List What = (channel_step i k c r).reported in
-    let d : Channel = (channel_step i k c r).after in
-    let parts = row_parts (heard_by octets_by) i e k c r items end in
-    let own = stamp_weight e (Some k) r ws in
-    let few = row_data i k c r in
-    let more = few_octets i e k d items end in
-    omega arith
-
-stamp_findings : (e : ℕ) (k : Option ℕ) (r : Item) (ws : List What) → weight found_by (map event_of (stamp e k r ws)) ≡ founds ws
-stamp_findings e k r [] = refl
-stamp_findings e k r (w ∷ ws) = ap (λ n. found_by w + n) (stamp_findings e k r ws)
-
-end_findings : (e : ℕ) (k : Option ℕ) (r : Item) (b : Bool) → weight found_by (map event_of (stamp e k r (restart_end_if b))) ≡ 0
-end_findings e k r true = refl
-end_findings e k r false = refl
-
-few_findings : (i : Interface) (e k : ℕ) (c : Channel) (items : List Item) (end : Option Item)
-    → weight found_by (map event_of (piece_value (x25 i) e k c items end)) ≤ length items
-few_findings i e k c [] None = omega arith
-few_findings i e k c [] (Some r) = let none = end_findings e (Some k) r (is_open c) in omega arith
-few_findings i e k c (r ∷ items) end =
-    let ws : List What = (channel_step i k c r).reported in
-    let d : Channel = (channel_step i k c r).after in
-    let parts = row_parts found_by i e k c r items end in
-    let own = stamp_findings e (Some k) r ws in
-    let few = step_one i k c r in
-    let more = few_findings i e k d items end in
-    omega arith
+use Rattle.line_model.proofs.RowWeights.{piece_few, total-ones}
 
 -- ---- the calls of a piece
 
@@ -122,11 +65,12 @@ value_bounds p h =
     let one = piece_of_one p.interface p.epoch p.channel c p.items end in
     let octets = octets_weight es in
     let segments = segments_weight es in
-    let within = few_octets p.interface p.epoch p.channel c p.items end in
+    let within = piece_few 0 octets_by (λ r. r.length) (λ r n few. omega (arith, few)) p.interface p.epoch p.channel c p.items end in
     let whole = total-sum_by (λ (i : Item). i.length) p.items in
     let rounded = fewer_segments es in
     let findings = findings_weight es in
-    let once = few_findings p.interface p.epoch p.channel c p.items end in
+    let once = piece_few 1 (λ n. 0) (λ r. 1) (λ r n few. omega arith) p.interface p.epoch p.channel c p.items end in
+    let each = total-ones p.items in
     let rows = h.few_rows in
     let all = h.few_octets in
     let of_octets = few_in_calls octets_by (λ r. r.oct_t + r.oct_n) octets_in_call p.epoch p.channel vs one in
@@ -134,7 +78,7 @@ value_bounds p h =
     let call_octets = total-sum_by (λ (r : CallRecord). r.oct_t + r.oct_n) (calls_of es) in
     let call_segments = total-sum_by (λ (r : CallRecord). r.segments) (calls_of es) in
     record {
-      few_findings = omega (arith, findings, once, rows);
+      few_findings = omega (arith, findings, once, each, rows);
       few_octets = omega (arith, octets, within, whole, all);
       few_segments = omega (arith, octets, segments, rounded, within, whole, all);
       call_octets = omega (arith, octets, of_octets, call_octets);

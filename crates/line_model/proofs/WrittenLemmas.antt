@@ -56,18 +56,6 @@ passed before taken after c d text more front rest w fine empty split sent held 
       cause = λ e. omega (arith, w.rising, cause e);
     }
 
--- what was given up stays so
-pub still_given_up : (before taken : Option (List ℕ) × ℕ) (c d : WriteBuffer) (text : List ℕ) → Writes before taken c text → c.failed ≡ true → d.failed ≡ true → Writes before taken d text
-still_given_up before taken c d text w was failed = record {
-  sent = w.sent;
-  left = w.left;
-  took = w.took;
-  whole = w.whole;
-  held = λ e. absurd (cc);
-  rising = w.rising;
-  cause = λ e. w.cause was;
-}
-
 -- nothing is held any more
 pub finished : (before taken : Option (List ℕ) × ℕ) (c : WriteBuffer) (text : List ℕ) → Writes before taken c text → c.failed ≡ false → c.bytes.items ≡ [] → taken.0 ≡ with_more before.0 text
 finished before taken c text w fine empty =

@@ -6,7 +6,6 @@ use Rattle.line_model.specs.text.Text.{begun_line, early, ended_lines, head, row
 use Rattle.line_model.specs.traces.Traces.{trace_report}
 use Rattle.line_model.specs.basics.Records.{Report}
 use Rattle.line_model.specs.observer.Report.{report_of}
-use Rattle.line_model.specs.declared.fault.Kind.{Kind}
 use Rattle.line_model.specs.declared.fault.Fault.{Fault}
 use Rattle.line_model.specs.declared.fault.Fault.TheVariants.{Memory, Trace}
 use Rattle.line_model.specs.declared.finding.Finding.{Finding}
@@ -14,9 +13,9 @@ use Rattle.line_model.proofs.TextLemmas.{size_kind-none}
 use Rattle.report_merge.specs.Parts.{findings_text, rest_text}
 use Rattle.report_merge.proofs.WrittenLemmas.{two_parts}
 use Rattle.trace_text.specs.Progress.{Progress, bytes_fed}
-use Rattle.trace_text.specs.StandsFor.{StandsFor as IsReaderOf, IsFaultOf, IsTextFault}
+use Rattle.trace_text.specs.StandsFor.{StandsFor as IsReaderOf, IsTextFault}
 use Rattle.trace_text.proofs.FeedLemmas.{size-sound}
-use Rattle.live_report.specs.Follows.{HasFindings, HasFirst, IsRefusalOf}
+use Rattle.live_report.specs.Follows.{HasFindings, HasFirst}
 use Rattle.live_report.specs.Found.{HasFound, IsFoundBy, IsFoundUpTo, found, found_text}
 use Rattle.live_report.specs.Reports.{IsReportFault}
 use Rattle.trace_text.specs.ObserverAnswers.{IsReportOf}
@@ -62,12 +61,6 @@ all_of : {T : Type 0} → (w : Result T Fault) (P : Type 0) (a b : ℕ) → OnOk
 all_of (Ok x) P a b h e same = h
 all_of (Err f) P a b h e same = absurd (omega (arith, e, same))
 
--- the sink took the lines of all that came
-told_more : (before old new : Option (List ℕ)) (text all : List ℕ) (out : List Finding) → HasFindings before old text → HasFound [] out (found text) (found all) → new ≡ with_more old (findings_text out) → HasFindings before new all
-told_more before old new text all out h e w =
-    w ∙ ap (λ o. with_more o (findings_text out)) h ∙ with_more-append before (found_text text) (findings_text out)
-    ∙ ap (with_more before) (sym (ap findings_text (found_here out (found text) (found all) e) ∙ lines_more (found text) out))
-
 -- the sink took a first part of what came
 pub told_first : {T U : Type 0} → (r : Result T Fault) (w : Result U Fault) (before old new : Option (List ℕ)) (text all : List ℕ) (written out : List Finding) → written ≡ out → HasFindings before old text → IsFoundBy r [] out (found text) (found all)
     → OnOk w (new ≡ with_more old (findings_text written)) → OnErr w ((front : List ℕ) × (rest : List ℕ) × (findings_text written ≡ front ++ rest) × (new ≡ with_more old front)) → HasFirst before new (found_text all)
@@ -83,11 +76,6 @@ told_first r w before old new text all written out same h e ok err =
       length front,
       part.3 ∙ ap (λ o. with_more o part.0) h ∙ with_more-append before (found_text text) part.0 ∙ ap (with_more before) (front_of front back (found_text all) whole),
     )
-
-pub refusal_of : (at : Option (ℕ × Kind)) (f : Fault) → IsFaultOf at f → IsRefusalOf at f
-refusal_of at Memory h = tt
-refusal_of at (Trace line kind) h = h
-refusal_of at _ h = absurd h
 
 pub text_report : (f : Fault) → IsTextFault f → IsReportFault f
 text_report Memory h = tt

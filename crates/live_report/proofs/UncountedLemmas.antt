@@ -4,7 +4,6 @@ use Rattle.std.proofs.lemmas.List.Elements.{filter-append}
 use Rattle.std.proofs.lemmas.List.Sums.{sum_by-append, sum_by-cons, sum_by_push}
 use Rattle.line_model.specs.declared.event.Event.{Event}
 use Rattle.line_model.specs.declared.interface.Interface.{Interface}
-use Rattle.line_model.specs.declared.state.RState.{RState}
 use Rattle.line_model.specs.basics.Records.{Item}
 use Rattle.line_model.specs.channels.Channels.{Channel}
 use Rattle.line_model.specs.channels.RestartMachine.{LineState}
@@ -37,10 +36,6 @@ by_taker : (i : Interface) (o more : Observer LineState Channel) (r : Item) (eve
 by_taker i o more r events None k before after accepted answer h came by = absurd h
 by_taker i o more r events (Some n) k before after accepted answer h came by = by i (o.states n) h.1 ∙ ap (reason_on (o.states n)) (came n refl)
 
-by_restart : (i : Interface) (o more : Observer LineState Channel) (r : Item) (taker : Option ℕ) (before after : RState) → IsJudge i taker o more (judge.Restart before after) → Some Restart ≡ reason_by i taker o r
-by_restart i o more r None before after h = refl
-by_restart i o more r (Some k) before after h = absurd h
-
 of_data : (i : Interface) (earlier : List Item) (r : Item) (row : JudgedRow) (events : List Event) → IsJudgedRow i earlier r row events → (b : Bool) → is_data row.packet ≡ b
     → cond b (reason_by i (routed (x25 i) (observer i earlier).line r) (observer i earlier) r) None ≡ reason_at i (observer i earlier) r
 of_data i earlier r row events l b is =
@@ -49,14 +44,6 @@ of_data i earlier r row events l b is =
 
 pub no_data : (i : Interface) (earlier : List Item) (r : Item) (row : JudgedRow) (events : List Event) → IsJudgedRow i earlier r row events → is_data row.packet ≡ false → None ≡ reason_at i (observer i earlier) r
 no_data i earlier r row events l none = of_data i earlier r row events l false none
-
-pub in_restart : (i : Interface) (earlier : List Item) (r : Item) (row : JudgedRow) (events : List Event) (before after : RState) → IsJudgedRow i earlier r row events → is_data row.packet ≡ true → row.judge ≡ judge.Restart before after
-    → Some Restart ≡ reason_at i (observer i earlier) r
-in_restart i earlier r row events before after l data_is by =
-    let o = observer i earlier in
-    let more = observer i (earlier ++ r ∷ []) in
-    let taker = routed (x25 i) o.line r in
-    by_restart i o more r taker before after (subst (IsJudge i taker o more) by l.judge) ∙ of_data i earlier r row events l true data_is
 
 pub on_channel : (i : Interface) (earlier : List Item) (r : Item) (row : JudgedRow) (events : List Event) (k : ℕ) (before after : Packed) (accepted : Option ℕ) (answer : Option Reason) → IsJudgedRow i earlier r row events
     → is_data row.packet ≡ true → row.judge ≡ judge.Channel k before after accepted → ((j : Interface) (c : Channel) → IsViewOf j c (view_in before) → answer ≡ reason_on c events) → answer ≡ reason_at i (observer i earlier) r

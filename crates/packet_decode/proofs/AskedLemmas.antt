@@ -1,6 +1,6 @@
 -- What facilities ask, from one to the next.
 use Rattle.std.proofs.Common.{◌≡◌, ◌≤◌, ℕ, suc, Bool, true, false, cond, refl, arith, sym, ◌∙◌, ap, subst, inl, inr, List, [], ◌∷◌, ◌++◌, length, drop, take, reverse, Option, Some, None, nat_lt}
-use Rattle.std.specs.Prelude.{option_map, not, ◌==◌, ◌||◌, ◌&&◌, nat_le, ◌^◌, find, is_none, unwrap_or}
+use Rattle.std.specs.Prelude.{option_map, not, ◌==◌, ◌||◌, ◌&&◌, nat_le, find, is_none}
 use Rattle.std.specs.Option.{option_or, option_map_or}
 use Rattle.std.specs.List.{list_any}
 use Rattle.std.proofs.lemmas.List.{length-drop, reverse-append}
@@ -9,9 +9,8 @@ use Rattle.std.proofs.lemmas.List.Folds.{find-append}
 use Rattle.std.proofs.lemmas.Bool.{le-ltb}
 use Rattle.std.proofs.lemmas.Bool.Decides.{eqb_tells}
 use Rattle.line_model.specs.declared.interface.Interface.{Interface}
-use Rattle.line_model.specs.packets.Facilities.{Facility, facilities_of, parameters_from, octets_after, last_parameters, is_out_of_range, asks_fast, asks_reverse, asked_sizes, asked_windows}
-use Rattle.line_model.specs.basics.Octets.{octet, bits}
-use Rattle.packet_decode.specs.Reading.{ReadsAs, read_of, charges_fast, charges_reverse, powers}
+use Rattle.line_model.specs.packets.Facilities.{Facility, facilities_of, parameters_from, octets_after, last_parameters, is_out_of_range}
+use Rattle.line_model.specs.basics.Octets.{octet}
 use Rattle.packet_decode.proofs.FacilityLemmas.{facilities_of-bound}
 use Rattle.packet_decode.specs.declared.facility.Asked.{Asked}
 use Rattle.packet_decode.specs.Asked.{asked_in, asked_of, before_marker, with_facility, nothing_asked, two_octets, is_bad_size, is_bad_window}
@@ -284,42 +283,6 @@ through : (test : ℕ → Bool) (o : Option (List ℕ)) → option_map_or (λ ps
 through test None = refl
 through test (Some ps) = refl
 
-powered : (o : Option (List ℕ)) → option_map (λ ps. (2 ^ octet 1 ps, 2 ^ octet 2 ps)) o ≡ option_map powers (option_map two_octets o)
-powered None = refl
-powered (Some ps) = refl
-
 none_at : {A B : Type 0} (o : Option A) (h : A → B) → None ≡ option_map h o → is_none o ≡ true
 none_at None h e = refl
 none_at (Some x) h e = cc
-
--- what was read, from its summary
-reads_some : (i : Interface) (ys : List ℕ) (o : Option (List Facility)) (a : Asked) → o ≡ facilities_of (length ys) ys →
-    option_map (λ fs. asked_of i (before_marker fs)) o ≡ Some a → ReadsAs i ys a
-reads_some i ys None a o_is h = cc
-reads_some i ys (Some fs) a o_is h =
-    let is : asked_of i (before_marker fs) ≡ a = cc in
-    let read : read_of ys ≡ before_marker fs = ap (λ p. before_marker (unwrap_or p [])) (sym o_is) in
-    let P : Asked → List Facility → Type 0 = λ b gs. (list_any (is_out_of_range i) gs ≡ b.out_of_range) × (asks_fast gs ≡ charges_fast b)
-    × (asks_reverse gs ≡ charges_reverse b) × (asked_sizes gs ≡ option_map powers b.sizes) × (asked_windows gs ≡ b.windows) in
-    let at : P (asked_of i (before_marker fs)) (before_marker fs) = (
-      refl,
-      through (λ o. bits 8 8 o == 1) (last_parameters 1 (before_marker fs)),
-      through (λ o. bits 1 1 o == 1) (last_parameters 1 (before_marker fs)),
-      powered (last_parameters 0x42 (before_marker fs)),
-      refl,
-    ) in
-    let all : P a (read_of ys) = subst (λ b. P b (read_of ys)) is (subst (P (asked_of i (before_marker fs))) (sym read) at) in
-    record {
-      whole = ap (λ p. is_none p) (sym o_is);
-      range = all.0;
-      fast = all.1;
-      reverse_charging = all.2;
-      sizes = all.3;
-      windows = all.4;
-    }
-
-pub reads_as : (i : Interface) (ys : List ℕ) (a : Asked) → Some a ≡ asked_in i ys → ReadsAs i ys a
-reads_as i ys a h = reads_some i ys (facilities_of (length ys) ys) a refl (sym h)
-
-pub reads_none : (i : Interface) (ys : List ℕ) → None ≡ asked_in i ys → is_none (facilities_of (length ys) ys) ≡ true
-reads_none i ys h = none_at (facilities_of (length ys) ys) (λ fs. asked_of i (before_marker fs)) h

@@ -34,16 +34,6 @@ side_is N N h = refl
 side_is T N h = cc
 side_is N T h = cc
 
-pub side_is_not : (p x : Side) → is_side p x ≡ false → x ≡ other p
-side_is_not T T h = cc
-side_is_not N N h = cc
-side_is_not T N h = refl
-side_is_not N T h = refl
-
-other_other : (p : Side) → other (other p) ≡ p
-other_other T = refl
-other_other N = refl
-
 -- the events of one message more
 pub events_more : (ts : List Told) (t : Told) →
     events_of (ts ++ t ∷ []) ≡ events_of ts ++ settings_after (message_fault t.from ts t.message) t.from t.message

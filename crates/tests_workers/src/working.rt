@@ -21,6 +21,8 @@ use workers::{Crew, Feed, Gate, feed_piece, work_through};
 struct EmptyPieces;
 
 impl Gate for EmptyPieces {
+    ghost ran = { λ gate piece report. Unit {0} };
+
     fn run<A: Allocator + Copy>(
         &self,
         alloc: A,
@@ -45,6 +47,8 @@ impl Gate for EmptyPieces {
 struct NoMemory;
 
 impl Gate for NoMemory {
+    ghost ran = { λ gate piece report. Unit {0} };
+
     fn run<A: Allocator + Copy>(
         &self,
         _alloc: A,

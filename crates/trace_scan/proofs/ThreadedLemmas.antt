@@ -1,6 +1,7 @@
 -- Where reading and working stop, and what the workers' reports are.
 use Rattle.std.proofs.Common.{◌≡◌, ◌∙◌, sym, ap, subst, refl, ℕ, ◌+◌, ◌^◌, true, List, [], ◌∷◌, length, take, Option, Some, None, Result, Ok, Err, ◌⊎◌, inl, inr}
-use Rattle.std.specs.Prelude.{IfErr, IfOk, IfSome, MatchResult, is_some, is_ok}
+use Rattle.std.specs.Prelude.{All, IfErr, IfOk, IfSome, MatchResult, is_ok, map}
+use Rattle.std.proofs.lemmas.List.Sorted.{All-permutation, IsPermutation-sym}
 use Rattle.std.specs.List.Sorted.{IsStrictlyIncreasing}
 use Rattle.line_model.specs.declared.fault.Fault.{Fault}
 use Rattle.line_model.specs.declared.fault.Fault.TheVariants.{Memory, Trace, Read as ReadFailed, Write, Start}
@@ -9,15 +10,15 @@ use Rattle.trace_scan.specs.Readings.{IsOutcome, IsReadingFault, IsRefusal, in_f
 use Rattle.live_report.specs.Reports.{IsTaken}
 use Rattle.trace_scan.specs.Scan.{IsPartTaken}
 use Rattle.trace_scan.specs.declared.threaded.ScanParts.{ScanParts}
-use Rattle.trace_scan.specs.Threaded.{AreScanParts, IsStopFault, IsStopped, IsWorkedFault}
+use Rattle.trace_scan.specs.Threaded.{AreRuns, AreScanParts, IsStopFault, IsStopped, IsWorkedFault}
 use Rattle.line_model.specs.declared.totals.Totals.{Totals}
 use Rattle.line_model.specs.basics.Records.{Item, Piece, PieceReport}
 use Rattle.line_model.specs.packets.Says.{items_of}
 use Rattle.line_model.proofs.Saying.{all_said, said_numbers}
 use Rattle.line_model.specs.basics.Device.{with_more}
 use Rattle.line_model.specs.text.Text.{fault, rows}
-use Rattle.line_model.specs.traces.Traces.{trace_report}
-use Rattle.line_model.specs.pieces.Plans.{plan, channel_totals}
+use Rattle.line_model.specs.traces.Traces.{trace_plan, trace_report}
+use Rattle.line_model.specs.pieces.Plans.{plan, channel_totals, value}
 use Rattle.line_model.specs.work.Book.{KnownPlan, AreOf}
 use Rattle.line_model.proofs.Posts.{whole}
 use Rattle.line_model.proofs.TextLemmas.{early-nothing}
@@ -28,6 +29,7 @@ use Rattle.report_merge.specs.Merged.{IsOfWalk}
 use Rattle.report_merge.proofs.Posted.{permuted_posts}
 use Rattle.workers.specs.declared.gathering.Gathered.{Gathered}
 use Rattle.workers.specs.Gathers.{IsWhole, reports_of}
+use Rattle.workers.specs.Vouching.{IsRunOfOne}
 use Rattle.trace_scan.specs.Readings.{IsReadOf}
 use Rattle.trace_scan.specs.Threaded.{trace_totals}
 use Rattle.trace_scan.proofs.ScanLemmas.{memory_refused}
@@ -94,10 +96,6 @@ unfed_stopped before after asked f same why = record {
   refused = λ text told. record { given = []; rest = text; whole = refl; left = same ∙ told; order = inl refl; refusal = unfed_refusal text f why };
 }
 
-pub was_read : {A : Type 0} (o : Option (Result (Read A) Fault)) (before after asked : Option (List ℕ)) (failed : Type 0) (fed : List Piece) → IsOutcome before after asked failed fed o → is_some o ≡ true
-was_read None before after asked failed fed h = absurd h
-was_read (Some r) before after asked failed fed h = refl
-
 pub stopped : {T A W : Type 0} (r : Result T Fault) (o : Option (Result (Read A) Fault)) (g : Result W Fault) (before after asked : Option (List ℕ)) (failed : Type 0) (fed : List Piece) (made : W → Type 0)
     → IfErr r (λ f. (o ≡ Some (Err f)) ⊎ (IfSome o (λ p. is_ok p ≡ true) × (g ≡ Err f))) → IsOutcome before after asked failed fed o → MatchResult g made (λ f. f ≡ Memory)
     → IfErr r (IsStopped before after asked)
@@ -110,18 +108,18 @@ stopped (Err f) o g before after asked failed fed made (inr w) h m =
 
 -- ---- what was read and posted
 
-pub parts_are : {A : Type 0} (r : Result (ScanParts A) Fault) (o : Option (Result (Read A) Fault)) (g : Result (Gathered A (List PieceReport)) Fault) (known : KnownPlan) (workers : ℕ) (before after asked : Option (List ℕ)) (failed : Type 0) (fed : List Piece)
-    → IfOk r (λ t. (o ≡ Some (Ok t.read)) × (g ≡ Ok t.gathered)) → IsOutcome before after asked failed fed o → MatchResult g (IsWhole known workers fed) (λ f. f ≡ Memory)
-    → IfOk r (AreScanParts known workers before after asked)
-parts_are (Err f) o g known workers before after asked failed fed both h m = tt
-parts_are (Ok t) o g known workers before after asked failed fed both h m =
+pub parts_are : {A : Type 0} (r : Result (ScanParts A) Fault) (o : Option (Result (Read A) Fault)) (g : Result (Gathered A (List PieceReport)) Fault) (known : KnownPlan) (ran : Piece → PieceReport → Type 0) (workers : ℕ) (before after asked : Option (List ℕ)) (failed : Type 0) (fed : List Piece)
+    → IfOk r (λ t. (o ≡ Some (Ok t.read)) × (g ≡ Ok t.gathered)) → IsOutcome before after asked failed fed o → MatchResult g (IsWhole known ran workers fed) (λ f. f ≡ Memory)
+    → IfOk r (AreScanParts known ran workers before after asked)
+parts_are (Err f) o g known ran workers before after asked failed fed both h m = tt
+parts_are (Ok t) o g known ran workers before after asked failed fed both h m =
     let read = subst (λ p. IsOutcome before after asked failed fed p) both.0 h in
-    record { fed = fed; whole = subst (λ q. MatchResult q (IsWhole known workers fed) (λ f. f ≡ Memory)) both.1 m; told = λ text told. read.told text told; of_text = read.of_text }
+    record { fed = fed; whole = subst (λ q. MatchResult q (IsWhole known ran workers fed) (λ f. f ≡ Memory)) both.1 m; told = λ text told. read.told text told; of_text = read.of_text }
 
 -- the pieces that were fed are those of the plan, so the reports are those of the walk over what the rows of the text say
-pub of_walk : {A : Type 0} (known : KnownPlan) (workers : ℕ) (text : List ℕ) (fed : List Piece) (read : Read A) (g : Gathered A (List PieceReport))
-    → IsReadOf text fed read → IsWhole known workers fed g → IsOfWalk read.interface (items_of read.interface (rows text)) (reports_of g) read.interface_findings.items read.packets read.pieces
-of_walk known workers text fed read g r w =
+pub of_walk : {A : Type 0} (known : KnownPlan) (ran : Piece → PieceReport → Type 0) (workers : ℕ) (text : List ℕ) (fed : List Piece) (read : Read A) (g : Gathered A (List PieceReport))
+    → IsReadOf text fed read → IsWhole known ran workers fed g → IsOfWalk read.interface (items_of read.interface (rows text)) (reports_of g) read.interface_findings.items read.packets read.pieces
+of_walk known ran workers text fed read g r w =
     let items : List Item = items_of read.interface (rows text) in
     let of_fed : AreOf (Some (plan read.interface items)) (reports_of g) = subst (λ ps. AreOf (Some ps) (reports_of g)) r.cut.all w.of_fed in
     let count : length fed ≡ length (plan read.interface items) = ap (λ (ps : List Piece). length ps) r.cut.all in
@@ -134,11 +132,19 @@ of_walk known workers text fed read g r w =
       pieces_are = r.cut.pieces ∙ count;
     }
 
-pub totals_are : {A : Type 0} (known : KnownPlan) (workers : ℕ) (text : List ℕ) (fed : List Piece) (read : Read A) (g : Gathered A (List PieceReport)) → IsReadOf text fed read → IsWhole known workers fed g → g.totals ≡ trace_totals text
-totals_are known workers text fed read g r w =
+pub totals_are : {A : Type 0} (known : KnownPlan) (ran : Piece → PieceReport → Type 0) (workers : ℕ) (text : List ℕ) (fed : List Piece) (read : Read A) (g : Gathered A (List PieceReport)) → IsReadOf text fed read → IsWhole known ran workers fed g → g.totals ≡ trace_totals text
+totals_are known ran workers text fed read g r w =
     let items : List Item = items_of read.interface (rows text) in
     let of_fed : AreOf (Some (plan read.interface items)) (reports_of g) = subst (λ ps. AreOf (Some ps) (reports_of g)) r.cut.all w.of_fed in
     w.sums
     ∙ whole (plan read.interface items) (reports_of g) of_fed (w.number ∙ ap (λ (ps : List Piece). length ps) r.cut.all)
     ∙ totals_law read.interface items (all_said read.interface (rows text))
     ∙ sym (ap (λ o. elim o as (λ _. Totals) [ None ↦ record { posts = 0; findings = 0; octets = 0; segments = 0 } | Some i ↦ channel_totals i (items_of i (rows text)) ]) r.header)
+
+pub runs_are : {A : Type 0} (known : KnownPlan) (ran : Piece → PieceReport → Type 0) (workers : ℕ) (text : List ℕ) (fed : List Piece) (read : Read A) (g : Gathered A (List PieceReport)) → IsReadOf text fed read → IsWhole known ran workers fed g → AreRuns ran text
+runs_are known ran workers text fed read g r w =
+    let ps : List Piece = plan read.interface (items_of read.interface (rows text)) in
+    let is_plan : ps ≡ trace_plan text = sym (ap (λ o. elim o as (λ _. List Piece) [ None ↦ [] | Some i ↦ plan i (items_of i (rows text)) ]) r.header) in
+    let runs : All (IsRunOfOne ran ps) (reports_of g) = subst (λ l. All (IsRunOfOne ran l) (reports_of g)) r.cut.all w.runs in
+    let same = IsPermutation-sym (map value ps) (reports_of g) (of_walk known ran workers text fed read g r w).values in
+    subst (λ l. All (IsRunOfOne ran l) (map value l)) is_plan (All-permutation (IsRunOfOne ran ps) (reports_of g) (map value ps) same runs)

@@ -1,14 +1,16 @@
 -- What a scan with workers answers.
-use Rattle.std.specs.Prelude.{◌≡◌, ℕ, List, [], Option, Some, None}
+use Rattle.std.specs.Prelude.{◌≡◌, ℕ, List, [], All, map, Option, Some, None}
 use Rattle.line_model.specs.declared.fault.Fault.{Fault}
 use Rattle.line_model.specs.declared.fault.Fault.TheVariants.{Memory, Trace, Read, Write, Start}
-use Rattle.line_model.specs.basics.Records.{Piece}
+use Rattle.line_model.specs.basics.Records.{Piece, PieceReport}
 use Rattle.line_model.specs.work.Book.{KnownPlan}
 use Rattle.line_model.specs.packets.Says.{items_of}
-use Rattle.line_model.specs.pieces.Plans.{channel_totals}
+use Rattle.line_model.specs.pieces.Plans.{channel_totals, value}
+use Rattle.line_model.specs.traces.Traces.{trace_plan}
 use Rattle.line_model.specs.text.Text.{head, rows}
 use Rattle.line_model.specs.declared.totals.Totals.{Totals}
 use Rattle.workers.specs.Gathers.{IsWhole}
+use Rattle.workers.specs.Vouching.{IsRunOfOne}
 use Rattle.trace_text.specs.Sources.{IsRefusedBy}
 use Rattle.trace_scan.specs.Readings.{IsReadOf, IsRefusal, in_flight}
 use Rattle.trace_scan.specs.declared.threaded.ScanParts.{ScanParts}
@@ -18,11 +20,15 @@ abbrev pub trace_totals : List ℕ → Totals
 trace_totals x = elim (head x) [ None ↦ record { posts = 0; findings = 0; octets = 0; segments = 0 } | Some i ↦ channel_totals i (items_of i (rows x)) ]
 
 -- these pieces were fed: those of a text that was read, the one that the source tells if it does; and each of them was run and posted once
-pub record AreScanParts {A : Type 0} (plan : KnownPlan) (workers : ℕ) (before after asked : Option (List ℕ)) (t : ScanParts A) : Type 0 where
+pub record AreScanParts {A : Type 0} (plan : KnownPlan) (ran : Piece → PieceReport → Type 0) (workers : ℕ) (before after asked : Option (List ℕ)) (t : ScanParts A) : Type 0 where
   pub fed : List Piece
-  pub whole : IsWhole plan workers fed t.gathered
+  pub whole : IsWhole plan ran workers fed t.gathered
   pub told : (text : List ℕ) → before ≡ Some text → IsReadOf text fed t.read × (after ≡ Some []) × (asked ≡ Some [])
   pub of_text : (text : List ℕ) × IsReadOf text fed t.read
+
+-- each report of the text's pieces was made so
+abbrev pub AreRuns : (ran : Piece → PieceReport → Type 0) → List ℕ → Type 0
+AreRuns ran text = All (IsRunOfOne ran (trace_plan text)) (map value (trace_plan text))
 
 -- the faults that may stop reading and working
 abbrev pub IsStopFault : Fault → Type 0

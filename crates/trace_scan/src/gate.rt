@@ -15,6 +15,11 @@ use workers::Gate;
 pub struct OpenGate;
 
 impl Gate for OpenGate {
+    ghost use Rattle.std.specs.Prelude.{◌≡◌};
+    ghost use Rattle.line_model.specs.pieces.Plans.{value};
+
+    ghost ran = { λ gate piece report. report ≡ value piece };
+
     fn run<A: Allocator + Copy>(
         &self,
         alloc: A,
@@ -33,6 +38,8 @@ pub struct BlockGate<'a, P: TraceText, A: Allocator, G> {
 
 impl<P: TraceText + Send + Sync, B: Allocator + Copy + Send + Sync, G: Gate> Gate
     for BlockGate<'_, P, B, G> {
+    ghost ran = { λ gate piece report. G.ran gate.gate.now piece report };
+
     fn run<A: Allocator + Copy>(
         &self,
         alloc: A,

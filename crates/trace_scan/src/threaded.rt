@@ -1,6 +1,6 @@
 //! A scan with workers.
 
-ghost use Rattle.std.specs.Prelude.{◌≡◌, ◌≢◌, ℕ, ◌+◌, ◌<◌, ◌≤◌, ◌⊎◌, ◌^◌, List, Some, Ok, Err, IfOk, IfErr, IfSome, is_some, is_ok, true, vec_len};
+ghost use Rattle.std.specs.Prelude.{◌≡◌, ◌≢◌, ℕ, ◌+◌, ◌<◌, ◌≤◌, ◌⊎◌, ◌^◌, List, Some, Ok, Err, IfOk, IfErr, IfSome, OnOk, is_some, is_ok, true, vec_len};
 ghost use Rattle.std.specs.Option.{option_map};
 ghost use Rattle.line_model.specs.traces.Traces.{trace_plan, trace_report};
 ghost use Rattle.line_model.specs.work.Book.{sum_of};
@@ -8,7 +8,7 @@ ghost use Rattle.live_report.specs.Reports.{IsReported, IsTaken};
 ghost use Rattle.trace_text.specs.Sources.{IsRefusedBy};
 ghost use Rattle.trace_scan.specs.Readings.{IsRefusal, in_flight};
 ghost use Rattle.trace_scan.specs.Scan.{IsPartTaken};
-ghost use Rattle.trace_scan.specs.Threaded.{AreScanParts, IsStopped, IsWorkedFault, trace_totals};
+ghost use Rattle.trace_scan.specs.Threaded.{AreRuns, AreScanParts, IsStopped, IsWorkedFault, trace_totals};
 
 use crate::block_queues::{BLOCK_BYTES, BlockQueues, BlockSizes};
 use crate::blocks::TraceText;
@@ -31,13 +31,15 @@ use workers::{Crew, Gate, Gathered, Worked, work_through};
 
 /// What the reading thread read, and what the workers made of its pieces.
 #[derive(Drop)]
-struct ScanParts<A: Allocator = Global> {
-    read: Read<A>,
-    gathered: Gathered<A, BundleReport<A>>,
+pub struct ScanParts<A: Allocator = Global> {
+    /// What was read.
+    pub read: Read<A>,
+    /// The reports of the pieces, with their sums.
+    pub gathered: Gathered<A, BundleReport<A>>,
 }
 
-/// The reading thread's fault stands before that of a worker.
-fn first_fault<A: Allocator>(
+/// Returns what was read and made. The fault of the reading thread comes before that of a worker, which is refused memory.
+pub fn first_fault<A: Allocator>(
     outcome: Option<Result<Read<A>, Fault>>,
     gathered: Result<Gathered<A, BundleReport<A>>, Fault>,
 ) -> Result<ScanParts<A>, Fault>
@@ -81,8 +83,8 @@ fn work_on_trace<
     requires plan { P.pieces ≡ option_map trace_plan P.text }
     requires workers { (0 < crew.workers) × (crew.workers ≤ 64) }
     requires capacity { (0 < crew.capacity) × (crew.capacity ≤ 4096) }
-    ensures parts { IfOk result (AreScanParts P.pieces crew.entry.workers (S.left source.old)
-        (S.left source.new) (S.before source.new)) }
+    ensures parts { IfOk result (AreScanParts P.pieces (G.ran crew.entry.gate.now) crew.entry.workers
+        (S.left source.old) (S.left source.new) (S.before source.new)) }
     ensures stopped { IfErr result (IsStopped (S.left source.old) (S.left source.new)
         (S.before source.new)) }
     ensures read_failed { result ≡ Err Fault.Read → S.failures source.old < S.failures source.new }
@@ -177,6 +179,9 @@ pub fn scan_with<
         × (scan.totals ≡ trace_totals text)) }
     ensures shares { IfOk result (λ scan. (vec_len scan.shares ≡ workers)
         × (scan.totals ≡ sum_of scan.shares.items)) }
+    // Each piece's report is one that this gate made of it.
+    ensures runs { (text : List ℕ) → S.left source.old ≡ Some text
+        → OnOk result (AreRuns (G.ran gate.now) text) }
     // A refusal is by the bytes that were given: by the first faulty line of all of them. Those before the last call of the
     // source show none, except for at most those of the blocks in flight.
     ensures refused { (text : List ℕ) → S.left source.old ≡ Some text

@@ -1,6 +1,6 @@
 -- What a reader of lines stands for as it takes a chunk.
-use Rattle.std.proofs.Common.{◌≡◌, ◌∙◌, sym, ap, refl, subst, ◌+◌, ◌<◌, ◌++◌, [], ◌∷◌, length, ℕ, arith, List, Option, Some, None, Result, Ok, Err, append_assoc, append-nil, true, false, Bool, length-append}
-use Rattle.std.specs.Prelude.{is_some, OnOk, OnErr, IfErr}
+use Rattle.std.proofs.Common.{◌≡◌, ◌∙◌, sym, ap, refl, subst, ◌+◌, ◌++◌, [], ◌∷◌, length, ℕ, arith, List, Option, Some, None, Err, append_assoc, append-nil, true, false, length-append}
+use Rattle.std.specs.Prelude.{is_some}
 use Rattle.line_model.specs.text.Text.{early, early_head, early_rows, size_kind}
 use Rattle.line_model.specs.declared.fault.Fault.{Fault}
 use Rattle.line_model.specs.declared.fault.Fault.TheVariants.{Memory}
@@ -9,8 +9,8 @@ use Rattle.line_model.specs.basics.Records.{Row}
 use Rattle.line_model.proofs.TextLemmas.{HasNoLf}
 use Rattle.trace_text.specs.Progress.{Progress, bytes_fed}
 use Rattle.trace_text.specs.StandsFor.{StandsFor, AreKnown, HasAppended, IsAppended, IsAtLine, IsFaultOf, IsHeadKept, ReadsChunk, TakesRow}
-use Rattle.trace_text.specs.Steps.{RefusedBy, with_more, EndsLine}
-use Rattle.trace_text.proofs.FeedLemmas.{begin-refused-all, begun-stands, refused-line, line-passes, line-row, line-size, line-stands, rows-begun}
+use Rattle.trace_text.specs.Steps.{with_more, EndsLine}
+use Rattle.trace_text.proofs.FeedLemmas.{begun-stands, line-passes, line-row, line-size, line-stands, rows-begun}
 use Rattle.trace_text.proofs.Grows.{early_head_stays}
 use Rattle.trace_text.proofs.RefusalLemmas.{head_alike, head_stands, head_stopped, known-here, refused-appended}
 
@@ -44,27 +44,6 @@ whole_chunk text fed rest chunk e = append_assoc text fed rest ∙ ap (λ xs. te
 pub whole_chunk_lf : (text fed rest front back chunk : List ℕ) → chunk ≡ fed ++ rest → rest ≡ front ++ 10 ∷ back → (text ++ fed) ++ front ++ 10 ∷ back ≡ text ++ chunk
 whole_chunk_lf text fed rest front back chunk e h = append_assoc (text ++ fed) front (10 ∷ back) ∙ ap (λ xs. (text ++ fed) ++ xs) (sym h) ∙ whole_chunk text fed rest chunk e
 
--- the lines of a chunk, whatever they say
-pub taken-none : (v : Progress) (chunk : List ℕ) → Taken v v chunk chunk
-taken-none v chunk = record {
-  fed = [];
-  whole = refl;
-  stands = λ text s. rw append-nil s;
-  size = omega arith;
-}
-
-pub taken-more : (before after next : Progress) (row : Row) (is_row : Bool) (chunk rest front back : List ℕ) → Taken before after chunk rest → rest ≡ front ++ 10 ∷ back → HasNoLf front → EndsLine (with_more after front) next row is_row → Taken before next chunk back
-taken-more before after next row is_row chunk rest front back p e h line = record {
-  fed = p.fed ++ front ++ 10 ∷ [];
-  whole = p.whole ∙ ap (λ xs. p.fed ++ xs) e ∙ sym (append_assoc p.fed front (10 ∷ back)) ∙ sym (append_assoc (p.fed ++ front) (10 ∷ []) back);
-  stands = λ text s. rw (← append_assoc text (p.fed ++ front) (10 ∷ []), ← append_assoc text p.fed front) (line-stands after next front row is_row line h (text ++ p.fed) (p.stands text s));
-  size = omega (arith, p.size, line-size after next front row is_row line, length-append (p.fed ++ front) (10 ∷ []), length-append p.fed front);
-}
-
--- the rest of a chunk, without an LF
-pub all-taken : (before after u : Progress) (chunk rest : List ℕ) → Taken before after chunk rest → HasNoLf rest → u ≡ with_more after rest → size_kind after.start 0 (length after.begun + length rest) ≡ None → (text : List ℕ) → StandsFor before text → StandsFor u (text ++ chunk)
-all-taken before after u chunk rest p h e k text s = rw (whole_chunk text p.fed rest chunk p.whole) at (begun-stands after u (text ++ p.fed) rest e (p.stands text s) h k)
-
 -- the lines of a chunk up to its first row
 pub passed-none : (v : Progress) (chunk : List ℕ) → Passed v v chunk chunk
 passed-none v chunk = record {
@@ -92,14 +71,6 @@ takes-row before after next row chunk rest front back p e h line = record {
   rows = λ text s. rw (← append_assoc text (p.fed ++ front) (10 ∷ []), ← append_assoc text p.fed front) (line-row after next front row line h (text ++ p.fed) (p.stands text s) ∙ ap (λ xs. xs ++ row ∷ []) (p.rows text s));
 }
 
-pub takes-size : (before after next : Progress) (row : Row) (chunk rest front back : List ℕ) → Passed before after chunk rest → rest ≡ front ++ 10 ∷ back → EndsLine (with_more after front) next row true → bytes_fed next + length back ≡ bytes_fed before + length chunk
-takes-size before after next row chunk rest front back p e line =
-    omega (arith, p.size, line-size after next front row true line, ap (λ (xs : List ℕ). length xs) p.whole, length-append p.fed rest, ap (λ (xs : List ℕ). length xs) e, length-append front (10 ∷ back))
-
-pub takes-shorter : (before after : Progress) (chunk rest front back : List ℕ) → Passed before after chunk rest → rest ≡ front ++ 10 ∷ back → length back < length chunk
-takes-shorter before after chunk rest front back p e =
-    omega (arith, ap (λ (xs : List ℕ). length xs) p.whole, length-append p.fed rest, ap (λ (xs : List ℕ). length xs) e, length-append front (10 ∷ back))
-
 -- the rest of a chunk, without an LF
 pub reads-chunk : (before after u : Progress) (chunk rest : List ℕ) → Passed before after chunk rest → HasNoLf rest → u ≡ with_more after rest → size_kind after.start 0 (length after.begun + length rest) ≡ None → ReadsChunk before u chunk
 reads-chunk before after u chunk rest p h e k =
@@ -108,10 +79,6 @@ reads-chunk before after u chunk rest p h e k =
       stands = λ text s. rw (whole_chunk text p.fed rest chunk p.whole) at (stands text s);
       rows = λ text s. rw (whole_chunk text p.fed rest chunk p.whole) at (rows-begun u after (text ++ p.fed) rest (p.stands text s) (stands text s) h ∙ p.rows text s);
     }
-
-pub chunk-size : (before after u : Progress) (chunk rest : List ℕ) → Passed before after chunk rest → u ≡ with_more after rest → bytes_fed u ≡ bytes_fed before + length chunk
-chunk-size before after u chunk rest p e =
-    omega (arith, p.size, ap bytes_fed e, length-append after.begun rest, ap (λ (xs : List ℕ). length xs) p.whole, length-append p.fed rest)
 
 -- the rows of a chunk
 appended-on : (out out' out'' known known' known'' : List Row) → HasAppended out out' known known' → HasAppended out' out'' known' known'' → HasAppended out out'' known known''
@@ -173,19 +140,6 @@ pub head-so-far : (T : Type 0) (before after : Progress) (chunk rest : List ℕ)
 head-so-far T before after chunk rest f kept p text s l h e =
     subst (λ (xs : List ℕ). IsHeadKept {T = T} (Err f) kept (early_head xs)) (whole_chunk text p.fed rest chunk p.whole)
     (head_stopped T after (text ++ p.fed) rest f kept (p.stands text s) l h e)
-
--- the last bytes of a chunk, which were taken or refused
-pub begin-refused-so-far : {T : Type 0} (r : Result T Fault) (before after : Progress) (chunk rest : List ℕ) (p : Taken before after chunk rest) → HasNoLf rest → IfErr r (RefusedBy (size_kind after.start 0 (length after.begun + length rest)) (after.ended + 1)) →
-    (text : List ℕ) → StandsFor before text → IfErr r (IsFaultOf (early (text ++ chunk)))
-begin-refused-so-far (Ok x) before after chunk rest p h k text s = tt
-begin-refused-so-far (Err f) before after chunk rest p h k text s =
-    subst (λ (xs : List ℕ). IsFaultOf (early xs) f) (whole_chunk text p.fed rest chunk p.whole) (begin-refused-all after (text ++ p.fed) rest f (p.stands text s) h k)
-
-pub begin-head : {T : Type 0} (r : Result T Fault) (before after u : Progress) (chunk rest : List ℕ) (p : Taken before after chunk rest) → HasNoLf rest → OnOk r (u ≡ with_more after rest) → OnOk r (size_kind after.start 0 (length after.begun + length rest) ≡ None) →
-    IfErr r (RefusedBy (size_kind after.start 0 (length after.begun + length rest)) (after.ended + 1)) → OnErr r (u ≡ after) → (text : List ℕ) → StandsFor before text → IsHeadKept r u.interface (early_head (text ++ chunk))
-begin-head (Ok x) before after u chunk rest p h e k r same text s = head_stands u (text ++ chunk) (all-taken before after u chunk rest p h e k text s)
-begin-head {T} (Err f) before after u chunk rest p h e k r same text s =
-    head-so-far T before after chunk rest f u.interface p text s (refused-line _ _ f r) (begin-refused-all after (text ++ p.fed) rest f (p.stands text s) h r) (ap (λ (q : Progress). q.interface) same)
 
 -- a refusal after some rows
 pub fed-refused : (T : Type 0) (before after : Progress) (rows more : List Row) (chunk rest : List ℕ) (f : Fault) (fed : Fed before after rows more chunk rest) (text : List ℕ) → StandsFor before text →

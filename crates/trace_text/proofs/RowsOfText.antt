@@ -66,9 +66,6 @@ octets_length word xs h = at (bytes_eq word (codes "-")) h
     at true h = let none : [] ≡ xs = cc in omega (arith, ap (λ (l : List ℕ). length l) none)
     at false h = hex_length word xs (decode_of word) refl h
 
-some_words : (a b : RowWords) → Some a ≡ Some b → a ≡ b
-some_words a b h = cc
-
 hex_within : (words : List (List ℕ)) (w : RowWords) → row_words_in words ≡ Some w → length w.hex ≤ length (join_with_byte 32 words)
 hex_within (n ∷ s ∷ x ∷ []) w h =
     let same = cond_some (is_row_words n s x) (record { number = n; side = s; hex = x }) w h in

@@ -12,4 +12,4 @@ mod reading;
 mod row_front;
 mod row_line;
 pub mod trace_observer;
-mod words;
+pub mod words;

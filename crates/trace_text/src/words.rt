@@ -30,6 +30,13 @@ impl<'a> Words<'a> {
         Words { rest: Some(line) }
     }
 
+    /// No words.
+    pub fn none() -> Self
+        ensures { result ≡ [] }
+    {
+        Words { rest: None }
+    }
+
     /// The next word, which may be empty, if one is left.
     pub fn next(&mut self) -> Option<&'a [u8]>
         ensures { MatchOption result ((self.old ≡ [])

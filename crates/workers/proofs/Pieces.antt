@@ -9,7 +9,7 @@ use Rattle.line_model.specs.basics.Records.{PieceReport}
 use Rattle.line_model.specs.work.Work.{numbers_of}
 use Rattle.line_model.proofs.Posts.{value_is}
 use Rattle.shared_work.specs.queue.Known.{IsFed}
-use Rattle.workers.specs.Vouching.{HasPiece, IsValueOfOne}
+use Rattle.workers.specs.Vouching.{HasPiece, IsRunOfOne}
 
 has-front : (xs ys : List Piece) (p : Piece) → HasPiece xs p → HasPiece (xs ++ ys) p
 has-front xs ys p h = (h.0, at xs h.0 h.1)
@@ -37,11 +37,11 @@ length-numbers [] = refl
 length-numbers (p ∷ ps) = ap suc (length-numbers ps)
 
 -- who knows more pieces vouches for no fewer reports
-pub vouches-front : (xs ys zs : List Piece) (r : PieceReport) → zs ≡ xs ++ ys → IsValueOfOne xs r → IsValueOfOne zs r
-vouches-front xs ys zs r e v = (v.0, subst (λ l. HasPiece l v.0) (sym e) (has-front xs ys v.0 v.1), v.2)
+pub vouches-front : (ran : Piece → PieceReport → Type 0) (xs ys zs : List Piece) (r : PieceReport) → zs ≡ xs ++ ys → IsRunOfOne ran xs r → IsRunOfOne ran zs r
+vouches-front ran xs ys zs r e v = (v.0, subst (λ l. HasPiece l v.0) (sym e) (has-front xs ys v.0 v.1), v.2, v.3)
 
-pub vouches-back : (xs ys zs : List Piece) (r : PieceReport) → zs ≡ xs ++ ys → IsValueOfOne ys r → IsValueOfOne zs r
-vouches-back xs ys zs r e v = (v.0, subst (λ l. HasPiece l v.0) (sym e) (has-back xs ys v.0 v.1), v.2)
+pub vouches-back : (ran : Piece → PieceReport → Type 0) (xs ys zs : List Piece) (r : PieceReport) → zs ≡ xs ++ ys → IsRunOfOne ran ys r → IsRunOfOne ran zs r
+vouches-back ran xs ys zs r e v = (v.0, subst (λ l. HasPiece l v.0) (sym e) (has-back xs ys v.0 v.1), v.2, v.3)
 
 some-is : (x p : Piece) → Some x ≡ Some p → x ≡ p
 some-is x p e = cc
@@ -52,8 +52,11 @@ fed-one fed (x ∷ xs) p zero all e = subst (IsFed fed) (some-is x p e) (all 0 x
 fed-one fed (x ∷ xs) p (suc k) all e = fed-one fed xs p k (λ j d lt. all (suc j) d (omega arith)) e
 
 -- what a witness vouches for is the value of a piece that was fed
-pub value-of-fed : (fed pieces : List Piece) (r : PieceReport) → All (IsFed fed) pieces → IsValueOfOne pieces r → IsValue (Some fed) r
-value-of-fed fed pieces r all v = subst (IsValue (Some fed)) (sym v.2) (value_is (Some fed) v.0 (refl, fed-one fed pieces v.0 v.1.0 all v.1.1))
+pub value-of-fed : (ran : Piece → PieceReport → Type 0) (fed pieces : List Piece) (r : PieceReport) → All (IsFed fed) pieces → IsRunOfOne ran pieces r → IsValue (Some fed) r
+value-of-fed ran fed pieces r all v = subst (IsValue (Some fed)) (sym v.2) (value_is (Some fed) v.0 (refl, fed-one fed pieces v.0 v.1.0 all v.1.1))
+
+pub run-of-fed : (ran : Piece → PieceReport → Type 0) (fed pieces : List Piece) (r : PieceReport) → All (IsFed fed) pieces → IsRunOfOne ran pieces r → IsRunOfOne ran fed r
+run-of-fed ran fed pieces r all v = (v.0, (v.0.id, fed-one fed pieces v.0 v.1.0 all v.1.1), v.2, v.3)
 
 -- the values of pieces, and of one more
 pub value_more : (rs : List PieceReport) (r : PieceReport) (ps : List Piece) (p : Piece) → rs ≡ map value ps → r ≡ value p → rs ++ r ∷ [] ≡ map value (ps ++ p ∷ [])
@@ -64,7 +67,14 @@ values_are plan [] all k d lt = absurd (omega arith)
 values_are plan (p ∷ ps) all zero d lt = value_is plan p (all 0 p (omega arith))
 values_are plan (p ∷ ps) all (suc k) d lt = values_are plan ps (λ j q below. all (suc j) q (omega arith)) k d (omega arith)
 
-pub values_of : (pieces ps : List Piece) → All (HasPiece pieces) ps → All (IsValueOfOne pieces) (map value ps)
-values_of pieces [] all k d lt = absurd (omega arith)
-values_of pieces (p ∷ ps) all zero d lt = (p, all 0 p (omega arith), refl)
-values_of pieces (p ∷ ps) all (suc k) d lt = values_of pieces ps (λ j q below. all (suc j) q (omega arith)) k d (omega arith)
+pub runs_of : (ran : Piece → PieceReport → Type 0) (pieces ps : List Piece) → All (HasPiece pieces) ps → All (λ p. ran p (value p)) ps → All (IsRunOfOne ran pieces) (map value ps)
+runs_of ran pieces [] all runs k d lt = absurd (omega arith)
+runs_of ran pieces (p ∷ ps) all runs zero d lt = (p, all 0 p (omega arith), refl, runs 0 p (omega arith))
+runs_of ran pieces (p ∷ ps) all runs (suc k) d lt = runs_of ran pieces ps (λ j q below. all (suc j) q (omega arith)) (λ j q below. runs (suc j) q (omega arith)) k d (omega arith)
+
+-- each piece of some was run, and so was one more
+pub All-more : {X : Type 0} (P : X → Type 0) (xs : List X) (x : X) → All P xs → P x → All P (xs ++ x ∷ [])
+All-more P [] x all h zero d lt = h
+All-more P [] x all h (suc k) d lt = absurd (omega arith)
+All-more P (y ∷ ys) x all h zero d lt = all 0 y (omega arith)
+All-more P (y ∷ ys) x all h (suc k) d lt = All-more P ys x (λ j q below. all (suc j) q (omega arith)) h k d (omega arith)

@@ -1,6 +1,6 @@
 //! How a worker runs a piece, and what else it does.
 
-ghost use Rattle.std.specs.Prelude.{◌≡◌, MatchResult, map};
+ghost use Rattle.std.specs.Prelude.{◌≡◌, All, IfOk, MatchResult, OnOk, map};
 ghost use Rattle.line_model.specs.pieces.Plans.{value};
 ghost use Rattle.line_model.specs.declared.fault.Fault.TheVariants.{Memory};
 
@@ -13,11 +13,17 @@ use std::sync::Wait;
 
 /// Runs pieces, and is shared by all workers.
 pub trait Gate: Sync {
-    /// The value of the piece, or want of memory.
-    fn run<A: Allocator + Copy>(&self, alloc: A, piece: &Piece<A>) -> Result<PieceReport<A>, Fault>
-        ensures value { MatchResult result (λ r. r ≡ value piece.now) (λ fault. fault ≡ Memory) };
+    ghost use Rattle.line_model.specs.basics.Records as records;
 
-    /// The values of the pieces of a bundle, put together in the order of their packets, or want of memory.
+    /// It made this report of the piece. Callers know so which gate their pieces went through.
+    ghost ran: { Self → records.Piece → records.PieceReport → Type 0 };
+
+    /// The value of the piece. Fails only when memory is refused.
+    fn run<A: Allocator + Copy>(&self, alloc: A, piece: &Piece<A>) -> Result<PieceReport<A>, Fault>
+        ensures value { MatchResult result (λ r. r ≡ value piece.now) (λ fault. fault ≡ Memory) }
+        ensures ran { IfOk result (ran self.now piece.now) };
+
+    /// The values of the pieces of a bundle, put together in the order of their packets. Fails only when memory is refused.
     fn run_bundle<A: Allocator + Copy>(
         &self,
         alloc: A,
@@ -25,6 +31,7 @@ pub trait Gate: Sync {
     ) -> Result<BundleReport<A>, Fault>
         ensures values { MatchResult result (λ reports. reports ≡ map value bundle.now) (λ fault. fault
             ≡ Memory) }
+        ensures ran { OnOk result (All (λ piece. ran self.now piece (value piece)) bundle.now) }
     {
         let (front, last) = bundle.parts();
         let mut reports = BundleReport::new(alloc);

@@ -72,7 +72,7 @@ pub fn gather_all<'w, P: Plan, L: Ledgers + QueueName, A: Allocator + Copy>(
     requires queue { pass.queue ≡ L.queue }
     requires all { vec_len shares ≡ book }
     requires posted { sum_by (λ s. s.posts) shares.items ≡ pass.record_of.fed }
-    ensures whole { IfOk result (IsWhole P.pieces (vec_len shares) pass.pieces) }
+    ensures whole { IfOk result (IsWhole P.pieces L.ran (vec_len shares) pass.pieces) }
     ensures refused { IfErr result (λ fault. fault ≡ Fault.Memory) }
 {
     let (gathered, witness) = gather(alloc, book, shares)?;

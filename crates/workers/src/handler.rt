@@ -56,8 +56,11 @@ pub struct Posting<'a, 'w, P: Plan, L: Ledgers + QueueName, A: Allocator, G> {
 impl<'a, 'w, P: Plan, L: Ledgers + QueueName, A: Allocator + Copy, G: Gate> Handler<P, A, L>
     for Posting<'a, 'w, P, L, A, G> {
     ghost use Rattle.std.specs.Prelude.{◌≡◌};
+    ghost use Rattle.line_model.specs.basics.Records as records;
 
-    ghost handles = { λ posting id. (id ≡ L.queue) × (posting.work.now.queue ≡ L.queue) };
+    ghost handles = { λ posting id. (id ≡ L.queue) × (posting.work.now.queue ≡ L.queue)
+        × ((piece : records.Piece) (report : records.PieceReport)
+        → G.ran posting.gate.now piece report → L.ran piece report) };
 
     fn handle<R: Wait>(
         &self,

@@ -1,6 +1,7 @@
 //! A plan that is fed by one thread and worked through by others.
 
 ghost use Rattle.std.specs.Prelude.{◌≡◌, ◌<◌, ◌≤◌, ◌⊎◌, [], None, IfOk, IfErr, MatchOption, sum_by, vec_len};
+ghost use Rattle.line_model.specs.basics.Records as records;
 ghost use Rattle.shared_work.specs.queue.Rule.{feeder};
 ghost use Rattle.workers.specs.Gathers.{HasWorked, IsWhole};
 
@@ -52,7 +53,7 @@ fn gather_ran<'w, P: Plan, L: Ledgers + QueueName, A: Allocator + Copy, T: Drop>
         ≡ Fault.Memory) }
     ensures task { result.task ≡ ran.task }
     ensures whole { IfOk result.gathered (λ g. (ran.fault ≡ None)
-        × IsWhole P.pieces (vec_len ran.shares) ran.pass.pieces g) }
+        × IsWhole P.pieces L.ran (vec_len ran.shares) ran.pass.pieces g) }
     ensures refused { IfErr result.gathered (λ fault. fault ≡ Fault.Memory) }
 {
     let RunOutcome {
@@ -98,7 +99,10 @@ fn work_with<
     requires fresh { (queue.pass.record_of ≡ feeder 0 0 0 0 []) × (queue.pass.pieces ≡ []) }
     requires workers { (0 < crew.workers) × (crew.workers ≤ 64) }
     requires able { T.can_feed task }
-    ensures worked { IfOk result (HasWorked P.pieces (T.feed_gives task) crew.entry.workers) }
+    requires gate { (piece : records.Piece) (report : records.PieceReport)
+        → G.ran crew.gate.now piece report → L.ran piece report }
+    ensures worked { IfOk result (HasWorked P.pieces L.ran
+        (T.feed_gives task) crew.entry.workers) }
     ensures refused { IfErr result (λ e. T.unfed task e.0
         × ((e.1 ≡ Fault.Memory) ⊎ (e.1 ≡ Fault.Start))) }
 {
@@ -136,7 +140,10 @@ fn work_in<
     requires fresh { (queue.pass.record_of ≡ feeder 0 0 0 0 []) × (queue.pass.pieces ≡ []) }
     requires workers { (0 < crew.workers) × (crew.workers ≤ 64) }
     requires able { T.can_feed task }
-    ensures worked { IfOk result (HasWorked P.pieces (T.feed_gives task) crew.entry.workers) }
+    requires gate { (piece : records.Piece) (report : records.PieceReport)
+        → G.ran crew.gate.now piece report → L.ran piece report }
+    ensures worked { IfOk result (HasWorked P.pieces L.ran
+        (T.feed_gives task) crew.entry.workers) }
     ensures refused { IfErr result (λ e. T.unfed task e.0
         × ((e.1 ≡ Fault.Memory) ⊎ (e.1 ≡ Fault.Start))) }
 {
@@ -162,7 +169,8 @@ pub fn work_through<
     requires workers { (0 < crew.workers) × (crew.workers ≤ 64) }
     requires capacity { (0 < crew.capacity) × (crew.capacity ≤ 4096) }
     requires able { T.can_feed task }
-    ensures worked { IfOk result (HasWorked P.pieces (T.feed_gives task) crew.entry.workers) }
+    ensures worked { IfOk result (HasWorked P.pieces (G.ran crew.entry.gate.now)
+        (T.feed_gives task) crew.entry.workers) }
     ensures refused { IfErr result (λ e. T.unfed task e.0
         × ((e.1 ≡ Fault.Memory) ⊎ (e.1 ≡ Fault.Start))) }
 {

@@ -3,27 +3,33 @@
 ghost use Rattle.std.specs.Prelude.{◌≡◌, [], Some, length};
 ghost use Rattle.line_model.specs.basics.Records as records;
 ghost use Rattle.line_model.specs.work.Book.{IsValue};
-ghost use Rattle.workers.specs.Vouching.{IsValueOfOne};
+ghost use Rattle.workers.specs.Vouching.{IsRunOfOne};
 
 use line_model::piece::Plan;
 use shared_work::queue::{FeederPass, Work};
 use std::alloc::Allocator;
 use std::marker::{Brand, Model, PhantomData};
 
-/// The queue of which the witnesses of a book are, which contracts alone see.
+/// The queue of which the witnesses of a book are, and how their pieces were run, which contracts alone see.
 pub trait QueueName {
+    ghost use Rattle.line_model.specs.basics.Records as records;
     ghost use Rattle.shared_work.specs.queue.Passes.{QueueId};
 
     ghost queue: { QueueId };
+
+    ghost ran: { records.Piece → records.PieceReport → Type 0 };
 }
 
 impl QueueName for Brand {
     ghost use Rattle.workers.specs.Vouching.{no_queue};
 
     ghost queue = { no_queue };
+
+    ghost ran = { λ piece report. Unit {0} };
 }
 
-/// Vouches for the reports of pieces that were fed to the queue of this name. Contracts see the pieces that it knows of.
+/// Vouches for the reports of pieces that were fed to the queue of this name and run as it says. Contracts see the pieces that
+/// it knows of.
 #[derive(Drop)]
 pub struct PieceWitness<'a, P: Plan, N: QueueName, A: Allocator> {
     pub(crate) work: &'a Work<P, A>,
@@ -57,12 +63,14 @@ impl<'a, P: Plan, N: QueueName, A: Allocator> PieceWitness<'a, P, N, A> {
         }
     }
 
-    /// Each report that it vouches for is the value of the piece of its id among those that were fed. They are as many
-    /// as the record of the feeder says.
+    /// Each report that it vouches for is the value of the piece of its id among those that were fed, and of one that was
+    /// run. They are as many as the record of the feeder says.
     pub fn confirm(self, pass: FeederPass<A>)
         requires { pass.queue ≡ N.queue }
-        ensures fed { (r : records.PieceReport) → IsValueOfOne self.entry r
+        ensures fed { (r : records.PieceReport) → IsRunOfOne N.ran self.entry r
             → IsValue (Some pass.pieces) r }
+        ensures runs { (r : records.PieceReport) → IsRunOfOne N.ran self.entry r
+            → IsRunOfOne N.ran pass.pieces r }
         ensures number { length pass.pieces ≡ pass.record_of.fed }
     {
         let PieceWitness {
@@ -76,9 +84,9 @@ impl<'a, P: Plan, N: QueueName, A: Allocator> PieceWitness<'a, P, N, A> {
 
 impl<'a, P: Plan, N: QueueName, A: Allocator> shared_work::findings::Witness
     for PieceWitness<'a, P, N, A> {
-    ghost use Rattle.workers.specs.Vouching.{IsValueOfOne};
+    ghost use Rattle.workers.specs.Vouching.{IsRunOfOne};
 
-    ghost vouches = { λ pieces report. IsValueOfOne pieces report };
+    ghost vouches = { λ pieces report. IsRunOfOne N.ran pieces report };
 
     fn learn(&mut self, other: PieceWitness<'a, P, N, A>) {
         let PieceWitness {

@@ -106,6 +106,8 @@ struct Holding<'a> {
 }
 
 impl Gate for Holding<'_> {
+    ghost ran = { λ gate piece report. Unit {0} };
+
     fn run<A: Allocator + Copy>(
         &self,
         alloc: A,

@@ -46,6 +46,8 @@ pub struct BothMachines<'a> {
 }
 
 impl Gate for BothMachines<'_> {
+    ghost ran = { λ gate piece report. Unit {0} };
+
     fn run<A: Allocator + Copy>(
         &self,
         alloc: A,

@@ -137,6 +137,8 @@ struct MeetingGate<'a, 'm, G> {
 }
 
 impl<G: Gate> Gate for MeetingGate<'_, '_, G> {
+    ghost ran = { λ gate piece report. Unit {0} };
+
     fn run<A: Allocator + Copy>(
         &self,
         alloc: A,

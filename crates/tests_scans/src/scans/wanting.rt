@@ -22,6 +22,8 @@ struct Wanting {
 }
 
 impl Gate for Wanting {
+    ghost ran = { λ gate piece report. Unit {0} };
+
     fn run<A: Allocator + Copy>(
         &self,
         alloc: A,

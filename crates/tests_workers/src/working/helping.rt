@@ -24,6 +24,8 @@ struct Helping {
 }
 
 impl Gate for Helping {
+    ghost ran = { λ gate piece report. Unit {0} };
+
     fn run<A: Allocator + Copy>(
         &self,
         alloc: A,

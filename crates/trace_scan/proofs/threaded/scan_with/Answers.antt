@@ -6,7 +6,7 @@ use Rattle.line_model.specs.packets.Says.{items_of}
 use Rattle.line_model.specs.text.Text.{rows}
 use Rattle.live_report.proofs.ReportLemmas.{reported_by, taken_by}
 use Rattle.trace_scan.proofs.ScanLemmas.{memory_refused, report_is, write_refused}
-use Rattle.trace_scan.proofs.ThreadedLemmas.{memory_worked, of_walk, part_taken, stop_no_write, stop_worked, totals_are, write_worked}
+use Rattle.trace_scan.proofs.ThreadedLemmas.{memory_worked, of_walk, part_taken, runs_are, stop_no_write, stop_worked, totals_are, write_worked}
 use Rattle.line_model.specs.declared.fault.Fault.{Fault}
 use Rattle.line_model.specs.declared.fault.Fault.TheVariants.{Memory, Write}
 use Rattle.trace_scan.specs.Readings.{in_flight}
@@ -20,19 +20,19 @@ returns-in_err-report-clause-refused g c text told =
     let read = c.in_ok-parts.ensures.parts.told text told in
     passed_on c.from_residual-in_err-report.result c.in_err-report.field-0.0 _ c.from_residual-in_err-report.ensures.1
     (memory_refused in_flight text (g.S.Source.left c.work_on_trace.new.source) (g.S.Source.before c.work_on_trace.new.source) c.in_err-report.field-0.0
-    (c.in_err-report.ensures.plan c.in_ok-parts.parts.read.interface (items_of c.in_ok-parts.parts.read.interface (rows text)) (of_walk (option_map trace_plan (g.S.Source.left c.args.source.now)) c.args.workers text c.in_ok-parts.ensures.parts.fed c.in_ok-parts.parts.read c.in_ok-parts.parts.gathered read.0 c.in_ok-parts.ensures.parts.whole)) read.1 read.2 read.0.sound)
+    (c.in_err-report.ensures.plan c.in_ok-parts.parts.read.interface (items_of c.in_ok-parts.parts.read.interface (rows text)) (of_walk (option_map trace_plan (g.S.Source.left c.args.source.now)) (g.G.Gate.ran c.args.gate.now) c.args.workers text c.in_ok-parts.ensures.parts.fed c.in_ok-parts.parts.read c.in_ok-parts.parts.gathered read.0 c.in_ok-parts.ensures.parts.whole)) read.1 read.2 read.0.sound)
 
 pub returns-clause-reported : goal.returns-clause-reported
 returns-clause-reported g c text told =
     let read = (c.in_ok-parts.ensures.parts.told text told).0 in
     let is = report_is text c.in_ok-parts.parts.read.interface c.in_ok-report.report read.sound read.header
-    (c.in_ok-report.ensures.report c.in_ok-parts.parts.read.interface (items_of c.in_ok-parts.parts.read.interface (rows text)) (of_walk (option_map trace_plan (g.S.Source.left c.args.source.now)) c.args.workers text c.in_ok-parts.ensures.parts.fed c.in_ok-parts.parts.read c.in_ok-parts.parts.gathered read c.in_ok-parts.ensures.parts.whole)) in
+    (c.in_ok-report.ensures.report c.in_ok-parts.parts.read.interface (items_of c.in_ok-parts.parts.read.interface (rows text)) (of_walk (option_map trace_plan (g.S.Source.left c.args.source.now)) (g.G.Gate.ran c.args.gate.now) c.args.workers text c.in_ok-parts.ensures.parts.fed c.in_ok-parts.parts.read c.in_ok-parts.parts.gathered read c.in_ok-parts.ensures.parts.whole)) in
     let reported = reported_by text c.in_ok-report.report (g.K.Sink.taken c.args.sink.now) (g.K.Sink.taken c.write_report.new.sink) is c.in_ok-write_report.ensures.ok in
     record { sound = reported.sound; taken = reported.taken; counted = ap (λ r. r.summary) c.report.view_is ∙ reported.counted }
 
 pub returns-clause-totals : goal.returns-clause-totals
 returns-clause-totals g c text told =
-    totals_are (option_map trace_plan (g.S.Source.left c.args.source.now)) c.args.workers text c.in_ok-parts.ensures.parts.fed c.in_ok-parts.parts.read c.in_ok-parts.parts.gathered
+    totals_are (option_map trace_plan (g.S.Source.left c.args.source.now)) (g.G.Gate.ran c.args.gate.now) c.args.workers text c.in_ok-parts.ensures.parts.fed c.in_ok-parts.parts.read c.in_ok-parts.parts.gathered
     (c.in_ok-parts.ensures.parts.told text told).0 c.in_ok-parts.ensures.parts.whole
 
 pub returns-in_err-write_report-clause-refused : goal.returns-in_err-write_report-clause-refused
@@ -45,7 +45,7 @@ pub returns-in_err-write_report-clause-taken : goal.returns-in_err-write_report-
 returns-in_err-write_report-clause-taken g c text told =
     let read = (c.in_ok-parts.ensures.parts.told text told).0 in
     let is = report_is text c.in_ok-parts.parts.read.interface c.in_ok-report.report read.sound read.header
-    (c.in_ok-report.ensures.report c.in_ok-parts.parts.read.interface (items_of c.in_ok-parts.parts.read.interface (rows text)) (of_walk (option_map trace_plan (g.S.Source.left c.args.source.now)) c.args.workers text c.in_ok-parts.ensures.parts.fed c.in_ok-parts.parts.read c.in_ok-parts.parts.gathered read c.in_ok-parts.ensures.parts.whole)) in
+    (c.in_ok-report.ensures.report c.in_ok-parts.parts.read.interface (items_of c.in_ok-parts.parts.read.interface (rows text)) (of_walk (option_map trace_plan (g.S.Source.left c.args.source.now)) (g.G.Gate.ran c.args.gate.now) c.args.workers text c.in_ok-parts.ensures.parts.fed c.in_ok-parts.parts.read c.in_ok-parts.parts.gathered read c.in_ok-parts.ensures.parts.whole)) in
     passed_on c.from_residual-in_err-write_report.result c.in_err-write_report.field-0.0 _ c.from_residual-in_err-write_report.ensures.1
     (taken_by text c.in_ok-report.report (g.K.Sink.taken c.args.sink.now) (g.K.Sink.taken c.write_report.new.sink) c.in_err-write_report.field-0.0 is c.in_err-write_report.ensures.write c.in_err-write_report.ensures.part)
 
@@ -57,7 +57,7 @@ merge_wants : (g : Over) (c : goal.After-drop-shares g) → c.in_err-report.fiel
 merge_wants g c =
     let read = c.in_ok-parts.ensures.parts.of_text in
     c.in_err-report.ensures.plan c.in_ok-parts.parts.read.interface (items_of c.in_ok-parts.parts.read.interface (rows read.0))
-    (of_walk (option_map trace_plan (g.S.Source.left c.args.source.now)) c.args.workers read.0 c.in_ok-parts.ensures.parts.fed c.in_ok-parts.parts.read c.in_ok-parts.parts.gathered read.1 c.in_ok-parts.ensures.parts.whole)
+    (of_walk (option_map trace_plan (g.S.Source.left c.args.source.now)) (g.G.Gate.ran c.args.gate.now) c.args.workers read.0 c.in_ok-parts.ensures.parts.fed c.in_ok-parts.parts.read c.in_ok-parts.parts.gathered read.1 c.in_ok-parts.ensures.parts.whole)
 
 pub returns-in_err-report-clause-kinds : goal.returns-in_err-report-clause-kinds
 returns-in_err-report-clause-kinds g c = passed_on c.from_residual-in_err-report.result c.in_err-report.field-0.0 _ c.from_residual-in_err-report.ensures.1 (memory_worked c.in_err-report.field-0.0 (merge_wants g c))
@@ -76,7 +76,7 @@ returns-in_err-write_report-clause-part g c e =
     let text = c.in_ok-parts.ensures.parts.of_text.0 in
     let read = c.in_ok-parts.ensures.parts.of_text.1 in
     let is = report_is text c.in_ok-parts.parts.read.interface c.in_ok-report.report read.sound read.header
-    (c.in_ok-report.ensures.report c.in_ok-parts.parts.read.interface (items_of c.in_ok-parts.parts.read.interface (rows text)) (of_walk (option_map trace_plan (g.S.Source.left c.args.source.now)) c.args.workers text c.in_ok-parts.ensures.parts.fed c.in_ok-parts.parts.read c.in_ok-parts.parts.gathered read c.in_ok-parts.ensures.parts.whole)) in
+    (c.in_ok-report.ensures.report c.in_ok-parts.parts.read.interface (items_of c.in_ok-parts.parts.read.interface (rows text)) (of_walk (option_map trace_plan (g.S.Source.left c.args.source.now)) (g.G.Gate.ran c.args.gate.now) c.args.workers text c.in_ok-parts.ensures.parts.fed c.in_ok-parts.parts.read c.in_ok-parts.parts.gathered read c.in_ok-parts.ensures.parts.whole)) in
     part_taken c.in_err-write_report.field-0.0 text (g.K.Sink.taken c.args.sink.now) (g.K.Sink.taken c.write_report.new.sink) read.sound c.in_err-write_report.ensures.write
     (taken_by text c.in_ok-report.report (g.K.Sink.taken c.args.sink.now) (g.K.Sink.taken c.write_report.new.sink) c.in_err-write_report.field-0.0 is c.in_err-write_report.ensures.write c.in_err-write_report.ensures.part)
 
@@ -85,11 +85,11 @@ returns-clause-of_text g c =
     let text = c.in_ok-parts.ensures.parts.of_text.0 in
     let read = c.in_ok-parts.ensures.parts.of_text.1 in
     let is = report_is text c.in_ok-parts.parts.read.interface c.in_ok-report.report read.sound read.header
-    (c.in_ok-report.ensures.report c.in_ok-parts.parts.read.interface (items_of c.in_ok-parts.parts.read.interface (rows text)) (of_walk (option_map trace_plan (g.S.Source.left c.args.source.now)) c.args.workers text c.in_ok-parts.ensures.parts.fed c.in_ok-parts.parts.read c.in_ok-parts.parts.gathered read c.in_ok-parts.ensures.parts.whole)) in
+    (c.in_ok-report.ensures.report c.in_ok-parts.parts.read.interface (items_of c.in_ok-parts.parts.read.interface (rows text)) (of_walk (option_map trace_plan (g.S.Source.left c.args.source.now)) (g.G.Gate.ran c.args.gate.now) c.args.workers text c.in_ok-parts.ensures.parts.fed c.in_ok-parts.parts.read c.in_ok-parts.parts.gathered read c.in_ok-parts.ensures.parts.whole)) in
     let reported = reported_by text c.in_ok-report.report (g.K.Sink.taken c.args.sink.now) (g.K.Sink.taken c.write_report.new.sink) is c.in_ok-write_report.ensures.ok in (
       text,
       record { sound = reported.sound; taken = reported.taken; counted = ap (λ r. r.summary) c.report.view_is ∙ reported.counted },
-      totals_are (option_map trace_plan (g.S.Source.left c.args.source.now)) c.args.workers text c.in_ok-parts.ensures.parts.fed c.in_ok-parts.parts.read c.in_ok-parts.parts.gathered read c.in_ok-parts.ensures.parts.whole,
+      totals_are (option_map trace_plan (g.S.Source.left c.args.source.now)) (g.G.Gate.ran c.args.gate.now) c.args.workers text c.in_ok-parts.ensures.parts.fed c.in_ok-parts.parts.read c.in_ok-parts.parts.gathered read c.in_ok-parts.ensures.parts.whole,
     )
 
 pub returns-in_err-parts-clause-unasked : goal.returns-in_err-parts-clause-unasked
@@ -139,3 +139,8 @@ returns-in_err-write_report-clause-of_text g c = IfOk-from_err _ _ c.from_residu
 
 pub returns-in_err-write_report-clause-shares : goal.returns-in_err-write_report-clause-shares
 returns-in_err-write_report-clause-shares g c = IfOk-from_err _ _ c.from_residual-in_err-write_report.ensures.0
+
+pub returns-clause-runs : goal.returns-clause-runs
+returns-clause-runs g c text told =
+    runs_are (option_map trace_plan (g.S.Source.left c.args.source.now)) (g.G.Gate.ran c.args.gate.now) c.args.workers text c.in_ok-parts.ensures.parts.fed c.in_ok-parts.parts.read c.in_ok-parts.parts.gathered
+    (c.in_ok-parts.ensures.parts.told text told).0 c.in_ok-parts.ensures.parts.whole

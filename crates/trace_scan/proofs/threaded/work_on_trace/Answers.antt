@@ -16,8 +16,8 @@ pub returns-in-Ok-clause-parts : goal.returns-in-Ok-clause-parts
 returns-in-Ok-clause-parts g c =
     let w = c.in-Ok.ensures.worked in
     let same : c.in-Ok.worked.task.source.now ≡ c.source-1.given.0 = search rules in
-    subst (λ s. IfOk c.first_fault.result (AreScanParts g.P.Plan.pieces c.args.crew.workers (g.S.Source.left c.args.source.now) (g.S.Source.left s) (g.S.Source.before s))) same
-    (parts_are c.first_fault.result c.in-Ok.worked.task.outcome c.in-Ok.worked.gathered g.P.Plan.pieces c.args.crew.workers (g.S.Source.left c.args.source.now) (g.S.Source.left c.in-Ok.worked.task.source.now) (g.S.Source.before c.in-Ok.worked.task.source.now) _ w.0 c.first_fault.ensures.both w.1.1 w.2)
+    subst (λ s. IfOk c.first_fault.result (AreScanParts g.P.Plan.pieces (g.G.Gate.ran c.args.crew.gate.now) c.args.crew.workers (g.S.Source.left c.args.source.now) (g.S.Source.left s) (g.S.Source.before s))) same
+    (parts_are c.first_fault.result c.in-Ok.worked.task.outcome c.in-Ok.worked.gathered g.P.Plan.pieces (g.G.Gate.ran c.args.crew.gate.now) c.args.crew.workers (g.S.Source.left c.args.source.now) (g.S.Source.left c.in-Ok.worked.task.source.now) (g.S.Source.before c.in-Ok.worked.task.source.now) _ w.0 c.first_fault.ensures.both w.1.1 w.2)
 
 pub returns-in-Ok-clause-unasked : goal.returns-in-Ok-clause-unasked
 returns-in-Ok-clause-unasked g c none =

@@ -11,6 +11,7 @@ returns-clause-whole g c =
     let posted = ap (sum_by (λ (t : Totals). t.posts)) e.each in record {
       posted = e.reports;
       of_fed = record { distinct = e.reports.distinct; values = λ k d lt. c.confirm.ensures.fed _ (e.vouched k d lt) };
+      runs = λ k d lt. c.confirm.ensures.runs _ (e.vouched k d lt);
       number = shares ∙ (posted ∙ (c.requires.posted ∙ sym c.confirm.ensures.number));
       sums = e.totals;
       of_shares = e.sums;

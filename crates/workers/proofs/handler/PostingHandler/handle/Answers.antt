@@ -5,8 +5,8 @@ use Rattle.std.proofs.lemmas.Result.{IfOk-from_err, err_from_is_err_and}
 use Rattle.line_model.specs.declared.fault.Fault.TheVariants.{Memory}
 use Rattle.line_model.specs.pieces.Plans.{value}
 use Rattle.line_model.specs.work.Book.{IsValue}
-use Rattle.workers.specs.Vouching.{IsValueOfOne}
-use Rattle.workers.proofs.Pieces.{values_are, values_of}
+use Rattle.workers.specs.Vouching.{IsRunOfOne}
+use Rattle.workers.proofs.Pieces.{values_are, runs_of}
 use Rattle.workers.proofs.handler.PostingHandler.handle.Goals as goal
 
 pub loop-init : goal.loop-init
@@ -18,7 +18,9 @@ returns-in-Ok-clause-refused g c = tt
 pub post-requires-clause-vouched : goal.post-requires-clause-vouched
 post-requires-clause-vouched g c =
     let pieces = c.witness_of.ensures.witness.1 ∙ ap (λ v. v.pieces) c.loop.invariant.pass in
-    subst (λ l. All (IsValueOfOne l) c.loop.reports) (sym pieces) (subst (All (IsValueOfOne c.args.pass.now.pieces)) (sym c.loop.invariant.values) (values_of c.args.pass.now.pieces c.args.bundle.now c.requires.taken))
+    let ran = g.L.QueueName.ran in
+    let runs : All (λ p. ran p (value p)) c.args.bundle.now = λ k d lt. c.requires.queue.2 _ _ (c.in_ok-reports.ensures.ran k d lt) in
+    subst (λ l. All (IsRunOfOne ran l) c.loop.reports) (sym pieces) (subst (All (IsRunOfOne ran c.args.pass.now.pieces)) (sym c.loop.invariant.values) (runs_of ran c.args.pass.now.pieces c.args.bundle.now c.requires.taken runs))
 
 pub loop-preserved : goal.loop-preserved
 loop-preserved g c =

@@ -1,1 +1,0 @@
--- There is at most one peak of a count.
