@@ -14,8 +14,7 @@ loop-piece-preserved g c =
     let more : done ++ c.piece-item.result ∷ [] ≡ take (c.loop-piece.piece-index + 1) c.parts.result.0.now =
     ap (λ p. done ++ p ∷ []) c.piece-item.is ∙ sym (take_more c.parts.result.0.now c.loop-piece.piece-index c.piece-item.result c.loop-piece-test.true) in
     let run = subst (g.Self.Gate.ran c.args.self.now c.piece-item.result) c.in_ok-run.ensures.value c.in_ok-run.ensures.ran in
-    let runs = All-more (λ p. g.Self.Gate.ran c.args.self.now p (value p)) done c.piece-item.result c.loop-piece.invariant.1 run in
-    (
+    let runs = All-more (λ p. g.Self.Gate.ran c.args.self.now p (value p)) done c.piece-item.result c.loop-piece.invariant.1 run in (
       c.in_ok-reports.ensures ∙ value_more _ _ done c.piece-item.result c.loop-piece.invariant.0 c.in_ok-run.ensures.value ∙ ap (map value) more,
       subst (All (λ p. g.Self.Gate.ran c.args.self.now p (value p))) more runs,
     )
