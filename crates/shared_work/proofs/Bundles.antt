@@ -1,6 +1,6 @@
 -- Each step of a pass keeps the rule of a queue of bundles.
-use Rattle.std.proofs.Common.{◌≡◌, ℕ, zero, suc, ◌+◌, ◌<◌, List, [], ◌∷◌, ◌++◌, length, set, Some, true, false, refl, sym, ap, ◌∙◌, subst, arith, length-append, append-nil}
-use Rattle.std.specs.Prelude.{All, MatchOption, Option, None, slice_get}
+use Rattle.std.proofs.Common.{◌≡◌, ℕ, zero, suc, ◌+◌, ◌<◌, List, [], ◌∷◌, ◌++◌, length, set, Some, true, false, refl, sym, ap, ◌∙◌, subst, arith, append-nil}
+use Rattle.std.specs.Prelude.{All, MatchOption, Option, None}
 use Rattle.std.proofs.lemmas.List.{append_assoc}
 use Rattle.std.proofs.lemmas.List.Elements.{All-push}
 use mathlib.Core.Option.{some, some-ne-none}
@@ -252,9 +252,3 @@ one_planned plan n p is (suc k) q e = absurd (cc)
 pub pop_still : (plan : KnownPlan) (o : Option (List Entry)) (v w : Notes) (H : Type 0) → IsWorker v.record_of → MatchOption o ((w ≡ v) × H) (λ x. TookAll plan v x w) → IsWorker w.record_of
 pop_still plan None v w H is rule = subst (λ (n : Notes). IsWorker n.record_of) (sym rule.0) is
 pop_still plan (Some x) v w H is rule = took_still plan x v w is rule
-
--- the last piece of a bundle of one
-pub only_piece : (front : List Piece) (x p : Piece) → front ++ x ∷ [] ≡ p ∷ [] → x ≡ p
-only_piece [] x p same = cc
-only_piece (y ∷ []) x p same = absurd (cc)
-only_piece (y ∷ z ∷ front) x p same = absurd (cc)

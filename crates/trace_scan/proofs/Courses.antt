@@ -116,10 +116,6 @@ pub fault_at : (known : Option (List ℕ)) (text : List ℕ) (f : Fault) → Beg
 fault_at None text f begins h kinds = record { kinds = kinds; fault = tt }
 fault_at (Some whole) text f begins h kinds = record { kinds = kinds; fault = subst (λ xs. IsFaultOf (early xs) f) (sym (ap (take (length text)) begins.1 ∙ take-append_seam text begins.0)) h }
 
-pub memory_within : (known : Option (List ℕ)) (size : ℕ) (f : Fault) → f ≡ Memory → IsFaultWithin known size f
-memory_within None size f e = record { kinds = subst IsTextFault (sym e) tt; fault = tt }
-memory_within (Some whole) size f e = record { kinds = subst IsTextFault (sym e) tt; fault = subst (IsFaultOf (early (take size whole))) (sym e) tt }
-
 -- ---- what is told at the end
 
 reading_fault : (f : Fault) → IsTextFault f → IsReadingFault f

@@ -55,10 +55,6 @@ part_fed known queue pass after sent reached c d bytes pieces len so within begi
   no_ends = kept.ends;
 }
 
--- no piece was fed
-pub fed_nothing : (pass : PassView) → pass.record_of.ends ≡ 0 → HasFedOn pass pass
-fed_nothing pass none = record { kept = record { ends = none; pending = refl; done = refl; taken = refl }; same = refl }
-
 -- some were fed, and then others
 pub fed_both : (a b c : PassView) → HasFedOn a b → HasFedOn b c → HasFedOn a c
 fed_both a b c first more = record { kept = fed_on a.record_of b.record_of c.record_of first.kept more.kept; same = more.same ∙ first.same }

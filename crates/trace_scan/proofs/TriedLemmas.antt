@@ -16,10 +16,10 @@ use Rattle.trace_scan.proofs.ScanLemmas.{end_refused, report_scan}
 use Rattle.line_model.specs.declared.interface.Interface.{Interface}
 use Rattle.line_model.specs.basics.Records.{Row, ReadRow}
 use Rattle.line_model.specs.packets.Says.{items_of}
-use Rattle.line_model.specs.text.Text.{early_head, early_rows, fault, rows}
+use Rattle.line_model.specs.text.Text.{early_head, early_rows, rows}
 use Rattle.channel_run.specs.declared.run.Channel.{Ghosts as Machine}
 use Rattle.trace_text.specs.Progress.{Progress}
-use Rattle.trace_text.specs.StandsFor.{IsFaultOf, IsTextFault, StandsFor, ReadsChunk}
+use Rattle.trace_text.specs.StandsFor.{IsTextFault, StandsFor, ReadsChunk}
 use Rattle.trace_scan.specs.Trials.{AreTrials, AreTried, HasTaken, IsTriedText, SaidRows}
 use Rattle.trace_scan.specs.declared.trials.Trials.{Trials}
 use Rattle.trace_scan.specs.declared.tried_text.TriedText.{TriedText}
@@ -72,14 +72,6 @@ course_end m text chunk rest t next c ends kept same =
     })
 
 -- ---- what a refusal says, and what was written
-
-text_refusal : (text : List ℕ) (f : Fault) → IsFaultOf (fault text) f → IsReportRefusal text f
-text_refusal text Memory h = tt
-text_refusal text (Trace line kind) h = h
-text_refusal text _ h = absurd h
-
-pub end_refusal : (text : List ℕ) (f : Fault) → IsFaultOf (fault text) f → IsReportRefusal text f
-end_refusal text f h = text_refusal text f h
 
 text_kind : (f : Fault) → IsTextFault f → IsReportFault f
 text_kind Memory h = tt
