@@ -9,6 +9,7 @@ from x25tools_lib.halves import Halves
 
 from .calls import BYTES, Calls
 from .ladders import Ladders
+from .lanes import Lanes
 from .rows import SECOND, SIDES, Row, RowForms, in_seconds, microseconds
 from .suspicions import Debts
 from .texts import encoded
@@ -124,13 +125,14 @@ class Facts:
     """The facts of a page so far."""
 
     def __init__(self, halves: Halves) -> None:
-        self.halves, self.has_halves = halves, bool(halves)
+        self.halves, self.has_halves, self.has_gaps = halves, bool(halves), False
         # The rows of each side, and of what was recorded of one side alone its findings and those rows, and the calls
         # that ended by a packet of the side that was not recorded.
         self.rows_of, self.half_counts, self.half_rows = [0, 0], [0, 0], 0
         self.unrecorded_ends: list[int] = []
         self.forms, self.ladders, self.calls = RowForms(), Ladders(PAGE - WORDS), Calls(CALLS)
         self.times, self.debts, self.use = Times(), Debts(self.forms.frames), Use()
+        self.lanes = Lanes(self)
         self.broken: dict[str, Broken] = {}
         self.marks, self.restarts = Thinned(MARKS), Thinned(MARKS // 4)
         self.accounts, self.settings = Budgeted(ACCOUNTS), Budgeted(SETTINGS)
@@ -155,10 +157,11 @@ class Facts:
 
     def take(self, objects: Iterable[dict[str, Any]]) -> None:
         """Takes all objects of a trace."""
-        take_row, takers, forms = self.row, self.takers, self.forms
+        take_row, takers, forms, takes_flow = self.row, self.takers, self.forms, self.lanes.take
         for it in objects:
             if it["line"] == "row":
-                take_row(Row(it, forms))
+                if not takes_flow(it):
+                    take_row(Row(it, forms))
             elif taker := takers.get(it["line"]):
                 taker(it)
         self.finish()
@@ -209,10 +212,11 @@ class Facts:
                 self.forms.begin(time)
             self.times.add(packet, time)
         if row.is_quiet and not self.has_halves:
-            # Fast path: data and RR with which all goes well, the common case.
             self.use.flow(row, key)
             self.ladders.add(key, row)
+            self.lanes.begin(row, key)
         else:
+            self.lanes.end(row.channel)
             self.news(row, key)
 
     def news(self, row: Row, key: str) -> None:
@@ -316,7 +320,7 @@ class Facts:
         if self.halves:
             return of_halves(self.halves.all, counts, self.half_rows < self.sums["packets"])
         late = sum(it.late for it in self.use.waits.sums())
-        return verdict_of(self.sums["packets"], counts, late)
+        return verdict_of(self.sums["packets"], counts, late, self.has_gaps)
 
     def count_of(self, side: str) -> int:
         """How many findings a side has."""

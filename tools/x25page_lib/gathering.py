@@ -16,6 +16,7 @@ from x25tools_lib.ledger import Ledger
 from x25tools_lib.notes import Head
 from x25tools_lib.streams import Waiting, title_of
 from x25trace_lib.captures import is_trace
+from x25trace_lib.passing import HEADER
 from x25trace_lib.source import first_source
 
 from . import inputs
@@ -96,7 +97,9 @@ def opened_trace(words: argparse.Namespace, messages: Messages, waiting: Waiting
 
 def show_header(head: Head, messages: Messages) -> None:
     """Says which header was taken, and what of it was estimated; and what a trace says of halves."""
-    messages.show(f"header: {head.header}")
+    if head.header.startswith(HEADER.decode()):
+        # What has none is refused.
+        messages.show(f"header: {head.header}")
     if head.estimates:
         messages.show(f"estimated from what was seen: {', '.join(it.text for it in head.estimates)}")
     if not messages.is_capture:
@@ -125,6 +128,7 @@ def read(job: Job, messages: Messages, watch: Watch | None = None) -> Read:
             messages.add(line)
         show_header(head, messages)
         explanations, facts = scanner.explanations(), Facts(Halves(head))
+        facts.has_gaps = messages.has_gaps
         facts.use.begin(*(int(head.numbers.get(name) or standard) for name, standard in (("WIN", 2), ("MOD", 8))))
         scanner.report(facts, trace, watch)
     words_again = again(words, job.arguments, messages)

@@ -4,8 +4,9 @@ from __future__ import annotations
 from collections import deque
 from collections.abc import Iterator
 from dataclasses import dataclass, field
+from typing import Any
 
-from .rows import SIDES, Kept, Row, cut
+from .rows import SIDES, Kept, Place, Row, RowForms, cut
 from .texts import encoded
 
 # A ladder keeps its first rows, which show how the call was set up.
@@ -232,6 +233,11 @@ class Ladders:
         # Whether a ladder without a finding was left out, as all further ones are then.
         self.is_full = False
 
+    @property
+    def digits(self) -> int:
+        """How many hex digits of a row without a finding are kept."""
+        return LEVELS[self.level].digits
+
     def add(self, key: str, row: Row) -> None:
         """Takes a row of the ladder with a key."""
         ladder = self.ladders.get(key)
@@ -251,6 +257,21 @@ class Ladders:
             ladder.keep_text(row.forms.quiet(row, level.digits))
         else:
             ladder.place(row, level)
+        self.size += ladder.size - before
+        if self.size > self.budget:
+            self.shrink()
+
+    def flow(self, ladder: Ladder, it: dict[str, Any], place: Place, shown: str, forms: RowForms) -> None:
+        """Takes a quiet row of a ladder that is there, by its object, with so much of its octets as is kept."""
+        before, level, widest = ladder.size, LEVELS[self.level], len(it["hex"])
+        if widest > ladder.widest:
+            ladder.widest = widest
+        ladder.unmarked += 1
+        if level.edge == ALL and not ladder.is_waiting and not ladder.is_closed:
+            ladder.keep_text(forms.flowing(it, place, shown))
+        else:
+            text = forms.flowing(it, place, shown, has_last_frame=False)
+            ladder.place(Kept.flowing(text, it, place), level)
         self.size += ladder.size - before
         if self.size > self.budget:
             self.shrink()

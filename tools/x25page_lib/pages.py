@@ -63,7 +63,7 @@ class Page:
         facts, head, codes = self.read.facts, self.read.head, self.read.facts.codes()
         verdict = facts.verdict()
         # Of half a recording the header can't be judged.
-        self.warnings = [] if facts.halves else warnings(head.numbers, codes, facts.debts)
+        self.warnings = [] if facts.halves else warnings(head.numbers, codes, facts.debts, facts.has_gaps)
         return {
             "name": self.read.name,
             "again": self.read.again,

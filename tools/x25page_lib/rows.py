@@ -4,17 +4,17 @@ from __future__ import annotations
 from collections.abc import Hashable
 from functools import lru_cache
 from operator import itemgetter
-from typing import Any, Protocol
+from typing import Any, NamedTuple, Protocol
 
 from x25tools_lib.frames import Frames
 
-from .texts import encoded
+from .texts import encoded, plain
 
 SIDES = "TN"
 # Packets that are no news while all goes well, and members that are.
 FLOWING = {"data", "rr", "rnr", "interrupt", "interrupt_confirmation"}
 SHORT = {"send": "s", "receive": "r", "octets": "o", "more": "m", "qualified": "q", "delivery": "d"}
-BITS = (("more", '"m":true,'), ("qualified", '"q":true,'), ("delivery", '"d":true,'))
+BITS = (("more", "m"), ("qualified", "q"), ("delivery", "d"))
 OCTETS, FRAME = '"o":', '"frame":'
 # The members that each row has, and that a page has in other places than the others.
 EACH = ("packet", "side", "channel", "before", "after", "counted", "finding", "owed", "call", "time", "type", "hex")
@@ -100,6 +100,20 @@ def cut(text: str, digits: int) -> str:
     return text
 
 
+class Place(NamedTuple):
+    """Which side sent a packet, at which time and in which frame, as a page has it."""
+
+    side: int
+    time: int | None
+    frame: int | None
+
+
+def is_plain(text: str) -> bool:
+    """Whether a text stands in JSON as it is, as hex digits do."""
+    # isalnum of bytes takes a tenth of the time.
+    return text.encode("ascii", "replace").isalnum()
+
+
 class Kept:
     """A row that a page keeps: its text, and its place in sums."""
 
@@ -119,15 +133,18 @@ class Kept:
         _, is_other, frame = text.rpartition(FRAME)
         self.frame = int(frame.rstrip("}]")) if is_other else None
 
+    @classmethod
+    def flowing(cls, text: str, it: dict[str, Any], place: Place) -> Kept:
+        """A quiet row by its text and its object."""
+        kept = cls.__new__(cls)
+        kept.text, kept.packet, kept.side, kept.frame = text, it["packet"], place.side, place.frame
+        kept.code, kept.is_marked, kept.is_data, kept.octets = None, False, it["type"] == "data", it.get("octets", 0)
+        return kept
+
     def kept(self, level: Level) -> Kept:
         """The same with as many digits as a level keeps."""
         self.text = cut(self.text, level.digits * 8 if self.code else level.digits)
         return self
-
-
-def bits_of(it: dict[str, Any]) -> str:
-    """The bits of data that are 1."""
-    return "".join(text for name, text in BITS if it[name])
 
 
 class Table:
@@ -152,7 +169,7 @@ class RowForms:
         # The first time of the trace.
         self.begun: int | None = None
         self.step = lru_cache(REMEMBERED)(self.places)
-        self.steps: dict[str, str] = {}
+        self.steps: dict[str, list[int]] = {}
 
     def begin(self, time: int) -> None:
         """Takes the first time of the trace."""
@@ -177,7 +194,7 @@ class RowForms:
         """The array of a row, as the page has it, with so many digits of its octets."""
         time = "null" if row.time is None else self.since_begin(row.time)
         shown = row.hex[:digits]
-        text = f'"{shown}"' if shown.isascii() and shown.isalnum() else encoded(shown)
+        text = f'"{shown}"' if is_plain(shown) else encoded(shown)
         step = self.step(row.kind, row.before, row.after)
         return f"[{row.packet},{row.side},{step},{time},{text},{len(row.hex) // 2},{self.more(row)}]"
 
@@ -187,22 +204,33 @@ class RowForms:
 
     def quiet(self, row: Row, digits: int) -> str:
         """The array of a quiet row."""
-        it, shown, time = row.members, row.hex[:digits], row.time
-        if not (shown.isascii() and shown.isalnum()):
+        shown = row.hex[:digits]
+        if not is_plain(shown):
             return self.text(row, digits)
-        seconds = "null" if time is None else (time - (self.begun or 0)) / SECOND
-        step = self.steps.get(row.kind) or self.quiet_step(row.kind)
-        more = f'"r":{row.receive}'
-        if row.is_data:
-            bits = bits_of(it) if it["more"] or it["qualified"] or it["delivery"] else ""
-            more = f'"s":{it["send"]},{more},{bits}{OCTETS}{row.octets},"c":{row.segments}'
-        if row.frame is not None:
-            more += f",{FRAME}{row.frame}"
-        return f'[{row.packet},{row.side},{step},{seconds},"{shown}",{len(row.hex) // 2},{{{more}}}]'
+        return self.flowing(row.members, Place(row.side, row.time, row.frame), shown)
 
-    def quiet_step(self, kind: str) -> str:
+    def flowing(self, it: dict[str, Any], place: Place, shown: str, has_last_frame: bool = True) -> str:
+        """The array of a quiet row by its object, with these digits of its octets; its frame is last, or before its segments."""
+        side, time, frame = place
+        kind = it["type"]
+        seconds = None if time is None else (time - (self.begun or 0)) / SECOND
+        more: dict[str, Any] = {"r": it["receive"]}
+        if kind == "data":
+            more = {"s": it["send"], "r": it["receive"]}
+            if it["more"] or it["qualified"] or it["delivery"]:
+                more |= {short: True for name, short in BITS if it[name]}
+            more["o"] = it["octets"]
+            if frame is not None and not has_last_frame:
+                more["frame"] = frame
+            more["c"] = it["counted"]["segments"]
+        if frame is not None:
+            more["frame"] = frame
+        step = self.steps.get(kind) or self.quiet_step(kind)
+        return plain([it["packet"], side, *step, seconds, shown, len(it["hex"]) // 2, more])
+
+    def quiet_step(self, kind: str) -> list[int]:
         """The kind of a quiet row and its state, by their places."""
-        self.steps[kind] = self.places(kind, "d1", "d1")
+        self.steps[kind] = [self.types.place(kind), *[self.states.place("d1")] * 2]
         return self.steps[kind]
 
     def more(self, row: Row) -> str:

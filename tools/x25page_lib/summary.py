@@ -74,7 +74,7 @@ class Summary:
         lines += [f"  {number(many, 'call')} at once at most, first at {self.named(packet)}"] if packet else []
         lost = sum(it[1] for it in facts.not_counted)
         lines += [f"  {number(lost, 'data packet')} not counted"] if lost else []
-        doubts = [] if facts.halves else warnings(self.head.numbers, facts.codes(), facts.debts)
+        doubts = [] if facts.halves else warnings(self.head.numbers, facts.codes(), facts.debts, facts.has_gaps)
         return lines + [f"  the header may be wrong: {sentence}" for sentence, *_ in doubts]
 
     def findings(self) -> list[str]:

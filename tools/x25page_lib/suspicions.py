@@ -142,16 +142,19 @@ def of_both_sides(header: Numbers, codes: list[list[Any]]) -> Iterator[tuple[str
             )
 
 
-def of_debts(debts: Debts) -> Iterator[tuple[str, str]]:
-    """The sentence on errors after which the DCE went on."""
+def of_debts(debts: Debts, has_gaps: bool) -> Iterator[tuple[str, str]]:
+    """The sentence on errors after which the DCE went on, which what was not recorded may explain too."""
     many = sum(debts.unpaid.values())
     if not many:
         return
     code = max(debts.unpaid, key=lambda it: debts.unpaid[it])
+    reason = "the header is not that of the interface"
+    if has_gaps:
+        reason = f"packets are missing in the gaps of the recording, or {reason}"
     yield NUMBERS[code], (
         f"After {number(many, 'finding')} of the DTE (the first is {debts.frames.name(debts.first)}) the DCE did not do what it "
-        "had to: it went on as if nothing was wrong. Then the DTE was probably right, and the header is not that of "
-        "the interface. Data after such a finding is not counted, so the sums are too low."
+        f"had to: it went on as if nothing was wrong. Then the DTE was probably right, and {reason}. "
+        "Data after such a finding is not counted, so the sums are too low."
     )
 
 
@@ -171,9 +174,9 @@ def trial(again: Again) -> str:
     return f"{tried} {again}" if isinstance(again, str) else f"x25trace {again['all']} | {tried}"
 
 
-def warnings(header: Numbers, codes: list[list[Any]], debts: Debts) -> list[list[Any]]:
+def warnings(header: Numbers, codes: list[list[Any]], debts: Debts, has_gaps: bool = False) -> list[list[Any]]:
     """Each doubt in a sentence, with the number of the header that may be wrong and values to try."""
     debts.end()
-    found = [*of_both_sides(header, codes), *of_debts(debts)]
+    found = [*of_both_sides(header, codes), *of_debts(debts, has_gaps)]
     doubts = [[sentence, name, greater(header, name)] for name, sentence in found]
     return doubts + [[sentence, name, smaller(header, name)] for name, sentence in of_unseen(header, debts)]

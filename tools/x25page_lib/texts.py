@@ -20,6 +20,14 @@ def encoded(value: Any) -> str:
     return text
 
 
+def plain(value: Any) -> str:
+    """JSON of a value whose texts are letters and digits alone."""
+    if dumps:
+        text: str = dumps(value).decode()
+        return text
+    return WRITER.encode(value)
+
+
 def written(value: Any) -> str:
     """JSON in ASCII, by orjson where it is installed and can, which is faster."""
     if dumps:

@@ -138,22 +138,21 @@ class Use:
 
     def flow(self, row: Row, key: str) -> None:
         """Takes a quiet row: data that was counted, or an RR."""
-        time, segments = row.time, row.segments
-        if segments is not None:
-            self.segments.add(row.side, row.octets, segments)
-        if time is not None:
-            self.time = time
-            self.parts.add(time, 0 if segments is None else row.octets)
-            self.windows.data(row, key, time)
+        self.count(row)
+        if row.time is not None:
+            self.windows.data(row, key, row.time)
 
     def count(self, row: Row) -> None:
         """Takes what a row used."""
-        time, segments = row.time, row.segments
+        self.add(row.side, row.time, row.octets, row.segments)
+
+    def add(self, side: int, time: int | None, octets: int, segments: int | None) -> None:
+        """Takes the octets of a packet of a side, which count where they have segments."""
         if segments is not None:
-            self.segments.add(row.side, row.octets, segments)
+            self.segments.add(side, octets, segments)
         if time is not None:
             self.time = time
-            self.parts.add(time, 0 if segments is None else row.octets)
+            self.parts.add(time, 0 if segments is None else octets)
 
     def see(self, row: Row, key: str) -> None:
         """Takes what a row asks and answers, with the key of its ladder; no row of half a recording."""

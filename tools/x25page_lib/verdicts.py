@@ -45,12 +45,12 @@ def of_halves(halves: Sequence[Half], counts: Sequence[int], has_wholes: bool) -
     return Verdict(BAD if blamed else UNKNOWN, f"{sentence}. {rest}")
 
 
-def verdict_of(packets: int, counts: Sequence[int], late: int) -> Verdict:
-    """What is said where both sides were recorded; late are the requests that stayed open longer than their timers."""
+def verdict_of(packets: int, counts: Sequence[int], late: int, has_gaps: bool = False) -> Verdict:
+    """What is said where both sides were recorded, perhaps with gaps; late are the requests that outlasted their timers."""
     if not packets:
         return Verdict(UNKNOWN, "The trace has no packets.")
     if blamed := blame(counts):
-        return Verdict(BAD, upper(blamed))
+        return Verdict(BAD, upper(blamed) + (" The recording has gaps, which may be why." if has_gaps else ""))
     if late:
         noun = "request stayed open longer than its timer" if late == 1 else "requests stayed open longer than their timers"
         return Verdict(UNKNOWN, f"No packet breaks the protocol, but {late:,} {noun}.")

@@ -69,6 +69,26 @@ class Flow:
             spread.add(max(0, time - sent), packet, self.key)
         self.edges[side] = receive
 
+    def data(self, side: int, sent: Pair, receive: int | None, spreads: tuple[Spread, Spread]) -> None:
+        """Data of a side that was accepted, with its packet and its time."""
+        other, waiting = 1 - side, self.waiting[side]
+        if receive is not None and receive != self.edges[other]:
+            self.acknowledge(other, receive, sent[1], spreads[other])
+        waiting.append(sent)
+        if len(waiting) >= self.windows[side]:
+            self.look(side, *sent)
+        if self.closed[other] is not None or self.not_ready[other]:
+            self.look(other, *sent)
+
+    def ready(self, side: int, sent: Pair, receive: int | None, spreads: tuple[Spread, Spread], is_ready: bool = True) -> None:
+        """An RR of a side, or an RNR, with its packet and its time."""
+        other = 1 - side
+        if receive is not None and receive != self.edges[other]:
+            self.acknowledge(other, receive, sent[1], spreads[other])
+        self.not_ready[other] = not is_ready
+        if self.closed[other] is not None or not is_ready:
+            self.look(other, *sent)
+
     def look(self, side: int, packet: int, time: int) -> None:
         """Looks whether the window of a side is closed after a packet."""
         is_closed = self.not_ready[side] or len(self.waiting[side]) >= self.windows[side]
@@ -99,21 +119,19 @@ class Windows:
 
     def data(self, row: Row, key: str, time: int) -> None:
         """Data that was accepted, an RR or an RNR in d1."""
-        flow = self.flows.get(row.channel)
-        if flow is None:
-            windows = self.agreed.get(row.channel, self.standard)
-            flow = self.flows[row.channel] = Flow(windows, self.modulus, key)
-        side, other, packet, receive = row.side, 1 - row.side, row.packet, row.receive
-        if receive is not None and receive != flow.edges[other]:
-            flow.acknowledge(other, receive, time, self.spreads[other])
+        flow, sent = self.flow(row.channel, key), (row.packet, time)
         if row.is_data:
-            flow.waiting[side].append((packet, time))
-            if len(flow.waiting[side]) >= flow.windows[side]:
-                flow.look(side, packet, time)
+            flow.data(row.side, sent, row.receive, self.spreads)
         else:
-            flow.not_ready[other] = row.kind == "rnr"
-        if flow.closed[other] is not None or flow.not_ready[other]:
-            flow.look(other, packet, time)
+            flow.ready(row.side, sent, row.receive, self.spreads, row.kind != "rnr")
+
+    def flow(self, channel: int | None, key: str) -> Flow:
+        """The flow of a channel, which begins where there is none."""
+        flow = self.flows.get(channel)
+        if flow is None:
+            windows = self.agreed.get(channel, self.standard)
+            flow = self.flows[channel] = Flow(windows, self.modulus, key)
+        return flow
 
     def signal(self, row: Row, time: int) -> None:
         """Another row: one that changes the state ends the flow of its channel, and a restart that of all."""

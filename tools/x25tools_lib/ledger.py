@@ -125,9 +125,14 @@ class Ledger:
         """Whether no packet may be missing."""
         return not self.halves and not any(reason.damage for reason in self.counts)
 
+    @property
+    def has_gaps(self) -> bool:
+        """Whether octets of a connection or frames of a link were not recorded."""
+        return bool(self.counts[Reason.GAP] or self.counts[Reason.LOST_FRAME])
+
     def lines(self) -> list[str]:
         """The counts, a line each, in the order of the reasons, and what gaps mean."""
         lines = [f"left out: {reason.words}: {self.counts[reason]}" for reason in Reason if self.counts[reason]]
-        if self.counts[Reason.GAP] or self.counts[Reason.LOST_FRAME]:
+        if self.has_gaps:
             lines.append("the trace has gaps: findings after one may come from packets that were not recorded")
         return lines

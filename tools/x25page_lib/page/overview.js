@@ -44,8 +44,8 @@ function tiles() {
   const found = [
     tile(count(sums.packets), sums.packets === 1 ? "packet" : "packets", duration()),
     tile(count(sums.calls), sums.calls === 1 ? "call" : "calls"),
-    tile(count(sums.octets), "octets of data", "that were accepted"),
-    tile(count(sums.segments), "segments", "of 64 octets, as they are charged"),
+    tile(count(sums.octets), sums.octets === 1 ? "octet of data" : "octets of data", "accepted"),
+    tile(count(sums.segments), sums.segments === 1 ? "segment" : "segments", "of 64 octets, as they are charged"),
     tile(count(peak[0]), peak[0] === 1 ? "call at once" : "calls at once", atPeak),
     tile(count(lost), lost === 1 ? "data packet not counted" : "data packets not counted",
       lost ? "" : "all data was accepted"),

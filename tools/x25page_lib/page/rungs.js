@@ -91,17 +91,18 @@ function settingsText(settings) {
   return settings.map(text).join("; ");
 }
 
-// The name of a packet and its fields; with marks each bit is an element of its own.
+// The name of a packet and its fields, with commas between these; with marks each bit is an element of its own.
 function packetText(row, gap = GAP) {
   const { more } = row;
-  const parts = [draw("tspan", { class: "type" }, typeName(row.type).toUpperCase())];
-  if (more.s !== undefined) parts.push(`${gap}P(S) ${more.s}`);
-  if (more.r !== undefined) parts.push(`${gap}P(R) ${more.r}`);
+  const fields = [];
+  if (more.s !== undefined) fields.push(`P(S) ${more.s}`);
+  if (more.r !== undefined) fields.push(`P(R) ${more.r}`);
   for (const [bit, letter] of [["m", "M"], ["d", "D"], ["q", "Q"]]) {
-    if (more[bit]) parts.push(gap, draw("tspan", { class: "bit" }, letter));
+    if (more[bit]) fields.push(draw("tspan", { class: "bit" }, letter));
   }
-  if (more.o !== undefined && row.type === "data") parts.push(`${gap}${plural(more.o, "octet")}`);
-  return parts;
+  if (more.o !== undefined && row.type === "data") fields.push(plural(more.o, "octet"));
+  const name = draw("tspan", { class: "type" }, typeName(row.type).toUpperCase());
+  return [name, ...fields.flatMap((field, at) => [at ? `,${gap}` : gap, field])];
 }
 
 function stateChip(state, x, y) {
