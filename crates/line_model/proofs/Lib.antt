@@ -45,3 +45,7 @@ pub mod ItemLemmas
 pub mod DeviceLemmas
 pub mod WrittenLemmas
 pub mod Saying
+pub mod GapMachines
+pub mod WithoutGaps
+pub mod OtherForms
+pub mod WorkedGapTraces
