@@ -71,6 +71,7 @@ fn ended<P: Page>(notes: &mut P, ended: Option<u32>, how: Option<How>) {
         Some(How::N) => " by the DCE",
         Some(How::Collision) => " by a call collision",
         Some(How::Restart) => " by a restart",
+        Some(How::Gap) => ", after an end in a gap",
         None => "",
     })
 }

@@ -85,6 +85,7 @@ fn ending(how: How) -> &'static str {
         How::N => " ends, cleared by the DCE",
         How::Collision => " ends, cancelled by a call request",
         How::Restart => " ends with a restart",
+        How::Gap => " has ended in a gap",
     }
 }
 

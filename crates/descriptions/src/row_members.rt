@@ -97,6 +97,7 @@ pub fn how_word(how: How) -> &'static str {
         How::N => "N",
         How::Collision => "collision",
         How::Restart => "restart",
+        How::Gap => "gap",
     }
 }
 

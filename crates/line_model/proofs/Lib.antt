@@ -44,3 +44,7 @@ pub mod ItemLemmas
 pub mod DeviceLemmas
 pub mod WrittenLemmas
 pub mod Saying
+pub mod GapMachines
+pub mod WithoutGaps
+pub mod OtherForms
+pub mod WorkedGapTraces

@@ -2,8 +2,8 @@
 use Rattle.std.proofs.Common.{◌≡◌, ◌∷◌, [], ◌++◌, ℕ, Bool, true, false, Option, Some, None, List, refl, ◌∙◌, ap}
 use Rattle.std.proofs.lemmas.List.{append-nil}
 use Rattle.std.specs.List.{filter, flat_map}
-use Rattle.line_model.specs.observer.Machine.{Machine, Observer, routed, after}
-use Rattle.line_model.specs.observer.MachineEvents.{stamp, closed_events, row_events, row_events_routed, walk_events}
+use Rattle.line_model.specs.observer.Machine.{Machine, Observer, routed, steps_all, renewed, after}
+use Rattle.line_model.specs.observer.MachineEvents.{stamp, closed_events, ended_events, line_row_events, row_events, row_events_by, walk_events}
 use Rattle.line_model.specs.pieces.Merge.{is_line}
 use Rattle.line_model.specs.observer.Peak.{how_many}
 use Rattle.line_model.proofs.OncePerRow.{kept_none}
@@ -29,14 +29,20 @@ closed_dropped m o x true false = at m.channels
 closed_dropped m o x true true = refl
 closed_dropped m o x false c = refl
 
+ended_dropped : {X L S E : Type 0} → (m : Machine X L S E) (o : Observer L S) (x : X) (b : Bool) → filter is_line (ended_events m o x b) ≡ []
+ended_dropped m o x true = closed_dropped m o x true false
+ended_dropped m o x false = closed_dropped m o x (m.ready o.line) (m.ready (m.line_after o.line x))
+
 line_of_row : {X L S E : Type 0} → (m : Machine X L S E) (f : E → Bool) → ((e : ℕ) (l : L) (x : X) → how_many f (m.line_events e l x) ≡ 0)
-    → (o : Observer L S) (x : X) (r : Option ℕ) → filter (λ v. f v.what) (filter is_line (row_events_routed m o x r)) ≡ []
-line_of_row m f h o x (Some k) = ap (filter (λ v. f v.what)) (channel_dropped o.epoch k x (m.channel_events o.epoch k (o.states k) x))
-line_of_row m f h o x None =
-    let own = stamp o.epoch None x (m.line_events o.epoch o.line x) in
-    let closed = closed_events m o x (m.ready o.line) (m.ready (m.line_after o.line x)) in
+    → (o : Observer L S) (x : X) (a : Bool) (r : Option ℕ) → filter (λ v. f v.what) (filter is_line (row_events_by m o x a r)) ≡ []
+line_of_row m f h o x false (Some k) = ap (filter (λ v. f v.what)) (channel_dropped o.epoch k x (m.channel_events o.epoch k (o.states k) x))
+line_of_row m f h o x true r =
+    ap (filter (λ v. f v.what)) (line_kept o.epoch x (m.line_events o.epoch o.line x)) ∙ kept_none f o.epoch None x (m.line_events o.epoch o.line x) (h o.epoch o.line x)
+line_of_row m f h o x false None =
+    let own = line_row_events m o x in
+    let closed = ended_events m o x (renewed m o.line x) in
     ap (filter (λ v. f v.what))
-    (filter_append is_line own closed ∙ ap (λ l. filter is_line own ++ l) (closed_dropped m o x (m.ready o.line) (m.ready (m.line_after o.line x))) ∙ append-nil (filter is_line own) ∙ line_kept o.epoch x (m.line_events o.epoch o.line x))
+    (filter_append is_line own closed ∙ ap (λ l. filter is_line own ++ l) (ended_dropped m o x (renewed m o.line x)) ∙ append-nil (filter is_line own) ∙ line_kept o.epoch x (m.line_events o.epoch o.line x))
     ∙ kept_none f o.epoch None x (m.line_events o.epoch o.line x) (h o.epoch o.line x)
 
 pub line_none : {X L S E : Type 0} → (m : Machine X L S E) (f : E → Bool) → ((e : ℕ) (l : L) (x : X) → how_many f (m.line_events e l x) ≡ 0)
@@ -47,5 +53,5 @@ line_none m f h o (x ∷ xs) =
     let rest = walk_events m (after m o x) xs in
     ap (filter (λ v. f v.what)) (filter_append is_line own rest)
     ∙ filter_append (λ v. f v.what) (filter is_line own) (filter is_line rest)
-    ∙ ap (λ l. l ++ filter (λ v. f v.what) (filter is_line rest)) (line_of_row m f h o x (routed m o.line x))
+    ∙ ap (λ l. l ++ filter (λ v. f v.what) (filter is_line rest)) (line_of_row m f h o x (steps_all m o.line x) (routed m o.line x))
     ∙ line_none m f h (after m o x) xs

@@ -6,4 +6,5 @@ pub mod observer
 pub mod pieces
 pub mod traces
 pub mod Laws
+pub mod GapLaws
 pub mod work

@@ -8,3 +8,5 @@ pub mod Verdicts
 pub mod ChannelStep
 pub mod Gaps
 pub mod GapStep
+pub mod GapRows
+pub mod GapRestart

@@ -1,3 +1,4 @@
 pub mod Header
 pub mod RowLine
 pub mod Text
+pub mod GapText

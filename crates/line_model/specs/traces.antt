@@ -1,4 +1,6 @@
 pub mod Traces
+pub mod GapTraces
+pub mod WorkedGapTraces
 pub mod WorkedTexts
 pub mod WorkedReports
 pub mod WorkedTraces

@@ -3,6 +3,8 @@
 ghost use Rattle.std.specs.Prelude.{◌≡◌, ℕ, List, ◌++◌, Some};
 ghost use Rattle.line_model.specs.traces.WorkedTraces.{WorkedTraces};
 ghost use Rattle.line_model.specs.Laws.{ShuffleLaw, PiecesLaw, PlanLaw, FindingsLaw, FindingsOrderLaw, TotalsLaw, NumbersLaw, PeakLaw, CallsLaw, CallsOrderLaw, CallsPeakLaw};
+ghost use Rattle.line_model.specs.traces.WorkedGapTraces.{WorkedGapTraces};
+ghost use Rattle.line_model.specs.GapLaws.{RecordedShuffleLaw, RecordedPiecesLaw, RecordedPlanLaw, WithoutGapsLaw, OtherFormsLaw, OtherReportsLaw};
 ghost use Rattle.line_model.specs.text.Text.{early, fault};
 ghost use Rattle.line_model.specs.declared.fault.Kind.{Kind};
 
@@ -66,4 +68,35 @@ pub fn worked_traces()
 pub fn fault()
     ensures stays { (text more : List ℕ) (at : ℕ × Kind) → early text ≡ Some at → early (text ++ more) ≡ Some at }
     ensures whole { (text more : List ℕ) (at : ℕ × Kind) → early text ≡ Some at → fault (text ++ more) ≡ Some at }
+{}
+
+/// Of a recording with gaps rows of different channels may be walked in any order.
+pub fn recorded_shuffle()
+    ensures { RecordedShuffleLaw }
+{}
+
+/// Of a recording with gaps the events of each channel in each epoch are those of its piece alone.
+pub fn recorded_pieces()
+    ensures { RecordedPiecesLaw }
+{}
+
+/// The plan of a recording with gaps has each piece once.
+pub fn recorded_plan()
+    ensures { RecordedPlanLaw }
+{}
+
+/// A recording without gaps has the report of its interface.
+pub fn without_gaps()
+    ensures { WithoutGapsLaw }
+{}
+
+/// A text without the third form of the header has its fault and its report whether gaps are read or not.
+pub fn other_forms()
+    ensures faults { OtherFormsLaw }
+    ensures reports { OtherReportsLaw }
+{}
+
+/// Some recordings with gaps are refused, or have their reports.
+pub fn worked_gaps()
+    ensures { WorkedGapTraces }
 {}

@@ -69,5 +69,6 @@ pub fn how_word(how: Option<How>) -> &'static [u8]
         Some(How::N) => b"N",
         Some(How::Collision) => b"collision",
         Some(How::Restart) => b"restart",
+        Some(How::Gap) => b"gap",
     }
 }

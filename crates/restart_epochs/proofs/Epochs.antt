@@ -7,7 +7,7 @@ use Rattle.line_model.specs.declared.interface.Interface.{Interface}
 use Rattle.line_model.specs.basics.Records.{Item}
 use Rattle.line_model.specs.observer.Machine.{Machine, Observer, routed, after, walk}
 use Rattle.line_model.specs.pieces.Shuffle.{is_channel}
-use Rattle.line_model.specs.pieces.Pieces.{Placed, placed, leaves_routed, piece_rows, piece_end}
+use Rattle.line_model.specs.pieces.Pieces.{Placed, place, placed, piece_rows, piece_end}
 use Rattle.line_model.specs.observer.Observer.{x25, start}
 use Rattle.line_model.proofs.Walks.{walk_append}
 use Rattle.restart_epochs.specs.Cutting.{observer, places}
@@ -15,13 +15,13 @@ use Rattle.line_model.proofs.Pieces.{filter_append}
 
 placed_append : {X L S E : Type 0} → (m : Machine X L S E) (o : Observer L S) (p q : List X) → placed m o (p ++ q) ≡ placed m o p ++ placed m (walk m o p) q
 placed_append m o [] q = refl
-placed_append m o (x ∷ p) q = ap (λ l. record { row = x; epoch = o.epoch; channel = routed m o.line x; leaves = leaves_routed m o.line x (routed m o.line x) } ∷ l) (placed_append m (after m o x) p q)
+placed_append m o (x ∷ p) q = ap (λ l. place m o x ∷ l) (placed_append m (after m o x) p q)
 
 -- the place of one more row
 abbrev pub place_of : Interface → List Item → Item → Placed Item
 place_of i rs r =
     let o = observer i rs in
-    record { row = r; epoch = o.epoch; channel = routed (x25 i) o.line r; leaves = leaves_routed (x25 i) o.line r (routed (x25 i) o.line r) }
+    place (x25 i) o r
 
 pub places_more : (i : Interface) (rs : List Item) (r : Item) → places i (rs ++ r ∷ []) ≡ places i rs ++ place_of i rs r ∷ []
 places_more i rs r = placed_append (x25 i) (start i) rs (r ∷ [])

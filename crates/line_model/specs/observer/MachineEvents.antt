@@ -1,7 +1,7 @@
 -- The events of a machine's walk, each with its row, its epoch and its channel.
 use Rattle.std.specs.Prelude.{ℕ, Bool, true, false, Option, Some, None, List, [], ◌∷◌, ◌++◌, map}
 use Rattle.std.specs.List.{flat_map}
-use Rattle.line_model.specs.observer.Machine.{Machine, Observer, routed, after}
+use Rattle.line_model.specs.observer.Machine.{Machine, Observer, routed, steps_all, renewed, after}
 
 -- an event with its row and with the epoch and the channel that it belongs to; a line event has no channel
 pub record RowEvent (X E : Type 0) : Type 0 where
@@ -19,14 +19,28 @@ abbrev pub closed_events : {X L S E : Type 0} → Machine X L S E → Observer L
 closed_events m o x true false = flat_map (λ k. stamp o.epoch (Some k) x (m.closing_events o.epoch k (o.states k) x)) m.channels
 closed_events m o x _ _ = []
 
+-- what a row that steps the line part closes; one that renews closes each channel
+abbrev pub ended_events : {X L S E : Type 0} → Machine X L S E → Observer L S → X → (renewed : Bool) → List (RowEvent X E)
+ended_events m o x true = closed_events m o x true false
+ended_events m o x false = closed_events m o x (m.ready o.line) (m.ready (m.line_after o.line x))
+
+-- the events of the line part
+abbrev pub line_row_events : {X L S E : Type 0} → Machine X L S E → Observer L S → X → List (RowEvent X E)
+line_row_events m o x = stamp o.epoch None x (m.line_events o.epoch o.line x)
+
 -- the events of a row that steps a channel, or the line part
 abbrev pub row_events_routed : {X L S E : Type 0} → Machine X L S E → Observer L S → X → Option ℕ → List (RowEvent X E)
 row_events_routed m o x (Some k) = stamp o.epoch (Some k) x (m.channel_events o.epoch k (o.states k) x)
-row_events_routed m o x None = stamp o.epoch None x (m.line_events o.epoch o.line x) ++ closed_events m o x (m.ready o.line) (m.ready (m.line_after o.line x))
+row_events_routed m o x None = line_row_events m o x ++ ended_events m o x (renewed m o.line x)
+
+-- the events of a row that steps each channel, or one or none; the channels that such a row steps have none
+abbrev pub row_events_by : {X L S E : Type 0} → Machine X L S E → Observer L S → X → (all : Bool) → Option ℕ → List (RowEvent X E)
+row_events_by m o x true r = line_row_events m o x
+row_events_by m o x false r = row_events_routed m o x r
 
 -- the events of a row
 abbrev pub row_events : {X L S E : Type 0} → Machine X L S E → Observer L S → X → List (RowEvent X E)
-row_events m o x = row_events_routed m o x (routed m o.line x)
+row_events m o x = row_events_by m o x (steps_all m o.line x) (routed m o.line x)
 
 -- the events of the walk, in order
 abbrev pub walk_events : {X L S E : Type 0} → Machine X L S E → Observer L S → List X → List (RowEvent X E)

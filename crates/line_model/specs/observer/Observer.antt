@@ -9,6 +9,7 @@ use Rattle.line_model.specs.declared.state.StateName.TheVariants.{R1}
 use Rattle.line_model.specs.declared.route.Route.{Route}
 use Rattle.line_model.specs.declared.route.Route as route
 use Rattle.line_model.specs.declared.finding.Code.TheVariants.{Number}
+use Rattle.line_model.specs.declared.gap.EpochStart.TheVariants.{Restarted}
 use Rattle.line_model.specs.declared.event.How.TheVariants.{Restart}
 use Rattle.line_model.specs.declared.event.What.{What}
 use Rattle.line_model.specs.declared.event.What.TheVariants.{Found, End}
@@ -63,10 +64,13 @@ restart_end s = restart_end_if (is_open s)
 abbrev pub x25 : Interface → Machine Item LineState Channel What
 x25 i = record {
   channel = channel_in_r1;
+  for_all = λ r. false;
   ready = is_ready;
   line_after = λ l r. (routing l r).after;
   line_events = λ e l r. route_found r (routing l r).route;
-  fresh = fresh i;
+  renews = λ l r. false;
+  start_of = λ l. Restarted;
+  fresh = λ b. fresh i;
   channel_after = λ e k s r. (channel_step i k s r).after;
   channel_events = λ e k s r. (channel_step i k s r).reported;
   closing_events = λ e k s r. restart_end s;

@@ -3,6 +3,7 @@ use Rattle.std.specs.Prelude.{Some, None, ◌≡◌, ℕ, ◌+◌, ◌<◌, ◌�
 use Rattle.std.specs.List.{filter, AllByRecursion}
 use Rattle.line_model.specs.observer.Machine.{Machine, Observer, after}
 use Rattle.line_model.specs.observer.MachineEvents.{RowEvent}
+use Rattle.line_model.specs.declared.gap.EpochStart.{EpochStart}
 use Rattle.line_model.specs.pieces.Merge.{belongs}
 
 -- how many members a test is true of
@@ -49,9 +50,11 @@ counts m is_up number o (x ∷ xs) = (number x, channels_up m is_up (after m o x
 -- in the states that channels reach (valid), a channel comes up with one `ups` event, and while it is up it goes down
 -- with an `ends` event, at its own row or at its closing
 pub record MarksCalls {X L S E : Type 0} (m : Machine X L S E) (valid is_up : ℕ → S → Bool) (ups ends : E → Bool) : Type 0 where
-  pub fresh_valid : (e k : ℕ) → valid k (m.fresh e k) ≡ true
+  pub fresh_valid : (b : EpochStart) (e k : ℕ) → valid k (m.fresh b e k) ≡ true
   pub stays_valid : (e k : ℕ) (s : S) (x : X) → valid k s ≡ true → valid k (m.channel_after e k s x) ≡ true
-  pub fresh : (e k : ℕ) → is_up k (m.fresh e k) ≡ false
+  pub fresh : (b : EpochStart) (e k : ℕ) → is_up k (m.fresh b e k) ≡ false
+  -- a row for all channels brings none up, and none down
+  pub for_all_keeps : (e k : ℕ) (s : S) (x : X) → m.for_all x ≡ true → valid k s ≡ true → is_up k (m.channel_after e k s x) ≡ is_up k s
   pub comes_up : (e k : ℕ) (s : S) (x : X) → valid k s ≡ true → how_many ups (m.channel_events e k s x) ≡ (if not (is_up k s) && is_up k (m.channel_after e k s x) then 1 else 0)
   pub goes_down : (e k : ℕ) (s : S) (x : X) → valid k s ≡ true → is_up k s ≡ true → some_is ends (m.channel_events e k s x) ≡ not (is_up k (m.channel_after e k s x))
   pub closes : (e k : ℕ) (s : S) (x : X) → valid k s ≡ true → is_up k s ≡ true → some_is ends (m.closing_events e k s x) ≡ true

@@ -128,6 +128,7 @@ how_word (Some how.TheVariants.T) = codes "T"
 how_word (Some how.TheVariants.N) = codes "N"
 how_word (Some how.TheVariants.Collision) = codes "collision"
 how_word (Some how.TheVariants.Restart) = codes "restart"
+how_word (Some how.TheVariants.Gap) = codes "gap"
 
 -- the direction of a call
 abbrev pub direction_word : (out : Bool) → List ℕ

@@ -1,7 +1,8 @@
 -- What is drawn from the events of pieces, put in the order of the rows, is what is drawn from the walk.
 use Rattle.std.specs.Prelude.{◌≡◌, ◌≢◌, ℕ, ◌≤◌, ◌⊎◌, Bool, true, false, ◌&&◌, ◌==◌, Option, Some, None, List, [], ◌∷◌, ◌++◌, map, length}
 use Rattle.std.specs.List.{filter, flat_map, AllByRecursion}
-use Rattle.line_model.specs.observer.Machine.{Machine, Observer}
+use Rattle.line_model.specs.declared.gap.EpochStart.{EpochStart}
+use Rattle.line_model.specs.observer.Machine.{Machine, Observer, own_channel}
 use Rattle.line_model.specs.observer.MachineEvents.{RowEvent, row_events, walk_events}
 use Rattle.line_model.specs.pieces.Pieces.{is_of, placed, piece_rows, value_of, StandsOnce}
 
@@ -35,13 +36,18 @@ ExactlyOne f (i ∷ is) = ((f i ≡ true) × NoneOf f is) ⊎ ((f i ≡ false) �
 
 -- the channel of the row is one of the machine's
 abbrev pub IsServed : {X L S E : Type 0} → Machine X L S E → X → Type 0
-IsServed m x = (k : ℕ) → m.channel x ≡ Some k → StandsOnce k m.channels
+IsServed m x = (k : ℕ) → own_channel m x ≡ Some k → StandsOnce k m.channels
 
--- each of the machine's channels is listed once, those of the rows are among them, and a fresh channel has nothing to close
+-- the channel has nothing to close
+abbrev pub IsClosed : {X L S E : Type 0} → Machine X L S E → (epoch channel : ℕ) → S → Type 0
+IsClosed {X} m e k s = (x : X) → m.closing_events e k s x ≡ []
+
+-- each of the machine's channels is listed once, those of the rows are among them, and a fresh channel has nothing to close, after rows for all channels too
 pub record HasChannels {X L S E : Type 0} (m : Machine X L S E) (xs : List X) : Type 0 where
   pub once : AllByRecursion (λ k. StandsOnce k m.channels) m.channels
   pub of_rows : AllByRecursion (IsServed m) xs
-  pub nothing_to_close : (e k : ℕ) (x : X) → m.closing_events e k (m.fresh e k) x ≡ []
+  pub nothing_to_close : (b : EpochStart) (e k : ℕ) → IsClosed m e k (m.fresh b e k)
+  pub stays_closed : (e k : ℕ) (s : S) (x : X) → m.for_all x ≡ true → IsClosed m e k s → IsClosed m e k (m.channel_after e k s x)
 
 -- the list has each piece once, by its epoch and channel; a piece has a row
 pub record IsPlan {X L S E : Type 0} (m : Machine X L S E) (start : Observer L S) (xs : List X) (plan : List (ℕ × ℕ)) : Type 0 where

@@ -2,7 +2,7 @@
 use Rattle.std.specs.Prelude.{◌≡◌, ℕ, Bool, false, ◌==◌, Option, Some, None, List, ◌∷◌, ◌++◌}
 use Rattle.std.specs.List.{filter}
 use Rattle.std.specs.List.Sorted.{IsPermutation}
-use Rattle.line_model.specs.observer.Machine.{Machine, Observer, walk, Changes}
+use Rattle.line_model.specs.observer.Machine.{Machine, Observer, own_channel, walk, Changes}
 use Rattle.line_model.specs.observer.MachineEvents.{told}
 
 -- whether a row is one of channel k
@@ -12,9 +12,9 @@ is_channel k None = false
 
 -- the rows of channel k, in order
 abbrev pub rows_on : {X L S E : Type 0} → Machine X L S E → ℕ → List X → List X
-rows_on m k xs = filter (λ x. is_channel k (m.channel x)) xs
+rows_on m k xs = filter (λ x. is_channel k (own_channel m x)) xs
 
--- the same rows; a row that changes the line has the same rows before it; the rows of a channel keep their order
+-- the same rows; a row that changes the line, or steps each channel, has the same rows before it; the rows of a channel keep their order
 pub record IsShuffle {X L S E : Type 0} (m : Machine X L S E) (start : Observer L S) (xs ys : List X) : Type 0 where
   pub same_rows : IsPermutation xs ys
   pub same_before : (before : List X) (x : X) (behind : List X) → xs ≡ before ++ x ∷ behind → Changes m (walk m start before).line x
