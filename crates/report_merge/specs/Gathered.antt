@@ -20,6 +20,9 @@ all_calls ps = flat_map (λ p. p.calls) ps
 abbrev pub calls_in : {A : Type 0} → List (VecDeque CallRecord A) → List CallRecord
 calls_in lists = flat_map (λ l. l.items) lists
 
+abbrev pub calls_of_lists : List (List CallRecord) → List CallRecord
+calls_of_lists lists = flat_map (λ l. l) lists
+
 -- so many pieces, their findings and calls, and their octets and segments
 pub record Gathered : Type 0 where
   pub pieces : ℕ

@@ -73,6 +73,19 @@ impl<A: Allocator> CallList<A> {
         comes_next(&self.calls, call)
     }
 
+    /// Whether the calls are known to be in order with those of another list after them.
+    fn stays_in_order_with(&self, other: &Self) -> bool
+        ensures { OnTrue result (IsNonDecreasingBy (λ (c : records.CallRecord). c.opened) (self.now ++ other.now)) }
+    {
+        if !self.in_order || !other.in_order {
+            return false;
+        }
+        match other.calls.first() {
+            Some(first) => comes_next(&self.calls, first),
+            None => true,
+        }
+    }
+
     /// Appends a call. Where memory is refused nothing changes.
     pub(crate) fn push(&mut self, call: CallRecord<A>) -> Result<(), AllocError>
         ensures { OnOk result (self.new ≡ self.old ++ call ∷ []) }
@@ -96,12 +109,21 @@ impl<A: Allocator> CallList<A> {
         if other.calls.is_empty() {
             return Ok(());
         }
+        let in_order = self.stays_in_order_with(&other);
         let CallList {
             mut calls,
             in_order: _,
         } = other;
-        self.in_order = false;
-        self.calls.append(&mut calls)
+        self.calls.append(&mut calls)?;
+        self.in_order = in_order;
+        Ok(())
+    }
+
+    /// The packets that opened the first of the calls and the last, where there are calls.
+    pub(crate) fn first_and_last(&self) -> Option<(u32, u32)> {
+        let first = self.calls.first()?;
+        let last = self.calls.last()?;
+        Some((first.opened, last.opened))
     }
 
     /// The calls.

@@ -2,6 +2,7 @@
 #![tactic(auto)]
 
 mod call_list;
+mod call_lists;
 mod fields;
 mod judge;
 mod lines;

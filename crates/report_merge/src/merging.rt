@@ -48,9 +48,9 @@ fn gather<A: Allocator + Clone, T: Reports<A> + Drop>(
     ensures { IfOk result (AreGathered (flat_map T.reports reports.items)) }
 {
     reports.sort_unstable_by_key(|some| some.ids().first().copied());
-    let mut lists = PartLists::new(alloc.clone()?, alloc);
+    let mut lists = PartLists::new(alloc.clone()?, alloc.clone()?, alloc);
     for some in reports {
-        lists.add(some.into_parts())?;
+        lists = lists.with(some.into_parts())?;
     }
     lists.merged()
 }

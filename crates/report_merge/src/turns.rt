@@ -9,9 +9,9 @@ use std::alloc::{AllocError, Allocator};
 
 /// The opening packet of a call, and the place that its record is to come from.
 #[derive(Drop)]
-pub(crate) struct Turn {
-    pub(crate) packet: u32,
-    pub(crate) place: usize,
+struct Turn {
+    packet: u32,
+    place: usize,
 }
 
 /// The turns of calls, in the order of the calls.

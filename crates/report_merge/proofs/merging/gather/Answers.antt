@@ -4,15 +4,16 @@ use Rattle.std.proofs.lemmas.Result.{IfOk-weaker}
 use Rattle.std.proofs.lemmas.Iterator.Adapters.{YieldsList-from_vec}
 use Rattle.std.proofs.lemmas.Iterator.Consumers.{YieldsList-end}
 use Rattle.line_model.specs.basics.Records.{PieceReport}
-use Rattle.report_merge.specs.Gathered.{Gathered, AreGathered}
+use Rattle.report_merge.specs.Gathered.{AreGathered, joined}
 use Rattle.report_merge.proofs.GatheredLemmas.{both, moved, permuted}
 use Rattle.report_merge.proofs.SortedLists.{flat_map_permuted}
 use Rattle.report_merge.proofs.merging.gather.Goals as goal
 
 pub loop-some-preserved : goal.loop-some-preserved
-loop-some-preserved g c = subst (λ (y : List PieceReport × Gathered). AreGathered y.0 y.1)
-    (λ i. (flat_map_more g.T.Reports.reports [] c.loop-some.yielded c.in-Some.some i, sym c.in_ok-add.ensures i))
-    (both _ _ _ _ c.loop-some.invariant c.into_parts.ensures)
+loop-some-preserved g c =
+    let before = c.loop-some.yielded in
+    moved _ _ _ c.in_ok-lists.ensures (subst (λ (ps : List PieceReport). AreGathered ps (joined c.loop-some.lists c.into_parts.result)) (flat_map_more g.T.Reports.reports [] before c.in-Some.some)
+    (both _ _ _ _ c.loop-some.invariant c.into_parts.ensures))
 
 pub returns : goal.returns
 returns g c =
