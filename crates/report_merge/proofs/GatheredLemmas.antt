@@ -6,7 +6,7 @@ use Rattle.std.proofs.lemmas.List.Sorted.{IsPermutation-refl, IsPermutation-tran
 use Rattle.line_model.specs.basics.Records.{PieceReport, CallRecord}
 use Rattle.line_model.specs.declared.finding.Finding.{Finding}
 use Rattle.line_model.specs.work.Book.{totals_of}
-use Rattle.report_merge.specs.Gathered.{Gathered, gathered, joined, counted, piece_findings, all_calls, AreGathered, AreSorted, IsBundle, IsSmall}
+use Rattle.report_merge.specs.Gathered.{Gathered, gathered, joined, counted, piece_findings, all_calls, AreGathered, AreSorted, HasMoved, IsBundle, IsSmall}
 use Rattle.std.proofs.lemmas.List.Elements.{All-push}
 use Rattle.line_model.proofs.Schedules.{ids-append}
 use Rattle.report_merge.proofs.SortedLists.{flat_map-append, flat_map_permuted}
@@ -52,6 +52,16 @@ permuted ps qs g same a = record {
   same_calls = IsPermutation-trans (all_calls ps) (all_calls qs) g.calls (flat_map_permuted (λ (p : PieceReport). p.calls) ps qs same) a.same_calls;
   same_octets = a.same_octets ∙ sum_by-IsPermutation (λ (p : PieceReport). p.octets) ps qs same;
   same_segments = a.same_segments ∙ sum_by-IsPermutation (λ (p : PieceReport). p.segments) ps qs same;
+}
+
+-- the same with the calls in another order
+pub moved : (ps : List PieceReport) (g h : Gathered) → HasMoved g h → AreGathered ps g → AreGathered ps h
+moved ps g h same a = record {
+  number = same.pieces ∙ a.number;
+  same_findings = subst (IsPermutation (piece_findings ps)) (sym same.findings) a.same_findings;
+  same_calls = IsPermutation-trans (all_calls ps) g.calls h.calls a.same_calls same.calls;
+  same_octets = same.octets ∙ a.same_octets;
+  same_segments = same.segments ∙ a.same_segments;
 }
 
 length_findings : (ps : List PieceReport) → length (piece_findings ps) ≡ sum_by (λ p. length p.findings) ps

@@ -8,3 +8,4 @@ pub mod Posted
 pub mod GatheredLemmas
 pub mod EmptyStructs
 pub mod Strangers
+pub mod Taken

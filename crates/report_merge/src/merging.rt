@@ -8,6 +8,7 @@ ghost use Rattle.report_merge.specs.Gathered.{AreGathered};
 ghost use Rattle.report_merge.specs.Merged.{IsMemoryOfWalk, IsMerged, IsReportOfWalk};
 
 use crate::judge::{first_stranger, judge};
+use crate::part_lists::PartLists;
 use crate::parts::Parts;
 use crate::reports::Reports;
 use line_model::fault::Fault;
@@ -38,8 +39,8 @@ fn all_ids<A: Allocator, T: Reports<A>>(alloc: A, reports: &[T]) -> Result<Vec<u
     Ok(ids)
 }
 
-/// Puts what pieces give together, those with the first ids first. So lists of which each begins after the one before
-/// ends are one list in order.
+/// Puts what pieces give together, those with the first ids first. The calls are in the order of the packets that opened
+/// them where those of each report are.
 fn gather<A: Allocator + Clone, T: Reports<A> + Drop>(
     alloc: A,
     mut reports: Vec<T, A>,
@@ -47,11 +48,11 @@ fn gather<A: Allocator + Clone, T: Reports<A> + Drop>(
     ensures { IfOk result (AreGathered (flat_map T.reports reports.items)) }
 {
     reports.sort_unstable_by_key(|some| some.ids().first().copied());
-    let mut parts = Parts::with_allocators(alloc.clone()?, alloc);
+    let mut lists = PartLists::new(alloc.clone()?, alloc.clone()?, alloc);
     for some in reports {
-        parts.append(some.into_parts())?;
+        lists = lists.with(some.into_parts())?;
     }
-    Ok(parts)
+    lists.merged()
 }
 
 /// Merges the reports of pieces, or of bundles of pieces, in any order, with the findings of the restart machine, for a

@@ -7,10 +7,10 @@ ghost use Rattle.line_model.specs.observer.Report.{report_of};
 ghost use Rattle.report_merge.specs.Gathered.{AreGathered, AreSorted, counted, gathered, joined};
 ghost use Rattle.report_merge.specs.Merged.{IsMerged, IsOfWalk};
 
-use crate::turns::{sort_calls, sort_findings};
+use crate::call_list::CallList;
+use crate::turns::sort_findings;
 use call_accounts::account::accounts_of;
 use call_accounts::peak::peak_of;
-use line_model::call::{CallRecord, copies};
 use line_model::fault::Fault;
 use line_model::finding::Finding;
 use line_model::piece::PieceReport;
@@ -21,7 +21,7 @@ use std::marker::Model;
 
 /// Appends records to a list. They become the list where it is empty, and are not copied then. Where memory is refused
 /// nothing changes.
-fn append_to<T: Drop, A: Allocator>(
+pub(crate) fn append_to<T: Drop, A: Allocator>(
     list: &mut Vec<T, A>,
     records: Vec<T, A>,
 ) -> Result<(), AllocError>
@@ -39,11 +39,11 @@ fn append_to<T: Drop, A: Allocator>(
 /// What some pieces give, put together.
 #[derive(Drop)]
 pub struct Parts<A: Allocator> {
-    pieces: u32,
-    findings: Vec<Finding, A>,
-    calls: Vec<CallRecord<A>, A>,
-    octets: u64,
-    segments: u64,
+    pub(crate) pieces: u32,
+    pub(crate) findings: Vec<Finding, A>,
+    pub(crate) calls: CallList<A>,
+    pub(crate) octets: u64,
+    pub(crate) segments: u64,
 }
 
 impl<A: Allocator> Model for Parts<A> {
@@ -54,12 +54,12 @@ impl<A: Allocator> Model for Parts<A> {
     ghost view = { λ p. record {
       pieces = p.pieces;
       findings = p.findings.items;
-      calls = p.calls.items;
+      calls = p.calls;
       octets = p.octets;
       segments = p.segments;
     } };
 
-    ghost invariant = { λ p. AreFew p.pieces p.calls.items p.octets p.segments };
+    ghost invariant = { λ p. AreFew p.pieces p.calls p.octets p.segments };
 }
 
 impl<A: Allocator> Parts<A> {
@@ -77,7 +77,7 @@ impl<A: Allocator> Parts<A> {
         Parts {
             pieces: 1,
             findings,
-            calls,
+            calls: CallList::of(calls),
             octets,
             segments,
         }
@@ -108,24 +108,17 @@ impl<A: Allocator + Copy> Parts<A> {
     pub fn new(alloc: A) -> Self
         ensures { result ≡ gathered [] }
     {
-        Parts::with_allocators(alloc, alloc)
-    }
-}
-
-impl<A: Allocator + Clone> Parts<A> {
-    /// What no pieces give, with the allocators of its lists.
-    pub(crate) fn with_allocators(of_findings: A, of_calls: A) -> Self
-        ensures { result ≡ gathered [] }
-    {
         Parts {
             pieces: 0,
-            findings: Vec::new(of_findings),
-            calls: Vec::new(of_calls),
+            findings: Vec::new(alloc),
+            calls: CallList::of(Vec::new(alloc)),
             octets: 0,
             segments: 0,
         }
     }
+}
 
+impl<A: Allocator + Clone> Parts<A> {
     /// Adds what other pieces give, after what there is. Fails where memory is refused, or where there would be more than
     /// 2^32 - 1 pieces; a part may have been added then.
     pub fn append(&mut self, other: Self) -> Result<(), AllocError>
@@ -145,8 +138,7 @@ impl<A: Allocator + Clone> Parts<A> {
         self.octets += octets;
         self.segments += segments;
         append_to(&mut self.findings, findings)?;
-        append_to(&mut self.calls, calls)?;
-        Ok(())
+        self.calls.append(calls)
     }
 
     /// Adds what a piece gives. Where memory is refused a part of it may have been added.
@@ -165,7 +157,7 @@ impl<A: Allocator + Clone> Parts<A> {
         ensures { OnOk result (AreSorted self.old self.new) }
     {
         sort_findings(&mut self.findings);
-        sort_calls(&mut self.calls)
+        self.calls.sort()
     }
 
     /// The same once more. It refuses for want of memory alone.
@@ -173,11 +165,11 @@ impl<A: Allocator + Clone> Parts<A> {
         ensures same { IfOk result (λ parts. parts ≡ self.now) }
         ensures memory { IfErr result (λ fault. fault ≡ Fault.Memory) }
     {
-        let alloc = self.calls.allocator();
+        let alloc = self.findings.allocator();
         Ok(Parts {
             pieces: self.pieces,
             findings: Vec::from_slice(alloc.clone()?, &self.findings)?,
-            calls: copies(alloc.clone()?, &self.calls)?,
+            calls: self.calls.copy()?,
             octets: self.octets,
             segments: self.segments,
         })
@@ -204,6 +196,7 @@ impl<A: Allocator + Clone> Parts<A> {
             segments,
             ..
         } = all;
+        let calls = calls.into_calls();
         let accounts = accounts_of(line.allocator().clone()?, calls.as_slice())?;
         let peak = peak_of(line.allocator().clone()?, calls.as_slice())?;
         let summary = Summary {

@@ -1,9 +1,11 @@
 //! Reports of recorded interfaces, merged from the reports of their pieces, against reports that were made elsewhere.
 
-ghost use Rattle.std.specs.Prelude.{None};
+ghost use Rattle.std.specs.Prelude.{◌≡◌, None};
 
 mod refused;
 
+use line_model::address::Address;
+use line_model::call::CallRecord;
 use line_model::device::{Sink, VecSink};
 use line_model::fault::Fault;
 use line_model::finding::{Code, Finding};
@@ -14,7 +16,7 @@ use line_model::state::{Side, StateName};
 use report_merge::merging::merge;
 use report_merge::reports::{BundleReport, Reports};
 use report_merge::text::write_report;
-use std::alloc::{AllocError, Global};
+use std::alloc::{AllocError, Allocator, Global};
 use std::process::Abort;
 use std::test::Fail;
 
@@ -64,7 +66,32 @@ fn answered(room: usize, report: &Report) -> Result<(), Fault> {
     write_report(report, &mut sink)
 }
 
-/// The report of a piece with one finding, that a data packet of the DTE came while the channel was ready.
+/// A call of the DTE that is up and open, without data.
+fn open_call<A: Allocator>(alloc: A, epoch: u32, channel: u16, packet: u32) -> CallRecord<A>
+    ensures octets { (result.oct_t ≡ 0) × (result.oct_n ≡ 0) }
+    ensures segments { result.segments ≡ 0 }
+{
+    CallRecord {
+        epoch,
+        channel,
+        out: true,
+        called: Address::absent(),
+        calling: Address::absent(),
+        reverse: false,
+        up: Some(packet),
+        opened: packet,
+        ended: None,
+        how: None,
+        data_t: 0,
+        oct_t: 0,
+        data_n: 0,
+        oct_n: 0,
+        segments: 0,
+        settings: Vec::new(alloc),
+    }
+}
+
+/// The report of a piece with one finding, that a data packet of the DTE came while the channel was ready, and one call.
 fn finding_report(
     alloc: Global,
     id: u32,
@@ -83,7 +110,7 @@ fn finding_report(
         epoch,
         channel,
         findings: vec![in alloc; finding]?,
-        calls: Vec::new(alloc),
+        calls: vec![in alloc; open_call(alloc, epoch, channel, packet)]?,
         octets: 0,
         segments: 0,
     })
@@ -118,8 +145,21 @@ F 13 T p1 20
 F 14 T p1 20
 F 15 T p1 20
 F 16 T p1 20
-P 0 -
-Z 16 12 0 0 0
+C 1 1 1 out - - 1 1 - open 0 0 0 0 0
+C 2 1 2 out - - 2 2 - open 0 0 0 0 0
+C 3 1 3 out - - 3 3 - open 0 0 0 0 0
+C 4 1 4 out - - 4 4 - open 0 0 0 0 0
+C 5 2 1 out - - 7 7 - open 0 0 0 0 0
+C 6 2 2 out - - 8 8 - open 0 0 0 0 0
+C 7 2 3 out - - 9 9 - open 0 0 0 0 0
+C 8 2 4 out - - 10 10 - open 0 0 0 0 0
+C 9 3 1 out - - 13 13 - open 0 0 0 0 0
+C 10 3 2 out - - 14 14 - open 0 0 0 0 0
+C 11 3 3 out - - 15 15 - open 0 0 0 0 0
+C 12 3 4 out - - 16 16 - open 0 0 0 0 0
+A - 12 0
+P 12 16
+Z 16 12 12 0 0
 ";
 
 /// Posts the report of a piece, but with another id for the piece 3, or without it.
@@ -161,6 +201,21 @@ fn bundles(alloc: Global, pieces: usize) -> Result<Vec<BundleReport>, AllocError
     Ok(bundles)
 }
 
+/// The same reports dealt to so many bundles by turns, so that the calls of each bundle stand between those of others.
+fn dealt(alloc: Global, count: u32) -> Result<Vec<BundleReport>, AllocError> {
+    let mut bundles = Vec::new(alloc);
+    for turn in 0..count {
+        let mut bundle = BundleReport::new(alloc);
+        for report in three_epochs(alloc, Some(3))? {
+            if report.id.checked_rem(count) == Some(turn) {
+                bundle = bundle.with(report)?;
+            }
+        }
+        bundles.push(bundle.sorted()?)?;
+    }
+    Ok(bundles)
+}
+
 /// Sees that the reports of the twelve pieces give that of the three epochs.
 fn check_merged<T: Reports<Global> + Drop>(
     rt: &impl Abort,
@@ -182,6 +237,9 @@ fn pieces_and_bundles_in_any_order_give_the_report_of_the_trace(
     check_merged(&rt, rt.alloc(), forwards)?;
     for pieces in [1, 2, 5, 12] {
         check_merged(&rt, rt.alloc(), bundles(rt.alloc(), pieces)?)?;
+    }
+    for count in [2, 3, 5] {
+        check_merged(&rt, rt.alloc(), dealt(rt.alloc(), count)?)?;
     }
     Ok(())
 }

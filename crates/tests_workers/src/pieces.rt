@@ -72,8 +72,13 @@ fn rows_of(alloc: Global, interface: &Interface, rows: u16) -> Result<Items, All
     Ok(items)
 }
 
-/// A piece of so many rows.
-pub(crate) fn piece_of_rows(alloc: Global, id: u32, rows: u16) -> Result<Piece, AllocError>
+/// A piece of an epoch with so many rows.
+pub(crate) fn piece_of_rows(
+    alloc: Global,
+    id: u32,
+    epoch: u32,
+    rows: u16,
+) -> Result<Piece, AllocError>
     ensures { IfOk result (λ piece. piece.id ≡ id) }
 {
     let interface = PLAIN;
@@ -81,7 +86,7 @@ pub(crate) fn piece_of_rows(alloc: Global, id: u32, rows: u16) -> Result<Piece, 
     Ok(Piece {
         id,
         interface,
-        epoch: 1,
+        epoch,
         channel: 0,
         items: PieceItems::of(items),
         end: None,

@@ -93,6 +93,10 @@ pub fn feed_piece<P: Plan, A: Allocator + Copy, R: Wait + Clock>(
 /// A bundle has no more rows than this, or is one piece.
 const MOST_ROWS: usize = 500;
 
+/// A bundle with so many rows goes where another epoch begins. So its calls stand before those of the next bundle, unless an
+/// epoch has more rows.
+const ENOUGH_ROWS: usize = 400;
+
 /// The pieces of a list with no more pieces go through the queue one by one, so that each worker has work of a short trace.
 const FEW_PIECES: usize = 64;
 
@@ -103,6 +107,18 @@ struct Waiting<A: Allocator> {
     rows: usize,
     /// Whether each piece goes by itself.
     one_by_one: bool,
+}
+
+impl<A: Allocator> Waiting<A> {
+    /// Whether the pieces go before this one does.
+    fn go_before(&self, piece: &Piece<A>) -> bool {
+        let is_next_epoch = match self.pieces.last() {
+            Some(last) => last.epoch != piece.epoch,
+            None => false,
+        };
+        let rows = self.rows.saturating_add(piece.items.len());
+        self.one_by_one || rows > MOST_ROWS || (is_next_epoch && self.rows >= ENOUGH_ROWS)
+    }
 }
 
 /// Feeds the pieces that wait.
@@ -155,8 +171,8 @@ fn push_waiting<P: Plan, A: Allocator + Copy, R: Wait + Clock>(
     }
 }
 
-/// Lets one more piece wait. Those before it are fed first where pieces go one by one, or where all of them have too many
-/// rows together.
+/// Lets one more piece wait. Those before it are fed first where pieces go one by one, where all of them have too many rows
+/// together, or where enough rows wait and another epoch begins.
 fn add_waiting<P: Plan, A: Allocator + Copy, R: Wait + Clock>(
     rt: &R,
     work: &Work<P, A>,
@@ -169,8 +185,7 @@ fn add_waiting<P: Plan, A: Allocator + Copy, R: Wait + Clock>(
     requires open { pass.old.record_of.ends ≡ 0 }
     ensures fed { FeedsFirst pass.old (waiting.pieces.items ++ piece ∷ []) result.pieces.items pass.new }
 {
-    let rows = waiting.rows.saturating_add(piece.items.len());
-    if waiting.one_by_one || rows > MOST_ROWS {
+    if waiting.go_before(&piece) {
         let none = feed_waiting(rt, work, waiting, pass);
         return push_waiting(rt, work, none, piece, pass);
     }

@@ -1,9 +1,6 @@
 //! Merging whose growths are refused.
 
-ghost use Rattle.std.specs.Prelude.{◌≡◌};
-
-use line_model::address::Address;
-use line_model::call::CallRecord;
+use crate::reports::open_call;
 use line_model::fault::Fault;
 use line_model::finding::{Code, Finding};
 use line_model::piece::PieceReport;
@@ -17,31 +14,6 @@ use tests_devices::scarce::Scarce;
 
 /// The most growths that this test looks for.
 const GROWTHS: u64 = 1000;
-
-/// A call of a channel that is open.
-fn open_call(heap: &Scarce<Global>, channel: u16, packet: u32) -> CallRecord<&Scarce<Global>>
-    ensures octets { (result.oct_t ≡ 0) × (result.oct_n ≡ 0) }
-    ensures segments { result.segments ≡ 0 }
-{
-    CallRecord {
-        epoch: 1,
-        channel,
-        out: true,
-        called: Address::absent(),
-        calling: Address::absent(),
-        reverse: false,
-        up: Some(packet),
-        opened: packet,
-        ended: None,
-        how: None,
-        data_t: 0,
-        oct_t: 0,
-        data_n: 0,
-        oct_n: 0,
-        segments: 0,
-        settings: Vec::new(heap),
-    }
-}
 
 /// A finding of the DTE.
 fn finding(packet: u32) -> Finding {
@@ -65,7 +37,7 @@ fn piece(
         epoch: 1,
         channel,
         findings: vec![in heap; finding(packet)]?,
-        calls: vec![in heap; open_call(heap, channel, packet)]?,
+        calls: vec![in heap; open_call(heap, 1, channel, packet)]?,
         octets: 0,
         segments: 0,
     })

@@ -75,17 +75,17 @@ fn of_one<R: Threads + Wait + Clock + Sync>(rt: &R, batch: Batch) -> Option<(u64
     ))
 }
 
-/// So many pieces, each of so many rows.
-type Run = (u32, u16);
+/// An epoch, and so many pieces of it, each of so many rows.
+type Run = (u32, u32, u16);
 
-/// Appends the next piece, of so many rows.
-fn add_piece(alloc: Global, pieces: &mut Vec<Piece>, rows: u16) -> Result<(), Fail>
+/// Appends the next piece, of an epoch with so many rows.
+fn add_piece(alloc: Global, pieces: &mut Vec<Piece>, epoch: u32, rows: u16) -> Result<(), Fail>
     ensures { ArePlanned None 0 pieces.old.items → OnOk result (ArePlanned None 0 pieces.new.items) }
 {
     let Ok(id) = u32::try_from(pieces.len()) else {
         return Err("more pieces than a test has")?;
     };
-    pieces.push(piece_of_rows(alloc, id, rows)?)?;
+    pieces.push(piece_of_rows(alloc, id, epoch, rows)?)?;
     Ok(())
 }
 
@@ -93,9 +93,9 @@ fn add_piece(alloc: Global, pieces: &mut Vec<Piece>, rows: u16) -> Result<(), Fa
 fn add_run(alloc: Global, pieces: &mut Vec<Piece>, run: Run) -> Result<(), Fail>
     ensures { ArePlanned None 0 pieces.old.items → OnOk result (ArePlanned None 0 pieces.new.items) }
 {
-    let (count, rows) = run;
+    let (epoch, count, rows) = run;
     for _piece in 0..count {
-        add_piece(alloc, pieces, rows)?;
+        add_piece(alloc, pieces, epoch, rows)?;
     }
     Ok(())
 }
@@ -168,18 +168,22 @@ fn taken_of<R: Wait + Clock>(rt: &R, alloc: Global, runs: &[Run]) -> Result<Seen
 }
 
 /// Lists, with how many pieces they have and how many bundles they make.
-const LISTS: [(&[Run], u32, u32); 11] = [
+const LISTS: [(&[Run], u32, u32); 15] = [
     (&[], 0, 0),
-    (&[(1, 1)], 1, 1),
-    (&[(2, 1)], 2, 2),
-    (&[(64, 1)], 64, 64),
-    (&[(65, 1)], 65, 1),
-    (&[(500, 1)], 500, 1),
-    (&[(501, 1)], 501, 2),
-    (&[(1000, 1)], 1000, 2),
-    (&[(1, 501)], 1, 1),
-    (&[(65, 1), (1, 501), (3, 1)], 69, 3),
-    (&[(65, 1), (1, 436)], 66, 2),
+    (&[(1, 1, 1)], 1, 1),
+    (&[(1, 2, 1)], 2, 2),
+    (&[(1, 64, 1)], 64, 64),
+    (&[(1, 65, 1)], 65, 1),
+    (&[(1, 500, 1)], 500, 1),
+    (&[(1, 501, 1)], 501, 2),
+    (&[(1, 1000, 1)], 1000, 2),
+    (&[(1, 1, 501)], 1, 1),
+    (&[(1, 65, 1), (1, 1, 501), (1, 3, 1)], 69, 3),
+    (&[(1, 65, 1), (1, 1, 436)], 66, 2),
+    (&[(1, 399, 1), (2, 101, 1)], 500, 1),
+    (&[(1, 400, 1), (2, 100, 1)], 500, 2),
+    (&[(1, 450, 1), (2, 399, 1), (3, 1, 1)], 850, 2),
+    (&[(1, 450, 1), (2, 400, 1), (3, 1, 1)], 851, 3),
 ];
 
 #[test]

@@ -8,7 +8,7 @@ use Rattle.report_merge.proofs.parts.Parts.sort.Goals as goal
 
 pub invariant_of-self : goal.invariant_of-self
 invariant_of-self g c =
-    let same = sum_by-IsPermutation (λ (d : CallRecord). d.segments) c.self.inside.calls.items c.sort_calls.new.calls.items c.sort_calls.ensures.permutation in
+    let same = sum_by-IsPermutation (λ (d : CallRecord). d.segments) c.self.inside.calls c.sort.new.self c.sort.ensures.permutation in
     record {
       few_octets = c.self.invariant.few_octets;
       few_segments = c.self.invariant.few_segments;
@@ -16,14 +16,14 @@ invariant_of-self g c =
     }
 
 pub returns : goal.returns
-returns g c = on_ok_weaker c.sort_calls.result
+returns g c = on_ok_weaker c.sort.result
     (λ sorted. record {
       same_findings = subst (λ (old : Gathered). IsPermutation old.findings c.sort_findings.new.findings.items) c.self.view_is c.sort_findings.ensures.permutation;
       findings_sorted = c.sort_findings.ensures.sorted;
-      same_calls = subst (λ (old : Gathered). IsPermutation old.calls c.sort_calls.new.calls.items) c.self.view_is c.sort_calls.ensures.permutation;
+      same_calls = subst (λ (old : Gathered). IsPermutation old.calls c.sort.new.self) c.self.view_is c.sort.ensures.permutation;
       calls_sorted = sorted;
       same_pieces = ap (λ (old : Gathered). old.pieces) c.self.view_is;
       same_octets = ap (λ (old : Gathered). old.octets) c.self.view_is;
       same_segments = ap (λ (old : Gathered). old.segments) c.self.view_is;
     })
-    c.sort_calls.ensures.sorted
+    c.sort.ensures.sorted
