@@ -16,14 +16,14 @@ pub record Giving (i : Interface) (e : ℕ) (end : Option ℕ) (first : ℕ) (be
   pub emptied : (k : ℕ) → (rows_of now k ≡ []) ⊎ ((rows_of now k ≡ rows_of before k) × AllByRecursion (λ j. j ≢ k) done)
   pub pieces : out' ++ pieces_out i e end (rows_of before) id now.channels ≡ out ++ pieces_out i e end (rows_of before) first before.channels
 
-pub giving_none : (i : Interface) (e : ℕ) (end : Option ℕ) (first : ℕ) (before : OpenRows) (out : List Piece) → Giving i e end first before out first before out
-giving_none i e end first before out = record { done = []; channels = refl; rest = all before.channels; emptied = λ k. inr (refl, tt); pieces = refl }
-  where
-    all : (ks : List ℕ) → AllByRecursion (λ k. rows_of before k ≡ rows_of before k) ks
-    all [] = tt
-    all (k ∷ ks) = (refl, all ks)
+pub all_same : (before : OpenRows) (ks : List ℕ) → AllByRecursion (λ k. rows_of before k ≡ rows_of before k) ks
+all_same before [] = tt
+all_same before (k ∷ ks) = (refl, all_same before ks)
 
-kept_all : (before now after : OpenRows) (channel : ℕ) → ((k : ℕ) → k ≢ channel → rows_of after k ≡ rows_of now k) → (ks : List ℕ)
+pub giving_none : (i : Interface) (e : ℕ) (end : Option ℕ) (first : ℕ) (before : OpenRows) (out : List Piece) → Giving i e end first before out first before out
+giving_none i e end first before out = record { done = []; channels = refl; rest = all_same before before.channels; emptied = λ k. inr (refl, tt); pieces = refl }
+
+pub kept_all : (before now after : OpenRows) (channel : ℕ) → ((k : ℕ) → k ≢ channel → rows_of after k ≡ rows_of now k) → (ks : List ℕ)
     → AllByRecursion (λ k. k ≢ channel) ks → AllByRecursion (λ k. rows_of now k ≡ rows_of before k) ks → AllByRecursion (λ k. rows_of after k ≡ rows_of before k) ks
 kept_all before now after channel others [] ne all = tt
 kept_all before now after channel others (k ∷ ks) ne all = (others k ne.0 ∙ all.0, kept_all before now after channel others ks ne.1 all.1)

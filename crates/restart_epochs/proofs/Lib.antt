@@ -18,8 +18,9 @@ pub mod Listings
 pub mod States
 pub mod Peeks
 pub mod ListedRows
-pub mod Parts
-pub mod SplitSteps
-pub mod Stretched
-pub mod Runs
-pub mod Splittings
+pub mod TakenParts
+pub mod Comings
+pub mod Added
+pub mod BlockJoins
+pub mod EndedEpochs
+pub mod Hung

@@ -10,7 +10,7 @@ use Rattle.std.proofs.lemmas.Bool.{eqb-true, eqb-false}
 use Rattle.line_model.specs.basics.Records.{Item}
 use Rattle.restart_epochs.specs.OpenRows.{OpenRows, rows_of, with_channel, HasMore, HasNoOthers, IsTakenOut}
 
-all_but : (P : ℕ → Type 0) (ks : List ℕ) (k : ℕ) → AllByRecursion P (insert_key nat_cmp ks k) → P k × AllByRecursion P ks
+pub all_but : (P : ℕ → Type 0) (ks : List ℕ) (k : ℕ) → AllByRecursion P (insert_key nat_cmp ks k) → P k × AllByRecursion P ks
 all_but P [] k all = all
 all_but P (j ∷ ks) k all = at (nat_cmp k j) (ranks k j) (all_but P ks k) all
   where

@@ -334,7 +334,7 @@ not_listed f k (j ∷ ks) (inr w) h others = not_listed f k ks w.1 h (rest (f j)
     rest true all = all.1
     rest false all = all
 
-served : (i : Interface) (rs : List Item) → AreSaid i rs → (e k : ℕ) → piece_rows e k (places i rs) ≢ [] → StandsOnce k (range_with_len 1 i.svc)
+pub served : (i : Interface) (rs : List Item) → AreSaid i rs → (e k : ℕ) → piece_rows e k (places i rs) ≢ [] → StandsOnce k (range_with_len 1 i.svc)
 served i rs said e k some = piece_once (x25 i) (start i) e k rs (has_channels i rs said).of_rows some
 
 pub no_rows_of : (i : Interface) (rs : List Item) → AreSaid i rs → (e k : ℕ) → AllByRecursion (λ j. j ≢ k) (channels_in i (places i rs) e) → piece_rows e k (places i rs) ≡ []

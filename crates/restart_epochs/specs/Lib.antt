@@ -1,7 +1,6 @@
 pub mod Cutting
 pub mod OpenLanes
 pub mod OpenRows
-pub mod Stretches
-pub mod Coming
-pub mod Splits
+pub mod BlockCuts
+pub mod BlockStates
 pub mod Walks

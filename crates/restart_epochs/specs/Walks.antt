@@ -59,6 +59,21 @@ pub record IsFresh {A : Type 0} (i : Interface) (w : EpochWalk A) : Type 0 where
   pub packets : w.packets ≡ 0
   pub findings : w.findings.items ≡ []
 
+-- before the first row of a block, where the restart machine is this
+pub record IsFreshBlock {A : Type 0} (l : LineState) (w : EpochWalk A) : Type 0 where
+  pub machine : w.machine ≡ l
+  pub epoch : w.epoch ≡ 0
+  pub packets : w.packets ≡ 0
+  pub findings : w.findings.items ≡ []
+
+-- the rows of a block were taken
+pub record HasJoined {A : Type 0} (block before after : EpochWalk A) : Type 0 where
+  pub interface : after.interface ≡ before.interface
+  pub machine : after.machine ≡ block.machine
+  pub epoch : after.epoch ≡ before.epoch + block.epoch
+  pub packets : after.packets ≡ before.packets + block.packets
+  pub findings : after.findings.items ≡ before.findings.items ++ block.findings.items
+
 -- the same rows were taken
 pub record IsSameWalk {A : Type 0} (before after : EpochWalk A) : Type 0 where
   pub interface : after.interface ≡ before.interface

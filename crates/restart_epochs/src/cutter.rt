@@ -181,5 +181,5 @@ impl<A: Allocator + Copy> Cutter<A> {
     }
 }
 
-mod stretches;
+mod joining;
 mod taken;

@@ -1,17 +1,20 @@
 //! The pieces of an epoch that has ended.
 
-ghost use Rattle.std.specs.Prelude.{◌≡◌, ℕ, ◌<◌, ◌≤◌, ◌+◌, ◌^◌, ◌++◌, [], length};
+ghost use Rattle.std.specs.Prelude.{◌≡◌, ℕ, ◌<◌, ◌≤◌, ◌+◌, ◌^◌, ◌++◌, [], length, OnOk};
+ghost use Rattle.std.specs.List.{AllByRecursion};
 ghost use Rattle.std.specs.Vec.{vec_len, vec_capacity};
 ghost use Rattle.line_model.specs.basics.Bounds.{IsPiece};
 ghost use Rattle.restart_epochs.specs.OpenRows.{rows_of};
 ghost use Rattle.restart_epochs.specs.Cutting.{pieces_out, IsEmptied};
+ghost use Rattle.restart_epochs.specs.BlockCuts.{part_pieces};
 
 use crate::channel_table::ChannelTable;
 use crate::kept_rows::take_first;
+use crate::parts::Part;
 use line_model::interface::Interface;
 use line_model::piece::Piece;
 use line_model::piece_items::PieceItems;
-use std::alloc::Allocator;
+use std::alloc::{AllocError, Allocator};
 
 /// An epoch that has ended, of which its pieces are.
 #[derive(Clone, Copy)]
@@ -52,4 +55,33 @@ pub fn append_pieces<A: Allocator + Copy>(
         out.push_reserved(piece);
         id += 1;
     }
+}
+
+/// Appends the pieces of an epoch whose rows are these parts, with ids from `first` on. Where memory is refused the rows
+/// are lost.
+pub fn append_parts<A: Allocator + Copy>(
+    epoch: EndedEpoch,
+    first: u32,
+    parts: Vec<Part<A>, A>,
+    out: &mut Vec<Piece<A>, A>,
+) -> Result<(), AllocError>
+    requires ids { first + length parts.items < 2 ^ 32 }
+    requires pieces { AllByRecursion (λ p. IsPiece epoch.interface p.channel p.items) parts.items }
+    ensures { OnOk result (out.new.items
+        ≡ out.old.items ++ part_pieces epoch.interface epoch.number epoch.end first parts.items) }
+{
+    let mut next = first;
+    for part in parts {
+        let piece = Piece {
+            id: next,
+            interface: epoch.interface,
+            epoch: epoch.number,
+            channel: part.channel,
+            items: PieceItems::of(part.items),
+            end: epoch.end,
+        };
+        out.push(piece)?;
+        next += 1;
+    }
+    Ok(())
 }

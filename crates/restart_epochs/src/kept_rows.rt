@@ -2,10 +2,10 @@
 
 ghost use Rattle.std.specs.Prelude.{◌≡◌, [], IfOk, OnOk, OnErr, MatchOption};
 ghost use Rattle.restart_epochs.specs.OpenRows.{rows_of, AreOut, IsSame, HasMore, IsTakenOut};
-ghost use Rattle.restart_epochs.specs.Stretches.{AreAdded, HasAll};
+ghost use Rattle.restart_epochs.specs.BlockCuts.{AreAdded, HasAll};
 
 use crate::channel_table::ChannelTable;
-use crate::stretch::Part;
+use crate::parts::Part;
 use line_model::items::ItemRef;
 use line_model::piece_items::PieceItems;
 use std::alloc::{AllocError, Allocator};

@@ -1,15 +1,15 @@
 //! The restart machine, and the epochs and pieces that it cuts a trace into.
 #![tactic(auto)]
 
+pub mod block_cut;
 pub mod channel_table;
 pub mod cut;
 pub mod cutter;
 mod ended_epoch;
 mod kept_rows;
 mod open_pieces;
+pub mod parts;
 pub mod restart;
 pub mod rows_by_channel;
 mod showing;
-pub mod splitter;
-pub mod stretch;
 pub mod walk;

@@ -1,13 +1,15 @@
 //! The pieces of the epoch that has not ended.
 
-ghost use Rattle.std.specs.Prelude.{◌≡◌, ℕ, ◌<◌, ◌+◌, ◌^◌, ◌++◌, OnOk, OnErr, length};
+ghost use Rattle.std.specs.Prelude.{◌≡◌, ℕ, ◌<◌, ◌+◌, ◌^◌, ◌++◌, [], OnOk, OnErr, length};
 ghost use Rattle.line_model.specs.basics.Bounds.{IsPiece};
 ghost use Rattle.restart_epochs.specs.OpenRows.{rows_of, IsSame};
-ghost use Rattle.restart_epochs.specs.Cutting.{ended_by, given_after, HasTurned};
+ghost use Rattle.restart_epochs.specs.Cutting.{ended_by, given_after, pieces_out, HasTurned, IsEmptied};
+ghost use Rattle.restart_epochs.specs.BlockCuts.{HasEnded, HaveEnded, MayEnd, MayEndAll};
 
 use crate::channel_table::ChannelTable;
-use crate::ended_epoch::{EndedEpoch, append_pieces};
-use crate::kept_rows::keep_row;
+use crate::ended_epoch::{EndedEpoch, append_parts, append_pieces};
+use crate::kept_rows::{keep_parts, keep_row};
+use crate::parts::EndedRows;
 use crate::walk::{EpochWalk, Turn};
 use line_model::items::ItemRef;
 use line_model::piece::Piece;
@@ -47,18 +49,79 @@ impl<A: Allocator + Copy> OpenPieces<A> {
                 keep_row(*walk.findings.allocator(), channel, item, &mut self.rows)
             }
             Turn::Ends => {
-                let pieces = self.rows.len();
-                out.reserve(pieces)?;
                 let epoch = EndedEpoch {
                     interface: walk.interface,
                     number: walk.epoch,
                     end: Some(item.number),
                 };
-                append_pieces(epoch, self.given, &mut self.rows, out);
-                self.given += pieces as u32;
-                Ok(())
+                self.give_out(epoch, out)
             }
             Turn::Stays => Ok(()),
         }
+    }
+
+    /// Appends the pieces of the open epoch, which has ended. Where memory is refused nothing has changed.
+    fn give_out(&mut self, epoch: EndedEpoch, out: &mut Vec<Piece<A>, A>) -> Result<(), AllocError>
+        requires ids { self.old.given + length self.old.rows.channels < 2 ^ 32 }
+        requires pieces { (k : ℕ) → IsPiece epoch.interface k (rows_of self.old.rows k) }
+        ensures rows { OnOk result ((self.new.rows.channels ≡ []) × IsEmptied self.old.rows self.new.rows) }
+        ensures count { OnOk result (self.new.given ≡ self.old.given + length self.old.rows.channels) }
+        ensures given { OnOk result (out.new.items ≡ out.old.items
+            ++ pieces_out epoch.interface epoch.number epoch.end (rows_of self.old.rows) self.old.given self.old.rows.channels) }
+        ensures refused { OnErr result ((self.new.given ≡ self.old.given)
+            × IsSame self.old.rows self.new.rows × (out.new.items ≡ out.old.items)) }
+    {
+        let pieces = self.rows.len();
+        out.reserve(pieces)?;
+        append_pieces(epoch, self.given, &mut self.rows, out);
+        self.given += pieces as u32;
+        Ok(())
+    }
+
+    /// Adds the rows of an epoch of a block, and appends the pieces of the epoch: where no row is kept, the parts as they
+    /// are. Where memory is refused rows are lost.
+    fn end_epoch(
+        &mut self,
+        walk: &EpochWalk<A>,
+        ended: EndedRows<A>,
+        out: &mut Vec<Piece<A>, A>,
+    ) -> Result<(), AllocError>
+        requires rows { MayEnd walk.now.interface walk.now.epoch self.old.given self.old.rows ended }
+        ensures { OnOk result (HasEnded walk.now.interface walk.now.epoch ended self.old.given self.new.given
+            self.old.rows self.new.rows out.old.items out.new.items) }
+    {
+        let EndedRows { parts, epoch, end } = ended;
+        let epoch = EndedEpoch {
+            interface: walk.interface,
+            number: walk.epoch + epoch,
+            end: Some(end),
+        };
+        if self.rows.len() == 0 {
+            let count = parts.len();
+            append_parts(epoch, self.given, parts, out)?;
+            self.given += count as u32;
+            return Ok(());
+        }
+        keep_parts(*walk.findings.allocator(), parts, &mut self.rows)?;
+        self.give_out(epoch, out)?;
+        Ok(())
+    }
+
+    /// Adds the rows of the epochs of a block one after the other, and appends the pieces of each. Where memory is
+    /// refused rows are lost.
+    pub fn end_epochs(
+        &mut self,
+        walk: &EpochWalk<A>,
+        ended: Vec<EndedRows<A>, A>,
+        out: &mut Vec<Piece<A>, A>,
+    ) -> Result<(), AllocError>
+        requires rows { MayEndAll walk.now.interface walk.now.epoch self.old.given self.old.rows ended.items }
+        ensures { OnOk result (HaveEnded walk.now.interface walk.now.epoch ended.items self.old.given self.new.given
+            self.old.rows self.new.rows out.old.items out.new.items) }
+    {
+        for epoch in ended {
+            self.end_epoch(walk, epoch, out)?;
+        }
+        Ok(())
     }
 }

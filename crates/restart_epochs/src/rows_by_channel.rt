@@ -3,10 +3,10 @@
 ghost use Rattle.std.specs.Prelude.{◌≡◌, ℕ, [], IfOk, MatchOption, OnOk};
 ghost use Rattle.std.specs.Bool.{OnTrue};
 ghost use Rattle.restart_epochs.specs.OpenRows.{no_rows, rows_of, HasMore, IsTakenOut};
-ghost use Rattle.restart_epochs.specs.Stretches.{rows_on};
+ghost use Rattle.restart_epochs.specs.BlockCuts.{parts_of, AreAllOut};
 
 use crate::channel_table::ChannelTable;
-use crate::stretch::Part;
+use crate::parts::Part;
 use line_model::items::{ItemRef, Items};
 use std::alloc::{AllocError, Allocator, Global};
 use std::boxed::Box;
@@ -43,9 +43,20 @@ impl<A: Allocator + Copy> RowsByChannel<A> {
 
     /// Whether no channel has rows.
     pub fn is_empty(&self) -> bool
-        ensures { OnTrue result ((k : ℕ) → rows_of self.now k ≡ []) }
+        ensures { OnTrue result ((self.now.channels ≡ []) × ((k : ℕ) → rows_of self.now k ≡ [])) }
     {
         self.table.len() == 0
+    }
+
+    /// These lists, or new ones where a channel has rows.
+    pub fn emptied(self) -> Self
+        ensures channels { result.channels ≡ [] }
+        ensures rows { (k : ℕ) → rows_of result k ≡ [] }
+    {
+        if self.is_empty() {
+            return self;
+        }
+        RowsByChannel::new(self.alloc)
     }
 
     /// Appends the first row of a channel to its list, which is empty.
@@ -100,12 +111,13 @@ impl<A: Allocator + Copy> RowsByChannel<A> {
         Ok(Some(Part { channel, items }))
     }
 
-    /// Takes all rows out, those of a channel as one part. Where memory is refused some are lost.
+    /// Takes all rows out, those of a channel as one part, in ascending order of the channels. Where memory is refused some are lost.
     pub fn take_parts(&mut self) -> Result<Vec<Part<A>, A>, AllocError>
-        ensures parts { IfOk result (λ parts. (k : ℕ) → rows_on k parts.items ≡ rows_of self.old k) }
-        ensures left { OnOk result ((k : ℕ) → rows_of self.new k ≡ []) }
+        ensures parts { IfOk result (λ parts. parts.items ≡ parts_of (rows_of self.old) self.old.channels) }
+        ensures out { OnOk result (AreAllOut self.old self.new) }
     {
         let mut parts = Vec::new(self.alloc);
+        parts.reserve(self.table.len())?;
         while let Some(part) = self.take_first()? {
             parts.push(part)?;
         }

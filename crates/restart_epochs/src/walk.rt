@@ -3,7 +3,7 @@
 
 ghost use Rattle.std.specs.Prelude.{option_to_list, ◌≡◌, ◌<◌, ◌+◌, ◌^◌, ◌++◌, IfOk, OnOk, OnErr};
 ghost use Rattle.line_model.specs.observer.Observer.{line_in_r1};
-ghost use Rattle.restart_epochs.specs.Walks.{epoch_after, route_finding, turn_of, HasRoom, IsAdvanced, IsFresh, IsSameWalk, IsStep};
+ghost use Rattle.restart_epochs.specs.Walks.{epoch_after, route_finding, turn_of, HasJoined, HasRoom, IsAdvanced, IsFresh, IsFreshBlock, IsSameWalk, IsStep};
 
 use crate::restart::{Restart, Route, packet_channel};
 use line_model::finding::{Code, Finding};
@@ -64,6 +64,34 @@ impl<A: Allocator> EpochWalk<A> {
             packets: 0,
             findings: Vec::new(alloc),
         }
+    }
+
+    /// A walk over the rows of a block alone, before the first one: the restart machine is this, and epochs are counted
+    /// from 0. It takes no memory.
+    pub fn of_block(alloc: A, interface: &Interface, machine: Restart) -> Self
+        ensures { IsFreshBlock machine result }
+    {
+        EpochWalk {
+            interface: *interface,
+            machine,
+            epoch: 0,
+            packets: 0,
+            findings: Vec::new(alloc),
+        }
+    }
+
+    /// Goes past the rows of a block, whose walk began with this walk's restart machine.
+    pub fn join(&mut self, block: EpochWalk<A>) -> Result<(), AllocError>
+        requires epochs { self.old.epoch + block.epoch < 2 ^ 32 }
+        requires packets { self.old.packets + block.packets < 2 ^ 32 }
+        ensures { OnOk result (HasJoined block self.old self.new) }
+    {
+        let mut block = block;
+        self.findings.append(&mut block.findings)?;
+        self.machine = block.machine;
+        self.epoch += block.epoch;
+        self.packets += block.packets;
+        Ok(())
     }
 
     /// Returns what the next row does to the walk, which stays where it is, with room for what the row finds. Fails only

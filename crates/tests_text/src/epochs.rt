@@ -3,8 +3,8 @@
 ghost use Rattle.std.specs.Prelude.{◌≤◌, ◌∷◌, ◌^◌, All, IfOk, length, map, sum_by};
 ghost use Rattle.std.specs.List.Sorted.{IsStrictlyIncreasing};
 
+mod lists;
 mod refused;
-mod split;
 
 use crate::checks::holds_for;
 use line_model::finding::{Code, Finding};

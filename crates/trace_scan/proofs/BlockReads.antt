@@ -13,9 +13,8 @@ use Rattle.trace_text.specs.Progress.{Progress}
 use Rattle.trace_text.specs.StandsFor.{StandsFor, ReadsChunk}
 use Rattle.trace_text.specs.declared.lines.block.BlockSpan.{BlockSpan}
 use Rattle.trace_text.proofs.Headings.{heading_alone}
-use Rattle.restart_epochs.specs.Splits.{IsSplitSoFar}
-use Rattle.restart_epochs.specs.Stretches.{IsSplit}
-use Rattle.restart_epochs.specs.declared.splitter.Splitter.{Splitter}
+use Rattle.restart_epochs.specs.BlockStates.{IsBlockCut, IsCutSoFar}
+use Rattle.restart_epochs.specs.declared.block_cut.BlockCutter.{BlockCutter}
 use Rattle.trace_scan.specs.TextBlocks.{AreRead, HasReadTo, IsReadAs}
 use Rattle.trace_scan.specs.declared.blocks.BlockRows.{BlockRows}
 use Rattle.trace_scan.specs.declared.blocks.RowsSoFar.{RowsSoFar}
@@ -33,12 +32,12 @@ some_with : (rs : List Row) (row : Row) → false ≡ not (has_some (rs ++ row �
 some_with [] row = refl
 some_with (r ∷ rs) row = refl
 
-pub row_added : {A : Type 0} (l : LineState) (rs : List Row) (r : RowsSoFar A) (next : Row) (row : ReadRow) (first : ℕ) (splitter : Splitter A) (item : Item) → AreRead l rs r → row ≡ read_row next → first ≡ cond r.is_empty row.number r.first → item ≡ item_read r.interface row
-    → IsSplitSoFar l (items_of r.interface rs ++ item ∷ []) splitter → AreRead {A = A} l (rs ++ next ∷ []) (record { interface = r.interface; is_empty = false; first = first; splitter = splitter })
+pub row_added : {A : Type 0} (l : LineState) (rs : List Row) (r : RowsSoFar A) (next : Row) (row : ReadRow) (first : ℕ) (cutter : BlockCutter A) (item : Item) → AreRead l rs r → row ≡ read_row next → first ≡ cond r.is_empty row.number r.first → item ≡ item_read r.interface row
+    → IsCutSoFar l (items_of r.interface rs ++ item ∷ []) cutter → AreRead {A = A} l (rs ++ next ∷ []) (record { interface = r.interface; is_empty = false; first = first; cutter = cutter })
 row_added l rs r next row first splitter item are row_is first_is item_is split = record {
   empty = some_with rs next;
   first = first_is ∙ (λ k. cond (are.empty k) ((row_is k).number) (are.first k)) ∙ first_more rs next;
-  split = subst (λ items. IsSplitSoFar l items splitter) (ap (λ t. items_of r.interface rs ++ t ∷ []) item_is ∙ row_said r.interface rs next row row_is) split;
+  cut = subst (λ items. IsCutSoFar l items cutter) (ap (λ t. items_of r.interface rs ++ t ∷ []) item_is ∙ row_said r.interface rs next row row_is) cut;
 }
 
 -- ---- the rows of some bytes
@@ -82,15 +81,15 @@ of_ok (Err y) P x e h = absurd cc
 pub read_heading : {A : Type 0} (l : LineState) (i : Interface) (lines : Progress) (r : RowsSoFar A) → (at : IsAtRows i lines) → AreRead l [] r → HasReadTo l at.heading lines r
 read_heading l i lines r at none = record { reads = at.stands; rows = subst (λ rs. AreRead l rs r) (sym (heading_alone i at.heading at.is)) none }
 
--- what the splitter split is of the rows under the header of the block
-pub split_under : {A : Type 0} (l : LineState) (i : Interface) (text : List ℕ) (lines : Progress) (r : RowsSoFar A) → r.interface ≡ i → HasReadTo l text lines r → IsSplitSoFar l (items_of i (early_rows text)) r.splitter
-split_under l i text lines r same to = subst (λ j. IsSplitSoFar l (items_of j (early_rows text)) r.splitter) same to.rows.split
+-- what the cutter cut is of the rows under the header of the block
+pub cut_under : {A : Type 0} (l : LineState) (i : Interface) (text : List ℕ) (lines : Progress) (r : RowsSoFar A) → r.interface ≡ i → HasReadTo l text lines r → IsCutSoFar l (items_of i (early_rows text)) r.cutter
+cut_under l i text lines r same to = subst (λ j. IsCutSoFar l (items_of j (early_rows text)) r.cutter) same to.rows.cut
 
 pub read_as : {A : Type 0} (start : Start) (heading bytes : List ℕ) (span : BlockSpan) (b : BlockRows A) → IsBlock start.interface bytes (early_rows (heading ++ bytes)) × IsSpanOf bytes (early_rows (heading ++ bytes)) span → b.span ≡ span
-    → IsSplit start.machine (items_of start.interface (early_rows (heading ++ bytes))) b.stretches.items → IsReadAs start bytes b
-read_as start heading bytes span b ends span_is split = record {
+    → IsBlockCut start.machine (items_of start.interface (early_rows (heading ++ bytes))) b.cut → IsReadAs start bytes b
+read_as start heading bytes span b ends span_is cut = record {
   rows = early_rows (heading ++ bytes);
   block = ends.0;
   span_is = subst (IsSpanOf bytes (early_rows (heading ++ bytes))) (sym span_is) ends.1;
-  split = split;
+  cut = cut;
 }

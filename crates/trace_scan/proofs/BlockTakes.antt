@@ -10,7 +10,7 @@ use Rattle.trace_text.specs.FedBytes.{fed_length}
 use Rattle.trace_text.specs.Progress.{Progress, bytes_fed}
 use Rattle.trace_text.specs.StandsFor.{StandsFor}
 use Rattle.restart_epochs.specs.Cutting.{HasAppended, given_of}
-use Rattle.restart_epochs.specs.Stretches.{IsSplit}
+use Rattle.restart_epochs.specs.BlockStates.{IsBlockCut}
 use Rattle.trace_scan.specs.declared.blocks.BlockRows.{BlockRows}
 use Rattle.trace_scan.specs.declared.blocks.Start.{Start}
 use Rattle.trace_scan.specs.declared.text_cutter.RowCutter.{RowCutter}
@@ -40,7 +40,7 @@ pub record Passes {A : Type 0} (text bytes : List ℕ) (lines after : Progress) 
   pub passed : HasPassed lines after text bytes rs
   pub before : HasCut (items_of f.interface (early_rows text)) f
   pub trace : AreItems f.interface (items_of f.interface (early_rows text) ++ items_of f.interface rs)
-  pub split : IsSplit f.cutter.line (items_of f.interface rs) rows.stretches.items
+  pub cut : IsBlockCut f.cutter.line (items_of f.interface rs) rows.cut
 
 pub passes : {A : Type 0} (text bytes : List ℕ) (start : Start) (c : TextCutter A) (lines after : Progress) (rows : BlockRows A) (f : RowCutter A) → HasTaken text c → IsReadAs start bytes rows → lines ≡ c.lines → c.row_cutter ≡ Some f → IsAt start f
     → ((rs : List Row) → StandsFor lines text → lines.interface ≡ Some f.interface → IsBlock f.interface bytes rs → IsSpanOf bytes rs rows.span → HasPassed lines after text bytes rs) → Passes text bytes c.lines after rows f
@@ -55,8 +55,8 @@ passes text bytes start c lines after rows f t read is_lines is_cutter at pass =
       passed = subst (λ l. HasPassed l after text bytes read.rows) is_lines there;
       before = cut.cut;
       trace = subst (AreItems f.interface) (ap (items_of f.interface) there.rows_are ∙ items_more f.interface (early_rows text) read.rows) (early_trace f.interface (text ++ bytes) there.stands.sound);
-      split = subst (λ i. IsSplit f.cutter.line (items_of i read.rows) rows.stretches.items) (sym at.interface)
-          (subst (λ l. IsSplit l (items_of start.interface read.rows) rows.stretches.items) (sym at.machine) read.split);
+      cut = subst (λ i. IsBlockCut f.cutter.line (items_of i read.rows) rows.cut) (sym at.interface)
+          (subst (λ l. IsBlockCut l (items_of start.interface read.rows) rows.cut) (sym at.machine) read.cut);
     }
 
 -- its rows were cut

@@ -13,7 +13,7 @@ use Rattle.line_model.proofs.Rising.{RisesFrom, rises-from_index}
 use Rattle.line_model.proofs.Saying.{items_more, read_says}
 use Rattle.trace_text.specs.StandsFor.{last_row}
 use Rattle.restart_epochs.specs.Cutting.{Cutting, IsCounted, HasAppended, StandsFor as IsCutterOf}
-use Rattle.restart_epochs.specs.Stretches.{HasTakenAll, MayCome}
+use Rattle.restart_epochs.specs.BlockCuts.{HasTakenAll, MayCome}
 use Rattle.live_report.specs.Observing.{AreItems, last_item}
 use Rattle.trace_scan.specs.TextCuts.{HasCut, IsCounting}
 use Rattle.trace_scan.specs.declared.text_cutter.RowCutter.{RowCutter}

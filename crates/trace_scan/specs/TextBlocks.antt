@@ -5,8 +5,7 @@ use Rattle.line_model.specs.channels.RestartMachine.{LineState}
 use Rattle.line_model.specs.packets.Says.{items_of}
 use Rattle.line_model.specs.pieces.Plan.{has_some}
 use Rattle.line_model.specs.text.Text.{early_rows}
-use Rattle.restart_epochs.specs.Splits.{IsSplitSoFar}
-use Rattle.restart_epochs.specs.Stretches.{IsSplit}
+use Rattle.restart_epochs.specs.BlockStates.{IsBlockCut, IsCutSoFar}
 use Rattle.trace_text.specs.Blocks.{IsBlock, IsSpanOf, first_number}
 use Rattle.trace_text.specs.Progress.{Progress}
 use Rattle.trace_text.specs.StandsFor.{StandsFor}
@@ -33,18 +32,18 @@ pub record IsBlockAt (known : Option (List ℕ)) (place most : ℕ) (block : Blo
   pub few : length block.bytes ≤ most
   pub stands : IfSome known (λ whole. StandsAt whole place block.bytes)
 
--- the rows of a block that is read after a header, and split as a restart machine takes them
+-- the rows of a block that is read after a header, and cut as a restart machine takes them
 pub record IsReadAs {A : Type 0} (start : Start) (bytes : List ℕ) (r : BlockRows A) : Type 0 where
   pub rows : List Row
   pub block : IsBlock start.interface bytes rows
   pub span_is : IsSpanOf bytes rows r.span
-  pub split : IsSplit start.machine (items_of start.interface rows) r.stretches.items
+  pub cut : IsBlockCut start.machine (items_of start.interface rows) r.cut
 
--- these rows were read, and are split as a restart machine takes them
+-- these rows were read, and are cut as a restart machine takes them
 pub record AreRead {A : Type 0} (l : LineState) (rs : List Row) (r : RowsSoFar A) : Type 0 where
   pub empty : r.is_empty ≡ not (has_some rs)
   pub first : r.first ≡ first_number rs
-  pub split : IsSplitSoFar l (items_of r.interface rs) r.splitter
+  pub cut : IsCutSoFar l (items_of r.interface rs) r.cutter
 
 -- a text was read so far, and the rows of the lines that an LF ended
 pub record HasReadTo {A : Type 0} (l : LineState) (text : List ℕ) (lines : Progress) (r : RowsSoFar A) : Type 0 where

@@ -11,10 +11,9 @@ use line_model::fault::Fault;
 use line_model::interface::Interface;
 use line_model::row::ReadRow;
 use line_model::state::Side;
+use restart_epochs::block_cut::{BlockCut, BlockCutter};
 use restart_epochs::restart::Restart;
 use restart_epochs::rows_by_channel::RowsByChannel;
-use restart_epochs::splitter::Splitter;
-use restart_epochs::stretch::Stretch;
 use std::alloc::{AllocError, Allocator, Global};
 use std::marker::{Brand, Model, PhantomData};
 use std::mem;
@@ -65,11 +64,11 @@ impl<P: TraceText, A: Allocator> Model for Block<P, A> {
     ghost invariant = { λ b. IfSome P.text (λ whole. StandsAt whole b.place b.bytes.items) };
 }
 
-/// What the rows of a block say, by channel, and what the reader of the text has to know of it.
+/// What the rows of a block say, by epoch and channel, and what the reader of the text has to know of it.
 #[derive(Drop)]
 pub struct BlockRows<A: Allocator = Global> {
     pub span: BlockSpan,
-    pub stretches: Vec<Stretch<A>, A>,
+    pub cut: BlockCut<A>,
 }
 
 /// A block with its rows; none where it could not be read apart.
@@ -97,7 +96,7 @@ struct RowsSoFar<A: Allocator = Global> {
     is_empty: bool,
     /// The number of the first row, or 0.
     first: u32,
-    splitter: Splitter<A>,
+    cutter: BlockCutter<A>,
 }
 
 impl<A: Allocator + Copy> RowsSoFar<A> {
@@ -110,7 +109,7 @@ impl<A: Allocator + Copy> RowsSoFar<A> {
             interface: start.interface,
             is_empty: true,
             first: 0,
-            splitter: Splitter::new(alloc, start.machine, lists),
+            cutter: BlockCutter::new(alloc, &start.interface, start.machine, lists),
         }
     }
 
@@ -131,7 +130,7 @@ impl<A: Allocator + Copy> RowsSoFar<A> {
         self.first = self.first_with(row.number);
         self.is_empty = false;
         let item = item_of_row(&self.interface, row);
-        self.splitter.push(&item)
+        self.cutter.push(&item)
     }
 
     /// Adds the rows of the lines that an LF of these bytes ends, each read into the place of the one before.
@@ -175,9 +174,9 @@ fn rows_of<A: Allocator + Copy>(
     };
     rows.add_lines(bytes, &mut lines, &mut row).ok()?;
     let span = lines.end_block(rows.first)?;
-    let (stretches, left) = rows.splitter.end().ok()?;
+    let (cut, left) = rows.cutter.end().ok()?;
     *lists = left;
-    Some(BlockRows { span, stretches })
+    Some(BlockRows { span, cut })
 }
 
 impl<P: TraceText, A: Allocator + Copy> Block<P, A> {

@@ -9,7 +9,7 @@ ghost use Rattle.line_model.specs.declared.fault.Fault.TheVariants.{Memory};
 ghost use Rattle.trace_text.specs.Progress.{bytes_fed};
 ghost use Rattle.trace_text.specs.StandsFor.{IsFaultOf, IsTextFault};
 ghost use Rattle.restart_epochs.specs.Cutting.{HasAppended, given_of};
-ghost use Rattle.restart_epochs.specs.Stretches.{IsSplit};
+ghost use Rattle.restart_epochs.specs.BlockStates.{IsBlockCut};
 ghost use Rattle.live_report.specs.Observing.{AreItems};
 ghost use Rattle.trace_scan.specs.TextBlocks.{IsReadAs};
 ghost use Rattle.trace_scan.specs.TextCuts.{HasCut, HasTaken, OfCut, OfTaken, known_pieces};
@@ -19,7 +19,7 @@ use crate::blocks::{Block, BlockRows, ReadBlock, Start, TraceText};
 use crate::blocks_out::UsedBlock;
 use line_model::fault::Fault;
 use line_model::piece::Piece;
-use restart_epochs::stretch::Stretch;
+use restart_epochs::block_cut::BlockCut;
 use std::alloc::Allocator;
 
 impl<A: Allocator + Copy> RowCutter<A> {
@@ -30,30 +30,26 @@ impl<A: Allocator + Copy> RowCutter<A> {
         self.interface == start.interface && self.cutter.machine().is_same(&start.machine)
     }
 
-    /// Cuts rows that were read and split elsewhere, and appends the pieces that are known whole with them. After a
+    /// Takes rows that were read and cut elsewhere, and appends the pieces that are known whole with them. After a
     /// refusal no cutter is left.
-    fn cut_stretches(
-        self,
-        stretches: Vec<Stretch<A>, A>,
-        pieces: &mut Vec<Piece<A>, A>,
-    ) -> Result<Self, Fault>
+    fn join(self, block: BlockCut<A>, pieces: &mut Vec<Piece<A>, A>) -> Result<Self, Fault>
         requires next { (before : List records.Item) × (items : List records.Item)
             × HasCut before self × AreItems self.interface (before ++ items)
-            × IsSplit self.cutter.line items stretches.items }
+            × IsBlockCut self.cutter.line items block }
         ensures interface { IfOk result (λ cutter. cutter.interface ≡ self.interface) }
         ensures cut { OfCut self (λ before. (items : List records.Item)
             → AreItems self.interface (before ++ items)
-            → IsSplit self.cutter.line items stretches.items
+            → IsBlockCut self.cutter.line items block
             → IfOk result (HasCut (before ++ items))) }
         ensures pieces { OfCut self (λ before. (items : List records.Item)
             → AreItems self.interface (before ++ items)
-            → IsSplit self.cutter.line items stretches.items
+            → IsBlockCut self.cutter.line items block
             → IfOk result (λ cutter. HasAppended pieces.old.items pieces.new.items
             (given_of self.interface before) (given_of self.interface (before ++ items)))) }
         ensures memory { IfErr result (λ fault. fault ≡ Memory) }
     {
         let RowCutter { interface, cutter } = self;
-        let cutter = cutter.take_stretches(stretches, pieces)?;
+        let cutter = cutter.join(block, pieces)?;
         Ok(RowCutter { interface, cutter })
     }
 }
@@ -109,7 +105,7 @@ impl<A: Allocator + Copy> TextCutter<A> {
         let Some(row_cutter) = self.row_cutter.take() else {
             unreachable!();
         };
-        self.row_cutter = Some(row_cutter.cut_stretches(rows.stretches, pieces)?);
+        self.row_cutter = Some(row_cutter.join(rows.cut, pieces)?);
         Ok(true)
     }
 

@@ -1,8 +1,8 @@
 use Rattle.std.proofs.Common.{sym, subst, ◌∙◌}
 use Rattle.std.proofs.lemmas.List.{nil_from_length}
 use Rattle.std.specs.Vec.Iter.{into_iter_items}
-use Rattle.restart_epochs.specs.Stretches.{AreAdded}
-use Rattle.restart_epochs.proofs.Runs.{none_added}
+use Rattle.restart_epochs.specs.BlockCuts.{AreAdded}
+use Rattle.restart_epochs.proofs.Added.{none_added}
 use Rattle.restart_epochs.proofs.kept_rows.keep_parts.Goals as goal
 
 pub loop-part-init : goal.loop-part-init

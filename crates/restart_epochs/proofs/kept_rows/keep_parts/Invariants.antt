@@ -1,6 +1,6 @@
 use Rattle.std.specs.Vec.Iter.{into_iter_items}
 use Rattle.restart_epochs.specs.OpenRows.{OpenRows}
-use Rattle.restart_epochs.specs.Stretches.{AreAdded}
+use Rattle.restart_epochs.specs.BlockCuts.{AreAdded}
 use Rattle.restart_epochs.proofs.kept_rows.keep_parts.Given as goal
 
 abbrev pub invariant-loop-part : goal.invariant-loop-part

@@ -6,5 +6,5 @@ use Rattle.trace_scan.proofs.blocks.RowsSoFar.add.Goals as goal
 
 pub returns-clause-added : goal.returns-clause-added
 returns-clause-added g c l rows next are is =
-    on_ok c.push.result _ _ (c.push.ensures l (items_of c.args.self.now.interface rows) are.split)
+    on_ok c.push.result _ _ (c.push.ensures l (items_of c.args.self.now.interface rows) are.cut)
     (row_added l rows c.args.self.now next c.args.row.now c.first_with-self.result c.push.new.self c.item_of_row-item.result are is (c.first_with-self.ensures ∙ ap (λ v. cond c.args.self.now.is_empty v.number c.args.self.now.first) c.row.view_is) c.item_of_row-item.ensures)

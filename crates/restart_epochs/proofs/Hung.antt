@@ -1,0 +1,104 @@
+-- A cutter that took the rows of a block.
+use Rattle.std.proofs.Common.{◌≡◌, ◌∙◌, sym, ap, subst, refl, ℕ, ◌+◌, ◌<◌, ◌≤◌, ◌==◌, cond, true, List, ◌++◌, arith}
+use Rattle.line_model.specs.declared.interface.Interface.{Interface}
+use Rattle.line_model.specs.basics.Records.{Item, Piece}
+use Rattle.line_model.specs.pieces.Plan.{has_some}
+use Rattle.restart_epochs.specs.BlockCuts.{AreAdded, HasTakenAll, HaveEnded, IsJoined, MayCome, MayEndAll, joined, listed, pieces_ended, rows_after, rows_on}
+use Rattle.restart_epochs.specs.BlockStates.{IsBlockCut, block_rows}
+use Rattle.restart_epochs.specs.Cutting.{Cutting, IsCutting, IsUnchanged, StandsFor}
+use Rattle.restart_epochs.specs.OpenRows.{OpenRows, rows_of}
+use Rattle.restart_epochs.specs.declared.block_cut.BlockCut.{BlockCut}
+use Rattle.restart_epochs.proofs.Added.{added_rows, are_within, lists, parts_listed, same_bounds, same_stands, some_behind, within_open}
+use Rattle.restart_epochs.proofs.BlockJoins.{both_rows}
+use Rattle.restart_epochs.proofs.Comings.{all_come}
+use Rattle.restart_epochs.proofs.Listings.{listing}
+
+-- the epochs of the block were given out, and the rows of its open epoch added
+pub record IsHung {A : Type 0} (c : Cutting) (b : BlockCut A) (c' : Cutting) (out out' : List Piece) : Type 0 where
+  pub between : OpenRows
+  pub ended : HaveEnded c.interface c.epoch b.ended.items c.given c'.given c.open_rows between out out'
+  pub added : AreAdded b.tail.items between c'.open_rows
+  pub interface : c'.interface ≡ c.interface
+  pub line : c'.line ≡ b.walk.machine
+  pub epoch : c'.epoch ≡ c.epoch + b.walk.epoch
+  pub packets : c'.packets ≡ c.packets + b.walk.packets
+  pub last : c'.last ≡ cond (b.walk.packets == 0) c.last b.last
+  pub octets : c'.octets ≡ c.octets + b.octets
+  pub findings : c'.findings ≡ c.findings ++ b.walk.findings.items
+
+pub hung_at : {A : Type 0} (d c c' : Cutting) (b : BlockCut A) (out out' : List Piece) → d ≡ c → IsHung d b c' out out' → IsHung c b c' out out'
+hung_at d c c' b out out' same h = subst (λ e. IsHung e b c' out out') same h
+
+-- what a cutter is given
+pub record MayHang {A : Type 0} (c : Cutting) (b : BlockCut A) : Type 0 where
+  pub interface : Interface
+  pub rows : List Item
+  pub items : List Item
+  pub stands : StandsFor interface rows c
+  pub bounds : IsCutting c
+  pub cut : IsBlockCut c.line items b
+  pub joins : IsJoined interface rows c items (block_rows b cut.rows)
+
+abbrev pub may_hang : {A : Type 0} (i : Interface) (rows items : List Item) (c : Cutting) (b : BlockCut A) → StandsFor i rows c → IsCutting c → IsBlockCut c.line items b → MayCome c items → MayHang c b
+may_hang i rows items c b stands bounds cut come = record { interface = i; rows = rows; items = items; stands = stands; bounds = bounds; cut = cut; joins = cut.cut i rows c stands bounds refl (all_come c items come) }
+
+pub may_end : {A : Type 0} (c : Cutting) (b : BlockCut A) → MayHang c b → MayEndAll c.interface c.epoch c.given c.open_rows b.ended.items
+may_end c b m =
+    let ids = m.joins.bounds.ids in
+    let rows = m.joins.bounds.rows in
+    let last = m.joins.bounds.last in
+    record {
+      channels = lists m.interface m.rows c m.stands ∙ ap (λ (j : Interface). listed j.svc (rows_of c.open_rows)) (sym m.stands.interface);
+      others = (listing m.interface m.rows c m.stands).others;
+      ids = omega (arith, ids, rows, last);
+      fit = m.joins.fit;
+    }
+
+-- the counts of both fit
+pub counts_fit : {A : Type 0} (c : Cutting) (b : BlockCut A) → MayHang c b → (c.epoch + b.walk.epoch < 4294967296) × (c.packets + b.walk.packets < 4294967296) × (c.octets + b.octets < 4294967296)
+counts_fit c b m =
+    let epochs = m.joins.bounds.epochs in
+    let rows = m.joins.bounds.rows in
+    let last = m.joins.bounds.last in
+    let octets = m.joins.bounds.octets in
+    (omega (arith, epochs, rows, last), omega (arith, rows, last), omega (arith, octets))
+
+hung_same : {A : Type 0} (c c' : Cutting) (b : BlockCut A) (out out' : List Piece) → (m : MayHang c b) → IsHung c b c' out out' → IsUnchanged (joined c (block_rows b m.cut.rows)) c'
+hung_same c c' b out out' m h =
+    let n = c.interface.svc in
+    let o = rows_after c.open_rows b.ended.items in
+    let all = joined c (block_rows b m.cut.rows) in
+    let rows : (k : ℕ) → rows_of c'.open_rows k ≡ rows_of all.open_rows k = λ k.
+    added_rows b.tail.items h.between c'.open_rows h.added k ∙ (λ j. h.ended.rows k j ++ m.cut.tail k j) ∙ sym (both_rows n o m.cut.rows k) in
+    let within : (k : ℕ) → has_some (rows_on k b.tail.items) ≡ true → (1 ≤ k) × (k ≤ n) = λ k some.
+    subst (λ (j : Interface). (1 ≤ k) × (k ≤ j.svc)) (sym m.joins.stands.interface)
+    (within_open m.interface (m.rows ++ m.items) all m.joins.stands k (ap has_some (both_rows n o m.cut.rows k ∙ ap (λ l. rows_of o k ++ l) (sym (m.cut.tail k))) ∙ some_behind (rows_of o k) (rows_on k b.tail.items) some)) in
+    record {
+      interface = h.interface;
+      line = h.line;
+      epoch = h.epoch;
+      given = h.ended.count;
+      packets = h.packets;
+      last = h.last;
+      octets = h.octets;
+      findings = h.findings;
+      open_rows = record {
+        rows = rows;
+        channels = parts_listed n b.tail.items h.between c'.open_rows h.added (are_within n b.tail.items within) h.ended.channels ∙ ap (listed n) (λ j k. rows k j);
+      };
+    }
+
+pub hung_bounds : {A : Type 0} (c c' : Cutting) (b : BlockCut A) (out out' : List Piece) → MayHang c b → IsHung c b c' out out' → IsCutting c'
+hung_bounds c c' b out out' m h = same_bounds (joined c (block_rows b m.cut.rows)) c' (hung_same c c' b out out' m h) m.joins.bounds
+
+pub hung_taken : {A : Type 0} (i : Interface) (rows items : List Item) (c c' : Cutting) (b : BlockCut A) (out out' : List Piece) → StandsFor i rows c → IsCutting c → IsBlockCut c.line items b → MayCome c items → IsHung c b c' out out' → HasTakenAll items c c' out out'
+hung_taken i rows items c c' b out out' stands bounds cut come h =
+    let may : (j : Interface) (rs : List Item) → StandsFor j rs c → MayHang c b = λ j rs s. may_hang j rs items c b s bounds cut come in
+    let m = may i rows stands in
+    record {
+      interface = h.interface;
+      last = h.last ∙ m.joins.last;
+      octets = h.octets ∙ m.joins.octets;
+      stands = λ j rs s. let n = may j rs s in same_stands j (rs ++ items) (joined c (block_rows b cut.rows)) c' (hung_same c c' b out out' n h) n.joins.stands;
+      appended = λ j rs s. record { more = pieces_ended c (block_rows b cut.rows); out_has = h.ended.pieces; known_has = (may j rs s).joins.given };
+    }

@@ -1,0 +1,15 @@
+use Rattle.std.proofs.Common.{refl}
+use Rattle.restart_epochs.proofs.BlockJoins.{cut_begun}
+use Rattle.restart_epochs.proofs.block_cut.BlockCutter.new.Goals as goal
+
+pub returns : goal.returns
+returns g c = cut_begun c.args.machine _ (record {
+  line = c.of_block.ensures.machine;
+  epoch = c.of_block.ensures.epoch;
+  packets = c.of_block.ensures.packets;
+  octets = refl;
+  findings = c.of_block.ensures.findings;
+  ended = c.new.ensures.items;
+  rows = c.emptied.ensures.rows;
+  channels = c.emptied.ensures.channels;
+})

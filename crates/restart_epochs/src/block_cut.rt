@@ -1,0 +1,146 @@
+//! Rows that are cut by epoch and logical channel apart from the rows before them.
+
+ghost use Rattle.std.specs.Prelude.{◌≡◌, ◌+◌, ◌<◌, ◌++◌, ◌∷◌, ◌==◌, ◌^◌, [], List, IfOk, IfSome, OnOk, cond};
+ghost use Rattle.line_model.specs.basics.Records as records;
+ghost use Rattle.line_model.specs.channels.RestartMachine.{LineState};
+ghost use Rattle.restart_epochs.specs.BlockStates.{BlockTurned, IsBlockCut, IsCutSoFar};
+
+use crate::parts::{EndedRows, Part};
+use crate::restart::Restart;
+use crate::rows_by_channel::RowsByChannel;
+use crate::walk::{EpochWalk, Turn};
+use line_model::interface::Interface;
+use line_model::items::ItemRef;
+use std::alloc::{AllocError, Allocator, Global};
+
+/// The rows of a block by epoch and logical channel. The first of its epochs may have begun before the block, and the
+/// last may go on after it.
+///
+/// ```text
+///  rows   7 ch 1 │ 8 restart │ 9 confirm │ 10 ch 1 │ 11 ch 2 │ 12 restart │ 13 confirm │ 14 ch 2
+///
+///  ended  epoch 0, end 8: 7 ch 1      epoch 1, end 12: 10 ch 1, 11 ch 2
+///  tail   14 ch 2
+/// ```
+#[derive(Drop)]
+pub struct BlockCut<A: Allocator = Global> {
+    /// Its restart machine began with that of the rows before; its epochs are counted from 0.
+    pub(crate) walk: EpochWalk<A>,
+    pub(crate) ended: Vec<EndedRows<A>, A>,
+    /// The rows of the epoch that is open after the block.
+    pub(crate) tail: Vec<Part<A>, A>,
+    /// The number of the last row, or 0.
+    pub(crate) last: u32,
+    pub(crate) octets: u32,
+}
+
+impl<A: Allocator> BlockCut<A> {
+    /// The number of the last row after one of this number and the rows of the block.
+    pub(crate) fn last_after(&self, before: u32) -> u32
+        ensures { result ≡ cond (self.now.walk.packets == 0) before self.now.last }
+    {
+        if self.walk.packets == 0 {
+            before
+        } else {
+            self.last
+        }
+    }
+}
+
+/// Cuts rows apart from the rows before them.
+#[derive(Drop)]
+pub struct BlockCutter<A: Allocator = Global> {
+    walk: EpochWalk<A>,
+    ended: Vec<EndedRows<A>, A>,
+    /// The rows of the epoch that is open.
+    rows: RowsByChannel<A>,
+    last: u32,
+    octets: u32,
+}
+
+impl<A: Allocator + Copy> BlockCutter<A> {
+    /// A cutter before the first row of a block, whose restart machine is this. It uses these lists again, and takes no
+    /// memory.
+    pub fn new(alloc: A, interface: &Interface, machine: Restart, lists: RowsByChannel<A>) -> Self
+        ensures { IsCutSoFar machine [] result }
+    {
+        BlockCutter {
+            walk: EpochWalk::of_block(alloc, interface, machine),
+            ended: Vec::new(alloc),
+            rows: lists.emptied(),
+            last: 0,
+            octets: 0,
+        }
+    }
+
+    /// The octets with those of one more row. `None`: a count would pass its type.
+    fn octets_with(&self, item: &ItemRef<'_>) -> Option<u32>
+        ensures { IfSome result (λ octets. (octets ≡ self.now.octets + item.now.length)
+            × (self.now.walk.epoch + 1 < 2 ^ 32) × (self.now.walk.packets + 1 < 2 ^ 32)) }
+    {
+        if self.walk.epoch == u32::MAX || self.walk.packets == u32::MAX {
+            return None;
+        }
+        let length = u32::try_from(item.length).ok()?;
+        self.octets.checked_add(length)
+    }
+
+    /// Keeps a row that goes to a channel, and ends the epoch where a row leaves r1.
+    fn turn(&mut self, turn: Turn, item: &ItemRef<'_>) -> Result<(), AllocError>
+        ensures { OnOk result (BlockTurned turn item.now self.old self.new) }
+    {
+        match turn {
+            Turn::ToChannel(channel) => self.rows.push(channel, item),
+            Turn::Ends => {
+                let ended = EndedRows {
+                    parts: self.rows.take_parts()?,
+                    epoch: self.walk.epoch,
+                    end: item.number,
+                };
+                self.ended.push(ended)?;
+                Ok(())
+            }
+            Turn::Stays => Ok(()),
+        }
+    }
+
+    /// Takes the next row. A count that grows past its type is refused as memory is. After a refusal the cutter is of no
+    /// use.
+    pub fn push(&mut self, item: &ItemRef<'_>) -> Result<(), AllocError>
+        ensures { (l : LineState) (items : List records.Item) → IsCutSoFar l items self.old
+            → OnOk result (IsCutSoFar l (items ++ item.now ∷ []) self.new) }
+    {
+        let Some(octets) = self.octets_with(item) else {
+            return Err(AllocError);
+        };
+        let step = self.walk.step(item)?;
+        self.turn(step.turn, item)?;
+        self.walk.advance(step);
+        self.last = item.number;
+        self.octets = octets;
+        Ok(())
+    }
+
+    /// The rows as they were cut, and the lists for the next cutter.
+    pub fn end(self) -> Result<(BlockCut<A>, RowsByChannel<A>), AllocError>
+        ensures { (l : LineState) (items : List records.Item) → IsCutSoFar l items self
+            → IfOk result (λ cut. IsBlockCut l items cut.0) }
+    {
+        let BlockCutter {
+            walk,
+            ended,
+            mut rows,
+            last,
+            octets,
+        } = self;
+        let tail = rows.take_parts()?;
+        let cut = BlockCut {
+            walk,
+            ended,
+            tail,
+            last,
+            octets,
+        };
+        Ok((cut, rows))
+    }
+}
