@@ -136,7 +136,7 @@ class Captures(unittest.TestCase):
         self.assertEqual((done.returncode, done.stdout), (2, b""))
         self.assertIn(b"x25trace: Compressed: standard input: its gzip data is cut off\n", done.stderr)
         done = run("-", input=gzip.compress(b""))
-        self.assertIn(b"x25trace: Empty: standard input has no octet\n", done.stderr)
+        self.assertIn(b"x25trace: Empty: standard input has no octet: ", done.stderr)
         done = run("-", input=gzip.compress(octets))
         self.assertIn(b"x25trace: Compressed: standard input is compressed; unpack it first with gzip -d\n", done.stderr)
 
