@@ -10,7 +10,7 @@ from __future__ import annotations
 import pathlib
 import sys
 
-from worked_traces import CRATE, ROOT, USES_OF_KINDS, constants, content, name_of, refusal, report, write_or_check
+from worked_traces import CRATE, KINDS, ROOT, constants, content, name_of, refusal, report, write_or_check
 
 TRACES = ROOT / "tests/gaps/traces"
 WRITTEN = "-- tools/worked_gap_traces.py writes this file from tests/gaps/traces."
@@ -48,6 +48,12 @@ def claim(trace: pathlib.Path) -> str:
     return f"recorded_fault {name}-text ≡ Some ({line}, {kind})"
 
 
+def uses_of_kinds(worked: list[pathlib.Path]) -> str:
+    """What takes the kinds of the refusals."""
+    kinds = {refused[1] for refused in map(refusal, worked) if refused}
+    return "use Rattle.line_model.specs.declared.fault.Kind.TheVariants.{" + ", ".join(it for it in KINDS if it in kinds) + "}"
+
+
 def statement_file(names: list[str]) -> str:
     """The file of the texts, the reports and the statement."""
     worked = traces(names)
@@ -58,7 +64,7 @@ def statement_file(names: list[str]) -> str:
     return f"""-- What some recordings with gaps come to: each is refused by its first faulty line, or has no fault and exactly this report.
 {WRITTEN}
 use Rattle.std.specs.Prelude.{{◌≡◌, ℕ, List, [], ◌∷◌,{joined} codes, Some}}
-{USES_OF_KINDS}
+{uses_of_kinds(worked)}
 use Rattle.line_model.specs.text.GapText.{{recorded_fault}}
 use Rattle.line_model.specs.traces.Traces.{{text{repeated}}}
 use Rattle.line_model.specs.traces.GapTraces.{{IsRecorded}}
@@ -85,7 +91,7 @@ def proof_file(names: list[str]) -> str:
 use Rattle.std.proofs.Common.{{◌≡◌, refl, Some}}
 use Rattle.std.specs.Fmt.{{digits}}
 use Rattle.hex.specs.Hex.{{decode_pairs}}
-{USES_OF_KINDS}
+{uses_of_kinds(worked)}
 use Rattle.line_model.specs.text.Header.{{header_numbers, interface_with, interface_of}}
 use Rattle.line_model.specs.text.RowLine.{{row_words, octets_of, row_kind, row_of}}
 use Rattle.line_model.specs.text.Text.{{last_number, size_kind, has_header}}

@@ -45,6 +45,7 @@ pub mod DeviceLemmas
 pub mod WrittenLemmas
 pub mod Saying
 pub mod GapMachines
+pub mod GapFindings
 pub mod WithoutGaps
 pub mod OtherForms
 pub mod WorkedGapTraces

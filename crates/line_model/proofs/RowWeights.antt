@@ -34,7 +34,7 @@ use Rattle.line_model.specs.packets.Says.{header_in}
 use Rattle.line_model.specs.channels.ChannelStep.{heard_of, completed_message, call_change, judged, verdict, ending_open, after_error, failing, changing, entering, telling, option_found, data_alike, data_counted, data_step, counting, transferring, verdict_step, channel_step, counts_of}
 use Rattle.line_model.proofs.EventWeights.{total, total-append, weight, weighing}
 
-ending_none : (a : ℕ) (f : ℕ → ℕ) (h : How) (o : Option Opening) (c : Channel) → total (weighing a f) (ending_open h o c).reported ≡ 0
+pub ending_none : (a : ℕ) (f : ℕ → ℕ) (h : How) (o : Option Opening) (c : Channel) → total (weighing a f) (ending_open h o c).reported ≡ 0
 ending_none a f h None c = refl
 ending_none a f h (Some o) c = refl
 
@@ -44,7 +44,7 @@ error_none a f D2 c = refl
 error_none a f D3 c = refl
 error_none a f s c = ending_none a f _ c.opening _
 
-failing_few : (a : ℕ) (f : ℕ → ℕ) (x : Side) (s : StateName) (n : ℕ) (c : Channel) → total (weighing a f) (failing x s n c).reported ≤ a
+pub failing_few : (a : ℕ) (f : ℕ → ℕ) (x : Side) (s : StateName) (n : ℕ) (c : Channel) → total (weighing a f) (failing x s n c).reported ≤ a
 failing_few a f T s n c = let none = error_none a f s c in omega arith
 failing_few a f N s n c = omega arith
 
@@ -66,7 +66,7 @@ set_none : (a : ℕ) (f : ℕ → ℕ) (b : Bool) (x : Side) (xs : List ℕ) →
 set_none a f true x xs = refl
 set_none a f false x xs = map_none a f (asked (other x)) (λ p. refl) _
 
-settings_none : (a : ℕ) (f : ℕ → ℕ) (b d : Bool) (x : Side) (xs : List ℕ) → total (weighing a f) (settings_told b d x xs) ≡ 0
+pub settings_none : (a : ℕ) (f : ℕ → ℕ) (b d : Bool) (x : Side) (xs : List ℕ) → total (weighing a f) (settings_told b d x xs) ≡ 0
 settings_none a f true d x xs = map_none a f (indicated x) (λ p. indicated_none a f (eqb (bits 8 8 p.reference) 1) x p) _
 settings_none a f false true x xs = set_none a f (eqb (length xs) 1) x xs
 settings_none a f false false x xs = refl
@@ -117,7 +117,7 @@ transferring_few : (a : ℕ) (f : ℕ → ℕ) (b : ℕ) (i : Interface) (s : St
 transferring_few a f b i s Data r c most = data_few a f b i s r (header_in r.packet) c most
 transferring_few a f b i s k r c most = counting_few a f b r.side s _ c (let enough = most 0 (omega arith) in omega arith)
 
-verdict_few : (a : ℕ) (f : ℕ → ℕ) (b : ℕ) (i : Interface) (s : StateName) (r : Item) (v : Verdict) (c : Channel) → IsMost a f b r → total (weighing a f) (verdict_step i s r v c).reported ≤ b
+pub verdict_few : (a : ℕ) (f : ℕ → ℕ) (b : ℕ) (i : Interface) (s : StateName) (r : Item) (v : Verdict) (c : Channel) → IsMost a f b r → total (weighing a f) (verdict_step i s r v c).reported ≤ b
 verdict_few a f b i s r (Fails t n) c most =
     let few = failing_few a f r.side t n c in
     let enough = most 0 (omega arith) in

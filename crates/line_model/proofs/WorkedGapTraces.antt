@@ -3,7 +3,7 @@
 use Rattle.std.proofs.Common.{◌≡◌, refl, Some}
 use Rattle.std.specs.Fmt.{digits}
 use Rattle.hex.specs.Hex.{decode_pairs}
-use Rattle.line_model.specs.declared.fault.Kind.TheVariants.{HeaderMissing, HeaderForm, HeaderRange, LineForm, Number, Side, Hex, LineLong}
+use Rattle.line_model.specs.declared.fault.Kind.TheVariants.{Number, Side, Hex}
 use Rattle.line_model.specs.text.Header.{header_numbers, interface_with, interface_of}
 use Rattle.line_model.specs.text.RowLine.{row_words, octets_of, row_kind, row_of}
 use Rattle.line_model.specs.text.Text.{last_number, size_kind, has_header}

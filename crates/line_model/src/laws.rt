@@ -4,7 +4,7 @@ ghost use Rattle.std.specs.Prelude.{◌≡◌, ℕ, List, ◌++◌, Some};
 ghost use Rattle.line_model.specs.traces.WorkedTraces.{WorkedTraces};
 ghost use Rattle.line_model.specs.Laws.{ShuffleLaw, PiecesLaw, PlanLaw, FindingsLaw, FindingsOrderLaw, TotalsLaw, NumbersLaw, PeakLaw, CallsLaw, CallsOrderLaw, CallsPeakLaw};
 ghost use Rattle.line_model.specs.traces.WorkedGapTraces.{WorkedGapTraces};
-ghost use Rattle.line_model.specs.GapLaws.{RecordedShuffleLaw, RecordedPiecesLaw, RecordedPlanLaw, WithoutGapsLaw, OtherFormsLaw, OtherReportsLaw};
+ghost use Rattle.line_model.specs.GapLaws.{RecordedShuffleLaw, RecordedPiecesLaw, RecordedPlanLaw, RecordedFindingsLaw, WithoutGapsLaw, OtherFormsLaw, OtherReportsLaw};
 ghost use Rattle.line_model.specs.text.Text.{early, fault};
 ghost use Rattle.line_model.specs.declared.fault.Kind.{Kind};
 
@@ -83,6 +83,11 @@ pub fn recorded_pieces()
 /// The plan of a recording with gaps has each piece once.
 pub fn recorded_plan()
     ensures { RecordedPlanLaw }
+{}
+
+/// Of a recording with gaps the findings of the restart machine and of the pieces, by their packets, are those of the walk.
+pub fn recorded_findings()
+    ensures { RecordedFindingsLaw }
 {}
 
 /// A recording without gaps has the report of its interface.

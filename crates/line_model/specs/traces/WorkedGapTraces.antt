@@ -1,7 +1,7 @@
 -- What some recordings with gaps come to: each is refused by its first faulty line, or has no fault and exactly this report.
 -- tools/worked_gap_traces.py writes this file from tests/gaps/traces.
 use Rattle.std.specs.Prelude.{◌≡◌, ℕ, List, [], ◌∷◌, codes, Some}
-use Rattle.line_model.specs.declared.fault.Kind.TheVariants.{HeaderMissing, HeaderForm, HeaderRange, LineForm, Number, Side, Hex, LineLong}
+use Rattle.line_model.specs.declared.fault.Kind.TheVariants.{Number, Side, Hex}
 use Rattle.line_model.specs.text.GapText.{recorded_fault}
 use Rattle.line_model.specs.traces.Traces.{text}
 use Rattle.line_model.specs.traces.GapTraces.{IsRecorded}
