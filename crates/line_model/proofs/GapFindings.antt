@@ -36,14 +36,14 @@ use Rattle.line_model.specs.channels.GapRows.RecordedRow.{OfPacket, OfGap}
 use Rattle.line_model.specs.channels.GapRestart.{GapRoute, recorded_routing}
 use Rattle.line_model.specs.channels.GapRestart.GapRoute.{Takes, Renews}
 use Rattle.line_model.specs.observer.MachineEvents.{RowEvent, walk_events}
-use Rattle.line_model.specs.observer.GapObserver.{x25_recorded, recorded_start, recorded_step, recorded_event_of, recorded_events, route_shown, epoch_end_if}
+use Rattle.line_model.specs.observer.GapObserver.{x25_recorded, recorded_start, recorded_step, recorded_event_of, recorded_events, route_shown, epoch_end_if, epoch_end}
 use Rattle.line_model.specs.observer.Report.{findings_of, is_finding}
 use Rattle.line_model.specs.pieces.Pieces.{placed, value_of}
 use Rattle.line_model.specs.pieces.Merge.{is_line, drawn, drawn_apart, OnePerRow}
 use Rattle.line_model.specs.pieces.Plan.{plan_of}
 use Rattle.line_model.specs.GapLaws.{AreRecorded, recorded_line_findings, recorded_piece_findings}
 use Rattle.line_model.proofs.EventWeights.{found_by, total-append}
-use Rattle.line_model.proofs.OneFinding.{founds, route_one}
+use Rattle.line_model.proofs.OneFinding.{founds, founds_are, route_one}
 use Rattle.line_model.proofs.RowWeights.{ending_none, failing_few, row_few, settings_none, verdict_few}
 use Rattle.line_model.proofs.OncePerRow.{one_per_row}
 use Rattle.line_model.proofs.Merged.{merge_law}
@@ -174,7 +174,10 @@ abbrev tells_finding : RowEvent RecordedRow What → Bool
 tells_finding v = is_finding v.what
 
 one_finding : (i : Interface) → OnePerRow (x25_recorded i) tells_finding
-one_finding i = one_per_row (x25_recorded i) is_finding (λ e k s x. recorded_one i k s x) (λ e l x. shown_one x (recorded_routing l x).route) (λ e k s x. end_none (is_open s.channel) _)
+one_finding i = one_per_row (x25_recorded i) is_finding
+    (λ e k s x. subst (λ n. n ≤ 1) (sym (founds_are (recorded_step i k s x).reported)) (recorded_one i k s x))
+    (λ e l x. subst (λ n. n ≤ 1) (sym (founds_are (route_shown x (recorded_routing l x).route))) (shown_one x (recorded_routing l x).route))
+    (λ e k s x. founds_are (epoch_end s x) ∙ end_none (is_open s.channel) _)
 
 abbrev finding_at : RowEvent RecordedRow What → Finding
 finding_at v = finding_with (number_of_row v.row) v.what
