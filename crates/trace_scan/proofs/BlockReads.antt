@@ -34,7 +34,7 @@ some_with (r ∷ rs) row = refl
 
 pub row_added : {A : Type 0} (l : LineState) (rs : List Row) (r : RowsSoFar A) (next : Row) (row : ReadRow) (first : ℕ) (cutter : BlockCutter A) (item : Item) → AreRead l rs r → row ≡ read_row next → first ≡ cond r.is_empty row.number r.first → item ≡ item_read r.interface row
     → IsCutSoFar l (items_of r.interface rs ++ item ∷ []) cutter → AreRead {A = A} l (rs ++ next ∷ []) (record { interface = r.interface; is_empty = false; first = first; cutter = cutter })
-row_added l rs r next row first splitter item are row_is first_is item_is split = record {
+row_added l rs r next row first cutter item are row_is first_is item_is cut = record {
   empty = some_with rs next;
   first = first_is ∙ (λ k. cond (are.empty k) ((row_is k).number) (are.first k)) ∙ first_more rs next;
   cut = subst (λ items. IsCutSoFar l items cutter) (ap (λ t. items_of r.interface rs ++ t ∷ []) item_is ∙ row_said r.interface rs next row row_is) cut;
