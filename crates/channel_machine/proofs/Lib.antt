@@ -18,3 +18,6 @@ pub mod CommonRows
 pub mod SaidData
 pub mod CallFaults
 pub mod Drifting
+pub mod AdriftLemmas
+pub mod Missed
+pub mod AdriftRows

@@ -15,3 +15,8 @@ pub mod Moves
 pub mod Entries
 pub mod GapView
 pub mod Largest
+pub mod SettledNumbers
+pub mod GapSteps
+pub mod GapChannels
+pub mod Certainties
+pub mod Settling

@@ -1,7 +1,7 @@
 //! One channel of an interface, and what every change of its state does.
 
 ghost use Rattle.std.specs.Prelude.{◌≡◌, ◌+◌, ◌<◌, ◌≤◌, vec_len, vec_capacity};
-ghost use Rattle.line_model.specs.channels.Channels.{Channel};
+ghost use Rattle.line_model.specs.channels.Channels.{Channel, channel_in};
 ghost use Rattle.line_model.specs.channels.ChannelStep.{entering, ending, failing, after_error};
 ghost use Rattle.channel_machine.specs.Messages.{SettingsStand};
 ghost use Rattle.channel_machine.specs.Agreed.{agreed_of};
@@ -19,8 +19,9 @@ use data_transfer::assembler::Assembler;
 use line_model::event::{Event, How, What};
 use line_model::fault::Fault;
 use line_model::finding::Code;
+use line_model::interface::Interface;
 use line_model::items::ItemRef;
-use line_model::state::{Side, StateName};
+use line_model::state::{ChannelState, Side, StateName};
 use std::alloc::{Allocator, Global};
 use std::marker::Model;
 
@@ -48,6 +49,26 @@ impl<A: Allocator, S: StatusStore> Model for StatusChannel<A, S> {
 }
 
 impl<A: Allocator + Clone, S: StatusStore> StatusChannel<A, S> {
+    /// A channel without a call in a state in which nothing was seen. It takes no memory.
+    pub(crate) fn in_state(
+        alloc: A,
+        interface: &Interface,
+        channel: u16,
+        state: ChannelState,
+    ) -> Self
+        ensures interface { result.terms.interface ≡ interface.now }
+        ensures channel { result.channel ≡ channel }
+        ensures stands { Stands result (channel_in state) }
+    {
+        let terms = Terms::new(*interface);
+        StatusChannel {
+            channel,
+            status: S::entered(channel, state, false, &terms),
+            assembler: Assembler::new(alloc, interface.size, interface.size),
+            settings: BothSettings::new(),
+        }
+    }
+
     /// Enters a state under some terms.
     pub(crate) fn enter(&mut self, to: StateName, owed: bool, terms: &Terms)
         ensures interface { self.new.terms.interface ≡ terms.now.interface }

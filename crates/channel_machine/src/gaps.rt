@@ -2,6 +2,10 @@
 
 mod adrift;
 mod carried;
+pub mod channel;
+mod doubts;
 mod kinds;
 mod largest;
 mod reading;
+mod rows;
+mod settled;

@@ -3,11 +3,9 @@
 ghost use Rattle.channel_machine.specs.Channels.{StandsForReached, interface_of, number_of};
 
 use crate::channel::StatusChannel;
-use crate::messages::{BothSettings, data_packet};
+use crate::messages::data_packet;
 use crate::status::StatusStore;
-use crate::terms::Terms;
 use channel_run::run::Channel;
-use data_transfer::assembler::Assembler;
 use data_transfer::packed::FlowWord;
 use line_model::event::Event;
 use line_model::fault::Fault;
@@ -24,18 +22,8 @@ impl<A: Allocator + Clone, S: StatusStore + Drop> Channel<A> for StatusChannel<A
     ghost stands_for = { StandsForReached };
 
     fn fresh(alloc: A, interface: &Interface, channel: u16, epoch: u32) -> Self {
-        let terms = Terms::new(*interface);
-        StatusChannel {
-            channel,
-            status: S::entered(
-                channel,
-                interface.fresh_state(epoch, channel),
-                false,
-                &terms,
-            ),
-            assembler: Assembler::new(alloc, interface.size, interface.size),
-            settings: BothSettings::new(),
-        }
+        let state = interface.fresh_state(epoch, channel);
+        StatusChannel::in_state(alloc, interface, channel, state)
     }
 
     fn state(&self) -> ChannelState {

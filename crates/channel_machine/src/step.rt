@@ -116,7 +116,7 @@ impl<A: Allocator + Clone, S: StatusStore> StatusChannel<A, S> {
     }
 
     /// Moves to a state.
-    fn go(
+    pub(crate) fn go(
         &mut self,
         judgement: &Judgement,
         to: StateName,
@@ -226,7 +226,7 @@ impl<A: Allocator + Clone, S: StatusStore> StatusChannel<A, S> {
     }
 
     /// The state in whose column a packet stands, and the entry there.
-    fn judge(&self, side: Side, class: Class) -> (StateName, Action)
+    pub(crate) fn judge(&self, side: Side, class: Class) -> (StateName, Action)
         ensures judged { (c : Channel) → Stands self.now c
             → record { state = result.0; entry = result.1 }
             ≡ judged (is_permanent self.now.terms.interface self.now.channel) side

@@ -110,7 +110,7 @@ impl<A: Allocator + Clone, S: StatusStore> StatusChannel<A, S> {
         ensures faulted { OnErr result (self.new ≡ self.old) }
     {
         let length = self.user_data_length(item);
-        let is_alike = self.assembler.is_unqualified(item.side);
+        let is_alike = self.assembler.is_alike(item.side, false);
         let mut status = self.status;
         if let Err(code) = status.data(item.side, header.send, header.receive) {
             return Err(code);

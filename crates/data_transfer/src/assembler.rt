@@ -1,13 +1,14 @@
 //! The sequences of both sides of a channel.
 
-ghost use Rattle.std.specs.Prelude.{◌≡◌, true, false, List, [], IfOk, IfErr, OnErr};
-ghost use Rattle.line_model.specs.channels.Channels.{AcceptedData};
+ghost use Rattle.std.specs.Prelude.{◌≡◌, true, false, List, [], Some, IfOk, IfErr, OnOk, OnErr};
+ghost use Rattle.line_model.specs.channels.Channels.{AcceptedData, other};
 ghost use Rattle.line_model.specs.declared.fault.Fault.TheVariants.{Memory};
-ghost use Rattle.data_transfer.specs.Assembly.{heard, unqualified, is_like, OnMixed};
+ghost use Rattle.data_transfer.specs.Assembly.{Holds, heard, unqualified, is_like, with_more, OnMixed};
+ghost use Rattle.data_transfer.specs.UserOctets.{octets_in};
 ghost use Rattle.data_transfer.specs.Assembler.{StandsFor, IsPut, IsPutUnqualified, begun_on, sizes};
 
 use crate::begun::Begun;
-use crate::sequence::{DataField, Put};
+use crate::sequence::{DataField, Put, UserData};
 use line_model::fault::Fault;
 use line_model::state::Side;
 use std::alloc::{Allocator, Global};
@@ -61,14 +62,14 @@ impl<A: Allocator + Clone> Assembler<A> {
         }
     }
 
-    /// Whether a side has begun no sequence with Q 1, so that a packet with Q 0 may come.
+    /// Whether a packet with a Q bit may follow what a side has begun: nothing, or packets with this Q bit.
     #[inline(always)]
-    pub fn is_unqualified(&self, side: Side) -> bool
-        ensures { result ≡ is_like (begun_on self.now side).qualified false }
+    pub fn is_alike(&self, side: Side, qualified: bool) -> bool
+        ensures { result ≡ is_like (begun_on self.now side).qualified qualified }
     {
         match side {
-            Side::T => self.of_t.is_alike(false),
-            Side::N => self.of_n.is_alike(false),
+            Side::T => self.of_t.is_alike(qualified),
+            Side::N => self.of_n.is_alike(qualified),
         }
     }
 
@@ -86,6 +87,49 @@ impl<A: Allocator + Clone> Assembler<A> {
             Side::T => self.of_t.put_unqualified(more, delivery, length),
             Side::N => self.of_n.put_unqualified(more, delivery, length),
         };
+    }
+
+    /// Adds a data packet to the sequence of a side, where the caller knows that more of the sequence follows.
+    pub fn join(&mut self, side: Side, field: &DataField<'_>) -> Result<(), Fault>
+        requires { is_like (begun_on self.old side).qualified field.now.qualified ≡ true }
+        ensures joined { OnOk result (begun_on self.new side ≡ record (begun_on self.old side) {
+          qualified = Some field.now.qualified;
+          octets = with_more (begun_on self.old side).octets field.now.octets.now;
+        }) }
+        ensures apart { begun_on self.new (other side) ≡ begun_on self.old (other side) }
+        ensures unchanged { OnErr result (self.new ≡ self.old) }
+        ensures memory { IfErr result (λ fault. fault ≡ Memory) }
+    {
+        match side {
+            Side::T => self.of_t.join(&self.alloc, field),
+            Side::N => self.of_n.join(&self.alloc, field),
+        }
+    }
+
+    /// Moves out what a side has begun, with the octets of the packet that completes it, as the caller knows.
+    pub fn complete<'a>(&mut self, side: Side, octets: &'a [u8]) -> Result<UserData<'a, A>, Fault>
+        ensures octets { IfOk result (λ u. octets_in u
+            ≡ with_more (begun_on self.old side).octets octets.now) }
+        ensures done { OnOk result (Holds (begun_on self.new side) []) }
+        ensures apart { begun_on self.new (other side) ≡ begun_on self.old (other side) }
+        ensures unchanged { OnErr result (self.new ≡ self.old) }
+        ensures memory { IfErr result (λ fault. fault ≡ Memory) }
+    {
+        match side {
+            Side::T => self.of_t.finish(octets),
+            Side::N => self.of_n.finish(octets),
+        }
+    }
+
+    /// Forgets what a side has begun.
+    pub fn forget(&mut self, side: Side)
+        ensures done { Holds (begun_on self.new side) [] }
+        ensures apart { begun_on self.new (other side) ≡ begun_on self.old (other side) }
+    {
+        match side {
+            Side::T => self.of_t.reset(),
+            Side::N => self.of_n.reset(),
+        }
     }
 
     /// Forgets what was begun, as leaving d1 does; the sizes stay.

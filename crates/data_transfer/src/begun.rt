@@ -151,7 +151,7 @@ impl<A: Allocator + Clone> Begun<A> {
     }
 
     /// Keeps a packet with those begun.
-    fn join(&mut self, alloc: &A, field: &DataField<'_>) -> Result<(), Fault>
+    pub(crate) fn join(&mut self, alloc: &A, field: &DataField<'_>) -> Result<(), Fault>
         requires { is_like self.old.qualified field.now.qualified ≡ true }
         ensures size { self.new.size ≡ self.old.size }
         ensures qualified { OnOk result (self.new.qualified ≡ Some field.now.qualified) }
@@ -181,7 +181,7 @@ impl<A: Allocator + Clone> Begun<A> {
     }
 
     /// Moves out what was begun, with the octets of the last packet; nothing is begun then.
-    fn finish<'a>(&mut self, octets: &'a [u8]) -> Result<UserData<'a, A>, Fault>
+    pub(crate) fn finish<'a>(&mut self, octets: &'a [u8]) -> Result<UserData<'a, A>, Fault>
         ensures size { self.new.size ≡ self.old.size }
         ensures holds { OnOk result (Holds self.new []) }
         ensures octets { IfOk result (λ u. octets_in u ≡ with_more self.old.octets octets.now) }

@@ -1,8 +1,8 @@
 //! The windows and interrupts of a logical channel in data transfer.
 
-ghost use Rattle.std.specs.Prelude.{◌≡◌, ◌⊎◌, ◌<◌, ◌≤◌, OnErr};
+ghost use Rattle.std.specs.Prelude.{◌≡◌, ◌⊎◌, ◌<◌, ◌≤◌, ◌+◌, OnErr};
 ghost use Rattle.line_model.specs.channels.FlowControl.{Counts, count_interrupt, count_receive, count_confirm, count_data, no_counts};
-ghost use Rattle.line_model.specs.channels.Channels.{of_side};
+ghost use Rattle.line_model.specs.channels.Channels.{of_side, with_side};
 ghost use Rattle.data_transfer.specs.FlowResidues.{IsDirection, Stands, Answers};
 ghost use Rattle.data_transfer.specs.Directions.{direction_of, with_direction};
 
@@ -193,6 +193,43 @@ impl Flow {
     {
         self.of_t = Direction::fresh(self.of_t.window);
         self.of_n = Direction::fresh(self.of_n.window);
+    }
+
+    /// Other numbers for a side some of whose packets were not seen: its next P(S), and its lower window edge.
+    pub fn set_numbers(&mut self, side: Side, next: u8, lowest: u8)
+        requires widest { of_side side self.old.windows + 1 ≡ self.old.modulus }
+        requires next { next < self.old.modulus }
+        requires lowest { lowest < self.old.modulus }
+        ensures { self.new ≡ record self.old {
+          sent = with_side side next self.old.sent;
+          acknowledged = with_side side lowest self.old.acknowledged;
+        } }
+    {
+        let direction = self.direction(side);
+        self.set(
+            side,
+            Direction {
+                sent: next,
+                acknowledged: lowest,
+                ..direction
+            },
+        );
+    }
+
+    /// Whether an interrupt of a side is unconfirmed from now on.
+    pub fn set_interrupted(&mut self, side: Side, unconfirmed: bool)
+        ensures { self.new ≡ record self.old {
+          unconfirmed = with_side side unconfirmed self.old.unconfirmed;
+        } }
+    {
+        let direction = self.direction(side);
+        self.set(
+            side,
+            Direction {
+                unconfirmed,
+                ..direction
+            },
+        );
     }
 
     /// The numbers of the packets of a side.

@@ -1,25 +1,37 @@
 //! What gaps and packets of call set-up, clearing and resets do to a channel adrift.
 
-ghost use Rattle.std.specs.Prelude.{ℕ, ◌≡◌, ◌||◌, List, None, IfNone, IfOk, option_map, false};
-ghost use Rattle.line_model.specs.channels.Channels.{Channel, is_in_transfer, is_permanent};
+ghost use Rattle.std.specs.Prelude.{ℕ, ◌≡◌, ◌+◌, ◌-◌, ◌<◌, ◌≤◌, ◌||◌, ◌&&◌, not, List, None, IfNone, IfOk, option_map, false, vec_len, vec_capacity};
+ghost use Rattle.line_model.specs.channels.Channels.{Channel, is_in_transfer, is_open, is_permanent};
 ghost use Rattle.channel_machine.specs.TermsStand.{opened_of};
 ghost use Rattle.line_model.specs.channels.ChannelStep.{and_then};
 ghost use Rattle.line_model.specs.channels.FlowControl.{is_side};
 ghost use Rattle.line_model.specs.declared.state.Side.TheVariants.{T};
 ghost use Rattle.line_model.specs.packets.Facilities.{fields_of};
 ghost use Rattle.packet_decode.specs.Shown.{shown, IsUsable};
-ghost use Rattle.line_model.specs.channels.Gaps.{idle_name, is_hidden_by_gap, largest_terms, left_by_gap, waiting_name};
-ghost use Rattle.line_model.specs.channels.GapStep.{adrift_call, brought_up, coming_up, in_state, terms_of_acceptance, calling_state, cleared_by, resetting_state};
+ghost use Rattle.line_model.specs.channels.Gaps.{idle_name, is_hidden_by_gap, largest_terms, left_by_gap, owed_by, waiting_name};
+ghost use Rattle.line_model.specs.channels.GapStep.{adrift_call, brought_up, coming_up, hidden_when_up, in_state, is_in_use, is_own_acceptance, is_resetting, terms_of_acceptance, calling_state, cleared_by, resetting_state};
+ghost use Rattle.line_model.specs.packets.Classes.{header_length, packet_class};
+ghost use Rattle.channel_machine.specs.Sizes.{largest_length};
+ghost use Rattle.channel_machine.specs.GapSteps.{carried_on};
 ghost use Rattle.channel_machine.specs.Reached.{IsUnanswered};
 ghost use Rattle.channel_machine.specs.Channels.{Stands, Does, Comes, IsUnchanged, IsMemory};
 
 use crate::channel::StatusChannel;
 use crate::events::EventOrigin;
+use crate::format::header_of;
+use crate::gaps::carried::WhileAdrift;
+use crate::gaps::kinds::indication_of;
+use crate::messages::data_packet;
 use crate::status::StatusStore;
 use crate::terms::{Opened, Terms};
 use line_model::event::{Event, How, What};
 use line_model::fault::Fault;
-use line_model::state::{ChannelState, Side, StateName};
+use line_model::gap::Owed;
+use line_model::interface::Interface;
+use line_model::items::ItemRef;
+use line_model::packet::Class;
+use line_model::state::{ChannelState, DState, Side, StateName};
+use packet_decode::decode::header_length;
 use packet_decode::fields::CallFields;
 use std::alloc::Allocator;
 
@@ -78,6 +90,24 @@ pub(crate) fn resetting_state(side: Side) -> StateName
 }
 
 impl<A: Allocator + Clone, S: StatusStore> StatusChannel<A, S> {
+    /// The interface of the channel.
+    pub(crate) fn interface(&self) -> Interface
+        ensures { result ≡ self.now.terms.interface }
+    {
+        self.status.interface()
+    }
+
+    /// The indication that the channel owes.
+    pub(crate) fn owed(&self) -> Owed
+        ensures { (c : Channel) → Stands self.now c → result ≡ owed_by c }
+    {
+        if self.status.is_owed() {
+            indication_of(self.status.state())
+        } else {
+            Owed::NoIndication
+        }
+    }
+
     /// Whether the channel is in a state of data transfer.
     pub(crate) fn is_in_transfer(&self) -> bool
         ensures { (c : Channel) → Stands self.now c
@@ -86,12 +116,71 @@ impl<A: Allocator + Clone, S: StatusStore> StatusChannel<A, S> {
         matches!(self.status.state(), ChannelState::Transfer(_))
     }
 
+    /// Whether the channel is a permanent circuit.
+    pub(crate) fn is_permanent(&self) -> bool
+        ensures { result ≡ is_permanent self.now.terms.interface self.now.channel }
+    {
+        self.status.interface().is_permanent(self.channel)
+    }
+
+    /// Whether the channel has a call, or needs none.
+    pub(crate) fn is_in_use(&self) -> bool
+        ensures { (c : Channel) → Stands self.now c
+            → result ≡ is_in_use self.now.terms.interface self.now.channel c }
+    {
+        self.is_permanent() || self.status.call().is_some()
+    }
+
+    /// Whether a call is open that is not up.
+    pub(crate) fn is_calling(&self) -> bool
+        ensures { (c : Channel) → Stands self.now c
+            → result ≡ (is_open c && not (is_in_transfer c)) }
+    {
+        self.status.call().is_some() && !self.is_in_transfer()
+    }
+
+    /// Whether the side that called accepts: then another call may be hidden.
+    pub(crate) fn is_own_acceptance(&self, side: Side) -> bool
+        ensures { (c : Channel) → Stands self.now c
+            → result ≡ is_own_acceptance side c.opening }
+    {
+        match self.status.call() {
+            Some(opened) => is_outgoing(side) == opened.out,
+            None => false,
+        }
+    }
+
+    /// Whether another call may be hidden after a packet that brings the call up, if it is not.
+    pub(crate) fn is_hidden_when_up(&self, adrift: &WhileAdrift) -> bool
+        ensures { (c : Channel) → Stands self.now c → result ≡ hidden_when_up adrift.now c }
+    {
+        adrift.is_hidden() || !self.is_in_transfer()
+    }
+
+    /// Whether another call may be hidden after an acceptance of a side.
+    pub(crate) fn is_hidden_when_accepted(&self, adrift: &WhileAdrift, side: Side) -> bool
+        ensures { (c : Channel) → Stands self.now c
+            → result ≡ (adrift.now.hidden || is_own_acceptance side c.opening) }
+    {
+        adrift.is_hidden() || self.is_own_acceptance(side)
+    }
+
+    /// Whether a side resets.
+    pub(crate) fn is_resetting(&self, side: Side) -> bool
+        ensures { (c : Channel) → Stands self.now c → result ≡ is_resetting side c.state }
+    {
+        match side {
+            Side::T => self.status.state() == ChannelState::Transfer(DState::D2),
+            Side::N => self.status.state() == ChannelState::Transfer(DState::D3),
+        }
+    }
+
     /// Whether another call may be hidden behind the one that is open, where a gap comes.
     pub(crate) fn is_hidden_by_gap(&self) -> bool
         ensures { (c : Channel) → Stands self.now c
             → result ≡ is_hidden_by_gap self.now.terms.interface self.now.channel c }
     {
-        !self.status.interface().is_permanent(self.channel) && self.status.call().is_some()
+        !self.is_permanent() && self.status.call().is_some()
     }
 
     /// Leaves of the channel what a gap leaves: its call, and whether it came up.
@@ -115,7 +204,7 @@ impl<A: Allocator + Clone, S: StatusStore> StatusChannel<A, S> {
         ensures { (c : Channel) → Stands self.now c → result ≡ idle_name
             (is_permanent self.now.terms.interface self.now.channel || is_in_transfer c) c.opening }
     {
-        if self.status.interface().is_permanent(self.channel) || self.is_in_transfer() {
+        if self.is_permanent() || self.is_in_transfer() {
             StateName::P4
         } else {
             waiting_name(self.status.call())
@@ -123,38 +212,31 @@ impl<A: Allocator + Clone, S: StatusStore> StatusChannel<A, S> {
     }
 
     /// Brings a call up that was not, by a packet that is no acceptance.
-    pub(crate) fn bring_up(
-        &mut self,
-        origin: EventOrigin,
-        events: &mut Vec<Event, A>,
-    ) -> Result<(), Fault>
-        ensures does { Comes result origin self.old self.new events.old.items events.new.items
-            (brought_up self.old.terms.interface) }
-        ensures unchanged { IsUnchanged result self.old self.new events.old.items events.new.items }
-        ensures memory { IsMemory result }
+    pub(crate) fn bring_up(&mut self, origin: EventOrigin, events: &mut Vec<Event, A>)
+        requires room { vec_len events.old < vec_capacity events.old }
+        ensures does { (c : Channel) → Stands self.old c
+            → Does origin self.old self.new events.old.items events.new.items
+            (brought_up self.old.terms.interface c) }
+        ensures capacity { vec_capacity events.new ≡ vec_capacity events.old }
+        ensures len { vec_len events.new ≤ vec_len events.old + 1 }
     {
-        if self.is_in_transfer() {
-            return Ok(());
+        if !self.is_in_transfer() {
+            self.come_up(origin, events);
         }
-        self.come_up(origin, events)
     }
 
     /// Brings a call up under the largest terms.
-    pub(crate) fn come_up(
-        &mut self,
-        origin: EventOrigin,
-        events: &mut Vec<Event, A>,
-    ) -> Result<(), Fault>
-        ensures does { Comes result origin self.old self.new events.old.items events.new.items
-            (coming_up (largest_terms self.old.terms.interface)) }
-        ensures unchanged { IsUnchanged result self.old self.new events.old.items events.new.items }
-        ensures memory { IsMemory result }
+    pub(crate) fn come_up(&mut self, origin: EventOrigin, events: &mut Vec<Event, A>)
+        requires room { vec_len events.old < vec_capacity events.old }
+        ensures does { (c : Channel) → Stands self.old c
+            → Does origin self.old self.new events.old.items events.new.items
+            (coming_up (largest_terms self.old.terms.interface) c) }
+        ensures capacity { vec_capacity events.new ≡ vec_capacity events.old }
+        ensures len { vec_len events.new ≤ vec_len events.old + 1 }
     {
-        events.reserve(1)?;
         events.push_reserved(origin.event(What::Up));
         let terms = self.status.terms().largest();
         self.enter(StateName::P4, false, &terms);
-        Ok(())
     }
 
     /// An acceptance of a call that is not up: under its terms, or under the largest where another call may be hidden.
@@ -174,7 +256,9 @@ impl<A: Allocator + Clone, S: StatusStore> StatusChannel<A, S> {
         ensures memory { IsMemory result }
     {
         if hidden {
-            self.come_up(origin, events)
+            events.reserve(1)?;
+            self.come_up(origin, events);
+            Ok(())
         } else {
             self.go_up(origin, fields, StateName::P4, events)
         }
@@ -192,7 +276,8 @@ impl<A: Allocator + Clone, S: StatusStore> StatusChannel<A, S> {
         ensures unchanged { IsUnchanged result self.old self.new events.old.items events.new.items }
         ensures memory { IsMemory result }
     {
-        self.bring_up(origin, events)?;
+        events.reserve(1)?;
+        self.bring_up(origin, events);
         let terms = self.status.terms();
         self.enter(to, false, &terms);
         Ok(())
@@ -228,5 +313,40 @@ impl<A: Allocator + Clone, S: StatusStore> StatusChannel<A, S> {
         let terms = Terms::opened(self.status.interface(), out, fields);
         self.enter(to, false, &terms);
         Ok(())
+    }
+
+    /// A packet of data transfer while the other side does not reset: it brings the call up, nothing is outstanding then,
+    /// and data counts.
+    pub(crate) fn carry_on(
+        &mut self,
+        origin: EventOrigin,
+        item: &ItemRef<'_>,
+        events: &mut Vec<Event, A>,
+    ) -> Result<(), Fault>
+        requires short { packet_class item.now.packet ≡ Class.Data
+            → item.now.length ≤ largest_length }
+        ensures does { Comes result origin self.old self.new events.old.items events.new.items
+            (carried_on self.old.terms.interface item.now) }
+        ensures unchanged { IsUnchanged result self.old self.new events.old.items events.new.items }
+        ensures memory { IsMemory result }
+    {
+        events.reserve(2)?;
+        self.bring_up(origin, events);
+        let terms = self.status.terms();
+        self.enter(StateName::D1, false, &terms);
+        if header_of(&item.packet).is_some() {
+            let octets = self.data_length(item);
+            events.push_reserved(origin.event(data_packet(item.side, octets)));
+        }
+        Ok(())
+    }
+
+    /// How many octets of user data a data packet has.
+    fn data_length(&self, item: &ItemRef<'_>) -> u32
+        requires short { item.now.length ≤ largest_length }
+        ensures { result ≡ item.now.length - header_length self.now.terms.interface }
+    {
+        item.length
+            .saturating_sub(header_length(&self.status.interface())) as u32
     }
 }

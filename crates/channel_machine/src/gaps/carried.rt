@@ -12,7 +12,7 @@ use line_model::state::Side;
 use std::marker::Model;
 
 /// What is known of a channel adrift beside its call.
-#[derive(Drop)]
+#[derive(Clone, Copy)]
 pub struct WhileAdrift {
     owed: Owed,
     hidden: bool,
@@ -22,11 +22,13 @@ pub struct WhileAdrift {
 
 impl Model for WhileAdrift {
     ghost use Rattle.line_model.specs.channels.Gaps as gaps;
-    ghost use Rattle.channel_machine.specs.GapView.{drifting_of};
+    ghost use Rattle.channel_machine.specs.GapView.{drifting_in, drifting_of};
 
     ghost Value = { gaps.WhileAdrift };
 
     ghost view = { drifting_of };
+
+    ghost inverse = { drifting_in };
 }
 
 impl WhileAdrift {
@@ -40,6 +42,34 @@ impl WhileAdrift {
             of_t: None,
             of_n: None,
         }
+    }
+
+    /// The indication that was owed.
+    pub(crate) fn owed(&self) -> Owed
+        ensures { result ≡ self.now.owed }
+    {
+        self.owed
+    }
+
+    /// Whether another call may be hidden behind the one that is open.
+    pub(crate) fn is_hidden(&self) -> bool
+        ensures { result ≡ self.now.hidden }
+    {
+        self.hidden
+    }
+
+    /// The same where another indication is owed.
+    pub(crate) fn owing(self, owed: Owed) -> WhileAdrift
+        ensures { result ≡ record self { owed = owed } }
+    {
+        WhileAdrift { owed, ..self }
+    }
+
+    /// The same where another call may be hidden, or not.
+    pub(crate) fn hiding(self, hidden: bool) -> WhileAdrift
+        ensures { result ≡ record self { hidden = hidden } }
+    {
+        WhileAdrift { hidden, ..self }
     }
 
     /// The last data packet of a side.

@@ -1,12 +1,14 @@
 //! What packets say on a channel adrift.
 
-ghost use Rattle.std.specs.Prelude.{◌≡◌, IfOk};
+ghost use Rattle.std.specs.Prelude.{◌≡◌, ◌≤◌, IfOk};
 ghost use Rattle.std.specs.Result.{result_err};
 ghost use Rattle.line_model.specs.basics.Bounds.{IsSaid};
 ghost use Rattle.line_model.specs.channels.Channels.{Channel};
 ghost use Rattle.channel_machine.specs.Channels.{Stands};
 ghost use Rattle.channel_machine.specs.Contents.{AreOf, AreUsable};
 ghost use Rattle.line_model.specs.channels.GapStep.{adrift_fault};
+ghost use Rattle.line_model.specs.packets.Classes.{packet_class};
+ghost use Rattle.channel_machine.specs.Sizes.{largest_length};
 
 use crate::channel::StatusChannel;
 use crate::format::{Contents, between};
@@ -27,6 +29,8 @@ impl<A: Allocator + Clone, S: StatusStore> StatusChannel<A, S> {
             → result_err result ≡ adrift_fault self.now.terms.interface self.now.channel c item.now }
         ensures contents { IfOk result (λ r. AreOf r item.now) }
         ensures usable { IfOk result (λ r. AreUsable r self.now.terms.interface) }
+        ensures short { IfOk result (λ r. packet_class item.now.packet ≡ Class.Data
+            → item.now.length ≤ largest_length) }
     {
         match item.packet.class() {
             Class::Data => {

@@ -45,7 +45,7 @@ returns-then-not-is_alike-clause-judged g c k q s =
     c.self.view_is (ap (λ (u : Item). u.side) c.item.view_is) c.user_data_length-length.ensures c.requires.said c.requires.unqualified (
       sym (unlike c.in_default.field-0 old.terms.interface old.transfer after.flow x p counts k st.transfer
           (in_force (Unit {0}) (Ok c.in_default.field-0) old.terms.interface old.transfer after.flow k x h.send h.receive st.transfer (c.in_default.ensures.counts (counts_of k) st.transfer.flow))
-          (alike_of i.assembler x p k.heard st.transfer.sequences ∙ sym c.is_unqualified-is_alike.ensures ∙ c.if-not-is_alike.true) q),
+          (alike_of i.assembler x p k.heard st.transfer.sequences ∙ sym c.is_alike-is_alike.ensures ∙ c.if-not-is_alike.true) q),
       sym c.self.view_is,
     )
 

@@ -17,6 +17,5 @@ returns-clause-does g c k s =
           (c.largest-terms.ensures.interface ∙ ap (λ t. t.interface) terms_are) (c.largest-terms.ensures.call ∙ ap (λ t. t.call) terms_are)
           (c.largest-terms.ensures.values ∙ ap (λ t. largest_values t.interface) terms_are))
           s.transfer.settings;
-      reports = c.push_reserved.ensures.items ∙ ap (λ l. l ++ c.event.result ∷ []) c.in_ok-reserve.ensures.items
-          ∙ ap (λ v. c.args.events.now.items ++ v ∷ []) c.event.ensures;
+      reports = c.push_reserved.ensures.items ∙ ap (λ v. c.args.events.now.items ++ v ∷ []) c.event.ensures;
     }

@@ -1,0 +1,61 @@
+-- The numbers, interrupts and sequences of a settled channel, and what a packet does to them.
+use Rattle.std.specs.Prelude.{ℕ, Bool, true, false, ◌≡◌, ◌-◌, List, [], reverse, take_while, Result, Ok, Err}
+use Rattle.line_model.specs.declared.interface.Interface.{Interface}
+use Rattle.line_model.specs.declared.packet.DataHeader.{DataHeader}
+use Rattle.line_model.specs.declared.state.Side.{Side}
+use Rattle.line_model.specs.channels.Channels.{AcceptedData, Channel, of_side}
+use Rattle.line_model.specs.channels.ChannelStep.{counts_of}
+use Rattle.line_model.specs.channels.FlowControl.{Counts, count_data, sent_by}
+use Rattle.line_model.specs.channels.Gaps.{Doubts, of_both}
+use Rattle.line_model.specs.channels.GapStep.{completed_for_data, edge_in_doubt, may_be_begun, window_in_doubt}
+use Rattle.line_model.specs.channels.Sequences.{eq_bool}
+use Rattle.line_model.specs.packets.Formats.{size_in_force}
+use Rattle.data_transfer.specs.Assembler.{begun_on}
+use Rattle.data_transfer.specs.Assembly.{Holds}
+use Rattle.data_transfer.specs.FlowResidues.{FlowResidues, Stands}
+use Rattle.channel_machine.specs.GapView.{InDoubt}
+
+-- numbers with the widest windows; of a side whose next number is in doubt nothing is outstanding, and its sequence is in doubt
+pub record NumbersStand (m : ℕ) (s : InDoubt) (c : Channel) : Type 0 where
+  pub flow : Stands s.flow (counts_of c)
+  pub modulus : s.flow.modulus ≡ m
+  pub widest : s.flow.windows ≡ of_both (m - 1)
+  pub acknowledged : (x : Side) → of_side x s.doubts.numbers ≡ true → of_side x (sent_by c.heard) ≡ of_side x c.acknowledged
+  pub unknown : (x : Side) → of_side x s.doubts.numbers ≡ true → of_side x s.doubts.sequences ≡ true
+
+-- the packets of a list at its end whose Q bit is 1
+abbrev pub qualified_at_end : List AcceptedData → List AcceptedData
+qualified_at_end hs = reverse (take_while (λ g. eq_bool g.qualified true) (reverse hs))
+
+-- the packets that are kept of a sequence that is begun: none in doubt, and those with Q 1 where no size is known
+abbrev pub kept_of : (doubt hidden : Bool) → List AcceptedData → List AcceptedData
+kept_of true hidden gs = []
+kept_of false true gs = qualified_at_end gs
+kept_of false false gs = gs
+
+-- those of a side of a channel
+abbrev pub kept_begun : Interface → Doubts → Side → Channel → List AcceptedData
+kept_begun i d x c = kept_of (of_side x d.sequences) d.hidden (may_be_begun d.hidden (size_in_force i c x) x c.heard)
+
+-- each side's sequence is kept
+abbrev pub SequencesStand : Interface → InDoubt → Channel → Type 0
+SequencesStand i s c = (x : Side) → Holds (begun_on s.assembler x) (kept_begun i s.doubts x c)
+
+-- a channel with other counts than those of its data
+abbrev pub with_counts : Counts → Channel → Channel
+with_counts v c = record c { acknowledged = v.acknowledged; unconfirmed = v.unconfirmed }
+
+-- the answer to a packet that changes the counts alone, on a channel that was completed for it
+abbrev pub IsCountedInDoubt : {U : Type 0} → Result U ℕ → Interface → (new : InDoubt) → Result Counts ℕ → (completed : Channel) → Type 0
+IsCountedInDoubt (Ok u) i new r d = (v : Counts) × (r ≡ Ok v) × NumbersStand i.modulus new (with_counts v d) × SequencesStand i new (with_counts v d)
+IsCountedInDoubt (Err e) i new r d = r ≡ Err e
+
+-- the answer to the numbers of a data packet, and those after it
+abbrev pub IsNumbered : Result FlowResidues ℕ → Interface → Doubts → Side → DataHeader → Channel → Type 0
+IsNumbered (Ok f) i b x h c =
+    (v : Counts)
+    × (count_data i.modulus (window_in_doubt i b c x) (counts_of (completed_for_data i.modulus b x h c)) x h.send h.receive ≡ Ok v)
+    × Stands f (record v { acknowledged = edge_in_doubt i.modulus (of_side x b.numbers) x (of_side x v.sent) v.acknowledged })
+    × (f.modulus ≡ i.modulus) × (f.windows ≡ of_both (i.modulus - 1))
+IsNumbered (Err n) i b x h c =
+    count_data i.modulus (window_in_doubt i b c x) (counts_of (completed_for_data i.modulus b x h c)) x h.send h.receive ≡ Err n

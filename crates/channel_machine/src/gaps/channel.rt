@@ -1,0 +1,112 @@
+//! A logical channel of a recording with gaps.
+
+ghost use Rattle.std.specs.Prelude.{◌≡◌, ◌||◌};
+ghost use Rattle.line_model.specs.channels.Gaps as gaps;
+ghost use Rattle.line_model.specs.channels.Gaps.{fresh_by, gap_step};
+ghost use Rattle.channel_machine.specs.GapChannels.{Represents, interface_of, number_of};
+
+use crate::channel::StatusChannel;
+use crate::gaps::carried::WhileAdrift;
+use crate::gaps::settled::SettledNumbers;
+use crate::packed::PackedStatus;
+use crate::status::StatusStore;
+use line_model::gap::{EpochStart, Owed};
+use line_model::interface::Interface;
+use line_model::state::{ChannelState, DState, PState};
+use std::alloc::{Allocator, Global};
+use std::boxed::Box;
+use std::marker::Model;
+
+/// What is certain of a channel.
+#[derive(Drop)]
+pub(crate) enum Certainty<A: Allocator> {
+    /// All of it.
+    Certain,
+    /// After a gap the call that is open, if one is, and whether it came up.
+    Adrift(WhileAdrift),
+    /// After an acknowledgement all but a few things. The numbers of the channel are kept here.
+    Settled(Box<SettledNumbers<A>, A>),
+}
+
+/// A logical channel of a recording with gaps (profile). A gap takes no memory; where nothing is in doubt the channel
+/// steps as one without gaps does.
+#[derive(Drop)]
+pub struct GapChannel<A: Allocator, S: StatusStore> {
+    pub(crate) channel: StatusChannel<A, S>,
+    pub(crate) restarting: bool,
+    pub(crate) certainty: Certainty<A>,
+}
+
+/// The channel that keeps its status in one word.
+pub type PackedGapChannel<A = Global> = GapChannel<A, PackedStatus>;
+
+impl<A: Allocator, S: StatusStore> Model for GapChannel<A, S> {
+    ghost use Rattle.channel_machine.specs.GapChannels.{GapKnown};
+    ghost use Rattle.channel_machine.specs.Certainties.{certainty_kept};
+
+    ghost Value = { GapKnown };
+
+    ghost view = { λ g. record { channel = g.channel; restarting = g.restarting; certainty = certainty_kept g.certainty } };
+}
+
+impl<A: Allocator + Clone, S: StatusStore> GapChannel<A, S> {
+    /// A channel without a call as an epoch begins. It takes no memory.
+    pub fn fresh(alloc: A, interface: &Interface, channel: u16, start: EpochStart) -> Self
+        ensures interface { interface_of result ≡ interface.now }
+        ensures number { number_of result ≡ channel }
+        ensures represents { Represents result (fresh_by start interface.now channel) }
+    {
+        let is_certain = matches!(start, EpochStart::Restarted);
+        let owed = match start {
+            EpochStart::Drifting(true) => Owed::RestartIndication,
+            _ => Owed::NoIndication,
+        };
+        let state = if interface.is_permanent(channel) {
+            ChannelState::Transfer(DState::D1)
+        } else {
+            ChannelState::Setup(PState::P1)
+        };
+        GapChannel {
+            channel: StatusChannel::in_state(alloc, interface, channel, state),
+            restarting: !is_certain,
+            certainty: if is_certain {
+                Certainty::Certain
+            } else {
+                Certainty::Adrift(WhileAdrift::new(owed, false))
+            },
+        }
+    }
+
+    /// Leaves of the channel what a gap of it leaves, or a gap of all channels of the interface. It takes no memory.
+    pub fn gap(&mut self, all_channels: bool)
+        ensures interface { interface_of self.new ≡ interface_of self.old }
+        ensures number { number_of self.new ≡ number_of self.old }
+        ensures represents { (g : gaps.GapChannel) → Represents self.old g
+            → Represents self.new
+            (gap_step (interface_of self.old) (number_of self.old) all_channels g) }
+    {
+        let adrift = WhileAdrift::new(self.owed_at_gap(), self.channel.is_hidden_by_gap());
+        self.channel.drift();
+        self.restarting = may_restart(self.restarting, all_channels);
+        self.certainty = Certainty::Adrift(adrift);
+    }
+
+    /// What was owed as a gap comes, or at the gap before.
+    fn owed_at_gap(&self) -> Owed
+        ensures { (g : gaps.GapChannel) → Represents self.now g
+            → result ≡ gaps.owed_at_gap g.certainty g.channel }
+    {
+        match &self.certainty {
+            Certainty::Adrift(adrift) => adrift.owed(),
+            Certainty::Certain => self.channel.owed(),
+            Certainty::Settled(_) => self.channel.owed(),
+        }
+    }
+}
+
+/// Whether the interface of a channel may be restarting after a gap.
+fn may_restart(before: bool, all_channels: bool) -> bool
+    ensures { result ≡ (before || all_channels) }
+{
+    before || all_channels
+}
