@@ -163,8 +163,6 @@ impl Flow {
         ensures lowest { result.lowest ≡ of_side side self.now.acknowledged }
         ensures window { result.window ≡ of_side side self.now.windows }
         ensures interrupted { result.interrupted ≡ of_side side self.now.unconfirmed }
-        ensures in_range { (result.next < self.now.modulus)
-            × (result.lowest < self.now.modulus) }
     {
         let Direction {
             window,
@@ -182,8 +180,7 @@ impl Flow {
 
     /// The modulus of the numbers, 8 or 128.
     pub fn modulus(&self) -> u8
-        ensures modulus { result ≡ self.now.modulus }
-        ensures eight { (result ≡ 8) ⊎ (result ≡ 128) }
+        ensures { result ≡ self.now.modulus }
     {
         self.modulus
     }
