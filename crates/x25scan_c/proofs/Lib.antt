@@ -1,2 +1,0 @@
-pub mod HandleValues
-pub mod LooseValues
