@@ -1,0 +1,115 @@
+//! A trace that grows, as a handle reads it.
+
+ghost use Rattle.std.specs.Prelude.{◌≡◌, [], IfErr};
+ghost use Rattle.line_model.specs.text.Text.{early};
+ghost use Rattle.live_report.specs.Lives.{IsFedOn, RefusesEarly};
+ghost use Rattle.x25scan_c.specs.Sound.{IsSound};
+
+use annotated_trace::printing::print_trace;
+use annotated_trace::rows::Rows;
+use channel_run::run::Channel;
+use descriptions::row_objects::RowObjects;
+use line_model::device::{Sink, SliceSource};
+use line_model::fault::Fault;
+use line_model::finding::Finding;
+use live_report::live::Live;
+use live_report::uncounted::Uncounted;
+use std::alloc::Allocator;
+use std::mem::replace;
+
+/// What is read.
+#[derive(Drop)]
+pub enum Reading<A: Allocator, C: Channel<A>> {
+    /// Reports can be asked at any moment.
+    Report(Live<A, C>),
+    /// The text so far, whose rows are printed at its end.
+    Rows(Vec<u8, A>),
+    /// The trace has ended.
+    Ended,
+}
+
+/// Reads the next bytes of a text, as `Live::feed`, and appends what their rows found.
+fn feed_live<A: Allocator + Copy, C: Channel<A>>(
+    live: &mut Live<A, C>,
+    chunk: &[u8],
+    found: &mut Vec<Finding, A>,
+) -> Result<(), Fault>
+    requires { IsSound C.Channel (Reading.Report live.old) }
+    ensures { IsSound C.Channel (Reading.Report live.new) }
+{
+    live.feed(chunk)?;
+    found.extend_from_slice(live.found())?;
+    Ok(())
+}
+
+impl<A: Allocator + Copy, C: Channel<A>> Reading<A, C> {
+    /// A trace of which nothing was fed. It takes no memory.
+    pub fn new(alloc: A, prints_rows: bool) -> Self
+        ensures { IsSound C.Channel result }
+    {
+        if prints_rows {
+            Reading::Rows(Vec::new(alloc))
+        } else {
+            Reading::Report(Live::new(alloc))
+        }
+    }
+
+    /// Whether rows are printed.
+    pub fn prints_rows(&self) -> bool {
+        matches!(self, Reading::Rows(_))
+    }
+
+    /// Whether the trace has ended.
+    pub fn has_ended(&self) -> bool {
+        matches!(self, Reading::Ended)
+    }
+
+    /// Reads the next bytes of the text, and appends what their rows found.
+    pub fn feed(&mut self, chunk: &[u8], found: &mut Vec<Finding, A>) -> Result<(), Fault>
+        requires { IsSound C.Channel self.old }
+        ensures { IsSound C.Channel self.new }
+    {
+        match self {
+            Reading::Report(live) => feed_live(live, chunk, found),
+            Reading::Rows(text) => {
+                text.extend_from_slice(chunk)?;
+                Ok(())
+            }
+            Reading::Ended => Ok(()),
+        }
+    }
+
+    /// Writes the report of the lines that have ended, as `Live::report`.
+    pub fn report<K: Sink>(&self, sink: &mut K) -> Result<(), Fault>
+        requires { IsSound C.Channel self.now }
+    {
+        if let Reading::Report(live) = self {
+            live.report(sink)?;
+        }
+        Ok(())
+    }
+
+    /// The text has ended: writes its report, as `Live::end`, or its rows and its report, as `print_trace`.
+    pub fn end<K: Sink>(&mut self, alloc: A, sink: &mut K) -> Result<(), Fault>
+        requires { IsSound C.Channel self.old }
+        ensures { self.new ≡ Reading.Ended }
+    {
+        match replace(self, Reading::Ended) {
+            Reading::Report(live) => {
+                let mut uncounted = Uncounted::none();
+                live.end(sink, &mut uncounted)?;
+            }
+            Reading::Rows(text) => {
+                print_trace(
+                    alloc,
+                    Live::<A, C>::with_rows(alloc),
+                    RowObjects::new(alloc, Rows::All),
+                    &mut SliceSource::new(text.as_slice()),
+                    sink,
+                )?;
+            }
+            Reading::Ended => {}
+        }
+        Ok(())
+    }
+}

@@ -1,0 +1,262 @@
+//! What a handle holds: a trace that is read, its findings, and the text that the caller has not taken.
+
+ghost use Rattle.std.specs.Prelude.{◌≡◌};
+ghost use Rattle.x25scan_c.specs.Sound.{IsSound};
+
+use crate::errors::{ARGUMENT, ENDED, LINE, MEMORY, OK, ROWS, number_of};
+use crate::reading::Reading;
+use channel_machine::channel::PackedChannel;
+use channel_run::run::Channel;
+use explanations::advice::advice;
+use itoa::Buffer;
+use json_lines::text::write_json_lines;
+use line_model::device::{Beginning, VecSink};
+use line_model::fault::{Fault, Kind};
+use line_model::finding::Finding;
+use std::alloc::{AllocError, Global};
+
+/// The report as lines.
+pub const LINES: u32 = 0;
+/// The report as JSON lines.
+pub const JSON: u32 = 1;
+/// Rows as JSON lines, as they come, and last the report.
+pub const ROW_OBJECTS: u32 = 2;
+
+/// The most octets of a packet.
+const MOST_OCTETS: usize = 4200;
+
+/// What a handle holds.
+#[derive(Drop)]
+pub struct Scanning {
+    pub reading: Reading<Global, PackedChannel<Global>>,
+    found: Vec<Finding>,
+    /// How many findings were taken.
+    found_taken: usize,
+    text: VecSink<Global>,
+    /// How many bytes of the text were taken.
+    text_taken: usize,
+    /// Whether nothing was fed.
+    is_fresh: bool,
+    /// Whether the last line has not ended.
+    has_begun: bool,
+    refused: Option<(u32, Kind)>,
+    advice: Option<String>,
+}
+
+/// Two hex digits.
+fn push_octet(line: &mut Vec<u8>, octet: u8) -> Result<(), AllocError> {
+    for digit in [octet / 16, octet % 16] {
+        line.push(if digit < 10 {
+            b'0' + digit
+        } else {
+            b'A' + (digit - 10)
+        })?;
+    }
+    Ok(())
+}
+
+/// The line of a row.
+fn row_line(alloc: Global, number: u32, side: u8, octets: &[u8]) -> Result<Vec<u8>, AllocError> {
+    let mut line = Vec::new(alloc);
+    let mut digits = Buffer::new();
+    line.extend_from_slice(digits.format(number).as_bytes())?;
+    line.push(b' ')?;
+    line.push(side)?;
+    line.push(b' ')?;
+    if octets.is_empty() {
+        line.push(b'-')?;
+    }
+    for octet in octets {
+        push_octet(&mut line, *octet)?;
+    }
+    line.push(b'\n')?;
+    Ok(line)
+}
+
+impl Scanning {
+    /// Nothing was fed. It takes no memory.
+    pub(crate) fn new(alloc: Global, form: u32) -> Scanning
+        ensures { IsSound ⟦<PackedChannel<Global> as Channel<Global>>⟧ result.reading }
+    {
+        Scanning {
+            reading: Reading::new(alloc, form == ROW_OBJECTS),
+            found: Vec::new(alloc),
+            found_taken: 0,
+            text: VecSink::new(Vec::new(alloc)),
+            text_taken: 0,
+            is_fresh: true,
+            has_begun: false,
+            refused: None,
+            advice: None,
+        }
+    }
+
+    /// Keeps what a refusal says, and returns its number.
+    fn refuse(&mut self, alloc: Global, fault: Fault, chunk: &[u8]) -> u32
+        ensures { self.new.reading ≡ self.old.reading }
+    {
+        if let Fault::Trace(line, kind) = fault {
+            if self.refused.is_none() {
+                let beginning = if self.is_fresh {
+                    Beginning::Text
+                } else {
+                    Beginning::Midst
+                };
+                self.refused = Some((line, kind));
+                self.advice = advice(alloc, kind, chunk, beginning).ok();
+            }
+        }
+        number_of(fault)
+    }
+
+    /// Reads the next bytes of the text.
+    pub(crate) fn feed(&mut self, alloc: Global, chunk: &[u8]) -> u32
+        requires { IsSound ⟦<PackedChannel<Global> as Channel<Global>>⟧ self.old.reading }
+        ensures { IsSound ⟦<PackedChannel<Global> as Channel<Global>>⟧ self.new.reading }
+    {
+        if self.reading.has_ended() {
+            return ENDED;
+        }
+        let fed = self.reading.feed(chunk, &mut self.found);
+        let answer = match fed {
+            Ok(()) => OK,
+            Err(fault) => self.refuse(alloc, fault, chunk),
+        };
+        if let [.., last] = chunk {
+            self.is_fresh = false;
+            self.has_begun = *last != b'\n';
+        }
+        answer
+    }
+
+    /// Reads a packet, as the line that writes it.
+    pub(crate) fn packet(&mut self, alloc: Global, number: u32, side: u8, octets: &[u8]) -> u32
+        requires { IsSound ⟦<PackedChannel<Global> as Channel<Global>>⟧ self.old.reading }
+        ensures { IsSound ⟦<PackedChannel<Global> as Channel<Global>>⟧ self.new.reading }
+    {
+        if side != b'T' && side != b'N' || octets.len() > MOST_OCTETS {
+            return ARGUMENT;
+        }
+        if self.has_begun {
+            return LINE;
+        }
+        match row_line(alloc, number, side, octets) {
+            Ok(line) => self.feed(alloc, line.as_slice()),
+            Err(_) => MEMORY,
+        }
+    }
+
+    /// The next finding that was not taken.
+    pub(crate) fn next_finding(&mut self) -> Option<Finding>
+        ensures { self.new.reading ≡ self.old.reading }
+    {
+        let alloc = *self.found.allocator();
+        match self.found.as_slice().get(self.found_taken) {
+            Some(finding) => {
+                let finding = *finding;
+                self.found_taken = self.found_taken.saturating_add(1);
+                Some(finding)
+            }
+            None => {
+                self.found = Vec::new(alloc);
+                self.found_taken = 0;
+                None
+            }
+        }
+    }
+
+    /// Whether it prints rows.
+    pub(crate) fn prints_rows(&self) -> bool {
+        self.reading.prints_rows()
+    }
+
+    /// Puts lines of a report in the place of the text that was not taken.
+    fn put_report(&mut self, alloc: Global, form: u32, lines: VecSink<Global>) -> u32
+        ensures { self.new.reading ≡ self.old.reading }
+    {
+        let mut text = lines;
+        if form == JSON {
+            let mut objects = VecSink::new(Vec::new(alloc));
+            if write_json_lines(text.as_slice(), &mut objects).is_err() {
+                return MEMORY;
+            }
+            text = objects;
+        }
+        self.text = text;
+        self.text_taken = 0;
+        OK
+    }
+
+    /// The report of the lines that have ended takes the place of the text that was not taken. A refusal changes nothing
+    /// of that text.
+    pub(crate) fn report(&mut self, alloc: Global, form: u32) -> u32
+        requires { IsSound ⟦<PackedChannel<Global> as Channel<Global>>⟧ self.old.reading }
+        ensures { self.new.reading ≡ self.old.reading }
+    {
+        if form != LINES && form != JSON {
+            return ARGUMENT;
+        }
+        if self.reading.has_ended() {
+            return ENDED;
+        }
+        if self.reading.prints_rows() {
+            return ROWS;
+        }
+        let mut lines = VecSink::new(Vec::new(alloc));
+        match self.reading.report(&mut lines) {
+            Ok(()) => self.put_report(alloc, form, lines),
+            Err(fault) => self.refuse(alloc, fault, b""),
+        }
+    }
+
+    /// The text has ended: its report, or its rows and their report, take the place of the text that was not taken. The
+    /// trace has ended then, refused or not, except where the form is another than the scan's.
+    pub(crate) fn end(&mut self, alloc: Global, form: u32) -> u32
+        requires { IsSound ⟦<PackedChannel<Global> as Channel<Global>>⟧ self.old.reading }
+        ensures { IsSound ⟦<PackedChannel<Global> as Channel<Global>>⟧ self.new.reading }
+    {
+        if self.reading.has_ended() {
+            return ENDED;
+        }
+        if form > ROW_OBJECTS || self.reading.prints_rows() != (form == ROW_OBJECTS) {
+            return ARGUMENT;
+        }
+        let mut lines = VecSink::new(Vec::new(alloc));
+        match self.reading.end(alloc, &mut lines) {
+            Ok(()) => self.put_report(alloc, form, lines),
+            Err(fault) => self.refuse(alloc, fault, b""),
+        }
+    }
+
+    /// The text that was not taken.
+    pub(crate) fn waiting(&self) -> &[u8] {
+        match self.text.as_slice().get(self.text_taken..) {
+            Some(rest) => rest,
+            None => b"",
+        }
+    }
+
+    /// So many bytes of the text were taken.
+    pub(crate) fn take_text(&mut self, alloc: Global, taken: usize)
+        ensures { self.new.reading ≡ self.old.reading }
+    {
+        self.text_taken = self.text_taken.saturating_add(taken);
+        if self.waiting().is_empty() {
+            self.text = VecSink::new(Vec::new(alloc));
+            self.text_taken = 0;
+        }
+    }
+
+    /// The faulty line, by its number and its kind.
+    pub(crate) fn refused(&self) -> Option<(u32, Kind)> {
+        self.refused
+    }
+
+    /// What is wrong with the faulty line, in a sentence.
+    pub(crate) fn advice(&self) -> &[u8] {
+        match &self.advice {
+            Some(sentence) => sentence.as_bytes(),
+            None => b"",
+        }
+    }
+}
