@@ -87,19 +87,24 @@ def control(release: Release, files: Sequence[File]) -> str:
 
 
 def write_debian(release: Release, folder: pathlib.Path, top: pathlib.Path) -> pathlib.Path:
-    """Writes the .deb from a tree below an empty folder, and returns its path."""
+    """Writes the .deb of the programs from a tree below an empty folder, and returns its path."""
+    files = files_of(release, "share/zsh/vendor-completions")
+    path = folder / f"x25scan_{release.version}_{machine(release.program)[1]}.deb"
+    return build_debian(release, files, control(release, files), path, top)
+
+
+def build_debian(release: Release, files: Sequence[File], text: str, path: pathlib.Path, top: pathlib.Path) -> pathlib.Path:
+    """Writes a .deb of files below /usr, with the text of its control file, from a tree below an empty folder."""
     if not shutil.which("dpkg-deb"):
         raise Refusal("there is no .deb: dpkg-deb is not on the path; install dpkg, or use the .tar.gz")
-    files = files_of(release, "share/zsh/vendor-completions")
     for file in files:
         put(file, top / "usr")
     (top / "DEBIAN").mkdir()
-    (top / "DEBIAN" / "control").write_text(control(release, files))
-    for path in (top, *top.rglob("*")):
-        if not path.is_symlink() and (path.is_dir() or path.name == "control"):
-            path.chmod(0o755 if path.is_dir() else 0o644)
-        os.utime(path, (release.seconds, release.seconds), follow_symlinks=False)
-    path = folder / f"x25scan_{release.version}_{machine(release.program)[1]}.deb"
+    (top / "DEBIAN" / "control").write_text(text)
+    for place in (top, *top.rglob("*")):
+        if not place.is_symlink() and (place.is_dir() or place.name == "control"):
+            place.chmod(0o755 if place.is_dir() else 0o644)
+        os.utime(place, (release.seconds, release.seconds), follow_symlinks=False)
     how: list[str | pathlib.Path] = ["--root-owner-group", "-Zxz", "--build", top, path]
     env = {**os.environ, "SOURCE_DATE_EPOCH": str(release.seconds)}
     done = subprocess.run(["dpkg-deb", *how], env=env, capture_output=True, text=True, check=False)

@@ -14,7 +14,7 @@ use denote.Steps.{nothing}
 use denote.Struct.Struct.{within}
 use denote.Struct.Owning.{shape}
 use Rattle.x25scan_c.specs.Owning.{loose_owns}
-use Rattle.libc.specs.Heap.{chunk}
+use Rattle.x25scan_c.specs.Owning.{chunk}
 use Rattle.x25scan_c.specs.declared.scanning.Scanning.{Scanning}
 use Rattle.x25scan_c.specs.contracts.scanning.Scanning.{the_row as Scanning-row}
 use Rattle.x25scan_c.specs.contracts.handle.Handle as handle

@@ -5,6 +5,11 @@ use base.Fml.{Fml, ftrue}
 use denote.RattleType.{RattleType}
 use denote.RawPtr.{Ptr}
 use Rattle.std.specs.Box.Ownership.{box_owns}
+use Rattle.std_heap.specs.contracts.GlobalAllocator.TheImpl.{ghosts}
+
+-- the right to free a block of the heap, which is the same of each handle to it
+abbrev pub chunk : Ty → Ptr → Fml
+chunk = ghosts.dealloc_token (record { memory = record { seal = tt } })
 
 -- the box at a pointer, where there is a value
 unfoldable pub loose_owns : (Ty → Ptr → Fml) → (R : RattleType) → Ptr → Option R.Denot → Fml

@@ -2,7 +2,7 @@
 ghost use Rattle.std.specs.Prelude.{◌≡◌, Option, Some, None};
 ghost use Rattle.x25scan_c.specs.Owning.{loose_owns};
 ghost use Rattle.x25scan_c.specs.declared.scanning.Scanning.{Scanning};
-ghost use Rattle.libc.specs.Heap.{chunk};
+ghost use Rattle.x25scan_c.specs.Owning.{chunk};
 ghost use Rattle.x25scan_c.specs.contracts.scanning.Scanning.{the_row};
 
 use crate::loose::Loose;

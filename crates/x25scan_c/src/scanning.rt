@@ -22,6 +22,9 @@ pub const JSON: u32 = 1;
 /// Rows as JSON lines, as they come, and last the report.
 pub const ROW_OBJECTS: u32 = 2;
 
+/// How many of the last bytes are kept at the most, except of one large chunk.
+const MOST_RECENT: usize = 1 << 17;
+
 /// The most octets of a packet.
 const MOST_OCTETS: usize = 4200;
 
@@ -35,8 +38,9 @@ pub struct Scanning {
     text: VecSink<Global>,
     /// How many bytes of the text were taken.
     text_taken: usize,
-    /// Whether nothing was fed.
-    is_fresh: bool,
+    /// The last bytes that were fed, in which the faulty line is looked for, and where they begin.
+    recent: Vec<u8>,
+    beginning: Beginning,
     /// Whether the last line has not ended.
     has_begun: bool,
     refused: Option<(u32, Kind)>,
@@ -84,26 +88,36 @@ impl Scanning {
             found_taken: 0,
             text: VecSink::new(Vec::new(alloc)),
             text_taken: 0,
-            is_fresh: true,
+            recent: Vec::new(alloc),
+            beginning: Beginning::Text,
             has_begun: false,
             refused: None,
             advice: None,
         }
     }
 
+    /// Keeps the last bytes that are fed.
+    fn remember(&mut self, alloc: Global, chunk: &[u8])
+        ensures { self.new.reading ≡ self.old.reading }
+    {
+        if self.recent.len().saturating_add(chunk.len()) > MOST_RECENT && !self.recent.is_empty() {
+            self.recent = Vec::new(alloc);
+            self.beginning = Beginning::Midst;
+        }
+        if self.recent.extend_from_slice(chunk).is_err() {
+            self.beginning = Beginning::Midst;
+        }
+    }
+
     /// Keeps what a refusal says, and returns its number.
-    fn refuse(&mut self, alloc: Global, fault: Fault, chunk: &[u8]) -> u32
+    fn refuse(&mut self, alloc: Global, fault: Fault) -> u32
         ensures { self.new.reading ≡ self.old.reading }
     {
         if let Fault::Trace(line, kind) = fault {
             if self.refused.is_none() {
-                let beginning = if self.is_fresh {
-                    Beginning::Text
-                } else {
-                    Beginning::Midst
-                };
+                let text = self.recent.as_slice();
+                self.advice = advice(alloc, kind, text, self.beginning).ok();
                 self.refused = Some((line, kind));
-                self.advice = advice(alloc, kind, chunk, beginning).ok();
             }
         }
         number_of(fault)
@@ -117,13 +131,13 @@ impl Scanning {
         if self.reading.has_ended() {
             return ENDED;
         }
+        self.remember(alloc, chunk);
         let fed = self.reading.feed(chunk, &mut self.found);
         let answer = match fed {
             Ok(()) => OK,
-            Err(fault) => self.refuse(alloc, fault, chunk),
+            Err(fault) => self.refuse(alloc, fault),
         };
         if let [.., last] = chunk {
-            self.is_fresh = false;
             self.has_begun = *last != b'\n';
         }
         answer
@@ -205,7 +219,7 @@ impl Scanning {
         let mut lines = VecSink::new(Vec::new(alloc));
         match self.reading.report(&mut lines) {
             Ok(()) => self.put_report(alloc, form, lines),
-            Err(fault) => self.refuse(alloc, fault, b""),
+            Err(fault) => self.refuse(alloc, fault),
         }
     }
 
@@ -224,7 +238,7 @@ impl Scanning {
         let mut lines = VecSink::new(Vec::new(alloc));
         match self.reading.end(alloc, &mut lines) {
             Ok(()) => self.put_report(alloc, form, lines),
-            Err(fault) => self.refuse(alloc, fault, b""),
+            Err(fault) => self.refuse(alloc, fault),
         }
     }
 

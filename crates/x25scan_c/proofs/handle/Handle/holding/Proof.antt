@@ -26,7 +26,7 @@ use Rattle.std_heap.proofs.Global.TheLaws.{the_row_laws as LZ}
 use Rattle.x25scan_c.specs.contracts.scanning.Scanning.{the_row as R}
 use Rattle.x25scan_c.proofs.LooseValues.{both, Loose, loose_good, loose_out}
 use Rattle.x25scan_c.specs.Owning.{loose_owns}
-use Rattle.libc.specs.Heap.{chunk}
+use Rattle.x25scan_c.specs.Owning.{chunk}
 use Rattle.x25scan_c.proofs.HandleValues.{box_held, word, handle_in}
 use Rattle.x25scan_c.specs.contracts.handle.Handle.holding.{ended, clauses}
 use Rattle.x25scan_c.specs.contracts.handle.Handle.holding.Key.{name as #self}

@@ -30,7 +30,7 @@ use Rattle.std_heap.proofs.Global.TheLaws.{the_row_laws as LZ}
 use Rattle.x25scan_c.specs.contracts.scanning.Scanning.{the_row as R}
 use Rattle.x25scan_c.proofs.LooseValues.{both, al, loose_good, loose_in}
 use Rattle.x25scan_c.specs.Owning.{loose_owns}
-use Rattle.libc.specs.Heap.{chunk}
+use Rattle.x25scan_c.specs.Owning.{chunk}
 use Rattle.x25scan_c.proofs.HandleValues.{H-row, held_box, held_value, word, handle_out}
 use Rattle.x25scan_c.specs.contracts.handle.Handle.into_loose.{ended, clauses}
 use Rattle.x25scan_c.specs.contracts.handle.Handle.into_loose.Key.{name as #self}

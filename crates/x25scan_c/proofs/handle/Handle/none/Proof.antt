@@ -17,7 +17,7 @@ use denote.Triple.Walked.{walk_of}
 use Rattle.std.proofs.raw_atomic.Walks.{proved, leaves}
 use Rattle.x25scan_c.specs.contracts.scanning.Scanning.{the_row as R}
 use Rattle.x25scan_c.specs.Owning.{loose_owns}
-use Rattle.libc.specs.Heap.{chunk}
+use Rattle.x25scan_c.specs.Owning.{chunk}
 use Rattle.x25scan_c.proofs.HandleValues.{none_held, word, handle_in}
 use Rattle.x25scan_c.specs.contracts.handle.Handle.none.{ended, clauses}
 use Rattle.x25scan_c.specs.contracts.handle.Handle.none.Key.{name as #self}
