@@ -6,4 +6,5 @@ pub mod laws;
 mod lines;
 mod objects;
 pub mod sink;
+pub mod text;
 pub mod words;
