@@ -1,6 +1,6 @@
 //! The words of a line of a report.
 
-ghost use Rattle.std.specs.Prelude.{◌≡◌, drop};
+ghost use Rattle.std.specs.Prelude.{◌≡◌, ◌∷◌, [], drop, MatchOption};
 ghost use Rattle.json_lines.specs.Json.{first_word, line_words};
 
 use std::marker::Model;
@@ -36,12 +36,20 @@ impl<'a> Words<'a> {
         Words { words }
     }
 
+    /// The next word, which may be empty, if one is left.
+    pub fn next(&mut self) -> Option<&'a [u8]>
+        ensures { MatchOption result ((self.old ≡ [])
+            × (self.new ≡ [])) (λ word. self.old ≡ word.now ∷ self.new) }
+    {
+        self.words.next()
+    }
+
     /// The next word, or a dash where none is left.
     pub fn take(&mut self) -> &'a [u8]
         ensures word { result.now ≡ first_word self.old }
         ensures rest { self.new ≡ drop 1 self.old }
     {
-        match self.words.next() {
+        match self.next() {
             Some(word) => word,
             None => b"-",
         }
