@@ -9,7 +9,7 @@ use Rattle.line_model.specs.basics.Records.{PieceReport}
 use Rattle.line_model.specs.work.Work.{numbers_of}
 use Rattle.line_model.proofs.Posts.{value_is}
 use Rattle.shared_work.specs.queue.Known.{IsFed}
-use Rattle.workers.specs.Vouching.{HasPiece, IsRunOfOne}
+use Rattle.workers.specs.Vouching.{HasPiece, IsRunOfOne, IsValueOfOne}
 
 has-front : (xs ys : List Piece) (p : Piece) → HasPiece xs p → HasPiece (xs ++ ys) p
 has-front xs ys p h = (h.0, at xs h.0 h.1)
@@ -51,9 +51,9 @@ fed-one fed [] p k all e = absurd (cc)
 fed-one fed (x ∷ xs) p zero all e = subst (IsFed fed) (some-is x p e) (all 0 x (omega arith))
 fed-one fed (x ∷ xs) p (suc k) all e = fed-one fed xs p k (λ j d lt. all (suc j) d (omega arith)) e
 
--- what a witness vouches for is the value of a piece that was fed
-pub value-of-fed : (ran : Piece → PieceReport → Type 0) (fed pieces : List Piece) (r : PieceReport) → All (IsFed fed) pieces → IsRunOfOne ran pieces r → IsValue (Some fed) r
-value-of-fed ran fed pieces r all v = subst (IsValue (Some fed)) (sym v.2) (value_is (Some fed) v.0 (refl, fed-one fed pieces v.0 v.1.0 all v.1.1))
+-- the value of a piece that a witness knows of is that of a piece that was fed
+pub value-of-fed : (fed pieces : List Piece) (r : PieceReport) → All (IsFed fed) pieces → IsValueOfOne pieces r → IsValue (Some fed) r
+value-of-fed fed pieces r all v = subst (IsValue (Some fed)) (sym v.2) (value_is (Some fed) v.0 (refl, fed-one fed pieces v.0 v.1.0 all v.1.1))
 
 pub run-of-fed : (ran : Piece → PieceReport → Type 0) (fed pieces : List Piece) (r : PieceReport) → All (IsFed fed) pieces → IsRunOfOne ran pieces r → IsRunOfOne ran fed r
 run-of-fed ran fed pieces r all v = (v.0, (v.0.id, fed-one fed pieces v.0 v.1.0 all v.1.1), v.2, v.3)

@@ -12,6 +12,10 @@ no_queue = record { words = 0; slots = 0; views_name = 0; atom = 0; block = 0; o
 abbrev pub HasPiece : List Piece → Piece → Type 0
 HasPiece pieces p = (k : ℕ) × (slice_get pieces k ≡ Some p)
 
+-- the report is the value of one of these pieces
+abbrev pub IsValueOfOne : List Piece → PieceReport → Type 0
+IsValueOfOne pieces r = (p : Piece) × HasPiece pieces p × (r ≡ value p)
+
 -- the report is the value of one of these pieces, which was run so
 abbrev pub IsRunOfOne : (ran : Piece → PieceReport → Type 0) → List Piece → PieceReport → Type 0
 IsRunOfOne ran pieces r = (p : Piece) × HasPiece pieces p × (r ≡ value p) × ran p r

@@ -3,7 +3,7 @@
 ghost use Rattle.std.specs.Prelude.{◌≡◌, [], Some, length};
 ghost use Rattle.line_model.specs.basics.Records as records;
 ghost use Rattle.line_model.specs.work.Book.{IsValue};
-ghost use Rattle.workers.specs.Vouching.{IsRunOfOne};
+ghost use Rattle.workers.specs.Vouching.{IsRunOfOne, IsValueOfOne};
 
 use line_model::piece::Plan;
 use shared_work::queue::{FeederPass, Work};
@@ -63,11 +63,11 @@ impl<'a, P: Plan, N: QueueName, A: Allocator> PieceWitness<'a, P, N, A> {
         }
     }
 
-    /// Each report that it vouches for is the value of the piece of its id among those that were fed, and of one that was
-    /// run. They are as many as the record of the feeder says.
+    /// Each report of a piece that it knows of is the value of the piece of its id among those that were fed, and each that
+    /// it vouches for is of one that was run. They are as many as the record of the feeder says.
     pub fn confirm(self, pass: FeederPass<A>)
         requires { pass.queue ≡ N.queue }
-        ensures fed { (r : records.PieceReport) → IsRunOfOne N.ran self.entry r
+        ensures fed { (r : records.PieceReport) → IsValueOfOne self.entry r
             → IsValue (Some pass.pieces) r }
         ensures runs { (r : records.PieceReport) → IsRunOfOne N.ran self.entry r
             → IsRunOfOne N.ran pass.pieces r }

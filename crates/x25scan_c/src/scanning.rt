@@ -8,12 +8,14 @@ use crate::reading::Reading;
 use channel_machine::channel::PackedChannel;
 use channel_run::run::Channel;
 use explanations::advice::advice;
+use hex::encode_to_slice;
 use itoa::Buffer;
 use json_lines::text::write_json_lines;
 use line_model::device::{Beginning, VecSink};
 use line_model::fault::{Fault, Kind};
 use line_model::finding::Finding;
 use std::alloc::{AllocError, Global};
+use std::mem::replace;
 
 /// The report as lines.
 pub const LINES: u32 = 0;
@@ -35,6 +37,8 @@ pub struct Scanning {
     found: Vec<Finding>,
     /// How many findings were taken.
     found_taken: usize,
+    /// The room of the line that writes a packet.
+    line: Vec<u8>,
     text: VecSink<Global>,
     /// How many bytes of the text were taken.
     text_taken: usize,
@@ -47,34 +51,29 @@ pub struct Scanning {
     advice: Option<String>,
 }
 
-/// Two hex digits.
-fn push_octet(line: &mut Vec<u8>, octet: u8) -> Result<(), AllocError> {
-    for digit in [octet / 16, octet % 16] {
-        line.push(if digit < 10 {
-            b'0' + digit
-        } else {
-            b'A' + (digit - 10)
-        })?;
+/// Appends two hex digits for each octet.
+fn put_digits(line: &mut Vec<u8>, octets: &[u8]) -> Result<(), AllocError> {
+    let mut digits = [0; 64];
+    for part in octets.chunks(32) {
+        let room = &mut digits[..2 * part.len()];
+        if encode_to_slice(part, room).is_ok() {
+            line.extend_from_slice(room)?;
+        }
     }
     Ok(())
 }
 
-/// The line of a row.
-fn row_line(alloc: Global, number: u32, side: u8, octets: &[u8]) -> Result<Vec<u8>, AllocError> {
-    let mut line = Vec::new(alloc);
+/// Puts the line of a row in the place of another.
+fn put_row(line: &mut Vec<u8>, number: u32, side: u8, octets: &[u8]) -> Result<(), AllocError> {
     let mut digits = Buffer::new();
+    line.clear();
     line.extend_from_slice(digits.format(number).as_bytes())?;
-    line.push(b' ')?;
-    line.push(side)?;
-    line.push(b' ')?;
+    line.extend_from_slice(&[b' ', side, b' '])?;
     if octets.is_empty() {
         line.push(b'-')?;
     }
-    for octet in octets {
-        push_octet(&mut line, *octet)?;
-    }
-    line.push(b'\n')?;
-    Ok(line)
+    put_digits(line, octets)?;
+    line.push(b'\n')
 }
 
 impl Scanning {
@@ -86,6 +85,7 @@ impl Scanning {
             reading: Reading::new(alloc, form == ROW_OBJECTS),
             found: Vec::new(alloc),
             found_taken: 0,
+            line: Vec::new(alloc),
             text: VecSink::new(Vec::new(alloc)),
             text_taken: 0,
             recent: Vec::new(alloc),
@@ -97,11 +97,11 @@ impl Scanning {
     }
 
     /// Keeps the last bytes that are fed.
-    fn remember(&mut self, alloc: Global, chunk: &[u8])
+    fn remember(&mut self, chunk: &[u8])
         ensures { self.new.reading ≡ self.old.reading }
     {
         if self.recent.len().saturating_add(chunk.len()) > MOST_RECENT && !self.recent.is_empty() {
-            self.recent = Vec::new(alloc);
+            self.recent.clear();
             self.beginning = Beginning::Midst;
         }
         if self.recent.extend_from_slice(chunk).is_err() {
@@ -131,7 +131,7 @@ impl Scanning {
         if self.reading.has_ended() {
             return ENDED;
         }
-        self.remember(alloc, chunk);
+        self.remember(chunk);
         let fed = self.reading.feed(chunk, &mut self.found);
         let answer = match fed {
             Ok(()) => OK,
@@ -154,10 +154,13 @@ impl Scanning {
         if self.has_begun {
             return LINE;
         }
-        match row_line(alloc, number, side, octets) {
-            Ok(line) => self.feed(alloc, line.as_slice()),
+        let mut line = replace(&mut self.line, Vec::new(alloc));
+        let answer = match put_row(&mut line, number, side, octets) {
+            Ok(()) => self.feed(alloc, line.as_slice()),
             Err(_) => MEMORY,
-        }
+        };
+        self.line = line;
+        answer
     }
 
     /// The next finding that was not taken.

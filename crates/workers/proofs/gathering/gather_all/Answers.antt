@@ -10,7 +10,7 @@ returns-clause-whole g c =
     let shares : length (reports_of c.in_ok-gathered.gathered) ≡ sum_by (λ (t : Totals). t.posts) c.in_ok-gathered.gathered.shares.items = ap (λ (t : Totals). t.posts) (sym e.totals ∙ e.sums) in
     let posted = ap (sum_by (λ (t : Totals). t.posts)) e.each in record {
       posted = e.reports;
-      of_fed = record { distinct = e.reports.distinct; values = λ k d lt. c.confirm.ensures.fed _ (e.vouched k d lt) };
+      of_fed = record { distinct = e.reports.distinct; values = λ k d lt. let v = e.vouched k d lt in c.confirm.ensures.fed _ (v.0, v.1, v.2) };
       runs = λ k d lt. c.confirm.ensures.runs _ (e.vouched k d lt);
       number = shares ∙ (posted ∙ (c.requires.posted ∙ sym c.confirm.ensures.number));
       sums = e.totals;

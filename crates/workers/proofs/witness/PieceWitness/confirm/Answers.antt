@@ -5,7 +5,7 @@ use Rattle.workers.proofs.Pieces.{value-of-fed, run-of-fed}
 use Rattle.workers.proofs.witness.PieceWitness.confirm.Goals as goal
 
 pub returns-clause-fed : goal.returns-clause-fed
-returns-clause-fed g c r = value-of-fed g.N.QueueName.ran c.args.pass.pieces _ r (subst (All (IsFed c.args.pass.pieces)) c.self.view_is c.confirm.ensures.fed)
+returns-clause-fed g c r = value-of-fed c.args.pass.pieces _ r (subst (All (IsFed c.args.pass.pieces)) c.self.view_is c.confirm.ensures.fed)
 
 pub returns-clause-runs : goal.returns-clause-runs
 returns-clause-runs g c r = run-of-fed g.N.QueueName.ran c.args.pass.pieces _ r (subst (All (IsFed c.args.pass.pieces)) c.self.view_is c.confirm.ensures.fed)
