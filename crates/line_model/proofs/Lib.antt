@@ -16,6 +16,9 @@ pub mod Posts
 pub mod QueueLines
 pub mod Schedules
 pub mod WorkedTraces
+pub mod WalkedRows
+pub mod MovesCalls
+pub mod CallPeaks
 pub mod OneFinding
 pub mod Findings
 pub mod BookTotals
@@ -46,6 +49,8 @@ pub mod WrittenLemmas
 pub mod Saying
 pub mod GapMachines
 pub mod GapFindings
+pub mod GapTurns
+pub mod GapCalls
 pub mod WithoutGaps
 pub mod OtherForms
 pub mod WorkedGapTraces

@@ -4,7 +4,7 @@ ghost use Rattle.std.specs.Prelude.{◌≡◌, ℕ, List, ◌++◌, Some};
 ghost use Rattle.line_model.specs.traces.WorkedTraces.{WorkedTraces};
 ghost use Rattle.line_model.specs.Laws.{ShuffleLaw, PiecesLaw, PlanLaw, FindingsLaw, FindingsOrderLaw, TotalsLaw, NumbersLaw, PeakLaw, CallsLaw, CallsOrderLaw, CallsPeakLaw};
 ghost use Rattle.line_model.specs.traces.WorkedGapTraces.{WorkedGapTraces};
-ghost use Rattle.line_model.specs.GapLaws.{RecordedShuffleLaw, RecordedPiecesLaw, RecordedPlanLaw, RecordedFindingsLaw, WithoutGapsLaw, OtherFormsLaw, OtherReportsLaw};
+ghost use Rattle.line_model.specs.GapLaws.{RecordedShuffleLaw, RecordedPiecesLaw, RecordedPlanLaw, RecordedFindingsLaw, RecordedFindingsOrderLaw, RecordedTotalsLaw, RecordedPeakLaw, RecordedCallsLaw, RecordedCallsPeakLaw, RecordedCallsOrderLaw, WithoutGapsLaw, OtherFormsLaw, OtherReportsLaw};
 ghost use Rattle.line_model.specs.text.Text.{early, fault};
 ghost use Rattle.line_model.specs.declared.fault.Kind.{Kind};
 
@@ -88,6 +88,36 @@ pub fn recorded_plan()
 /// Of a recording with gaps the findings of the restart machine and of the pieces, by their packets, are those of the walk.
 pub fn recorded_findings()
     ensures { RecordedFindingsLaw }
+{}
+
+/// Of a recording with gaps the findings of the restart machine and of the pieces are those of the walk, which rise by their packets.
+pub fn recorded_findings_order()
+    ensures { RecordedFindingsOrderLaw }
+{}
+
+/// Of a recording with gaps the values of the pieces add up to the observer's totals over the channels.
+pub fn recorded_totals()
+    ensures { RecordedTotalsLaw }
+{}
+
+/// Of a recording with gaps the peak after any row is the greatest number of calls that are up at once.
+pub fn recorded_peak()
+    ensures { RecordedPeakLaw }
+{}
+
+/// Of a recording with gaps the calls of the pieces, by their opening packets, are those of the walk.
+pub fn recorded_calls()
+    ensures { RecordedCallsLaw }
+{}
+
+/// Of a recording with gaps the peak after any row is the peak over the times of the calls.
+pub fn recorded_calls_peak()
+    ensures { RecordedCallsPeakLaw }
+{}
+
+/// Of a recording with gaps the calls of the pieces are those of the walk, which rise by their opening packets.
+pub fn recorded_calls_order()
+    ensures { RecordedCallsOrderLaw }
 {}
 
 /// A recording without gaps has the report of its interface.
