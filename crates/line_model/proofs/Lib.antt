@@ -1,5 +1,6 @@
 pub mod TextLemmas
 pub mod LineLemmas
+pub mod FirstFaults
 pub mod FinalFaults
 pub mod Rearranged
 pub mod Lanes
@@ -53,4 +54,5 @@ pub mod GapTurns
 pub mod GapCalls
 pub mod WithoutGaps
 pub mod OtherForms
+pub mod EarlyRecordings
 pub mod WorkedGapTraces

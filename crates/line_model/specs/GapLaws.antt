@@ -18,7 +18,7 @@ use Rattle.line_model.specs.observer.GapReport.{recorded_report}
 use Rattle.line_model.specs.observer.Peak.{IsPeakOfTimes, how_many, is_up_at, times_of}
 use Rattle.line_model.specs.observer.Calls.{tells_up, tells_end, calls_of, up_at}
 use Rattle.line_model.specs.text.Text.{fault}
-use Rattle.line_model.specs.text.GapText.{has_third_form, recorded_fault, without_gaps}
+use Rattle.line_model.specs.text.GapText.{early_recorded_rows, early_recording, has_third_form, recorded_fault, recorded_rows, recording, without_gaps}
 use Rattle.line_model.specs.traces.Traces.{IsReported}
 use Rattle.line_model.specs.traces.GapTraces.{IsRecorded}
 use Rattle.line_model.specs.pieces.Shuffle.{IsShuffle, SameWalks}
@@ -148,3 +148,11 @@ OtherFormsLaw = (text : List ℕ) → has_third_form text ≡ false → recorded
 -- nor is its report another one
 abbrev pub OtherReportsLaw : Type 0
 OtherReportsLaw = (text bytes : List ℕ) → has_third_form text ≡ false → IsReported text bytes → IsRecorded text bytes
+
+-- what the first lines of a text set up, the text sets up however it goes on
+abbrev pub EarlyRecordingLaw : Type 0
+EarlyRecordingLaw = (text more : List ℕ) (t : Recording) → early_recording text ≡ Some t → recording (text ++ more) ≡ Some t
+
+-- the rows of the first lines of a text are the first rows of the text however it goes on
+abbrev pub EarlyRowsLaw : Type 0
+EarlyRowsLaw = (t : Recording) (text more : List ℕ) → (rest : List RecordedRow) × (recorded_rows t (text ++ more) ≡ early_recorded_rows t text ++ rest)
