@@ -4,7 +4,6 @@ use Rattle.std.specs.Prelude.{is_none}
 use Rattle.std.proofs.lemmas.Bool.{and_from, and_parts, false≢true}
 use Rattle.line_model.specs.declared.interface.Interface.{Interface}
 use Rattle.line_model.specs.declared.event.How.{How}
-use Rattle.line_model.specs.declared.event.How.TheVariants.{Gap}
 use Rattle.line_model.specs.declared.gap.EpochStart.{EpochStart}
 use Rattle.line_model.specs.declared.gap.EpochStart.TheVariants.{Restarted, Drifting}
 use Rattle.line_model.specs.channels.Channels.{channel_in, fresh_state, is_open, is_permanent}
@@ -67,11 +66,11 @@ fresh_without i Restarted e k = fresh_closed i e k
 fresh_without i (Drifting w) e k = drifting_closed (is_permanent i k)
 
 step_of : (i : Interface) (k : ℕ) (g : GapChannel) (x : RecordedRow) → is_sound_gap (is_permanent i k) g ≡ true → GapTurns (is_permanent i k) g (recorded_step i k g x)
-step_of i k g (OfPacket r) h = let w = sound_gap_is (is_permanent i k) g h in packet_turns g.certainty Gap i k r g refl w.sound w.suited
+step_of i k g (OfPacket r) h = let w = sound_gap_is (is_permanent i k) g h in packet_turns g.certainty i k r g refl w.sound w.suited
 step_of i k g (OfGap n c) h = gap_turns i k (is_none c) g (sound_gap_is (is_permanent i k) g h).sound
 
 opens_once : (i : Interface) (k : ℕ) (g : GapChannel) (x : RecordedRow) → IsOnce (recorded_step i k g x).reported
-opens_once i k g (OfPacket r) = packet_once g.certainty Gap i k r g
+opens_once i k g (OfPacket r) = packet_once g.certainty i k r g
 opens_once i k g (OfGap n c) = omega arith
 
 silent : (i : Interface) (k : ℕ) (g : GapChannel) (x : RecordedRow) → (x25_recorded i).for_all x ≡ true → (recorded_step i k g x).reported ≡ []

@@ -76,19 +76,19 @@ carried_quiet i r a g =
 both_quiet : (us vs : List What) → founds us ≡ 0 → founds vs ≡ 0 → founds (us ++ vs) ≡ 0
 both_quiet us vs h k = let e = total-append found_by us vs in omega arith
 
-entry_quiet : (e : AdriftEntry) (h : How) (i : Interface) (n : ℕ) (r : Item) (a : WhileAdrift) (g : GapChannel) → founds (adrift_step_by e h i n r a g).reported ≡ 0
-entry_quiet OpensCall h i n r a g = both_quiet _ _ (ending_none 1 (λ n. 0) h g.channel.opening _) refl
-entry_quiet Accepts h i n r a g = quiet_if (is_open g.channel && not (is_in_transfer g.channel)) _ _ refl refl
-entry_quiet Clears h i n r a g = ending_none 1 (λ n. 0) _ g.channel.opening _
-entry_quiet ConfirmsClear h i n r a g = ending_none 1 (λ n. 0) h g.channel.opening _
-entry_quiet Resets h i n r a g = quiet_if (is_in_use i n g.channel) _ _ (both_quiet (brought_up i g.channel).reported [] (up_quiet i g.channel) refl) refl
-entry_quiet ConfirmsReset h i n r a g = quiet_if (is_in_use i n g.channel) _ _ (both_quiet (brought_up i g.channel).reported [] (up_quiet i g.channel) refl) refl
-entry_quiet Carries h i n r a g =
+entry_quiet : (e : AdriftEntry) (i : Interface) (n : ℕ) (r : Item) (a : WhileAdrift) (g : GapChannel) → founds (adrift_step_by e i n r a g).reported ≡ 0
+entry_quiet OpensCall i n r a g = both_quiet _ _ (ending_none 1 (λ n. 0) Gap g.channel.opening _) refl
+entry_quiet Accepts i n r a g = quiet_if (is_open g.channel && not (is_in_transfer g.channel)) _ _ refl refl
+entry_quiet Clears i n r a g = ending_none 1 (λ n. 0) _ g.channel.opening _
+entry_quiet ConfirmsClear i n r a g = ending_none 1 (λ n. 0) Gap g.channel.opening _
+entry_quiet Resets i n r a g = quiet_if (is_in_use i n g.channel) _ _ (both_quiet (brought_up i g.channel).reported [] (up_quiet i g.channel) refl) refl
+entry_quiet ConfirmsReset i n r a g = quiet_if (is_in_use i n g.channel) _ _ (both_quiet (brought_up i g.channel).reported [] (up_quiet i g.channel) refl) refl
+entry_quiet Carries i n r a g =
     quiet_if (is_in_use i n g.channel) _ _ (both_quiet (brought_up i g.channel).reported _ (up_quiet i g.channel) (carried_quiet i r (record a { hidden = hidden_when_up a g.channel }) (record g { channel = (brought_up i g.channel).after }))) refl
-entry_quiet DoesNothing h i n r a g = refl
+entry_quiet DoesNothing i n r a g = refl
 
-adrift_quiet : (h : How) (i : Interface) (n : ℕ) (r : Item) (a : WhileAdrift) (g : GapChannel) → founds (adrift_step h i n r a g).reported ≡ 0
-adrift_quiet h i n r a g = quiet_if (is_some (adrift_fault i n g.channel r)) _ _ refl (entry_quiet (adrift_entry (is_permanent i n) (packet_class r.packet)) h i n r a g)
+adrift_quiet : (i : Interface) (n : ℕ) (r : Item) (a : WhileAdrift) (g : GapChannel) → founds (adrift_step i n r a g).reported ≡ 0
+adrift_quiet i n r a g = quiet_if (is_some (adrift_fault i n g.channel r)) _ _ refl (entry_quiet (adrift_entry (is_permanent i n) (packet_class r.packet)) i n r a g)
 
 -- ---- a settled channel has one at most
 
@@ -140,15 +140,15 @@ settled_one i s r (Moves t) b c = verdict_few 1 (λ n. 0) 1 i s r (Moves t) c (�
 settled_one i s r EndsOwed b c = verdict_few 1 (λ n. 0) 1 i s r EndsOwed c (λ n few. omega arith)
 settled_one i s r Nothing b c = verdict_few 1 (λ n. 0) 1 i s r Nothing c (λ n few. omega arith)
 
-packet_one : (t : Certainty) (h : How) (i : Interface) (n : ℕ) (r : Item) (g : GapChannel) → founds (packet_step t h i n r g).reported ≤ 1
-packet_one Certain h i n r g = row_few 1 (λ n. 0) 1 i n g.channel r (λ n few. omega arith)
-packet_one (Adrift a) h i n r g = let none = adrift_quiet h i n r a g in omega arith
-packet_one (Settled b) h i n r g =
+packet_one : (t : Certainty) (i : Interface) (n : ℕ) (r : Item) (g : GapChannel) → founds (packet_step t i n r g).reported ≤ 1
+packet_one Certain i n r g = row_few 1 (λ n. 0) 1 i n g.channel r (λ n few. omega arith)
+packet_one (Adrift a) i n r g = let none = adrift_quiet i n r a g in omega arith
+packet_one (Settled b) i n r g =
     let j = judged (is_permanent i n) r.side g.channel.state g.channel.owed (packet_class r.packet) in
     settled_one i j.state r (verdict j (packet_fault i n g.channel r)) b g.channel
 
 recorded_one : (i : Interface) (n : ℕ) (g : GapChannel) (x : RecordedRow) → founds (recorded_step i n g x).reported ≤ 1
-recorded_one i n g (OfPacket r) = packet_one g.certainty Gap i n r g
+recorded_one i n g (OfPacket r) = packet_one g.certainty i n r g
 recorded_one i n g (OfGap m c) = omega arith
 
 shown_one : (x : RecordedRow) (t : GapRoute) → founds (route_shown x t) ≤ 1

@@ -15,6 +15,7 @@ use Rattle.line_model.specs.declared.state.ChannelState.TheVariants.{Setup, Tran
 use Rattle.line_model.specs.declared.state.StateName.{StateName}
 use Rattle.line_model.specs.declared.state.StateName.TheVariants.{P1, P2, P3, P4, D1}
 use Rattle.line_model.specs.declared.event.How.{How}
+use Rattle.line_model.specs.declared.event.How.TheVariants.{Gap}
 use Rattle.line_model.specs.declared.event.What.{What}
 use Rattle.line_model.specs.declared.gap.LastData.{LastData}
 use Rattle.line_model.specs.declared.gap.Owed.{Owed}
@@ -248,34 +249,34 @@ resetting_transfer : (x : Side) → is_transfer (state_named (resetting_state x)
 resetting_transfer T = refl
 resetting_transfer N = refl
 
-entry_turns : (p : Bool) (e : AdriftEntry) → entry_suits p e ≡ true → (h : How) (i : Interface) (n : ℕ) (r : Item) (a : WhileAdrift) (g : GapChannel) → is_permanent i n ≡ p
-    → IsSound p g.channel → is_known g.channel.state ≡ true → suits_certainty g.certainty g.channel.state ≡ true → GapTurns p g (adrift_step_by e h i n r a g)
-entry_turns false OpensCall f h i n r a g q s k t =
+entry_turns : (p : Bool) (e : AdriftEntry) → entry_suits p e ≡ true → (i : Interface) (n : ℕ) (r : Item) (a : WhileAdrift) (g : GapChannel) → is_permanent i n ≡ p
+    → IsSound p g.channel → is_known g.channel.state ≡ true → suits_certainty g.certainty g.channel.state ≡ true → GapTurns p g (adrift_step_by e i n r a g)
+entry_turns false OpensCall f i n r a g q s k t =
     let w = calling_known r.side in
     let d : Channel = entering (calling_state r.side) false g.channel in
-    record { turns = opening_turns false h (is_side T r.side) r.octets g.channel d s refl w.0 w.1; suited = ended_known h d w.2 }
-entry_turns false Accepts f h i n r a g q s k t = acceptance_turns i r.side r.octets a g s t
-entry_turns false Clears f h i n r a g q s k t =
+    record { turns = opening_turns false Gap (is_side T r.side) r.octets g.channel d s refl w.0 w.1; suited = ended_known Gap d w.2 }
+entry_turns false Accepts f i n r a g q s k t = acceptance_turns i r.side r.octets a g s t
+entry_turns false Clears f i n r a g q s k t =
     record { turns = ending_turns false (cleared_by r.side) g.channel (entering P1 false g.channel) s refl refl refl; suited = ended_known (cleared_by r.side) (entering P1 false g.channel) refl }
-entry_turns false ConfirmsClear f h i n r a g q s k t = record {
-  turns = ending_turns false h g.channel (entering P1 false g.channel) s refl refl refl;
-  suited = confirmed_suits _ (owed_after r.side ConfirmsClear a.owed) (ending h (entering P1 false g.channel)).after.state (ended_known h (entering P1 false g.channel) refl);
+entry_turns false ConfirmsClear f i n r a g q s k t = record {
+  turns = ending_turns false Gap g.channel (entering P1 false g.channel) s refl refl refl;
+  suited = confirmed_suits _ (owed_after r.side ConfirmsClear a.owed) (ending Gap (entering P1 false g.channel)).after.state (ended_known Gap (entering P1 false g.channel) refl);
 }
-entry_turns true OpensCall f h i n r a g q s k t = absurd (false≢true f)
-entry_turns true Accepts f h i n r a g q s k t = absurd (false≢true f)
-entry_turns true Clears f h i n r a g q s k t = absurd (false≢true f)
-entry_turns true ConfirmsClear f h i n r a g q s k t = absurd (false≢true f)
-entry_turns p Resets f h i n r a g q s k t = reset_turns p i n (owed_after r.side Resets a.owed) a (resetting_state r.side) g q (resetting_transfer r.side) s k
-entry_turns p ConfirmsReset f h i n r a g q s k t = reset_turns p i n (owed_after r.side ConfirmsReset a.owed) a D1 g q refl s k
-entry_turns p Carries f h i n r a g q s k t = transfer_turns p i n r a g q s k t
-entry_turns p DoesNothing f h i n r a g q s k t = passing_turns p g s t
+entry_turns true OpensCall f i n r a g q s k t = absurd (false≢true f)
+entry_turns true Accepts f i n r a g q s k t = absurd (false≢true f)
+entry_turns true Clears f i n r a g q s k t = absurd (false≢true f)
+entry_turns true ConfirmsClear f i n r a g q s k t = absurd (false≢true f)
+entry_turns p Resets f i n r a g q s k t = reset_turns p i n (owed_after r.side Resets a.owed) a (resetting_state r.side) g q (resetting_transfer r.side) s k
+entry_turns p ConfirmsReset f i n r a g q s k t = reset_turns p i n (owed_after r.side ConfirmsReset a.owed) a D1 g q refl s k
+entry_turns p Carries f i n r a g q s k t = transfer_turns p i n r a g q s k t
+entry_turns p DoesNothing f i n r a g q s k t = passing_turns p g s t
 
-adrift_turns : (h : How) (i : Interface) (n : ℕ) (r : Item) (a : WhileAdrift) (g : GapChannel) → IsSound (is_permanent i n) g.channel → is_known g.channel.state ≡ true → suits_certainty g.certainty g.channel.state ≡ true
-    → GapTurns (is_permanent i n) g (adrift_step h i n r a g)
-adrift_turns h i n r a g s k t =
+adrift_turns : (i : Interface) (n : ℕ) (r : Item) (a : WhileAdrift) (g : GapChannel) → IsSound (is_permanent i n) g.channel → is_known g.channel.state ≡ true → suits_certainty g.certainty g.channel.state ≡ true
+    → GapTurns (is_permanent i n) g (adrift_step i n r a g)
+adrift_turns i n r a g s k t =
     let p = is_permanent i n in
     let e = adrift_entry p (packet_class r.packet) in
-    either_turns p g _ _ (is_some (adrift_fault i n g.channel r)) (λ fault. passing_turns p g s t) (λ none. entry_turns p e (entry_suited p (packet_class r.packet)) h i n r a g refl s k t)
+    either_turns p g _ _ (is_some (adrift_fault i n g.channel r)) (λ fault. passing_turns p g s t) (λ none. entry_turns p e (entry_suited p (packet_class r.packet)) i n r a g refl s k t)
 
 -- ---- a settled channel
 
@@ -350,11 +351,11 @@ certainty_suits f c s = at (is_open c || is_in_d1 c.state)
 
 -- ---- a packet
 
-pub packet_turns : (t : Certainty) (h : How) (i : Interface) (n : ℕ) (r : Item) (g : GapChannel) → g.certainty ≡ t → IsSound (is_permanent i n) g.channel → suits_certainty t g.channel.state ≡ true
-    → GapTurns (is_permanent i n) g (packet_step t h i n r g)
-packet_turns Certain h i n r g e s k = record { turns = step_turns i n g.channel r s; suited = refl }
-packet_turns (Adrift a) h i n r g e s k = adrift_turns h i n r a g s k (ap (λ t. suits_certainty t g.channel.state) e ∙ k)
-packet_turns (Settled b) h i n r g e s k =
+pub packet_turns : (t : Certainty) (i : Interface) (n : ℕ) (r : Item) (g : GapChannel) → g.certainty ≡ t → IsSound (is_permanent i n) g.channel → suits_certainty t g.channel.state ≡ true
+    → GapTurns (is_permanent i n) g (packet_step t i n r g)
+packet_turns Certain i n r g e s k = record { turns = step_turns i n g.channel r s; suited = refl }
+packet_turns (Adrift a) i n r g e s k = adrift_turns i n r a g s k (ap (λ t. suits_certainty t g.channel.state) e ∙ k)
+packet_turns (Settled b) i n r g e s k =
     let p = is_permanent i n in
     let j = judged_in p g.channel r in
     let fault = packet_fault i n g.channel r in
@@ -391,24 +392,24 @@ carried_unmarked i r a g = at (is_resetting (other r.side) g.channel.state)
     at true = refl
     at false = (received i r a g (receive_of r) (option_and_then (acknowledged_data a r.side) (receive_of r))).unmarked
 
-entry_once : (e : AdriftEntry) (h : How) (i : Interface) (n : ℕ) (r : Item) (a : WhileAdrift) (g : GapChannel) → IsOnce (adrift_step_by e h i n r a g).reported
-entry_once OpensCall h i n r a g = opening_once h (is_side T r.side) r.octets (entering (calling_state r.side) false g.channel)
-entry_once Accepts h i n r a g = either_once (is_open g.channel && not (is_in_transfer g.channel)) _ _ (omega arith) (omega arith)
-entry_once Clears h i n r a g = ending_once (cleared_by r.side) (entering P1 false g.channel)
-entry_once ConfirmsClear h i n r a g = ending_once h (entering P1 false g.channel)
-entry_once Resets h i n r a g = either_once (is_in_use i n g.channel) _ _ (brought_once i g.channel [] refl) (omega arith)
-entry_once ConfirmsReset h i n r a g = either_once (is_in_use i n g.channel) _ _ (brought_once i g.channel [] refl) (omega arith)
-entry_once Carries h i n r a g =
+entry_once : (e : AdriftEntry) (i : Interface) (n : ℕ) (r : Item) (a : WhileAdrift) (g : GapChannel) → IsOnce (adrift_step_by e i n r a g).reported
+entry_once OpensCall i n r a g = opening_once Gap (is_side T r.side) r.octets (entering (calling_state r.side) false g.channel)
+entry_once Accepts i n r a g = either_once (is_open g.channel && not (is_in_transfer g.channel)) _ _ (omega arith) (omega arith)
+entry_once Clears i n r a g = ending_once (cleared_by r.side) (entering P1 false g.channel)
+entry_once ConfirmsClear i n r a g = ending_once Gap (entering P1 false g.channel)
+entry_once Resets i n r a g = either_once (is_in_use i n g.channel) _ _ (brought_once i g.channel [] refl) (omega arith)
+entry_once ConfirmsReset i n r a g = either_once (is_in_use i n g.channel) _ _ (brought_once i g.channel [] refl) (omega arith)
+entry_once Carries i n r a g =
     let d : GapChannel = record g { channel = (brought_up i g.channel).after } in
     let b : WhileAdrift = record a { hidden = hidden_when_up a g.channel } in
     either_once (is_in_use i n g.channel) _ _ (brought_once i g.channel (adrift_carried i r b d).reported (carried_unmarked i r b d)) (omega arith)
-entry_once DoesNothing h i n r a g = omega arith
+entry_once DoesNothing i n r a g = omega arith
 
-pub packet_once : (t : Certainty) (h : How) (i : Interface) (n : ℕ) (r : Item) (g : GapChannel) → IsOnce (packet_step t h i n r g).reported
-packet_once Certain h i n r g = step_once i n g.channel r
-packet_once (Adrift a) h i n r g =
-    either_once (is_some (adrift_fault i n g.channel r)) _ _ (omega arith) (entry_once (adrift_entry (is_permanent i n) (packet_class r.packet)) h i n r a g)
-packet_once (Settled b) h i n r g =
+pub packet_once : (t : Certainty) (i : Interface) (n : ℕ) (r : Item) (g : GapChannel) → IsOnce (packet_step t i n r g).reported
+packet_once Certain i n r g = step_once i n g.channel r
+packet_once (Adrift a) i n r g =
+    either_once (is_some (adrift_fault i n g.channel r)) _ _ (omega arith) (entry_once (adrift_entry (is_permanent i n) (packet_class r.packet)) i n r a g)
+packet_once (Settled b) i n r g =
     let j = judged_in (is_permanent i n) g.channel r in
     let v = verdict j (packet_fault i n g.channel r) in
     let out = (transferring_in_doubt i j.state (packet_class r.packet) r b g.channel).outcome in

@@ -40,7 +40,7 @@ route_shown r t = []
 
 -- what a row does to its channel
 abbrev pub recorded_step : Interface → (channel : ℕ) → GapChannel → RecordedRow → GapOutcome
-recorded_step i k g (OfPacket r) = gap_channel_step how.TheVariants.Gap i k g r
+recorded_step i k g (OfPacket r) = gap_channel_step i k g r
 recorded_step i k g (OfGap n c) = record { reported = []; after = gap_step i k (is_none c) g }
 
 -- a fresh channel of an epoch
