@@ -6,9 +6,8 @@ use Rattle.line_model.specs.declared.state.Side.TheVariants.{T, N}
 use Rattle.line_model.specs.declared.event.What.{What}
 use Rattle.line_model.specs.declared.event.What.TheVariants.{Found, Data}
 use Rattle.line_model.specs.declared.event.Event.{Event}
-use Rattle.line_model.specs.basics.Records.{Item}
 use Rattle.line_model.specs.observer.MachineEvents.{RowEvent}
-use Rattle.line_model.specs.observer.Observer.{event_of}
+use Rattle.line_model.specs.observer.Observer.{event_by}
 use Rattle.line_model.specs.observer.Calls.{lengths_from, all_lengths, segments_of}
 use Rattle.line_model.specs.observer.Report.{findings_of}
 
@@ -48,9 +47,9 @@ abbrev pub weight : (What → ℕ) → List Event → ℕ
 weight f es = total (λ e. f e.what) es
 
 -- events of rows, and as they are told
-pub row_weight : (f : What → ℕ) (vs : List (RowEvent Item What)) → weight f (map event_of vs) ≡ total (λ v. f v.what) vs
-row_weight f [] = refl
-row_weight f (v ∷ vs) = ap (λ n. f v.what + n) (row_weight f vs)
+pub row_weight : {X : Type 0} → (number : X → ℕ) (f : What → ℕ) (vs : List (RowEvent X What)) → weight f (map (event_by number) vs) ≡ total (λ v. f v.what) vs
+row_weight number f [] = refl
+row_weight number f (v ∷ vs) = ap (λ n. f v.what + n) (row_weight number f vs)
 
 pub findings_weight : (es : List Event) → length (findings_of es) ≡ weight found_by es
 findings_weight [] = refl

@@ -13,20 +13,21 @@ use Rattle.line_model.specs.declared.event.What.{What}
 use Rattle.line_model.specs.declared.event.What.TheVariants.{Found}
 use Rattle.line_model.specs.declared.event.Event.{Event}
 use Rattle.line_model.specs.basics.Records.{Item}
+use Rattle.line_model.specs.observer.Machine.{Machine, Observer}
 use Rattle.line_model.specs.observer.MachineEvents.{RowEvent, stamp, walk_events}
 use Rattle.line_model.specs.pieces.Pieces.{Placed, placed, piece_rows, piece_end, piece_value, value_of}
-use Rattle.line_model.specs.pieces.Merge.{is_line, drawn, drawn_apart}
+use Rattle.line_model.specs.pieces.Merge.{is_line, drawn, drawn_apart, OnePerRow}
 use Rattle.line_model.specs.pieces.Plan.{plan_of}
 use Rattle.line_model.specs.channels.Channels.{Channel, fresh}
 use Rattle.line_model.specs.channels.ChannelStep.{channel_step}
-use Rattle.line_model.specs.observer.Observer.{x25, start, event_of, events, restart_end}
+use Rattle.line_model.specs.observer.Observer.{x25, start, event_by, event_of, restart_end}
 use Rattle.line_model.specs.observer.Report.{findings_of}
-use Rattle.line_model.specs.pieces.Plans.{piece_of, plan, row_numbered, value, line_findings}
+use Rattle.line_model.specs.pieces.Plans.{piece_events, piece_of, row_numbered, line_findings}
+use Rattle.line_model.specs.Laws.{FindingsLaw}
 use Rattle.line_model.proofs.Merged.{merge_law}
 use Rattle.line_model.proofs.Planned.{plan_law}
-use Rattle.line_model.proofs.Handed.{has_channels}
 use Rattle.line_model.proofs.OneFinding.{tells_finding, one_finding}
-use Rattle.line_model.specs.basics.Bounds.{AreSaid}
+use Rattle.line_model.proofs.WalkedRows.{IsWalk, interface_walk}
 
 -- the finding of an event
 abbrev pub finding_with : ℕ → What → Finding
@@ -37,21 +38,54 @@ pub packet_is : (n : ℕ) (w : What) → (finding_with n w).packet ≡ n
 packet_is n (Found x s c) = refl
 packet_is n w = refl
 
-abbrev pub finding_at : RowEvent Item What → Finding
-finding_at v = finding_with v.row.number v.what
+abbrev pub finding_at : {X : Type 0} → (X → ℕ) → RowEvent X What → Finding
+finding_at number v = finding_with (number v.row) v.what
 
-abbrev pub make : RowEvent Item What → List (RowEvent Item What) → Finding
-make v vs = finding_at v
+abbrev pub make : {X : Type 0} → (X → ℕ) → RowEvent X What → List (RowEvent X What) → Finding
+make number v vs = finding_at number v
 
-pub findings_are : (us : List (RowEvent Item What)) → findings_of (map event_of us) ≡ map finding_at (filter tells_finding us)
-findings_are [] = refl
-findings_are (u ∷ us) = at u.what (findings_are us)
+pub findings_are : {X : Type 0} → (number : X → ℕ) (us : List (RowEvent X What)) → findings_of (map (event_by number) us) ≡ map (finding_at number) (filter tells_finding us)
+findings_are number [] = refl
+findings_are number (u ∷ us) = at u.what (findings_are number us)
   where
-    at : (w : What) → findings_of (map event_of us) ≡ map finding_at (filter tells_finding us)
-        → findings_of (map event_of (record { epoch = u.epoch; channel = u.channel; row = u.row; what = w } ∷ us))
-        ≡ map finding_at (filter tells_finding (record { epoch = u.epoch; channel = u.channel; row = u.row; what = w } ∷ us))
-    at (Found x s c) h = ap (λ (l : List Finding). record { packet = u.row.number; side = x; state = s; code = c } ∷ l) h
+    at : (w : What) → findings_of (map (event_by number) us) ≡ map (finding_at number) (filter tells_finding us)
+        → findings_of (map (event_by number) (record { epoch = u.epoch; channel = u.channel; row = u.row; what = w } ∷ us))
+        ≡ map (finding_at number) (filter tells_finding (record { epoch = u.epoch; channel = u.channel; row = u.row; what = w } ∷ us))
+    at (Found x s c) h = ap (λ (l : List Finding). record { packet = number u.row; side = x; state = s; code = c } ∷ l) h
     at w h = h
+
+-- ---- the findings of a walk and of its pieces
+
+-- the findings of the piece of an epoch and a channel
+abbrev pub findings_in : {X L S : Type 0} → (X → ℕ) → Machine X L S What → Observer L S → List X → ℕ × ℕ → List Finding
+findings_in number m start rs p = findings_of (map (event_by number) (value_of m p.0 p.1 (placed m start rs)))
+
+-- the findings of the line part
+abbrev pub findings_of_line : {X L S : Type 0} → (X → ℕ) → Machine X L S What → Observer L S → List X → List Finding
+findings_of_line number m start rs = findings_of (map (event_by number) (filter is_line (walk_events m start rs)))
+
+pub findings_apart : {X L S : Type 0} → (number : X → ℕ) (m : Machine X L S What) (start : Observer L S) (rs : List X) (plan : List (ℕ × ℕ))
+    → findings_of_line number m start rs ++ flat_map (findings_in number m start rs) plan ≡ drawn_apart m start rs plan tells_finding (make number)
+findings_apart number m start rs plan =
+    ap (λ l. l ++ flat_map (findings_in number m start rs) plan) (findings_are number (filter is_line (walk_events m start rs)))
+    ∙ ap (λ l. drawn tells_finding (make number) (filter is_line (walk_events m start rs)) ++ l) (at plan)
+  where
+    at : (qs : List (ℕ × ℕ)) → flat_map (findings_in number m start rs) qs ≡ flat_map (λ p. drawn tells_finding (make number) (value_of m p.0 p.1 (placed m start rs))) qs
+    at [] = refl
+    at (q ∷ qs) =
+        ap (λ l. l ++ flat_map (findings_in number m start rs) qs) (findings_are number (value_of m q.0 q.1 (placed m start rs)))
+        ∙ ap (λ l. drawn tells_finding (make number) (value_of m q.0 q.1 (placed m start rs)) ++ l) (at qs)
+
+-- the findings of the line part and of the pieces, in the order of their packets, are those of the walk
+pub findings_merged : {X L S : Type 0} → (number : X → ℕ) (m : Machine X L S What) → OnePerRow m tells_finding → (start : Observer L S) (rs : List X) → IsWalk m start rs → IsStrictlyIncreasing (map number rs)
+    → (merged : List Finding) → IsPermutation (findings_of_line number m start rs ++ flat_map (findings_in number m start rs) (plan_of m start rs)) merged
+    → IsStrictlyIncreasing (map (λ f. f.packet) merged)
+    → merged ≡ findings_of (map (event_by number) (walk_events m start rs))
+findings_merged number m one start rs is_walk up merged same rising =
+    let qs = plan_of m start rs in
+    merge_law m start rs number is_walk.channels is_walk.fresh is_walk.ready up qs (plan_law m start rs is_walk.channels)
+    tells_finding (make number) (λ f. f.packet) one (λ v us. packet_is (number v.row) v.what) merged (subst (λ l. IsPermutation l merged) (findings_apart number m start rs qs) same) rising
+    ∙ sym (findings_are number (walk_events m start rs))
 
 -- ---- the events of a piece, by its record and in the walk
 
@@ -72,29 +106,16 @@ piece_same i e k s (r ∷ rs) end =
     ∙ ap (λ l. map event_of ws ++ l) more
     ∙ sym (map-append event_of ws (piece_value (x25 i) e k t rs end))
 
-piece_findings : (i : Interface) (ps : List (Placed Item)) (n : ℕ) (p : ℕ × ℕ) → (value (piece_of i ps (n, p))).findings ≡ drawn tells_finding make (value_of (x25 i) p.0 p.1 ps)
-piece_findings i ps n p =
-    ap findings_of (piece_same i p.0 p.1 (fresh i p.0 p.1) (piece_rows p.0 p.1 ps) (piece_end p.0 ps))
-    ∙ findings_are (value_of (x25 i) p.0 p.1 ps)
+-- what is listed of the plan's pieces is listed of the pieces in the walk
+pub plan_lists : {Y : Type 0} → (f : List Event → List Y) (i : Interface) (ps : List (Placed Item)) (n : ℕ) (qs : List (ℕ × ℕ))
+    → flat_map (λ p. f (piece_events p)) (map (piece_of i ps) (enumerate_from n qs)) ≡ flat_map (λ p. f (map event_of (value_of (x25 i) p.0 p.1 ps))) qs
+plan_lists f i ps n [] = refl
+plan_lists f i ps n (q ∷ qs) =
+    ap (λ l. f l ++ flat_map (λ p. f (piece_events p)) (map (piece_of i ps) (enumerate_from (n + 1) qs))) (piece_same i q.0 q.1 (fresh i q.0 q.1) (piece_rows q.0 q.1 ps) (piece_end q.0 ps))
+    ∙ ap (λ l. f (map event_of (value_of (x25 i) q.0 q.1 ps)) ++ l) (plan_lists f i ps (n + 1) qs)
 
-pub plan_findings : (i : Interface) (ps : List (Placed Item)) (n : ℕ) (qs : List (ℕ × ℕ))
-    → flat_map (λ p. (value p).findings) (map (piece_of i ps) (enumerate_from n qs)) ≡ flat_map (λ p. drawn tells_finding make (value_of (x25 i) p.0 p.1 ps)) qs
-plan_findings i ps n [] = refl
-plan_findings i ps n (q ∷ qs) =
-    ap (λ l. l ++ flat_map (λ p. (value p).findings) (map (piece_of i ps) (enumerate_from (n + 1) qs))) (piece_findings i ps n q)
-    ∙ ap (λ l. drawn tells_finding make (value_of (x25 i) q.0 q.1 ps) ++ l) (plan_findings i ps (n + 1) qs)
-
-pub findings_law : (i : Interface) (rs : List Item) → AreSaid i rs → IsStrictlyIncreasing (map (λ r. r.number) rs)
-    → (merged : List Finding) → IsPermutation (line_findings i rs ++ flat_map (λ p. (value p).findings) (plan i rs)) merged
-    → IsStrictlyIncreasing (map (λ f. f.packet) merged)
-    → merged ≡ findings_of (events i rs)
+pub findings_law : FindingsLaw
 findings_law i rs said up merged same rising =
-    let vs = walk_events (x25 i) (start i) rs in
-    let ps = placed (x25 i) (start i) rs in
-    let qs = plan_of (x25 i) (start i) rs in
-    let apart : line_findings i rs ++ flat_map (λ p. (value p).findings) (plan i rs) ≡ drawn_apart (x25 i) (start i) rs qs tells_finding make =
-    ap (λ l. l ++ flat_map (λ p. (value p).findings) (plan i rs)) (findings_are (filter is_line vs))
-    ∙ ap (λ l. drawn tells_finding make (filter is_line vs) ++ l) (plan_findings i ps 0 qs) in
-    merge_law (x25 i) (start i) rs (λ r. r.number) (has_channels i rs said) refl refl up qs (plan_law (x25 i) (start i) rs (has_channels i rs said))
-    tells_finding make (λ f. f.packet) (one_finding i) (λ v us. packet_is v.row.number v.what) merged (subst (λ l. IsPermutation l merged) apart same) rising
-    ∙ sym (findings_are vs)
+    let plan_findings = plan_lists findings_of i (placed (x25 i) (start i) rs) 0 (plan_of (x25 i) (start i) rs) in
+    findings_merged (λ r. r.number) (x25 i) (one_finding i) (start i) rs (interface_walk i rs said) up merged
+    (subst (λ l. IsPermutation (line_findings i rs ++ l) merged) plan_findings same) rising

@@ -1,8 +1,6 @@
 -- A row of a recording with gaps has at most one finding, and the pieces alone give the findings of the walk.
-use Rattle.std.proofs.Common.{◌≡◌, ◌∙◌, sym, subst, ℕ, ◌≤◌, Bool, true, false, not, ◌&&◌, Option, Some, None, List, [], ◌∷◌, ◌++◌, map, refl, ap, arith}
+use Rattle.std.proofs.Common.{◌≡◌, ◌∙◌, sym, subst, ℕ, ◌≤◌, Bool, true, false, not, ◌&&◌, Option, Some, None, List, [], ◌++◌, refl, arith}
 use Rattle.std.specs.Prelude.{Result, Ok, Err, is_some, option_and_then}
-use Rattle.std.specs.List.{filter, flat_map}
-use Rattle.std.specs.List.Sorted.{IsPermutation, IsStrictlyIncreasing}
 use Rattle.line_model.specs.declared.diagnostic.TheConstants.{INCONSISTENT_Q_BIT_SETTING}
 use Rattle.line_model.specs.declared.interface.Interface.{Interface}
 use Rattle.line_model.specs.declared.packet.Class.{Class}
@@ -13,8 +11,6 @@ use Rattle.line_model.specs.declared.state.StateName.{StateName}
 use Rattle.line_model.specs.declared.event.How.{How}
 use Rattle.line_model.specs.declared.event.How.TheVariants.{Gap}
 use Rattle.line_model.specs.declared.event.What.{What}
-use Rattle.line_model.specs.declared.event.What.TheVariants.{Found}
-use Rattle.line_model.specs.declared.finding.Finding.{Finding}
 use Rattle.line_model.specs.declared.gap.LastData.{LastData}
 use Rattle.line_model.specs.declared.gap.AdriftEntry.{AdriftEntry}
 use Rattle.line_model.specs.declared.gap.AdriftEntry.TheVariants.{OpensCall, Accepts, Clears, ConfirmsClear, Resets, ConfirmsReset, Carries, DoesNothing}
@@ -31,25 +27,21 @@ use Rattle.line_model.specs.channels.ChannelStep.{counts_of, heard_of, judged, r
 use Rattle.line_model.specs.channels.Gaps.{Certainty, Doubts, GapChannel, WhileAdrift, largest_terms}
 use Rattle.line_model.specs.channels.Gaps.Certainty.{Adrift, Certain, Settled}
 use Rattle.line_model.specs.channels.GapStep.{GapOutcome, accepting_in_doubt, acknowledged_data, adrift_carried, adrift_entry, adrift_fault, adrift_received, adrift_step, adrift_step_by, brought_up, coming_up, completed_for_data, completed_for_receive, counted_in_doubt, counting_in_doubt, data_in_doubt, data_reported, failing_in_doubt, hidden_when_up, is_in_use, is_mixed, is_resetting, may_be_begun, message_in_doubt, packet_step, receive_in_doubt, receive_of, settings_by_form, settings_in_doubt, settled_verdict, transferring_in_doubt, window_in_doubt}
-use Rattle.line_model.specs.channels.GapRows.{Recording, RecordedRow, number_of_row}
+use Rattle.line_model.specs.channels.GapRows.{RecordedRow, number_of_row}
 use Rattle.line_model.specs.channels.GapRows.RecordedRow.{OfPacket, OfGap}
 use Rattle.line_model.specs.channels.GapRestart.{GapRoute, recorded_routing}
 use Rattle.line_model.specs.channels.GapRestart.GapRoute.{Takes, Renews}
-use Rattle.line_model.specs.observer.MachineEvents.{RowEvent, walk_events}
-use Rattle.line_model.specs.observer.GapObserver.{x25_recorded, recorded_start, recorded_step, recorded_event_of, recorded_events, route_shown, epoch_end_if, epoch_end}
-use Rattle.line_model.specs.observer.Report.{findings_of, is_finding}
-use Rattle.line_model.specs.pieces.Pieces.{placed, value_of}
-use Rattle.line_model.specs.pieces.Merge.{is_line, drawn, drawn_apart, OnePerRow}
-use Rattle.line_model.specs.pieces.Plan.{plan_of}
-use Rattle.line_model.specs.GapLaws.{AreRecorded, recorded_line_findings, recorded_piece_findings}
+use Rattle.line_model.specs.observer.GapObserver.{x25_recorded, recorded_start, recorded_step, route_shown, epoch_end_if, epoch_end}
+use Rattle.line_model.specs.observer.Report.{is_finding}
+use Rattle.line_model.specs.pieces.Merge.{OnePerRow}
+use Rattle.line_model.specs.GapLaws.{RecordedFindingsLaw, RecordedFindingsOrderLaw}
 use Rattle.line_model.proofs.EventWeights.{found_by, total-append}
-use Rattle.line_model.proofs.OneFinding.{founds, founds_are, route_one}
+use Rattle.line_model.proofs.OneFinding.{founds, founds_are, route_one, tells_finding}
 use Rattle.line_model.proofs.RowWeights.{ending_none, failing_few, row_few, settings_none, verdict_few}
 use Rattle.line_model.proofs.OncePerRow.{one_per_row}
-use Rattle.line_model.proofs.Merged.{merge_law}
-use Rattle.line_model.proofs.Planned.{plan_law}
-use Rattle.line_model.proofs.Findings.{finding_with, packet_is}
-use Rattle.line_model.proofs.GapMachines.{recorded_channels}
+use Rattle.line_model.proofs.Findings.{findings_merged}
+use Rattle.line_model.proofs.InOrder.{findings_ordered}
+use Rattle.line_model.proofs.WalkedRows.{recording_walk}
 
 -- ---- a channel adrift has none
 
@@ -84,19 +76,19 @@ carried_quiet i r a g =
 both_quiet : (us vs : List What) → founds us ≡ 0 → founds vs ≡ 0 → founds (us ++ vs) ≡ 0
 both_quiet us vs h k = let e = total-append found_by us vs in omega arith
 
-entry_quiet : (e : AdriftEntry) (h : How) (i : Interface) (n : ℕ) (r : Item) (a : WhileAdrift) (g : GapChannel) → founds (adrift_step_by e h i n r a g).reported ≡ 0
-entry_quiet OpensCall h i n r a g = both_quiet _ _ (ending_none 1 (λ n. 0) h g.channel.opening _) refl
-entry_quiet Accepts h i n r a g = quiet_if (is_open g.channel && not (is_in_transfer g.channel)) _ _ refl refl
-entry_quiet Clears h i n r a g = ending_none 1 (λ n. 0) _ g.channel.opening _
-entry_quiet ConfirmsClear h i n r a g = ending_none 1 (λ n. 0) h g.channel.opening _
-entry_quiet Resets h i n r a g = quiet_if (is_in_use i n g.channel) _ _ (both_quiet (brought_up i g.channel).reported [] (up_quiet i g.channel) refl) refl
-entry_quiet ConfirmsReset h i n r a g = quiet_if (is_in_use i n g.channel) _ _ (both_quiet (brought_up i g.channel).reported [] (up_quiet i g.channel) refl) refl
-entry_quiet Carries h i n r a g =
+entry_quiet : (e : AdriftEntry) (i : Interface) (n : ℕ) (r : Item) (a : WhileAdrift) (g : GapChannel) → founds (adrift_step_by e i n r a g).reported ≡ 0
+entry_quiet OpensCall i n r a g = both_quiet _ _ (ending_none 1 (λ n. 0) Gap g.channel.opening _) refl
+entry_quiet Accepts i n r a g = quiet_if (is_open g.channel && not (is_in_transfer g.channel)) _ _ refl refl
+entry_quiet Clears i n r a g = ending_none 1 (λ n. 0) _ g.channel.opening _
+entry_quiet ConfirmsClear i n r a g = ending_none 1 (λ n. 0) Gap g.channel.opening _
+entry_quiet Resets i n r a g = quiet_if (is_in_use i n g.channel) _ _ (both_quiet (brought_up i g.channel).reported [] (up_quiet i g.channel) refl) refl
+entry_quiet ConfirmsReset i n r a g = quiet_if (is_in_use i n g.channel) _ _ (both_quiet (brought_up i g.channel).reported [] (up_quiet i g.channel) refl) refl
+entry_quiet Carries i n r a g =
     quiet_if (is_in_use i n g.channel) _ _ (both_quiet (brought_up i g.channel).reported _ (up_quiet i g.channel) (carried_quiet i r (record a { hidden = hidden_when_up a g.channel }) (record g { channel = (brought_up i g.channel).after }))) refl
-entry_quiet DoesNothing h i n r a g = refl
+entry_quiet DoesNothing i n r a g = refl
 
-adrift_quiet : (h : How) (i : Interface) (n : ℕ) (r : Item) (a : WhileAdrift) (g : GapChannel) → founds (adrift_step h i n r a g).reported ≡ 0
-adrift_quiet h i n r a g = quiet_if (is_some (adrift_fault i n g.channel r)) _ _ refl (entry_quiet (adrift_entry (is_permanent i n) (packet_class r.packet)) h i n r a g)
+adrift_quiet : (i : Interface) (n : ℕ) (r : Item) (a : WhileAdrift) (g : GapChannel) → founds (adrift_step i n r a g).reported ≡ 0
+adrift_quiet i n r a g = quiet_if (is_some (adrift_fault i n g.channel r)) _ _ refl (entry_quiet (adrift_entry (is_permanent i n) (packet_class r.packet)) i n r a g)
 
 -- ---- a settled channel has one at most
 
@@ -148,15 +140,15 @@ settled_one i s r (Moves t) b c = verdict_few 1 (λ n. 0) 1 i s r (Moves t) c (�
 settled_one i s r EndsOwed b c = verdict_few 1 (λ n. 0) 1 i s r EndsOwed c (λ n few. omega arith)
 settled_one i s r Nothing b c = verdict_few 1 (λ n. 0) 1 i s r Nothing c (λ n few. omega arith)
 
-packet_one : (t : Certainty) (h : How) (i : Interface) (n : ℕ) (r : Item) (g : GapChannel) → founds (packet_step t h i n r g).reported ≤ 1
-packet_one Certain h i n r g = row_few 1 (λ n. 0) 1 i n g.channel r (λ n few. omega arith)
-packet_one (Adrift a) h i n r g = let none = adrift_quiet h i n r a g in omega arith
-packet_one (Settled b) h i n r g =
+packet_one : (t : Certainty) (i : Interface) (n : ℕ) (r : Item) (g : GapChannel) → founds (packet_step t i n r g).reported ≤ 1
+packet_one Certain i n r g = row_few 1 (λ n. 0) 1 i n g.channel r (λ n few. omega arith)
+packet_one (Adrift a) i n r g = let none = adrift_quiet i n r a g in omega arith
+packet_one (Settled b) i n r g =
     let j = judged (is_permanent i n) r.side g.channel.state g.channel.owed (packet_class r.packet) in
     settled_one i j.state r (verdict j (packet_fault i n g.channel r)) b g.channel
 
 recorded_one : (i : Interface) (n : ℕ) (g : GapChannel) (x : RecordedRow) → founds (recorded_step i n g x).reported ≤ 1
-recorded_one i n g (OfPacket r) = packet_one g.certainty Gap i n r g
+recorded_one i n g (OfPacket r) = packet_one g.certainty i n r g
 recorded_one i n g (OfGap m c) = omega arith
 
 shown_one : (x : RecordedRow) (t : GapRoute) → founds (route_shown x t) ≤ 1
@@ -170,54 +162,17 @@ end_none false h = refl
 
 -- ---- the findings of the walk
 
-abbrev tells_finding : RowEvent RecordedRow What → Bool
-tells_finding v = is_finding v.what
-
-one_finding : (i : Interface) → OnePerRow (x25_recorded i) tells_finding
-one_finding i = one_per_row (x25_recorded i) is_finding
+one_recorded : (i : Interface) → OnePerRow (x25_recorded i) tells_finding
+one_recorded i = one_per_row (x25_recorded i) is_finding
     (λ e k s x. subst (λ n. n ≤ 1) (sym (founds_are (recorded_step i k s x).reported)) (recorded_one i k s x))
     (λ e l x. subst (λ n. n ≤ 1) (sym (founds_are (route_shown x (recorded_routing l x).route))) (shown_one x (recorded_routing l x).route))
     (λ e k s x. founds_are (epoch_end s x) ∙ end_none (is_open s.channel) _)
 
-abbrev finding_at : RowEvent RecordedRow What → Finding
-finding_at v = finding_with (number_of_row v.row) v.what
-
-abbrev make : RowEvent RecordedRow What → List (RowEvent RecordedRow What) → Finding
-make v vs = finding_at v
-
-findings_are : (us : List (RowEvent RecordedRow What)) → findings_of (map recorded_event_of us) ≡ map finding_at (filter tells_finding us)
-findings_are [] = refl
-findings_are (u ∷ us) = at u.what (findings_are us)
-  where
-    at : (w : What) → findings_of (map recorded_event_of us) ≡ map finding_at (filter tells_finding us)
-        → findings_of (map recorded_event_of (record { epoch = u.epoch; channel = u.channel; row = u.row; what = w } ∷ us))
-        ≡ map finding_at (filter tells_finding (record { epoch = u.epoch; channel = u.channel; row = u.row; what = w } ∷ us))
-    at (Found x s c) h = ap (λ (l : List Finding). record { packet = number_of_row u.row; side = x; state = s; code = c } ∷ l) h
-    at w h = h
-
-pieces_are : (t : Recording) (rs : List RecordedRow) (qs : List (ℕ × ℕ))
-    → flat_map (recorded_piece_findings t rs) qs ≡ flat_map (λ p. drawn tells_finding make (value_of (x25_recorded t.interface) p.0 p.1 (placed (x25_recorded t.interface) (recorded_start t) rs))) qs
-pieces_are t rs [] = refl
-pieces_are t rs (q ∷ qs) =
-    let m = x25_recorded t.interface in
-    let ps = placed m (recorded_start t) rs in
-    ap (λ l. l ++ flat_map (recorded_piece_findings t rs) qs) (findings_are (value_of m q.0 q.1 ps))
-    ∙ ap (λ l. drawn tells_finding make (value_of m q.0 q.1 ps) ++ l) (pieces_are t rs qs)
-
-pub recorded_findings_law : (t : Recording) (rs : List RecordedRow) → AreRecorded t.interface rs → IsStrictlyIncreasing (map number_of_row rs)
-    → (merged : List Finding)
-    → IsPermutation (recorded_line_findings t rs ++ flat_map (recorded_piece_findings t rs) (plan_of (x25_recorded t.interface) (recorded_start t) rs)) merged
-    → IsStrictlyIncreasing (map (λ f. f.packet) merged)
-    → merged ≡ findings_of (recorded_events t rs)
+pub recorded_findings_law : RecordedFindingsLaw
 recorded_findings_law t rs said up merged same rising =
-    let m = x25_recorded t.interface in
-    let o = recorded_start t in
-    let vs = walk_events m o rs in
-    let qs = plan_of m o rs in
-    let has = recorded_channels t.interface rs said in
-    let apart : recorded_line_findings t rs ++ flat_map (recorded_piece_findings t rs) qs ≡ drawn_apart m o rs qs tells_finding make =
-    ap (λ l. l ++ flat_map (recorded_piece_findings t rs) qs) (findings_are (filter is_line vs))
-    ∙ ap (λ l. drawn tells_finding make (filter is_line vs) ++ l) (pieces_are t rs qs) in
-    merge_law m o rs number_of_row has refl refl up qs (plan_law m o rs has)
-    tells_finding make (λ f. f.packet) (one_finding t.interface) (λ v us. packet_is (number_of_row v.row) v.what) merged (subst (λ l. IsPermutation l merged) apart same) rising
-    ∙ sym (findings_are vs)
+    findings_merged number_of_row (x25_recorded t.interface) (one_recorded t.interface) (recorded_start t) rs (recording_walk t rs said) up merged same rising
+
+pub recorded_findings_order : RecordedFindingsOrderLaw
+recorded_findings_order t rs said up =
+    let w = findings_ordered number_of_row (x25_recorded t.interface) (one_recorded t.interface) (recorded_start t) rs (recording_walk t rs said) up in
+    record { same_findings = w.0; in_order = w.1 }

@@ -1,5 +1,6 @@
 pub mod TextLemmas
 pub mod LineLemmas
+pub mod FirstFaults
 pub mod FinalFaults
 pub mod Rearranged
 pub mod Lanes
@@ -16,6 +17,9 @@ pub mod Posts
 pub mod QueueLines
 pub mod Schedules
 pub mod WorkedTraces
+pub mod WalkedRows
+pub mod MovesCalls
+pub mod CallPeaks
 pub mod OneFinding
 pub mod Findings
 pub mod BookTotals
@@ -46,6 +50,9 @@ pub mod WrittenLemmas
 pub mod Saying
 pub mod GapMachines
 pub mod GapFindings
+pub mod GapTurns
+pub mod GapCalls
 pub mod WithoutGaps
 pub mod OtherForms
+pub mod EarlyRecordings
 pub mod WorkedGapTraces

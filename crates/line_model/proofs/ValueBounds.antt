@@ -9,12 +9,12 @@ use Rattle.line_model.specs.declared.event.Event.{Event}
 use Rattle.line_model.specs.basics.Records.{Item, Piece, CallRecord}
 use Rattle.line_model.specs.channels.Channels.{Channel, fresh}
 use Rattle.line_model.specs.pieces.Pieces.{piece_value}
+use Rattle.line_model.specs.observer.MachineEvents.{RowEvent}
 use Rattle.line_model.specs.observer.Observer.{x25, event_of}
 use Rattle.line_model.specs.observer.Calls.{is_end, is_opening, members, record_of, calls_of}
 use Rattle.line_model.specs.pieces.Plans.{row_numbered, piece_events, value}
 use Rattle.line_model.specs.basics.Bounds.{IsPiece, IsPieceReport}
 use Rattle.line_model.proofs.EventWeights.{total, total-sum_by, heard_by, octets_by, segments_by, weight, findings_weight, octets_weight, segments_weight, sides_weight, fewer_segments}
-use Rattle.line_model.proofs.CallRecords.{XEvent}
 use Rattle.line_model.proofs.PieceCalls.{IsOf, piece_of_one, alongside_all}
 use Rattle.line_model.proofs.RowWeights.{piece_few, total-ones}
 
@@ -25,7 +25,7 @@ goes_on f = not (is_end f || is_opening f)
 
 -- the events of the first call, and those of the calls that are opened later, are apart
 few_in_calls : (q : ℕ → ℕ) (f : CallRecord → ℕ) → ((e : Event) (o : Bool) (a b : List ℕ) (r : Bool) (later : List Event) → f (record_of e o a b r later) ≡ weight (heard_by q) (members e later))
-    → (e k : ℕ) (vs : List XEvent) → AllByRecursion (IsOf e k) vs
+    → (e k : ℕ) (vs : List (RowEvent Item What)) → AllByRecursion (IsOf e k) vs
     → total f (calls_of (map event_of vs)) + weight (heard_by q) (take_while goes_on (map event_of vs)) ≤ weight (heard_by q) (map event_of vs)
 few_in_calls q f is e k [] all = omega arith
 few_in_calls q f is e k (v ∷ vs) all =
@@ -38,9 +38,9 @@ few_in_calls q f is e k (v ∷ vs) all =
         + weight (heard_by q) (cond (goes_on (event_of (record { epoch = d; channel = c; row = x; what = w }))) (event_of (record { epoch = d; channel = c; row = x; what = w }) ∷ take_while goes_on (map event_of vs)) [])
         ≤ heard_by q w + weight (heard_by q) (map event_of vs)
     at d c x (Open o a b r) its h =
-        let u : XEvent = record { epoch = d; channel = c; row = x; what = Open o a b r } in
+        let u : RowEvent Item What = record { epoch = d; channel = c; row = x; what = Open o a b r } in
         let own = is (event_of u) o a b r (map event_of vs) in
-        let same = ap (λ l. weight (heard_by q) (take_while goes_on l)) (alongside_all e k u its vs all.1) in
+        let same = ap (λ l. weight (heard_by q) (take_while goes_on l)) (alongside_all Item (λ r. r.number) e k u its vs all.1) in
         omega arith
     at d c x (End t) its h = omega arith
     at d c x (Data y n) its h = omega arith
@@ -60,9 +60,9 @@ pub value_bounds : (p : Piece) → IsPiece p.interface p.channel p.items → IsP
 value_bounds p h =
     let c : Channel = fresh p.interface p.epoch p.channel in
     let end : Option Item = option_map row_numbered p.end in
-    let vs : List XEvent = piece_value (x25 p.interface) p.epoch p.channel c p.items end in
+    let vs : List (RowEvent Item What) = piece_value (x25 p.interface) p.epoch p.channel c p.items end in
     let es : List Event = piece_events p in
-    let one = piece_of_one p.interface p.epoch p.channel c p.items end in
+    let one = piece_of_one (x25 p.interface) p.epoch p.channel c p.items end in
     let octets = octets_weight es in
     let segments = segments_weight es in
     let within = piece_few 0 octets_by (λ r. r.length) (λ r n few. omega (arith, few)) p.interface p.epoch p.channel c p.items end in

@@ -24,7 +24,8 @@ use Rattle.line_model.proofs.Rising.{rises-from_index}
 use Rattle.line_model.proofs.LinePart.{line_none}
 use Rattle.line_model.proofs.BookTotals.{totals_law}
 use Rattle.line_model.proofs.InOrder.{findings_order, calls_order}
-use Rattle.line_model.proofs.PeakOfCalls.{calls_peak, increasing}
+use Rattle.line_model.proofs.CallPeaks.{increasing}
+use Rattle.line_model.proofs.PeakOfCalls.{calls_peak}
 use Rattle.report_merge.specs.Merged.{IsMerged, IsOfWalk}
 use Rattle.report_merge.proofs.SortedLists.{sorted_unique, flat_map_permuted, flat_map-map}
 use Rattle.line_model.proofs.Peaks.{peak_unique}

@@ -123,8 +123,8 @@ is_resetting N (Transfer transfer.TheVariants.D3) = true
 is_resetting x s = false
 
 -- a call: it may follow the end of the one before, which was missed
-abbrev pub adrift_call : (by_gap : How) → Side → List ℕ → Channel → Outcome
-adrift_call by_gap x xs c = and_then (ending by_gap (entering (calling_state x) false c)) (opening (is_side T x) xs)
+abbrev pub adrift_call : Side → List ℕ → Channel → Outcome
+adrift_call x xs c = and_then (ending how.TheVariants.Gap (entering (calling_state x) false c)) (opening (is_side T x) xs)
 
 -- a clear confirmation: all before it is over, and nothing is in doubt any more, unless an indication may still be owed or
 -- the interface may restart
@@ -271,26 +271,26 @@ adrift_transfer i n r a g = elim (is_in_use i n g.channel) [
   | false ↦ passing g
 ]
 
--- a packet without a fault of format on a channel adrift; `by_gap` is the end of a call that a gap hides
-abbrev pub adrift_step_by : AdriftEntry → (by_gap : How) → Interface → (channel : ℕ) → Item → WhileAdrift → GapChannel → GapOutcome
-adrift_step_by OpensCall by_gap i n r a g = with_certainty g (drifting a.owed false) (adrift_call by_gap r.side r.octets g.channel)
-adrift_step_by Accepts by_gap i n r a g = adrift_acceptance i r.side r.octets a g
-adrift_step_by Clears by_gap i n r a g =
+-- a packet without a fault of format on a channel adrift
+abbrev pub adrift_step_by : AdriftEntry → Interface → (channel : ℕ) → Item → WhileAdrift → GapChannel → GapOutcome
+adrift_step_by OpensCall i n r a g = with_certainty g (drifting a.owed false) (adrift_call r.side r.octets g.channel)
+adrift_step_by Accepts i n r a g = adrift_acceptance i r.side r.octets a g
+adrift_step_by Clears i n r a g =
     with_certainty g (drifting (owed_after r.side Clears a.owed) false) (ending (cleared_by r.side) (entering P1 false g.channel))
-adrift_step_by ConfirmsClear by_gap i n r a g =
-    with_certainty g (confirmed_clear g.restarting (owed_after r.side ConfirmsClear a.owed)) (ending by_gap (entering P1 false g.channel))
-adrift_step_by Resets by_gap i n r a g =
+adrift_step_by ConfirmsClear i n r a g =
+    with_certainty g (confirmed_clear g.restarting (owed_after r.side ConfirmsClear a.owed)) (ending how.TheVariants.Gap (entering P1 false g.channel))
+adrift_step_by Resets i n r a g =
     adrift_reset i n (owed_after r.side Resets a.owed) a (resetting_state r.side) g
-adrift_step_by ConfirmsReset by_gap i n r a g =
+adrift_step_by ConfirmsReset i n r a g =
     adrift_reset i n (owed_after r.side ConfirmsReset a.owed) a D1 g
-adrift_step_by Carries by_gap i n r a g = adrift_transfer i n r a g
-adrift_step_by DoesNothing by_gap i n r a g = passing g
+adrift_step_by Carries i n r a g = adrift_transfer i n r a g
+adrift_step_by DoesNothing i n r a g = passing g
 
 -- a packet on a channel adrift
-abbrev pub adrift_step : (by_gap : How) → Interface → (channel : ℕ) → Item → WhileAdrift → GapChannel → GapOutcome
-adrift_step by_gap i n r a g = elim (is_some (adrift_fault i n g.channel r)) [
+abbrev pub adrift_step : Interface → (channel : ℕ) → Item → WhileAdrift → GapChannel → GapOutcome
+adrift_step i n r a g = elim (is_some (adrift_fault i n g.channel r)) [
   | true ↦ passing g
-  | false ↦ adrift_step_by (adrift_entry (is_permanent i n) (packet_class r.packet)) by_gap i n r a g
+  | false ↦ adrift_step_by (adrift_entry (is_permanent i n) (packet_class r.packet)) i n r a g
 ]
 
 -- Settled: the tables hold again, and what is in doubt is completed by the packets that may be missing, so that a packet is
@@ -475,11 +475,11 @@ settled_step i n r b g =
     settled_outcome g (settled_verdict i j.state r (verdict j (packet_fault i n g.channel r)) b g.channel)
 
 -- what a packet does to its channel: without a gap, what it always does
-abbrev pub packet_step : Certainty → (by_gap : How) → Interface → (channel : ℕ) → Item → GapChannel → GapOutcome
-packet_step Certain by_gap i n r g = with_certainty g Certain (channel_step i n g.channel r)
-packet_step (Adrift a) by_gap i n r g = adrift_step by_gap i n r a g
-packet_step (Settled b) by_gap i n r g = settled_step i n r b g
+abbrev pub packet_step : Certainty → Interface → (channel : ℕ) → Item → GapChannel → GapOutcome
+packet_step Certain i n r g = with_certainty g Certain (channel_step i n g.channel r)
+packet_step (Adrift a) i n r g = adrift_step i n r a g
+packet_step (Settled b) i n r g = settled_step i n r b g
 
 -- what a packet does to a channel of a recording with gaps
-abbrev pub gap_channel_step : (by_gap : How) → Interface → (channel : ℕ) → GapChannel → Item → GapOutcome
-gap_channel_step by_gap i n g r = packet_step g.certainty by_gap i n r g
+abbrev pub gap_channel_step : Interface → (channel : ℕ) → GapChannel → Item → GapOutcome
+gap_channel_step i n g r = packet_step g.certainty i n r g

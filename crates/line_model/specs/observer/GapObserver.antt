@@ -1,7 +1,6 @@
 -- The observer of a recording with gaps (profile; the rule behind all is that of Gaps.antt).
 use Rattle.std.specs.Prelude.{ℕ, Bool, true, false, ◌&&◌, List, [], ◌∷◌, map, Option, is_none}
 use Rattle.std.specs.List.{range_with_len}
-use Rattle.std.specs.Option.{option_map_or}
 use Rattle.line_model.specs.declared.interface.Interface.{Interface}
 use Rattle.line_model.specs.declared.event.How.{How}
 use Rattle.line_model.specs.declared.event.How as how
@@ -22,7 +21,7 @@ use Rattle.line_model.specs.channels.GapRestart.GapRoute.{Takes, Renews}
 use Rattle.line_model.specs.observer.Machine.{Machine, Observer}
 use Rattle.line_model.specs.observer.MachineEvents.{RowEvent, walk_events}
 use Rattle.line_model.specs.observer.Peak.{counts, highest}
-use Rattle.line_model.specs.observer.Observer.{channel_in_r1, is_ready, is_up, line_in_r1, route_found}
+use Rattle.line_model.specs.observer.Observer.{channel_in_r1, event_by, is_ready, is_up, line_in_r1, route_found}
 
 -- the channel that a row is handed to in r1
 abbrev pub recorded_channel : RecordedRow → Option ℕ
@@ -41,7 +40,7 @@ route_shown r t = []
 
 -- what a row does to its channel
 abbrev pub recorded_step : Interface → (channel : ℕ) → GapChannel → RecordedRow → GapOutcome
-recorded_step i k g (OfPacket r) = gap_channel_step how.TheVariants.Gap i k g r
+recorded_step i k g (OfPacket r) = gap_channel_step i k g r
 recorded_step i k g (OfGap n c) = record { reported = []; after = gap_step i k (is_none c) g }
 
 -- a fresh channel of an epoch
@@ -93,9 +92,9 @@ first_line t = record { line = line_in_r1 t.interface.join; adrift = t.begins_ad
 abbrev pub recorded_start : Recording → Observer GapLine GapChannel
 recorded_start t = record { epoch = 1; line = first_line t; states = recorded_fresh t.interface (start_by (first_line t)) 1 }
 
--- an event as it is shown; those of the restart machine have channel 0
+-- an event as it is shown
 abbrev pub recorded_event_of : RowEvent RecordedRow What → Event
-recorded_event_of v = record { epoch = v.epoch; channel = option_map_or (λ c. c) v.channel 0; packet = number_of_row v.row; what = v.what }
+recorded_event_of v = event_by number_of_row v
 
 -- the events of the walk over a recording
 abbrev pub recorded_events : Recording → List RecordedRow → List Event

@@ -81,9 +81,13 @@ x25 i = record {
 abbrev pub start : Interface → Observer LineState Channel
 start i = record { epoch = 1; line = line_in_r1 i.join; states = fresh i 1 }
 
--- an event as it is told; those of the restart machine have channel 0
+-- an event with the number of its row; those of the restart machine have channel 0
+abbrev pub event_by : {X : Type 0} → (X → ℕ) → RowEvent X What → Event
+event_by number v = record { epoch = v.epoch; channel = option_map_or (λ c. c) v.channel 0; packet = number v.row; what = v.what }
+
+-- an event as it is told
 abbrev pub event_of : RowEvent Item What → Event
-event_of v = record { epoch = v.epoch; channel = option_map_or (λ c. c) v.channel 0; packet = v.row.number; what = v.what }
+event_of v = event_by (λ (r : Item). r.number) v
 
 -- the events of the walk over a trace
 abbrev pub events : Interface → List Item → List Event

@@ -46,31 +46,35 @@ piece_events p =
     map event_of
     (piece_value (x25 p.interface) p.epoch p.channel (fresh p.interface p.epoch p.channel) p.items (option_map row_numbered p.end))
 
+-- what the events of a piece are worth
+abbrev pub report_on : (id epoch channel : ℕ) → List Event → PieceReport
+report_on id epoch channel es = record {
+  id = id;
+  epoch = epoch;
+  channel = channel;
+  findings = findings_of es;
+  calls = calls_of es;
+  octets = sum (all_lengths es);
+  segments = segments_of (all_lengths es);
+}
+
 -- what a piece is worth
 abbrev pub value : Piece → PieceReport
-value p =
-    let es : List Event = piece_events p in
-    record {
-      id = p.id;
-      epoch = p.epoch;
-      channel = p.channel;
-      findings = findings_of es;
-      calls = calls_of es;
-      octets = sum (all_lengths es);
-      segments = segments_of (all_lengths es);
-    }
+value p = report_on p.id p.epoch p.channel (piece_events p)
 
 -- the events on channels
 abbrev pub channel_events_of : Interface → List Item → List Event
 channel_events_of i rs = map event_of (filter (λ v. not (is_line v)) (walk_events (x25 i) (start i) rs))
 
+-- the totals of events on channels
+abbrev pub totals_on : (posts : ℕ) → List Event → Totals
+totals_on posts es = record {
+  posts = posts;
+  findings = length (findings_of es);
+  octets = sum (all_lengths es);
+  segments = segments_of (all_lengths es);
+}
+
 -- the observer's totals over the channels
 abbrev pub channel_totals : Interface → List Item → Totals
-channel_totals i rs =
-    let es : List Event = channel_events_of i rs in
-    record {
-      posts = length (plan i rs);
-      findings = length (findings_of es);
-      octets = sum (all_lengths es);
-      segments = segments_of (all_lengths es);
-    }
+channel_totals i rs = totals_on (length (plan i rs)) (channel_events_of i rs)

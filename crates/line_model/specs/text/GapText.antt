@@ -147,6 +147,12 @@ recorded_end_kind ended begun =
 unfoldable pub recorded_fault : List ℕ → Option (ℕ × Kind)
 recorded_fault text = option_or (first_recorded_fault [] (ended_lines text)) (recorded_end_kind (ended_lines text) (begun_line text))
 
+-- the same, of the lines that are known to be faulty however the text goes on
+unfoldable pub early_recorded : List ℕ → Option (ℕ × Kind)
+early_recorded text =
+    option_or (first_recorded_fault [] (ended_lines text))
+    (option_map (λ kind. (length (ended_lines text) + 1, kind)) (size_kind (size_of (ended_lines text)) 0 (length (begun_line text))))
+
 -- whether the first of some lines has the third form
 abbrev pub third_in : List Line → Bool
 third_in [] = false
@@ -167,3 +173,15 @@ recording text = recording_in (recorded_content text)
 -- the rows of a recording before the first faulty line of its text
 unfoldable pub recorded_rows : Recording → List ℕ → List RecordedRow
 recorded_rows t text = filter_map (recorded_row_of t) (drop 1 (recorded_content text))
+
+-- the lines that an LF ends, before the first faulty one, that are no comments
+unfoldable pub early_content : List ℕ → List Line
+early_content text = content_of (good_lines (early_recorded text) (ended_lines text))
+
+-- the recording that those lines set up
+unfoldable pub early_recording : List ℕ → Option Recording
+early_recording text = recording_in (early_content text)
+
+-- the rows that those lines write
+unfoldable pub early_recorded_rows : Recording → List ℕ → List RecordedRow
+early_recorded_rows t text = filter_map (recorded_row_of t) (drop 1 (early_content text))
