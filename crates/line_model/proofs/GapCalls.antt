@@ -19,8 +19,9 @@ use Rattle.line_model.proofs.CallPeaks.{peak_of_times, peak_of_ups}
 use Rattle.line_model.proofs.CallRecords.{calls_merged}
 use Rattle.line_model.proofs.CallSteps.{marks}
 use Rattle.line_model.proofs.GapTurns.{GapTurns, gap_turns, is_known, packet_once, packet_turns, suits_certainty}
+use Rattle.line_model.proofs.Handed.{once_above}
 use Rattle.line_model.proofs.InOrder.{calls_ordered}
-use Rattle.line_model.proofs.Marks.{fresh_closed, fresh_sound, is_sound, is_sound_if, once_above, sound_is, up_is}
+use Rattle.line_model.proofs.Marks.{fresh_closed, fresh_sound, is_sound, is_sound_if, sound_is, up_is}
 use Rattle.line_model.proofs.MovesCalls.{MovesCalls}
 use Rattle.line_model.proofs.Phases.{Closed, phase_of}
 use Rattle.line_model.proofs.RowOpenings.{IsOnce, route_unmarked}

@@ -46,7 +46,7 @@ use Rattle.line_model.proofs.WalkedRows.{recording_walk}
 -- ---- a channel adrift has none
 
 -- the first of two where a test is true
-abbrev either : {A : Type 0} → Bool → A → A → A
+abbrev pub either : {A : Type 0} → Bool → A → A → A
 either b x y = elim b [ true ↦ x | false ↦ y ]
 
 quiet_if : (b : Bool) (o p : GapOutcome) → founds o.reported ≡ 0 → founds p.reported ≡ 0 → founds (either b o p).reported ≡ 0
