@@ -2,7 +2,6 @@
 use Rattle.std.proofs.Common.{◌≡◌, ℕ, Bool, true, false, true≢false, refl, sym, ◌∙◌, ap, subst, List, [], ◌++◌, Option, Some, None}
 use Rattle.std.specs.Prelude.{IfNone, is_some, not, ◌&&◌, ◌||◌, option_and_then}
 use Rattle.line_model.specs.declared.event.Event.{Event}
-use Rattle.line_model.specs.declared.event.How.{How}
 use Rattle.line_model.specs.declared.gap.AdriftEntry.{AdriftEntry}
 use Rattle.line_model.specs.declared.gap.AdriftEntry.TheVariants.{OpensCall, Accepts, Clears, ConfirmsClear}
 use Rattle.line_model.specs.declared.packet.Class.{Class}
@@ -337,13 +336,13 @@ pub virtual_entry : (p : Bool) (k : Class) (e : AdriftEntry) → adrift_entry p 
 virtual_entry true k e is n = absurd (none_permanent k (subst NeedsCall (sym is) n))
 virtual_entry false k e is n = refl
 
-pub step_by : (e : AdriftEntry) (by_gap : How) (i : Interface) (n : ℕ) (r : Item) (a : WhileAdrift) (g : gaps.GapChannel) → None ≡ adrift_fault i n g.channel r →
-    e ≡ adrift_entry (is_permanent i n) (packet_class r.packet) → adrift_step_by e by_gap i n r a g ≡ adrift_step by_gap i n r a g
-step_by e by_gap i n r a g fault entry =
-    ap (λ v. adrift_step_by v by_gap i n r a g) entry
+pub step_by : (e : AdriftEntry) (i : Interface) (n : ℕ) (r : Item) (a : WhileAdrift) (g : gaps.GapChannel) → None ≡ adrift_fault i n g.channel r →
+    e ≡ adrift_entry (is_permanent i n) (packet_class r.packet) → adrift_step_by e i n r a g ≡ adrift_step i n r a g
+step_by e i n r a g fault entry =
+    ap (λ v. adrift_step_by v i n r a g) entry
     ∙ ap (λ (f : Option ℕ). elim (is_some f) as (λ v. GapOutcome) [
       | true ↦ passing g
-      | false ↦ adrift_step_by (adrift_entry (is_permanent i n) (packet_class r.packet)) by_gap i n r a g
+      | false ↦ adrift_step_by (adrift_entry (is_permanent i n) (packet_class r.packet)) i n r a g
     ]) fault
 
 -- what is owed is no part of what stands for a channel adrift

@@ -289,21 +289,20 @@ impl<A: Allocator + Clone, S: StatusStore> StatusChannel<A, S> {
         origin: EventOrigin,
         side: Side,
         fields: &CallFields<'_>,
-        by_gap: How,
         events: &mut Vec<Event, A>,
     ) -> Result<(), Fault>
         requires usable { IsUsable self.old.terms.interface fields.now }
         ensures does { (c : Channel) (xs : List ℕ) → shown fields.now ≡ fields_of xs
             → IfNone c.opening (c.accepting ≡ None) → Stands self.old c
             → IfOk result (λ _. Does origin self.old self.new events.old.items events.new.items
-            (adrift_call by_gap side xs c)) }
+            (adrift_call side xs c)) }
         ensures unchanged { IsUnchanged result self.old self.new events.old.items events.new.items }
         ensures memory { IsMemory result }
     {
         let to = calling_state(side);
         let out = is_outgoing(side);
         events.reserve(2)?;
-        self.end(origin, by_gap, to, false, events);
+        self.end(origin, How::Gap, to, false, events);
         events.push_reserved(origin.event(What::Open {
             out,
             called: fields.called.copied(),

@@ -35,12 +35,11 @@ use packet_decode::fields::CallFields;
 use std::alloc::Allocator;
 use std::boxed::Box;
 
-/// A row on a channel adrift: where its events come from, its side, and the end of a call whose end a gap hides.
+/// A row on a channel adrift: where its events come from, and its side.
 #[derive(Clone, Copy)]
 pub(crate) struct GapRow {
     pub(crate) origin: EventOrigin,
     pub(crate) side: Side,
-    pub(crate) by_gap: How,
 }
 
 impl<A: Allocator + Clone, S: StatusStore> GapChannel<A, S> {
@@ -56,7 +55,7 @@ impl<A: Allocator + Clone, S: StatusStore> GapChannel<A, S> {
         requires said { IsSaid (interface_of self.old) item.now }
         ensures does { self.old.certainty ≡ Adrift adrift
             → ComesAdrift result row.now.origin self.old self.new events.old.items events.new.items
-            adrift (adrift_step row.now.by_gap (interface_of self.old) (number_of self.old)
+            adrift (adrift_step (interface_of self.old) (number_of self.old)
             item.now adrift) }
         ensures unchanged { IsGapUnchanged result self.old self.new events.old.items events.new.items }
         ensures memory { IsMemory result }
@@ -100,12 +99,12 @@ impl<A: Allocator + Clone, S: StatusStore> GapChannel<A, S> {
         ensures does { (xs : List ℕ) → shown fields.now ≡ fields_of xs
             → ComesAdrift result row.now.origin self.old self.new events.old.items events.new.items
             adrift (λ g. with_certainty g (drifting adrift.owed false)
-            (adrift_call row.now.by_gap row.now.side xs g.channel)) }
+            (adrift_call row.now.side xs g.channel)) }
         ensures unchanged { IsGapUnchanged result self.old self.new events.old.items events.new.items }
         ensures memory { IsMemory result }
     {
         self.channel
-            .call_adrift(row.origin, row.side, fields, row.by_gap, events)?;
+            .call_adrift(row.origin, row.side, fields, events)?;
         self.certainty = Certainty::Adrift(WhileAdrift::new(adrift.owed(), false));
         Ok(())
     }
@@ -179,13 +178,13 @@ impl<A: Allocator + Clone, S: StatusStore> GapChannel<A, S> {
             with_certainty g
             (confirmed_clear g.restarting
             (owed_after row.now.side AdriftEntry.ConfirmsClear adrift.owed))
-            (ending row.now.by_gap (entering StateName.P1 false g.channel))) }
+            (ending How.Gap (entering StateName.P1 false g.channel))) }
         ensures unchanged { IsGapUnchanged result self.old self.new events.old.items events.new.items }
         ensures memory { IsMemory result }
     {
         events.reserve(1)?;
         self.channel
-            .end(row.origin, row.by_gap, StateName::P1, false, events);
+            .end(row.origin, How::Gap, StateName::P1, false, events);
         let owed = owed_after(row.side, AdriftEntry::ConfirmsClear, adrift.owed());
         self.certainty = if self.restarting || !is_nothing_owed(owed) {
             Certainty::Adrift(WhileAdrift::new(owed, false))

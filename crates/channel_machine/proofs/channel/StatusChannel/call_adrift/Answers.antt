@@ -1,5 +1,6 @@
 use Rattle.std.proofs.Common.{Bool, ◌∙◌, refl, ap, subst, [], ◌∷◌, ◌++◌, Some, false, Option}
 use Rattle.std.specs.Prelude.{map}
+use Rattle.line_model.specs.declared.event.How.TheVariants.{Gap}
 use Rattle.line_model.specs.declared.state.StateName.{StateName}
 use Rattle.line_model.specs.declared.state.Side.TheVariants.{T}
 use Rattle.line_model.specs.channels.FlowControl.{is_side}
@@ -18,13 +19,13 @@ pub returns-clause-does : goal.returns-clause-does
 returns-clause-does g c k xs shows bare s =
     let to : StateName = c.calling_state-to.result in
     let out : Bool = c.is_outgoing-out.result in
-    let first : Outcome = ending c.args.by_gap (entering to false k) in
+    let first : Outcome = ending Gap (entering to false k) in
     let d : Does c.args.origin c.args.self.now c.end.new.self c.reserve.new.self.items c.end.new.events.items first = c.end.ensures.does k s in
     let o : Option Opening = Some (record { out = out; packet = xs }) in
     let target : Channel = record first.after { opening = o } in
     let terms : TermsStand (agreed_of c.opened-terms.result) target =
     opened_stands (agreed_of c.opened-terms.result) c.interface.result target out xs c.args.fields.now.sizes c.args.fields.now.windows
-    refl (bare_after c.args.by_gap to false k bare) c.opened-terms.ensures.interface (ap (λ f. f.sizes) shows) (ap (λ f. f.windows) shows)
+    refl (bare_after Gap to false k bare) c.opened-terms.ensures.interface (ap (λ f. f.sizes) shows) (ap (λ f. f.windows) shows)
     (c.opened-terms.ensures.call xs shows) c.opened-terms.ensures.values in
     let stands : Stands c.enter.new.self (entering to false target) = c.enter.ensures.stands target terms d.stands.transfer.settings in
     let done : Does c.args.origin c.args.self.now c.enter.new.self c.args.events.now.items c.push_reserved.new.self.items (and_then first (opening out xs)) =
@@ -34,11 +35,11 @@ returns-clause-does g c k xs shows bare s =
     (record {
       interface = c.enter.ensures.interface ∙ c.opened-terms.ensures.interface ∙ c.interface.ensures ∙ ap (λ (o : Known). o.terms.interface) c.self.view_is;
       channel = c.enter.ensures.channel;
-      stands = subst (λ a. Stands c.enter.new.self a) (reopens c.args.by_gap to k o) stands;
+      stands = subst (λ a. Stands c.enter.new.self a) (reopens Gap to k o) stands;
       reports = c.push_reserved.ensures.items ∙ ap (λ v. c.end.new.events.items ++ v ∷ [])
           (c.event.ensures ∙ ap (λ v. event_at c.args.origin v)
           (λ j. Open out ((c.copied.ensures ∙ ap (λ f. f.called) shows) j) ((c.copied-2.ensures ∙ ap (λ f. f.calling) shows) j) (shows j).reverse_charging));
     }) in
-    subst (λ b. Does c.args.origin c.args.self.now c.enter.new.self c.args.events.now.items c.push_reserved.new.self.items (and_then (ending c.args.by_gap (entering b false k)) (opening (is_side T c.args.side) xs)))
+    subst (λ b. Does c.args.origin c.args.self.now c.enter.new.self c.args.events.now.items c.push_reserved.new.self.items (and_then (ending Gap (entering b false k)) (opening (is_side T c.args.side) xs)))
     c.calling_state-to.ensures
     (subst (λ b. Does c.args.origin c.args.self.now c.enter.new.self c.args.events.now.items c.push_reserved.new.self.items (and_then first (opening b xs))) c.is_outgoing-out.ensures done)

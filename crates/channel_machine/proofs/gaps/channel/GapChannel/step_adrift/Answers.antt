@@ -1,6 +1,7 @@
 use Rattle.std.proofs.Common.{◌≡◌, sym, ◌∙◌, ap, subst, false, None}
 use Rattle.std.specs.Prelude.{IfOk}
 use Rattle.line_model.specs.basics.Records.{Item}
+use Rattle.line_model.specs.declared.event.How.TheVariants.{Gap}
 use Rattle.line_model.specs.declared.gap.AdriftEntry.TheVariants.{OpensCall, Accepts, Clears, ConfirmsClear, Resets, ConfirmsReset, Carries}
 use Rattle.line_model.specs.declared.state.StateName.TheVariants.{P1, D1}
 use Rattle.line_model.specs.packets.Classes.{packet_class}
@@ -33,8 +34,8 @@ returns-in-OpensCall-Call-clause-does g c is k s =
     ((c.class.ensures ∙ ap (λ (u : Item). packet_class u.packet) c.item.view_is) j)) in
     let P : GapOutcome → Type 0 = λ o. IfOk c.open_adrift.result (λ _. GapDoes c.args.row.now.origin p c.open_adrift.new.self c.args.events.now.items c.open_adrift.new.events.items o) in
     let shows : shown c.in-OpensCall-Call.fields ≡ fields_of r.octets = (subst (λ v. AreOf v r) c.in-OpensCall-Call.is-1 c.in-Ok.ensures.contents).1 in
-    subst P (step_by OpensCall c.args.row.now.by_gap i n r a q fault entry)
-    (subst (λ x. P (with_certainty q (drifting a.owed false) (adrift_call c.args.row.now.by_gap x r.octets k))) c.requires.side (c.open_adrift.ensures.does r.octets shows k s))
+    subst P (step_by OpensCall i n r a q fault entry)
+    (subst (λ x. P (with_certainty q (drifting a.owed false) (adrift_call x r.octets k))) c.requires.side (c.open_adrift.ensures.does r.octets shows k s))
 
 pub returns-in-Accepts-Accepted-clause-does : goal.returns-in-Accepts-Accepted-clause-does
 returns-in-Accepts-Accepted-clause-does g c is k s =
@@ -52,7 +53,7 @@ returns-in-Accepts-Accepted-clause-does g c is k s =
     ((c.class.ensures ∙ ap (λ (u : Item). packet_class u.packet) c.item.view_is) j)) in
     let P : GapOutcome → Type 0 = λ o. IfOk c.accept_adrift.result (λ _. GapDoes c.args.row.now.origin p c.accept_adrift.new.self c.args.events.now.items c.accept_adrift.new.events.items o) in
     let shows : shown c.in-Accepts-Accepted.fields ≡ fields_of r.octets = (subst (λ v. AreOf v r) c.in-Accepts-Accepted.is-1 c.in-Ok.ensures.contents).1 in
-    subst P (step_by Accepts c.args.row.now.by_gap i n r a q fault entry)
+    subst P (step_by Accepts i n r a q fault entry)
     (subst (λ x. P (adrift_acceptance i x r.octets a q)) c.requires.side (c.accept_adrift.ensures.does r.octets shows is k s))
 
 pub returns-in-Clears-default-clause-does : goal.returns-in-Clears-default-clause-does
@@ -70,7 +71,7 @@ returns-in-Clears-default-clause-does g c is k s =
     ∙ (λ j. adrift_entry ((c.is_permanent.ensures ∙ ap (λ (q : GapKnown). is_permanent (interface_of q) (number_of q)) c.self.view_is) j)
     ((c.class.ensures ∙ ap (λ (u : Item). packet_class u.packet) c.item.view_is) j)) in
     let P : GapOutcome → Type 0 = λ o. IfOk c.clear_adrift.result (λ _. GapDoes c.args.row.now.origin p c.clear_adrift.new.self c.args.events.now.items c.clear_adrift.new.events.items o) in
-    subst P (step_by Clears c.args.row.now.by_gap i n r a q fault entry)
+    subst P (step_by Clears i n r a q fault entry)
     (subst (λ x. P (with_certainty q (drifting (owed_after x Clears a.owed) false) (ending (cleared_by x) (entering P1 false k)))) c.requires.side (c.clear_adrift.ensures.does k s))
 
 pub returns-in-ConfirmsClear-default-clause-does : goal.returns-in-ConfirmsClear-default-clause-does
@@ -88,8 +89,8 @@ returns-in-ConfirmsClear-default-clause-does g c is k s =
     ∙ (λ j. adrift_entry ((c.is_permanent.ensures ∙ ap (λ (q : GapKnown). is_permanent (interface_of q) (number_of q)) c.self.view_is) j)
     ((c.class.ensures ∙ ap (λ (u : Item). packet_class u.packet) c.item.view_is) j)) in
     let P : GapOutcome → Type 0 = λ o. IfOk c.confirm_clear_adrift.result (λ _. GapDoes c.args.row.now.origin p c.confirm_clear_adrift.new.self c.args.events.now.items c.confirm_clear_adrift.new.events.items o) in
-    subst P (step_by ConfirmsClear c.args.row.now.by_gap i n r a q fault entry)
-    (subst (λ x. P (with_certainty q (confirmed_clear p.restarting (owed_after x ConfirmsClear a.owed)) (ending c.args.row.now.by_gap (entering P1 false k)))) c.requires.side (c.confirm_clear_adrift.ensures.does k s))
+    subst P (step_by ConfirmsClear i n r a q fault entry)
+    (subst (λ x. P (with_certainty q (confirmed_clear p.restarting (owed_after x ConfirmsClear a.owed)) (ending Gap (entering P1 false k)))) c.requires.side (c.confirm_clear_adrift.ensures.does k s))
 
 pub returns-in-Resets-default-clause-does : goal.returns-in-Resets-default-clause-does
 returns-in-Resets-default-clause-does g c is k s =
@@ -110,7 +111,7 @@ returns-in-Resets-default-clause-does g c is k s =
     c.owing.ensures ∙ (λ j. record a {
       owed = (c.owed_after-owed.ensures ∙ (λ j. owed_after (c.requires.side j) (c.in-Resets-default.is-0 j) (c.owed.ensures j))) j;
     }) in
-    subst P (step_by Resets c.args.row.now.by_gap i n r a q fault entry)
+    subst P (step_by Resets i n r a q fault entry)
     (subst P (λ j. adrift_reset i n (owing j).owed (owing j) ((c.resetting_state.ensures ∙ ap (λ x. resetting_state x) c.requires.side) j) q) (c.reset_adrift.ensures.does k (owing_stands p.channel a c.owing.result k (ap (λ v. v.hidden) owing) s)))
 
 pub returns-in-ConfirmsReset-default-clause-does : goal.returns-in-ConfirmsReset-default-clause-does
@@ -132,7 +133,7 @@ returns-in-ConfirmsReset-default-clause-does g c is k s =
     c.owing-in-ConfirmsReset-default.ensures ∙ (λ j. record a {
       owed = (c.owed_after-owed-in-ConfirmsReset-default.ensures ∙ (λ j. owed_after (c.requires.side j) (c.in-ConfirmsReset-default.is-0 j) (c.owed-in-ConfirmsReset-default.ensures j))) j;
     }) in
-    subst P (step_by ConfirmsReset c.args.row.now.by_gap i n r a q fault entry)
+    subst P (step_by ConfirmsReset i n r a q fault entry)
     (subst P (λ j. adrift_reset i n (owing j).owed (owing j) D1 q) (c.reset_adrift-in-ConfirmsReset-default.ensures.does k (owing_stands p.channel a c.owing-in-ConfirmsReset-default.result k (ap (λ v. v.hidden) owing) s)))
 
 pub returns-in-Carries-default-clause-does : goal.returns-in-Carries-default-clause-does
@@ -150,5 +151,5 @@ returns-in-Carries-default-clause-does g c is k s =
     ∙ (λ j. adrift_entry ((c.is_permanent.ensures ∙ ap (λ (q : GapKnown). is_permanent (interface_of q) (number_of q)) c.self.view_is) j)
     ((c.class.ensures ∙ ap (λ (u : Item). packet_class u.packet) c.item.view_is) j)) in
     let P : GapOutcome → Type 0 = λ o. IfOk c.carry_adrift.result (λ _. GapDoes c.args.row.now.origin p c.carry_adrift.new.self c.args.events.now.items c.carry_adrift.new.events.items o) in
-    subst P (step_by Carries c.args.row.now.by_gap i n r a q fault entry)
+    subst P (step_by Carries i n r a q fault entry)
     (c.carry_adrift.ensures.does is k s)
