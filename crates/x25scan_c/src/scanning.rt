@@ -73,7 +73,8 @@ fn put_row(line: &mut Vec<u8>, number: u32, side: u8, octets: &[u8]) -> Result<(
         line.push(b'-')?;
     }
     put_digits(line, octets)?;
-    line.push(b'\n')
+    line.push(b'\n')?;
+    Ok(())
 }
 
 impl Scanning {
