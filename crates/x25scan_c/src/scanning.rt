@@ -8,7 +8,6 @@ use crate::reading::Reading;
 use channel_machine::channel::PackedChannel;
 use channel_run::run::Channel;
 use explanations::advice::advice;
-use hex::encode_to_slice;
 use itoa::Buffer;
 use json_lines::text::write_json_lines;
 use line_model::device::{Beginning, VecSink};
@@ -51,14 +50,14 @@ pub struct Scanning {
     advice: Option<String>,
 }
 
-/// Appends two hex digits for each octet.
-fn put_digits(line: &mut Vec<u8>, octets: &[u8]) -> Result<(), AllocError> {
-    let mut digits = [0; 64];
-    for part in octets.chunks(32) {
-        let room = &mut digits[..2 * part.len()];
-        if encode_to_slice(part, room).is_ok() {
-            line.extend_from_slice(room)?;
-        }
+/// Two hex digits.
+fn push_octet(line: &mut Vec<u8>, octet: u8) -> Result<(), AllocError> {
+    for digit in [octet / 16, octet % 16] {
+        line.push(if digit < 10 {
+            b'0' + digit
+        } else {
+            b'A' + (digit - 10)
+        })?;
     }
     Ok(())
 }
@@ -72,7 +71,9 @@ fn put_row(line: &mut Vec<u8>, number: u32, side: u8, octets: &[u8]) -> Result<(
     if octets.is_empty() {
         line.push(b'-')?;
     }
-    put_digits(line, octets)?;
+    for octet in octets {
+        push_octet(line, *octet)?;
+    }
     line.push(b'\n')?;
     Ok(())
 }
