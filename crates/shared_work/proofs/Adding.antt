@@ -1,9 +1,6 @@
 -- More reports among the posts.
 use Rattle.std.proofs.Common.{◌≡◌, ℕ, zero, suc, ◌+◌, ◌^◌, ◌<◌, ◌≤◌, List, [], ◌∷◌, ◌++◌, length, Bool, true, false, not, true≢false, refl, sym, ap, ◌∙◌, subst, arith, eqb, eq-eqb, ne_eqb, length-append, take, drop, get_or}
 use Rattle.std.specs.Prelude.{sum_by, All, slice_index, slice_index_or, cond}
-use Rattle.std.specs.Ordering.{nat_cmp}
-use Rattle.std.specs.Cmp.{unsigned_tied}
-use Rattle.std.specs.BTreeSet.{BTreeSet, contains, Updates}
 use Rattle.std.proofs.lemmas.List.{take_more, take-append-drop}
 use Rattle.std.proofs.lemmas.List.Sums.{sum_by-append, sum_by-le}
 use Rattle.std.proofs.lemmas.List.Elements.{All-append}
@@ -18,7 +15,7 @@ use Rattle.line_model.proofs.Counting.{bit, times-cons, times-append, pigeons}
 use Rattle.line_model.proofs.Posts.{length-ids}
 use Rattle.line_model.proofs.Schedules.{ids-append}
 use Rattle.report_merge.specs.Gathered.{IsSmall}
-use Rattle.shared_work.specs.findings.Sums.{once_known, AreFew, AreIdsOf, HasNoted, IsNoteRefusal, IsPostRefusal, IsPostFault, IsBook, with_reports}
+use Rattle.shared_work.specs.findings.Sums.{is_known, once_known, HasFlag, AreFew, AreIdsOf, HasNoted, IsNoteRefusal, IsPostRefusal, IsPostFault, IsBook, with_reports}
 
 bit-le : (b : Bool) → bit b ≤ 1
 bit-le true = omega arith
@@ -35,33 +32,33 @@ from_not_false false c e t = absurd (true≢false (sym e ∙ t))
 -- ---- ids that are noted and forgotten
 
 -- a set with one id more, or less
-pub one_noted : (ids ids' : BTreeSet ℕ) (id : ℕ) → contains nat_cmp ids id ≡ false → Updates nat_cmp ids ids' id true → (x : ℕ) → once_known ids' x ≡ once_known ids x + bit (eqb id x)
+pub one_noted : (ids ids' : List Bool) (id : ℕ) → is_known ids id ≡ false → HasFlag ids ids' id true → (x : ℕ) → once_known ids' x ≡ once_known ids x + bit (eqb id x)
 one_noted ids ids' id none updates x = dite (ℕ_discrete id x)
     (λ e.
     let same : id ≡ x = e in
     let test = eq-eqb id x e in
-    let was : bit (contains nat_cmp ids x) ≡ 0 = ap bit (subst (λ n. contains nat_cmp ids n ≡ false) same none) in
-    let is : bit (contains nat_cmp ids' x) ≡ 1 = ap bit (updates.0 x ∙ (ap (λ b. cond b true (contains nat_cmp ids x)) (unsigned_tied id x ∙ test))) in
+    let was : bit (is_known ids x) ≡ 0 = ap bit (subst (λ n. is_known ids n ≡ false) same none) in
+    let is : bit (is_known ids' x) ≡ 1 = ap bit (updates x ∙ (ap (λ b. cond b true (is_known ids x)) test)) in
     let one : bit (eqb id x) ≡ 1 = ap bit test in
     omega (arith, was, is, one))
     (λ ne.
     let test = ne_eqb id x ne in
-    let is : bit (contains nat_cmp ids' x) ≡ bit (contains nat_cmp ids x) = ap bit (updates.0 x ∙ (ap (λ b. cond b true (contains nat_cmp ids x)) (unsigned_tied id x ∙ test))) in
+    let is : bit (is_known ids' x) ≡ bit (is_known ids x) = ap bit (updates x ∙ (ap (λ b. cond b true (is_known ids x)) test)) in
     let none : bit (eqb id x) ≡ 0 = ap bit test in
     omega (arith, is, none))
 
-pub one_forgotten : (ids ids' : BTreeSet ℕ) (id : ℕ) → 0 < once_known ids id → Updates nat_cmp ids ids' id false → (x : ℕ) → once_known ids x ≡ once_known ids' x + bit (eqb id x)
+pub one_forgotten : (ids ids' : List Bool) (id : ℕ) → 0 < once_known ids id → HasFlag ids ids' id false → (x : ℕ) → once_known ids x ≡ once_known ids' x + bit (eqb id x)
 one_forgotten ids ids' id some updates x = dite (ℕ_discrete id x)
     (λ e.
     let same : id ≡ x = e in
     let test = eq-eqb id x e in
-    let was : 0 < bit (contains nat_cmp ids x) = subst (λ n. 0 < once_known ids n) same some in
-    let is : bit (contains nat_cmp ids' x) ≡ 0 = ap bit (updates.0 x ∙ (ap (λ b. cond b false (contains nat_cmp ids x)) (unsigned_tied id x ∙ test))) in
+    let was : 0 < bit (is_known ids x) = subst (λ n. 0 < once_known ids n) same some in
+    let is : bit (is_known ids' x) ≡ 0 = ap bit (updates x ∙ (ap (λ b. cond b false (is_known ids x)) test)) in
     let one : bit (eqb id x) ≡ 1 = ap bit test in
-    omega (arith, was, is, one, bit-le (contains nat_cmp ids x)))
+    omega (arith, was, is, one, bit-le (is_known ids x)))
     (λ ne.
     let test = ne_eqb id x ne in
-    let is : bit (contains nat_cmp ids' x) ≡ bit (contains nat_cmp ids x) = ap bit (updates.0 x ∙ (ap (λ b. cond b false (contains nat_cmp ids x)) (unsigned_tied id x ∙ test))) in
+    let is : bit (is_known ids' x) ≡ bit (is_known ids x) = ap bit (updates x ∙ (ap (λ b. cond b false (is_known ids x)) test)) in
     let none : bit (eqb id x) ≡ 0 = ap bit test in
     omega (arith, is, none))
 
@@ -80,28 +77,28 @@ more_of_all ids i lt =
 pub stands : (ids : List ℕ) (i : ℕ) → i < length ids → 0 < times (get_or ids i 0) ids
 stands ids i lt = omega (arith, more_of_all ids i lt)
 
-pub none_more : (known : BTreeSet ℕ) (ids : List ℕ) (i : ℕ) → i < length ids → ((x : ℕ) → 0 < times x (take i ids) → contains nat_cmp known x ≡ false) → contains nat_cmp known (get_or ids i 0) ≡ false
-    → (x : ℕ) → 0 < times x (take (i + 1) ids) → contains nat_cmp known x ≡ false
+pub none_more : (known : List Bool) (ids : List ℕ) (i : ℕ) → i < length ids → ((x : ℕ) → 0 < times x (take i ids) → is_known known x ≡ false) → is_known known (get_or ids i 0) ≡ false
+    → (x : ℕ) → 0 < times x (take (i + 1) ids) → is_known known x ≡ false
 none_more known ids i lt before here x some = dite (ℕ_discrete (get_or ids i 0) x)
-    (λ e. let same : get_or ids i 0 ≡ x = e in subst (λ n. contains nat_cmp known n ≡ false) same here)
+    (λ e. let same : get_or ids i 0 ≡ x = e in subst (λ n. is_known known n ≡ false) same here)
     (λ ne. let none : bit (eqb (get_or ids i 0) x) ≡ 0 = ap bit (ne_eqb (get_or ids i 0) x ne) in before x (omega (arith, some, times-take ids i lt x, none)))
 
-pub noted_more : (before now after : BTreeSet ℕ) (ids : List ℕ) (i : ℕ) → i < length ids → HasNoted before (take i ids) now → contains nat_cmp now (get_or ids i 0) ≡ false → Updates nat_cmp now after (get_or ids i 0) true → HasNoted before (take (i + 1) ids) after
+pub noted_more : (before now after : List Bool) (ids : List ℕ) (i : ℕ) → i < length ids → HasNoted before (take i ids) now → is_known now (get_or ids i 0) ≡ false → HasFlag now after (get_or ids i 0) true → HasNoted before (take (i + 1) ids) after
 noted_more before now after ids i lt noted none updates x = omega (arith, noted x, one_noted now after (get_or ids i 0) none updates x, times-take ids i lt x)
 
 -- an id that was noted before
-pub twice : (before now : BTreeSet ℕ) (ids : List ℕ) (i : ℕ) → i < length ids → HasNoted before (take i ids) now → contains nat_cmp now (get_or ids i 0) ≡ true
+pub twice : (before now : List Bool) (ids : List ℕ) (i : ℕ) → i < length ids → HasNoted before (take i ids) now → is_known now (get_or ids i 0) ≡ true
     → (0 < times (get_or ids i 0) ids) × (1 < once_known before (get_or ids i 0) + times (get_or ids i 0) ids)
 twice before now ids i lt noted some =
-    let one : bit (contains nat_cmp now (get_or ids i 0)) ≡ 1 = ap bit some in
+    let one : bit (is_known now (get_or ids i 0)) ≡ 1 = ap bit some in
     (stands ids i lt, omega (arith, noted (get_or ids i 0), one, more_of_all ids i lt))
 
-pub known_once : (known : BTreeSet ℕ) (ids : List ℕ) (i : ℕ) → i < length ids → contains nat_cmp known (get_or ids i 0) ≡ true → (0 < times (get_or ids i 0) ids) × (1 < once_known known (get_or ids i 0) + times (get_or ids i 0) ids)
+pub known_once : (known : List Bool) (ids : List ℕ) (i : ℕ) → i < length ids → is_known known (get_or ids i 0) ≡ true → (0 < times (get_or ids i 0) ids) × (1 < once_known known (get_or ids i 0) + times (get_or ids i 0) ids)
 known_once known ids i lt some =
-    let one : bit (contains nat_cmp known (get_or ids i 0)) ≡ 1 = ap bit some in
+    let one : bit (is_known known (get_or ids i 0)) ≡ 1 = ap bit some in
     (stands ids i lt, omega (arith, one, stands ids i lt))
 
-pub forgotten_more : (before now after : BTreeSet ℕ) (ids : List ℕ) (i : ℕ) → i < length ids → ((x : ℕ) → times x ids ≤ once_known before x) → HasNoted now (take i ids) before → Updates nat_cmp now after (get_or ids i 0) false → HasNoted after (take (i + 1) ids) before
+pub forgotten_more : (before now after : List Bool) (ids : List ℕ) (i : ℕ) → i < length ids → ((x : ℕ) → times x ids ≤ once_known before x) → HasNoted now (take i ids) before → HasFlag now after (get_or ids i 0) false → HasNoted after (take (i + 1) ids) before
 forgotten_more before now after ids i lt all forgotten updates x =
     let id = get_or ids i 0 in
     let still : 0 < once_known now id = omega (arith, all id, forgotten id, more_of_all ids i lt) in
@@ -116,7 +113,7 @@ few_from (id ∷ ids) all x some = dite (ℕ_discrete id x)
 -- ---- a book with more posts
 
 -- where the same ids are known
-pub same_book : (plan : KnownPlan) (rs rs' : List PieceReport) (ids ids' : BTreeSet ℕ) (sums : Totals) → IsBook plan rs ids sums → rs' ≡ rs → ((x : ℕ) → once_known ids' x ≡ once_known ids x) → IsBook plan rs' ids' sums
+pub same_book : (plan : KnownPlan) (rs rs' : List PieceReport) (ids ids' : List Bool) (sums : Totals) → IsBook plan rs ids sums → rs' ≡ rs → ((x : ℕ) → once_known ids' x ≡ once_known ids x) → IsBook plan rs' ids' sums
 same_book plan rs rs' ids ids' sums book posts kept = subst (λ y. IsBook plan y ids' sums) (sym posts) (record {
   posts = book.posts;
   small = book.small;
@@ -125,10 +122,10 @@ same_book plan rs rs' ids ids' sums book posts kept = subst (λ y. IsBook plan y
   totals = book.totals;
 })
 
-pub adds : (plan : KnownPlan) (rs ps : List PieceReport) (ids ids' : BTreeSet ℕ) (sums : Totals) → IsBook plan rs ids sums → All IsSmall ps → All (IsValue plan) ps → AreFew (ids_of ps) → HasNoted ids (ids_of ps) ids' → IsBook plan (rs ++ ps) ids' (with_reports sums ps)
+pub adds : (plan : KnownPlan) (rs ps : List PieceReport) (ids ids' : List Bool) (sums : Totals) → IsBook plan rs ids sums → All IsSmall ps → All (IsValue plan) ps → AreFew (ids_of ps) → HasNoted ids (ids_of ps) ids' → IsBook plan (rs ++ ps) ids' (with_reports sums ps)
 adds plan rs ps ids ids' sums book small are few noted = record {
   posts = record {
-    distinct = λ x. omega (arith, known x, bit-le (contains nat_cmp ids' x));
+    distinct = λ x. omega (arith, known x, bit-le (is_known ids' x));
     values = All-append (IsValue plan) rs ps book.posts.values are;
   };
   small = All-append IsSmall rs ps book.small small;
@@ -160,24 +157,24 @@ adds plan rs ps ids ids' sums book small are few noted = record {
     segments = omega (arith, ap (λ t. t.segments) book.totals, sum_by-append (λ (p : PieceReport). p.segments) rs ps)
 
 -- where the ids are given apart
-pub adds_noted : (plan : KnownPlan) (rs ps : List PieceReport) (ids ids' : BTreeSet ℕ) (sums : Totals) (new : List ℕ) → IsBook plan rs ids sums → All IsSmall ps → All (IsValue plan) ps → new ≡ ids_of ps → AreFew new → HasNoted ids new ids' → IsBook plan (rs ++ ps) ids' (with_reports sums ps)
+pub adds_noted : (plan : KnownPlan) (rs ps : List PieceReport) (ids ids' : List Bool) (sums : Totals) (new : List ℕ) → IsBook plan rs ids sums → All IsSmall ps → All (IsValue plan) ps → new ≡ ids_of ps → AreFew new → HasNoted ids new ids' → IsBook plan (rs ++ ps) ids' (with_reports sums ps)
 adds_noted plan rs ps ids ids' sums new book small are is few noted = adds plan rs ps ids ids' sums book small are (subst AreFew is few) (subst (λ l. HasNoted ids l ids') is noted)
 
 -- different numbers of 32 bits are few enough that a sum of numbers of 32 bits fits
-pub fits : (plan : KnownPlan) (rs : List PieceReport) (ids : BTreeSet ℕ) (sums : Totals) (f : PieceReport → ℕ) → IsBook plan rs ids sums → ((r : PieceReport) → IsSmall r → f r ≤ 2 ^ 31) → sum_by f rs < 2 ^ 64
+pub fits : (plan : KnownPlan) (rs : List PieceReport) (ids : List Bool) (sums : Totals) (f : PieceReport → ℕ) → IsBook plan rs ids sums → ((r : PieceReport) → IsSmall r → f r ≤ 2 ^ 31) → sum_by f rs < 2 ^ 64
 fits plan rs ids sums f book small =
     let few : length rs ≤ 2 ^ 32 = omega (arith, length-ids rs, pigeons (ids_of rs) (2 ^ 32) book.posts.distinct book.few) in
     let le = sum_by-le f 2147483648 rs (λ k d lt. let s = small (slice_index_or rs k d) (book.small k d lt) in omega arith) in
     omega arith
 
-pub few_posts : (plan : KnownPlan) (rs : List PieceReport) (ids : BTreeSet ℕ) (sums : Totals) → IsBook plan rs ids sums → length rs < 2 ^ 64
+pub few_posts : (plan : KnownPlan) (rs : List PieceReport) (ids : List Bool) (sums : Totals) → IsBook plan rs ids sums → length rs < 2 ^ 64
 few_posts plan rs ids sums book = omega (arith, length-ids rs, pigeons (ids_of rs) (2 ^ 32) book.posts.distinct book.few)
 
 -- ---- why a post comes back
 
-pub refused : (rs : List PieceReport) (ids : BTreeSet ℕ) (ps : List PieceReport) (f : Fault) → AreIdsOf rs ids → IsNoteRefusal f ids (ids_of ps) → IsPostRefusal f rs ps
+pub refused : (rs : List PieceReport) (ids : List Bool) (ps : List PieceReport) (f : Fault) → AreIdsOf rs ids → IsNoteRefusal f ids (ids_of ps) → IsPostRefusal f rs ps
 refused rs ids ps (Double id) known h = (h.0, omega (arith, known id, h.1))
-refused rs ids ps Memory known h = λ x some. let none : bit (contains nat_cmp ids x) ≡ 0 = ap bit (h x some) in omega (arith, known x, none)
+refused rs ids ps Memory known h = λ x some. let none : bit (is_known ids x) ≡ 0 = ap bit (h x some) in omega (arith, known x, none)
 refused rs ids ps (Stranger k) known h = h
 refused rs ids ps (Missing k) known h = h
 refused rs ids ps (Trace l k) known h = h

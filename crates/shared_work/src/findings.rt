@@ -1,6 +1,7 @@
 //! The reports of all pieces under one lock, and what each worker has posted.
 
 mod book;
+mod known_ids;
 mod ledgers;
 mod posts;
 mod room;

@@ -5,6 +5,7 @@ ghost use Rattle.line_model.specs.basics.Records as records;
 ghost use Rattle.line_model.specs.work.Book.{IsValue, totals_of, AreOf, IsWithin, sum_of};
 ghost use Rattle.shared_work.specs.findings.Sums.{with_reports, IsPostFault};
 
+use crate::findings::known_ids::KnownIds;
 use crate::findings::ledgers::{Blanks, Ledgers};
 use crate::findings::posts::Posts;
 use crate::findings::share::Share;
@@ -16,7 +17,6 @@ use line_model::piece::{PieceReport, Plan};
 use line_model::totals::Totals;
 use report_merge::reports::Reports;
 use std::alloc::{Allocator, Global};
-use std::collections::BTreeSet;
 use std::marker::{Model, PhantomData};
 use std::sync::{Mutex, Wait};
 
@@ -70,7 +70,7 @@ impl<P: Plan, L: Ledgers, A: Allocator, W: Witness, T: Reports<A>> Book<P, L, A,
         let empty = Posts {
             witness,
             posts: Vec::new(alloc),
-            ids: BTreeSet::new(alloc),
+            ids: KnownIds::new(alloc),
             sums,
             plan: PhantomData,
         };

@@ -4,6 +4,7 @@ ghost use Rattle.std.specs.List.{flat_map};
 ghost use Rattle.line_model.specs.work.Book.{IsValue, totals_of, AreOf, IsWithin};
 ghost use Rattle.shared_work.specs.findings.Sums.{with_reports, IsPostRefusal};
 
+use crate::findings::known_ids::KnownIds;
 use crate::findings::ledgers::Ledgers;
 use crate::findings::room::make_room;
 use crate::findings::share::Share;
@@ -15,7 +16,6 @@ use line_model::piece::{PieceReport, Plan};
 use line_model::totals::Totals;
 use report_merge::reports::Reports;
 use std::alloc::{Allocator, Global};
-use std::collections::BTreeSet;
 use std::marker::{Model, PhantomData};
 
 /// The posts, each the report of a piece or of a bundle, with their ids and their sums. Contracts see the reports of the
@@ -30,7 +30,7 @@ pub struct Posts<
 > {
     pub(crate) witness: W,
     pub(crate) posts: Vec<T, A>,
-    pub(crate) ids: BTreeSet<u32, A>,
+    pub(crate) ids: KnownIds<A>,
     pub(crate) sums: Sums<L>,
     pub(crate) plan: PhantomData<P>,
 }

@@ -1,22 +1,20 @@
 //! Room for one more post, and its ids.
 ghost use Rattle.std.specs.Prelude.{◌≡◌, ℕ, ◌<◌, ◌≤◌, true, false, take, OnOk, OnErr, IfErr, IfSome, IfNone, length, vec_len, vec_capacity};
-ghost use Rattle.std.specs.BTreeSet.{contains};
-ghost use Rattle.std.specs.Ordering.{nat_cmp};
 ghost use Rattle.line_model.specs.work.Book.{times};
 ghost use Rattle.shared_work.specs.findings.Sums.{once_known, AreFew, HasNoted, IsNoteRefusal};
 
+use crate::findings::known_ids::KnownIds;
 use line_model::fault::Fault;
 use std::alloc::Allocator;
-use std::collections::BTreeSet;
 
 /// The first of some ids that is known.
-fn first_known<A: Allocator>(known: &BTreeSet<u32, A>, ids: &[u32]) -> Option<u32>
+fn first_known<A: Allocator>(known: &KnownIds<A>, ids: &[u32]) -> Option<u32>
     ensures some { IfSome result (λ id. IsNoteRefusal (Fault.Double id) known.now ids.now) }
     ensures none { IfNone result (IsNoteRefusal Fault.Memory known.now ids.now) }
     ensures few { AreFew ids.now }
 {
     for id in ids {
-        if known.contains(id) {
+        if known.contains(*id) {
             return Some(*id);
         }
     }
@@ -25,7 +23,7 @@ fn first_known<A: Allocator>(known: &BTreeSet<u32, A>, ids: &[u32]) -> Option<u3
 
 /// Notes ids up to the first that can't be noted. Where there is one, returns how many were noted, and why no more.
 fn note_each<A: Allocator + Clone>(
-    known: &mut BTreeSet<u32, A>,
+    known: &mut KnownIds<A>,
     ids: &[u32],
 ) -> Result<(), (usize, Fault)>
     requires unknown { IsNoteRefusal Fault.Memory known.old ids.now }
@@ -44,12 +42,12 @@ fn note_each<A: Allocator + Clone>(
 }
 
 /// Forgets ids, each of which is known.
-fn forget<A: Allocator>(known: &mut BTreeSet<u32, A>, ids: &[u32])
+fn forget<A: Allocator>(known: &mut KnownIds<A>, ids: &[u32])
     requires known { (x : ℕ) → times x ids.now ≤ once_known known.old x }
     ensures { HasNoted known.new ids.now known.old }
 {
     for id in ids {
-        known.remove(id);
+        known.remove(*id);
     }
 }
 
@@ -57,7 +55,7 @@ fn forget<A: Allocator>(known: &mut BTreeSet<u32, A>, ids: &[u32])
 /// refused, the ids that are known stay the same.
 pub fn make_room<T, A: Allocator + Clone>(
     posts: &mut Vec<T, A>,
-    known: &mut BTreeSet<u32, A>,
+    known: &mut KnownIds<A>,
     ids: &[u32],
 ) -> Result<(), Fault>
     ensures same { posts.new.items ≡ posts.old.items }
