@@ -22,11 +22,11 @@ use Rattle.annotated_trace.proofs.LinesOfText.{text_append}
 -- ---- a line with its comments
 
 marked_where : (channel call : Option ℕ) (told : Bool) (ls : List Line) (a : Annotated) (findings : List Finding) → found_in (ls ++ a.line ∷ []) ≡ found_in ls ++ findings → HaveMarksOf (Chosen channel call) told findings a.comments → IsMarkedWhere told ls a
-marked_where channel call true ls a findings came marks = record { findings = findings; came = came; marks = marks }
+marked_where channel call true ls a findings came marks = (record { findings = findings; came = came; marks = marks.0 }, marks.1)
 marked_where channel call false ls a findings came none = none
 
 mark_line_of : (choice : Rows) (told : Bool) (ls : List Line) (a : Annotated) (findings : List Finding) → IsToldRightly choice ls a.line told → found_in (ls ++ a.line ∷ []) ≡ found_in ls ++ findings → HaveMarksOf choice told findings a.comments → IsMarked choice ls a
-mark_line_of All told ls a findings right came marks = record { findings = findings; came = came; marks = marks }
+mark_line_of All told ls a findings right came marks = (record { findings = findings; came = came; marks = marks.0 }, λ chosen. marks.1 (right chosen))
 mark_line_of (Chosen channel call) told ls a findings right came marks = subst (λ b. IsMarkedWhere b ls a) right (marked_where channel call told ls a findings came marks)
 
 pub annotated_line : (choice : Rows) (before : List Line) (l : Line) (findings : List Finding) (old mid now : List ℕ) → found_in (before ++ l ∷ []) ≡ found_in before ++ findings → mid ≡ old ++ (l ++ 10 ∷ []) → HasRightComments choice before l findings mid now → HasAppended (IsAnnotatedLine choice before l) old now

@@ -1,5 +1,5 @@
 -- The comments behind a line.
-use Rattle.std.proofs.Common.{◌≡◌, ◌∙◌, sym, ap, subst, refl, ℕ, true, false, List, [], ◌++◌, Option, Result, Ok, Err, OnOk, OnErr, IfErr, append_assoc, append-nil}
+use Rattle.std.proofs.Common.{◌≡◌, ◌∙◌, sym, ap, subst, refl, ℕ, ◌<◌, true, false, List, [], ◌++◌, length, length-append, arith, Option, Result, Ok, Err, OnOk, OnErr, IfErr, append_assoc, append-nil}
 use Rattle.line_model.specs.text.Text.{Line}
 use Rattle.line_model.specs.traces.Traces.{text}
 use Rattle.line_model.specs.declared.finding.Finding.{Finding}
@@ -17,19 +17,22 @@ pub always : {T E : Type 0} (r : Result T E) (P : Type 0) → P → OnOk r P
 always (Ok x) P h = h
 always (Err e) P h = tt
 
-behind_of : (choice : Rows) (findings : List Finding) (behind : List Line) → AreMarksOf findings (marks_in behind) → HaveMarksOf choice true findings behind
-behind_of All findings behind h = h
-behind_of (Chosen channel call) findings behind h = h
+behind_of : (choice : Rows) (findings : List Finding) (behind : List Line) → AreMarksOf findings (marks_in behind) → 0 < length behind → HaveMarksOf choice true findings behind
+behind_of All findings behind h some = (h, λ _. some)
+behind_of (Chosen channel call) findings behind h some = (h, some)
 
-pub notes_and_marks : (choice : Rows) (findings : List Finding) (before mid after : List ℕ) (notes : List Line) → mid ≡ before ++ text notes → AreNotes notes → HasMarksOf findings mid after → HasCommentsOf choice true findings before after
-notes_and_marks choice findings before mid after notes e n h =
+pub notes_and_marks : (choice : Rows) (findings : List Finding) (before mid after : List ℕ) (notes : List Line) → mid ≡ before ++ text notes → AreNotes notes → 0 < length notes → HasMarksOf findings mid after → HasCommentsOf choice true findings before after
+notes_and_marks choice findings before mid after notes e n some h =
     let all : marks_in (notes ++ h.marks) ≡ h.marks = marks_in-append notes h.marks ∙ ap (λ xs. xs ++ marks_in h.marks) (notes_mark_nothing notes n) ∙ h.all in
     record {
       behind = notes ++ h.marks;
       written = h.written ∙ ap (λ xs. xs ++ text h.marks) e ∙ append_assoc before (text notes) (text h.marks) ∙ ap (λ xs. before ++ xs) (sym (text_append notes h.marks));
       comments = both_comments notes h.marks (notes_are_comments notes n) h.comments;
-      marks = behind_of choice findings (notes ++ h.marks) (subst (AreMarksOf findings) (sym all) h.marks_are);
+      marks = behind_of choice findings (notes ++ h.marks) (subst (AreMarksOf findings) (sym all) h.marks_are) (omega (arith, length-append notes h.marks));
     }
+
+pub marks_alone : (findings : List Finding) (before after : List ℕ) → HasMarksOf findings before after → HasCommentsOf All false findings before after
+marks_alone findings before after h = record { behind = h.marks; written = h.written; comments = h.comments; marks = (subst (AreMarksOf findings) (sym h.all) h.marks_are, λ told. cc) }
 
 pub left_out : (channel call : Option ℕ) (findings : List Finding) (out : List ℕ) → HasCommentsOf (Chosen channel call) false findings out out
 left_out channel call findings out = record { behind = []; written = sym (append-nil out); comments = tt; marks = refl }

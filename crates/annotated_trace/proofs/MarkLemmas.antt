@@ -39,7 +39,7 @@ pub record Come (before : List Line) (annotated : List Annotated) : Type 0 where
 come : (before : List Line) (annotated : List Annotated) → AreMarked All before annotated → marks_in (bare_lines annotated) ≡ [] → Come before annotated
 come before [] h none = record { findings = []; came = ap found_in (append-nil before) ∙ sym (append-nil (found_in before)); marks = tt }
 come before (a ∷ annotated) h none =
-    let here = h.0 in
+    let here = h.0.0 in
     let split = sym (marks_in-append (a.line ∷ []) (bare_lines annotated)) ∙ none in
     let unmarked = none_first (marks_in (a.line ∷ [])) (marks_in (bare_lines annotated)) split in
     let rest = come (before ++ a.line ∷ []) annotated h.1 (none_second (marks_in (a.line ∷ [])) (marks_in (bare_lines annotated)) split) in

@@ -11,7 +11,7 @@ use Rattle.line_model.specs.traces.Traces.{text}
 use Rattle.line_model.proofs.TextLemmas.{begun-lf, begun-more, ended-lf, ended-more}
 use Rattle.annotated_trace.proofs.LinesOfText.{text_append}
 use Rattle.annotated_trace.specs.Annotation.{AreComments, IsComment, IsOneLine, marks_in}
-use Rattle.annotated_trace.specs.Wording.{AreNoteBytes, AreNotes, BeginsWith, IsNote, IsWords, Remarks, ended_notes, note_line, note_or_none, notes_of, plain, plain_byte, with_words}
+use Rattle.annotated_trace.specs.Wording.{AreNoteBytes, AreNotes, BeginsWith, IsNote, IsSaid, IsWords, Remarks, ended_notes, note_line, note_or_none, notes_of, plain, plain_byte, with_words}
 
 -- ---- plain bytes
 
@@ -192,3 +192,7 @@ next_notes v bytes words line now cleared is e same h w none =
   where
     record_of : List Line → List ℕ → Remarks
     record_of ls words = record { lines = ls; line = words }
+
+-- once a line has ended there is one
+pub ended_is_said : (notes : Remarks) → IsSaid (ended_notes notes)
+ended_is_said notes = omega (arith, length-append (notes.lines ++ note_line notes.line ∷ []) [], length-append notes.lines (note_line notes.line ∷ []))

@@ -1,5 +1,5 @@
 -- A trace with comments behind its lines.
-use Rattle.std.specs.Prelude.{◌≡◌, ℕ, ◌==◌, ◌&&◌, ◌≤◌, Bool, true, false, List, [], ◌∷◌, ◌++◌, filter, flat_map, map, length, codes}
+use Rattle.std.specs.Prelude.{◌≡◌, ℕ, ◌==◌, ◌&&◌, ◌<◌, ◌≤◌, Bool, true, false, List, [], ◌∷◌, ◌++◌, filter, flat_map, map, length, codes}
 use Rattle.std.specs.List.{list_any, AllByRecursion}
 use Rattle.line_model.specs.observer.Report.{finding_line}
 use Rattle.line_model.specs.text.Text.{Line, is_comment, is_lf, line_limit, lines_of}
@@ -74,14 +74,19 @@ pub record HasItsMarks (before : List Line) (a : Annotated) : Type 0 where
   pub came : found_in (before ++ a.line ∷ []) ≡ found_in before ++ findings
   pub marks : AreMarksOf findings (marks_in a.comments)
 
--- so it is with a line that is told of, and no comment stands behind another
+-- at least one comment stands behind a line
+abbrev pub HasComment : Annotated → Type 0
+HasComment a = 0 < length a.comments
+
+-- behind a line that is described stand its marks and at least one comment; no comment stands behind another
 abbrev pub IsMarkedWhere : (told : Bool) → (before : List Line) → Annotated → Type 0
-IsMarkedWhere true before a = HasItsMarks before a
+IsMarkedWhere true before a = HasItsMarks before a × HasComment a
 IsMarkedWhere false before a = a.comments ≡ []
 
--- so it is with every line where all rows are told of; else with exactly the lines of those that are chosen
+-- where all rows are described, each line has its marks, and each that writes a row at least one comment; else exactly the lines of the rows
+-- that are chosen are described
 abbrev pub IsMarked : Rows → (before : List Line) → Annotated → Type 0
-IsMarked All before a = HasItsMarks before a
+IsMarked All before a = HasItsMarks before a × (is_chosen_line All before a.line ≡ true → HasComment a)
 IsMarked (Chosen channel call) before a = IsMarkedWhere (is_chosen_line (Chosen channel call) before a.line) before a
 
 -- of lines that stand behind others

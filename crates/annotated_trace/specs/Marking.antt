@@ -1,5 +1,5 @@
 -- The marks that are written.
-use Rattle.std.specs.Prelude.{◌≡◌, ℕ, Bool, true, false, ◌<◌, ◌^◌, List, [], ◌∷◌, ◌++◌, codes, decimal}
+use Rattle.std.specs.Prelude.{◌≡◌, ℕ, Bool, true, false, ◌<◌, ◌^◌, List, [], ◌∷◌, ◌++◌, codes, decimal, length}
 use Rattle.line_model.specs.observer.Report.{code_word, side_word, state_word}
 use Rattle.line_model.specs.text.Text.{Line}
 use Rattle.line_model.specs.traces.Traces.{text}
@@ -39,10 +39,11 @@ pub record HasMarksOf (findings : List Finding) (before after : List ℕ) : Type
   pub all : marks_in marks ≡ marks
   pub marks_are : AreMarksOf findings marks
 
--- the comments behind a line with these findings have their marks; where rows are chosen, there are none behind another line
+-- the comments behind a line with these findings have their marks, and there is one where the line is described; where rows are chosen,
+-- there are none behind another line
 abbrev pub HaveMarksOf : Rows → (told : Bool) → List Finding → List Line → Type 0
-HaveMarksOf All told findings behind = AreMarksOf findings (marks_in behind)
-HaveMarksOf (Chosen channel call) true findings behind = AreMarksOf findings (marks_in behind)
+HaveMarksOf All told findings behind = AreMarksOf findings (marks_in behind) × (told ≡ true → 0 < length behind)
+HaveMarksOf (Chosen channel call) true findings behind = AreMarksOf findings (marks_in behind) × (0 < length behind)
 HaveMarksOf (Chosen channel call) false findings behind = behind ≡ []
 
 -- the comments behind a line with these findings were appended to bytes
@@ -52,9 +53,10 @@ pub record HasCommentsOf (choice : Rows) (told : Bool) (findings : List Finding)
   pub comments : AreComments behind
   pub marks : HaveMarksOf choice told findings behind
 
--- what a describer says of the line after others: where rows are chosen, whether it is told of
+-- what a describer says of the line after others: where all rows are described, that each line of one is; where rows are chosen, exactly
+-- whether it is described
 abbrev pub IsToldRightly : Rows → (before : List Line) → Line → (told : Bool) → Type 0
-IsToldRightly All before l told = Unit {0}
+IsToldRightly All before l told = is_chosen_line All before l ≡ true → told ≡ true
 IsToldRightly (Chosen channel call) before l told = told ≡ is_chosen_line (Chosen channel call) before l
 
 -- the comments behind the line after others, which is told of or not, were appended to bytes

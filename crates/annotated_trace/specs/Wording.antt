@@ -1,5 +1,5 @@
 -- The words of comments.
-use Rattle.std.specs.Prelude.{◌≡◌, ℕ, ◌==◌, ◌≤◌, List, [], ◌∷◌, ◌++◌, codes, if◌then◌else◌, length, map, take}
+use Rattle.std.specs.Prelude.{◌≡◌, ℕ, ◌==◌, ◌<◌, ◌≤◌, List, [], ◌∷◌, ◌++◌, codes, if◌then◌else◌, length, map, take}
 use Rattle.std.specs.List.{AllByRecursion}
 use Rattle.line_model.specs.text.Text.{Line, begun_line, ended_lines, is_lf}
 use Rattle.annotated_trace.specs.Annotation.{IsOneLine}
@@ -78,3 +78,7 @@ begun_note words = note_line words
 -- all notes, the last line where it says something
 abbrev pub notes_of : Remarks → List Line
 notes_of notes = notes.lines ++ note_or_none notes.line
+
+-- there is at least one
+abbrev pub IsSaid : Remarks → Type 0
+IsSaid notes = 0 < length (notes_of notes)

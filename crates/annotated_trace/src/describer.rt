@@ -12,9 +12,10 @@ use trace_text::trace_observer::TraceObserver;
 /// Finds the words of an annotated trace, and knows which rows are told of. What it says is free: `Notes`, `Words` and
 /// `ClosingPage` keep the form. `O` is the trace that it reads of, as `Live<A, C>`.
 pub trait Describer<A: Allocator, O: TraceObserver<A>>: Drop {
-    ghost use Rattle.std.specs.Prelude.{◌≡◌, ℕ, ◌++◌, ◌∷◌, [], List, IfOk, OnOk};
+    ghost use Rattle.std.specs.Prelude.{◌≡◌, ℕ, ◌++◌, ◌∷◌, [], List, IfOk, OnOk, true};
     ghost use Rattle.line_model.specs.text.Text.{Line, ended_lines};
     ghost use Rattle.annotated_trace.specs.Marking.{IsToldRightly};
+    ghost use Rattle.annotated_trace.specs.Wording.{IsSaid};
     ghost use Rattle.annotated_trace.specs.declared.rows.Rows.{Rows as AnyRows};
 
     /// It has described these lines.
@@ -32,13 +33,14 @@ pub trait Describer<A: Allocator, O: TraceObserver<A>>: Drop {
         ensures described { described self.new [] }
         ensures rows { rows self.new ≡ rows self.old };
 
-    /// Says what a line did, which the trace has just taken, and whether it writes a row that is told of: where it does
-    /// not, what was said is left out.
+    /// Says what a line did, which the trace has just taken, and returns whether it writes a row that is described: of such
+    /// a row at least one comment is said. Of another line what was said is left out.
     fn describe(&mut self, trace: &O, notes: &mut Notes<A>) -> Result<bool, AllocError>
         ensures told { (before : List Line) (line : Line) (text : List ℕ)
             → described self.old before → O.stands_for trace.now text
             → ended_lines text ≡ before ++ line ∷ []
             → IfOk result (IsToldRightly (rows self.old) before line) }
+        ensures said { IfOk result (λ told. told ≡ true → IsSaid notes.new) }
         ensures described { (before : List Line) (line : Line) (text : List ℕ)
             → described self.old before → O.stands_for trace.now text
             → ended_lines text ≡ before ++ line ∷ []

@@ -145,7 +145,7 @@ impl<A: Allocator> Model for Notes<A> {
 }
 
 impl<A: Allocator + Copy> Notes<A> {
-    ghost use Rattle.annotated_trace.specs.Wording.{AreNotes, Remarks, ended_notes};
+    ghost use Rattle.annotated_trace.specs.Wording.{AreNotes, IsSaid, Remarks, ended_notes};
 
     /// No notes. It takes no memory.
     pub fn new(alloc: A) -> Self
@@ -198,6 +198,7 @@ impl<A: Allocator + Copy> Notes<A> {
     /// Ends the last line, and begins a further one. For want of memory nothing has changed.
     pub fn next(&mut self) -> Result<(), AllocError>
         ensures ok { OnOk result (self.new ≡ ended_notes self.old) }
+        ensures said { OnOk result (IsSaid self.new) }
         ensures same { OnErr result (self.new ≡ self.old) }
     {
         let ended = self.lines.len();

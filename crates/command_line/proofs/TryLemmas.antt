@@ -33,7 +33,7 @@ tried_status text left asked before after well (suc m) status h s =
       range = omega (arith, is);
     }
 
-other_status : (text : List ℕ) (left asked before after : Option (List ℕ)) (well : Type 0) (f : Fault) (status : ℕ) → status ≡ 3 → status ≡ fault_status f → IsRefusedBy 0 (IsRefusal 0) text left asked f → ((after ≡ before) ⊎ ((¬ well) × HasTriedPart before after))
+other_status : (text : List ℕ) (left asked before after : Option (List ℕ)) (well : Type 0) (f : Fault) (status : ℕ) → status ≡ 3 → status ≡ fault_status f → IsRefusedBy 0 (IsRefusal 0) text left asked f → ((after ≡ before) ⊎ ((¬ well) × HasTriedPart text before after))
     → IsTryStatus text left asked before after well status
 other_status text left asked before after well f status is s r taken = record {
   clean = λ e. absurd (omega (arith, e, is));
@@ -43,7 +43,7 @@ other_status text left asked before after well f status is s r taken = record {
   range = omega (arith, is);
 }
 
-pub refused_try : (text : List ℕ) (left asked before after : Option (List ℕ)) (well : Type 0) (f : Fault) (status : ℕ) → IsRefusedBy 0 (IsRefusal 0) text left asked f → (f ≢ Write → after ≡ before) → (f ≡ Write → HasTriedPart before after) → (f ≡ Write → ¬ well)
+pub refused_try : (text : List ℕ) (left asked before after : Option (List ℕ)) (well : Type 0) (f : Fault) (status : ℕ) → IsRefusedBy 0 (IsRefusal 0) text left asked f → (f ≢ Write → after ≡ before) → (f ≡ Write → HasTriedPart text before after) → (f ≡ Write → ¬ well)
     → status ≡ fault_status f → IsTryStatus text left asked before after well status
 refused_try text left asked before after well (Trace line kind) status r same part failed s = record {
   clean = λ e. absurd (omega (arith, e, s));

@@ -18,7 +18,7 @@ pub record IsTryStopped (text : List ℕ) (left asked before after : Option (Lis
   pub cause : Fault
   pub other : fault_status cause ≡ 3
   pub refusal : IsRefusedBy 0 (IsRefusal 0) text left asked cause
-  pub taken : (after ≡ before) ⊎ ((¬ well) × HasTriedPart before after)
+  pub taken : (after ≡ before) ⊎ ((¬ well) × HasTriedPart text before after)
 
 -- what the status says of a text: `well` says that the sink did not fail
 pub record IsTryStatus (text : List ℕ) (left asked before after : Option (List ℕ)) (well : Type 0) (status : ℕ) : Type 0 where

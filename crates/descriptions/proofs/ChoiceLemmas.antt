@@ -118,11 +118,11 @@ told_as rows head before (Some r) told h = same told (is_chosen_if rows head bef
 -- what the describer says
 
 pub rightly_none : (rows : Rows) (before : List Line) (l : Line) → None ≡ told_where rows (head_of before) (rows_in before) (row_written before l) → IsToldRightly rows before l false
-rightly_none All before l h = tt
+rightly_none All before l h = λ chosen. not_told All (head_of before) (rows_in before) (row_written before l) h ∙ chosen
 rightly_none (Some_rows channel call) before l h = not_told (Some_rows channel call) (head_of before) (rows_in before) (row_written before l) h
 
 pub rightly_some : (rows : Rows) (before : List Line) (l : Line) (told : Bool) → Some told ≡ told_where rows (head_of before) (rows_in before) (row_written before l) → IsToldRightly rows before l told
-rightly_some All before l told h = tt
+rightly_some All before l told h = λ chosen. told_as All (head_of before) (rows_in before) (row_written before l) told h ∙ chosen
 rightly_some (Some_rows channel call) before l told h = told_as (Some_rows channel call) (head_of before) (rows_in before) (row_written before l) told h
 
 -- ---- what is known of options

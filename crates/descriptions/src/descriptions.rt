@@ -107,6 +107,7 @@ impl<A: Allocator + Copy, C: Channel<A>> Describer<A, Live<A, C>> for Descriptio
             return Ok(false);
         };
         self.past.say_row(trace, notes)?;
+        notes.next()?;
         Ok(told)
     }
 

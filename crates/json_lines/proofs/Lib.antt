@@ -2,3 +2,4 @@ pub mod JsonLemmas
 pub mod StandingLemmas
 pub mod MemberLemmas
 pub mod ObjectLemmas
+pub mod ReportLemmas

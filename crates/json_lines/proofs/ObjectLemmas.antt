@@ -1,5 +1,5 @@
 -- The object of a line that is known by its words.
-use Rattle.std.proofs.Common.{◌≡◌, ℕ, ◌<◌, Bool, true, false, List, [], ◌∷◌, ◌++◌, length, refl, sym, ap, ◌∙◌, arith, append_assoc, length-append, cond, ◌||◌}
+use Rattle.std.proofs.Common.{◌≡◌, ℕ, ◌<◌, Bool, true, false, List, [], ◌∷◌, ◌++◌, length, refl, sym, ap, subst, ◌∙◌, arith, append_assoc, length-append, cond, ◌||◌}
 use Rattle.std.proofs.lemmas.Grind.{flat_map-append}
 use Rattle.std.proofs.lemmas.Bool.Decides.{nat_tests}
 use Rattle.std.specs.Prelude.{nat_le, ◌==◌}
@@ -81,3 +81,17 @@ lines_objects ((word ∷ words) ∷ lines) h =
     ∙ ap (λ l. json_text l ++ json_text rest) (sym (line_joined word words))
     ∙ ap (λ o. o ++ json_text rest) (line_object (word ∷ words) h.0)
     ∙ ap (λ o. object_of (word ∷ words) ++ o) (lines_objects lines h.1)
+
+-- they have room for their words
+pub lines_short : (lines : List (List (List ℕ))) → AllByRecursion IsLine lines → AllByRecursion (λ l. length l < line_room) (ended_lines (flat_map line lines))
+lines_short [] h = tt
+lines_short ([] ∷ lines) h = absurd (h.0)
+lines_short ((word ∷ words) ∷ lines) h =
+    let rest : List ℕ = flat_map line lines in
+    let text : List ℕ = joined word words in
+    let lacks = joined_lacks word words h.0.0 in
+    let size : length text < line_room = omega (arith, h.0.1, ap (λ (l : List ℕ). length l) (line_joined word words), length-append text (10 ∷ [])) in
+    let own : ended_lines (text ++ 10 ∷ []) ≡ text ∷ [] = ended-lf text ∙ (λ t. ended-more [] text lacks t ++ begun-more [] text lacks t ∷ []) in
+    let all : ended_lines (line (word ∷ words) ++ rest) ≡ text ∷ ended_lines rest =
+    ap (λ l. ended_lines (l ++ rest)) (line_joined word words) ∙ ap ended_lines (append_assoc text (10 ∷ []) rest) ∙ ended_apart text rest ∙ ap (λ ls. ls ++ ended_lines rest) own in
+    subst (λ ls. AllByRecursion (λ (l : Line). length l < line_room) ls) (sym all) (size, lines_short lines h.1)

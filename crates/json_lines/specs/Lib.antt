@@ -3,3 +3,4 @@ pub mod Shown
 pub mod Json
 pub mod Standing
 pub mod Cuts
+pub mod Reports

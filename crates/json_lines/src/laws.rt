@@ -1,10 +1,13 @@
 //! What holds of the definitions alone.
 
-ghost use Rattle.std.specs.Prelude.{◌≡◌, [], ◌∷◌, ◌++◌, ℕ, List, flat_map};
+ghost use Rattle.std.specs.Prelude.{◌≡◌, ◌<◌, [], ◌∷◌, ◌++◌, ℕ, List, flat_map, length};
 ghost use Rattle.std.specs.List.{AllByRecursion};
-ghost use Rattle.line_model.specs.observer.Report.{line};
+ghost use Rattle.line_model.specs.basics.Records.{Report};
+ghost use Rattle.line_model.specs.observer.Report.{line, text_of};
+ghost use Rattle.line_model.specs.text.Text.{ended_lines};
 ghost use Rattle.json_lines.specs.Cuts.{IsLine};
-ghost use Rattle.json_lines.specs.Json.{json_text, object_of};
+ghost use Rattle.json_lines.specs.Json.{json_text, line_room, object_of};
+ghost use Rattle.json_lines.specs.Reports.{IsHeld, IsKnown, report_words};
 
 /// The objects of a text stand first among those of each text that goes on from it. So what a sink took of the objects
 /// of a first part of a report, it took of those of the report.
@@ -29,4 +32,14 @@ pub fn objects_of_lines()
 pub fn line_by_line()
     ensures { (text more : List ℕ) → json_text (text ++ 10 ∷ more) ≡ json_text (text ++ 10 ∷ [])
         ++ json_text more }
+{}
+
+/// No line of a report has 256 octets, and each begins with a letter of the table. So each becomes the object of its words,
+/// and none that of an unknown line.
+pub fn objects_of_report()
+    ensures short { (r : Report) → IsHeld r
+        → AllByRecursion (λ l. length l < line_room) (ended_lines (text_of r)) }
+    ensures objects { (r : Report) → IsHeld r
+        → json_text (text_of r) ≡ flat_map object_of (report_words r) }
+    ensures known { (r : Report) → AllByRecursion IsKnown (report_words r) }
 {}

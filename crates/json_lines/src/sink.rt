@@ -22,9 +22,12 @@ pub struct JsonSink<S: LentSink> {
 }
 
 impl<S: LentSink> JsonSink<S> {
-    ghost use Rattle.std.specs.Prelude.{◌++◌, ◌<◌, ◌≤◌, OnOk, IfErr, Some, Err};
+    ghost use Rattle.std.specs.Prelude.{◌++◌, ◌<◌, ◌≤◌, OnOk, IfErr, Some, Err, flat_map};
     ghost use Rattle.line_model.specs.basics.Device.{with_more};
-    ghost use Rattle.json_lines.specs.Json.{json_text};
+    ghost use Rattle.line_model.specs.basics.Records.{Report};
+    ghost use Rattle.line_model.specs.observer.Report.{text_of};
+    ghost use Rattle.json_lines.specs.Json.{json_text, object_of};
+    ghost use Rattle.json_lines.specs.Reports.{IsHeld, report_words};
 
     /// Nothing was taken yet. The sink is as it was lent.
     pub fn new(sink: S) -> Self
@@ -39,10 +42,15 @@ impl<S: LentSink> JsonSink<S> {
     }
 
     /// Gives the sink back, with `Write` where it has failed. It took the objects of all lines that were taken and have
-    /// ended, or it has failed and took a first part of them. A line that has not ended is not told.
+    /// ended, or it has failed and took a first part of them. A line that has not ended has no object.
     pub fn finish(self) -> (S, Result<(), Fault>)
         ensures ok { (text : List ℕ) → ⟦<JsonSink<S> as Sink>⟧.taken self ≡ Some text
             → OnOk result.1 (S.taken result.0 ≡ with_more S.before.0 (json_text text)) }
+        // Of a report none is that of an unknown line: each is that of the words of its line.
+        ensures report { (r : Report) → IsHeld r
+            → ⟦<JsonSink<S> as Sink>⟧.taken self ≡ Some (text_of r)
+            → OnOk result.1 (S.taken result.0
+            ≡ with_more S.before.0 (flat_map object_of (report_words r))) }
         ensures part { (text : List ℕ) → ⟦<JsonSink<S> as Sink>⟧.taken self ≡ Some text
             → (front : List ℕ) × (rest : List ℕ) × (json_text text ≡ front ++ rest)
             × (S.taken result.0 ≡ with_more S.before.0 front) }

@@ -77,6 +77,14 @@ told_first r w before old new text all written out same h e ok err =
       part.3 ∙ ap (λ o. with_more o part.0) h ∙ with_more-append before (found_text text) part.0 ∙ ap (with_more before) (front_of front back (found_text all) whole),
     )
 
+-- the sink took all that came
+pub told_all : {T : Type 0} → (w : Result T Fault) (before old new : Option (List ℕ)) (text all : List ℕ) (written out : List Finding) → written ≡ out → HasFindings before old text → HasFound [] out (found text) (found all)
+    → OnOk w (new ≡ with_more old (findings_text written)) → OnOk w (HasFindings before new all)
+told_all (Ok x) before old new text all written out same h e ok =
+    ok ∙ ap (λ o. with_more o (findings_text written)) h ∙ with_more-append before (found_text text) (findings_text written)
+    ∙ ap (with_more before) (ap (λ xs. found_text text ++ findings_text xs) same ∙ sym (lines_more (found text) out) ∙ ap findings_text (sym (found_here out (found text) (found all) e)))
+told_all (Err f) before old new text all written out same h e ok = tt
+
 pub text_report : (f : Fault) → IsTextFault f → IsReportFault f
 text_report Memory h = tt
 text_report (Trace line kind) h = tt

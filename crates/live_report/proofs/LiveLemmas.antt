@@ -1,6 +1,7 @@
 -- A trace that is fed: its first row begins the observer.
-use Rattle.std.proofs.Common.{◌≡◌, ◌∙◌, sym, ap, subst, ℕ, true, List, [], ◌∷◌, ◌++◌, Some, None, Result, Ok, Err, OnOk, append_assoc}
-use Rattle.std.specs.Prelude.{IfSome}
+use Rattle.std.proofs.Common.{◌≡◌, ◌∙◌, sym, ap, subst, ℕ, true, List, [], ◌∷◌, ◌++◌, Option, Some, None, Result, Ok, Err, OnOk, append_assoc}
+use Rattle.std.specs.Prelude.{IfErr, IfSome}
+use Rattle.std.specs.Result.{result_err}
 use Rattle.line_model.specs.declared.interface.Interface.{Interface}
 use Rattle.line_model.specs.channels.Channels.{Channel}
 use Rattle.line_model.specs.basics.Records.{ReadRow}
@@ -16,7 +17,7 @@ use Rattle.trace_text.proofs.RefusalLemmas.{head_stands, known-here}
 use Rattle.live_report.specs.declared.live.Live.{Live}
 use Rattle.live_report.specs.declared.observer.Observer.{Observer}
 use Rattle.live_report.specs.Observing.{AreItems, StandsFor as IsObserverOf}
-use Rattle.live_report.specs.Lives.{IsObserved, IsObserving, StandsFor}
+use Rattle.live_report.specs.Lives.{IsLastRow, IsObserved, IsObserving, StandsFor}
 use Rattle.live_report.specs.Found.{HasFound, IsFoundBy, IsFoundUpTo, found, found_at}
 use Rattle.live_report.proofs.FoundLemmas.{found_none, found_under, found_unheaded, nothing_found}
 use Rattle.live_report.proofs.ChunkLemmas.{ReadsRow, next_items, next_rows, observed_row}
@@ -26,6 +27,23 @@ use Rattle.line_model.specs.packets.Says.{item_read, items_of}
 pub on_both : {T E : Type 0} (r : Result T E) (P Q : Type 0) → OnOk r P → OnOk r Q → OnOk r (P × Q)
 on_both (Ok x) P Q p q = (p, q)
 on_both (Err e) P Q p q = tt
+
+pub on_under : {T E : Type 0} (r : Result T E) (Q P : Type 0) → (Q → OnOk r P) → OnOk r (Q → P)
+on_under (Ok x) Q P h = h
+on_under (Err e) Q P h = tt
+
+-- a result without a fault, and the fault of one
+pub ok_by : {T : Type 0} → (r : Result T Fault) (P : Type 0) → OnOk r P → result_err r ≡ None → P
+ok_by (Ok x) P h none = h
+ok_by (Err f) P h none = absurd (let bad : Some f ≡ None = none in cc)
+
+pub on_sound : {T : Type 0} → (r : Result T Fault) (o : Option Fault) (P Q : Type 0) → o ≡ result_err r → OnOk r P → (P → o ≡ None → Q) → OnOk r Q
+on_sound (Ok x) o P Q e h to = to h e
+on_sound (Err f) o P Q e h to = tt
+
+pub fault_of : {T : Type 0} → (r : Result T Fault) (P : Fault → Type 0) → IfErr r P → IfSome (result_err r) P
+fault_of (Ok x) P h = tt
+fault_of (Err f) P h = h
 
 pub observing_of : {A C : Type 0} → (I : C → Interface) (N : C → ℕ) (S : C → Channel → Type 0) (live : Live A C) (text : List ℕ) (o : Observer A C) → StandsFor I N S live text → live.observer ≡ Some o
     → (i : Interface) × IsObserving I N S i text live.lines o
@@ -39,12 +57,13 @@ keeps_rows I N S live text o s keeps h = subst (λ x. IfSome x (λ z. z.keeps_ro
 pub nothing_seen : {A C : Type 0} → (I : C → Interface) (N : C → ℕ) (S : C → Channel → Type 0) (live : Live A C) (text : List ℕ) → StandsFor I N S live text → live.observer ≡ None → early_rows text ≡ []
 nothing_seen I N S live text s h = subst (IsObserved I N S text live.lines.interface) h s.observed
 
-pub stands_observing : {A C : Type 0} → (I : C → Interface) (N : C → ℕ) (S : C → Channel → Type 0) (i : Interface) (live : Live A C) (text : List ℕ) (o : Observer A C) → IsObserving I N S i text live.lines o → live.observer ≡ Some o → live.refused ≡ None → o.keeps_rows ≡ live.keeps_rows → StandsFor I N S live text
-stands_observing I N S i live text o w h running keeps = record {
+pub stands_observing : {A C : Type 0} → (I : C → Interface) (N : C → ℕ) (S : C → Channel → Type 0) (i : Interface) (live : Live A C) (text : List ℕ) (o : Observer A C) → IsObserving I N S i text live.lines o → live.observer ≡ Some o → live.refused ≡ None → o.keeps_rows ≡ live.keeps_rows → (live.keeps_rows ≡ true → IsLastRow (early_rows text) live.rows.last) → StandsFor I N S live text
+stands_observing I N S i live text o w h running keeps last = record {
   reads = w.reads;
   running = running;
   observed = subst (IsObserved I N S text live.lines.interface) (sym h) (i, w.header, w.observes);
   keeps = subst (λ x. IfSome x (λ z. z.keeps_rows ≡ live.keeps_rows)) (sym h) keeps;
+  last = last;
 }
 
 -- the first row may come

@@ -1,5 +1,5 @@
 -- A trace that is fed in chunks: what was read of it, and the observer of its rows.
-use Rattle.std.specs.Prelude.{◌≡◌, ℕ, true, List, [], ◌++◌, Option, Some, None, Result, IfErr, IfSome, OnOk}
+use Rattle.std.specs.Prelude.{◌≡◌, ℕ, true, List, [], ◌∷◌, ◌++◌, Option, Some, None, Result, IfErr, IfSome, OnOk}
 use Rattle.line_model.specs.channels.Channels.{Channel}
 use Rattle.line_model.specs.declared.fault.Fault.{Fault}
 use Rattle.line_model.specs.text.Text.{early, early_rows}
@@ -10,7 +10,12 @@ use Rattle.channel_run.specs.declared.run.Channel.{Ghosts as Machine}
 use Rattle.live_report.specs.declared.observer.Observer.{Observer}
 use Rattle.live_report.specs.declared.live.Live.{Live}
 use Rattle.live_report.specs.Observing.{StandsFor as IsObserverOf}
-use Rattle.line_model.specs.packets.Says.{items_of}
+use Rattle.line_model.specs.basics.Records.{ReadRow, Row}
+use Rattle.line_model.specs.packets.Says.{items_of, read_row}
+
+-- of rows, where there are any, this is the last one as it was read
+abbrev pub IsLastRow : List Row → ReadRow → Type 0
+IsLastRow rows read = (before : List Row) (row : Row) → rows ≡ before ++ row ∷ [] → read ≡ read_row row
 
 -- a reader was fed a text, and an observer of its interface took the rows of the lines that an LF ended
 pub record IsObserving {A C : Type 0} (interface_of : C → Interface) (number_of : C → ℕ) (stands_for : C → Channel → Type 0)
@@ -30,6 +35,7 @@ pub record StandsFor {A C : Type 0} (interface_of : C → Interface) (number_of 
   pub running : live.refused ≡ None
   pub observed : IsObserved interface_of number_of stands_for text live.lines.interface live.observer
   pub keeps : IfSome live.observer (λ o. o.keeps_rows ≡ live.keeps_rows)
+  pub last : live.keeps_rows ≡ true → IsLastRow (early_rows text) live.rows.last
 
 -- it was fed some text, or it refused
 pub record IsFed {A C : Type 0} (interface_of : C → Interface) (number_of : C → ℕ) (stands_for : C → Channel → Type 0) (live : Live A C) : Type 0 where

@@ -10,5 +10,6 @@ pub mod live;
 mod live_observer;
 pub mod observer;
 mod observing;
+mod read_rows;
 mod reporting;
 pub mod uncounted;

@@ -2,19 +2,20 @@
 
 ghost use Rattle.std.specs.Prelude.{◌≡◌, ◌≢◌, ℕ, ◌+◌, ◌<◌, ◌≤◌, ◌^◌, ◌++◌, [], List, Some, None, Err, length, IfErr, IfOk, OnOk};
 ghost use Rattle.std.specs.Option.{option_map};
-ghost use Rattle.line_model.specs.text.Text.{ended_lines, fault};
+ghost use Rattle.line_model.specs.text.Text.{early_rows, ended_lines, fault};
 ghost use Rattle.line_model.specs.traces.Traces.{trace_report};
 ghost use Rattle.trace_text.specs.Progress.{bytes_fed};
 ghost use Rattle.trace_text.specs.StandsFor.{IsFaultOf, IsTextFault};
 ghost use Rattle.trace_text.specs.EndedPart.{ended_part};
 ghost use Rattle.live_report.specs.Found.{IsFoundBy, found};
-ghost use Rattle.live_report.specs.Lives.{IsFed, IsFedOn, KeepsRowsOf, OfFed, RefusesEarly, WasFed};
+ghost use Rattle.live_report.specs.Lives.{IsFed, IsFedOn, IsLastRow, KeepsRowsOf, OfFed, RefusesEarly, WasFed};
 ghost use Rattle.live_report.specs.Reports.{IsMissing, IsRefusal, IsReportFault, IsReported, IsTaken};
 ghost use Rattle.live_report.specs.Uncounted.{trace_uncounted};
 ghost use Rattle.trace_text.specs.ObserverAnswers.{IsReportOf};
 
 use crate::observer::Observer;
 use crate::observing::{finish_observing, observe_chunk};
+use crate::read_rows::ReadRows;
 use crate::uncounted::Uncounted;
 use channel_run::run::Channel;
 use line_model::device::Sink;
@@ -23,7 +24,6 @@ use line_model::finding::Finding;
 use line_model::interface::Interface;
 use line_model::report::Report;
 use line_model::row::ReadRow;
-use line_model::state::Side;
 use line_model::totals::Summary;
 use report_merge::text::write_report;
 use restart_epochs::walk::append_finding;
@@ -35,8 +35,7 @@ use trace_text::lines::{Lines, TextEnd};
 #[derive(Drop)]
 pub struct Live<A: Allocator, C: Channel<A>> {
     lines: Lines<A>,
-    /// The last row, whose room the next one uses.
-    row: ReadRow<A>,
+    rows: ReadRows<A>,
     /// Whether the observer keeps the row that it took last.
     keeps_rows: bool,
     /// Made once the first row was read.
@@ -71,12 +70,7 @@ impl<A: Allocator + Copy, C: Channel<A>> Live<A, C> {
     {
         Live {
             lines: Lines::new(alloc),
-            row: ReadRow {
-                number: 0,
-                side: Side::T,
-                length: 0,
-                octets: Vec::new(alloc),
-            },
+            rows: ReadRows::new(alloc),
             keeps_rows,
             observer: None,
             found: Vec::new(alloc),
@@ -91,11 +85,12 @@ impl<A: Allocator + Copy, C: Channel<A>> Live<A, C> {
         self.lines.interface()
     }
 
-    /// The last row that was taken; what it holds where there is none is not said.
+    /// The last row of what was fed, as it was read, where rows are kept; what it holds where there is none is not said.
     pub fn row(&self) -> &ReadRow<A>
-        ensures { result.now ≡ self.now.row }
+        ensures last { (text : List ℕ) → KeepsRowsOf C.Channel text self.now
+            → IsLastRow (early_rows text) result.now }
     {
-        &self.row
+        &self.rows.last
     }
 
     /// The observer of the rows so far, once there is one.
@@ -132,7 +127,7 @@ impl<A: Allocator + Copy, C: Channel<A>> Live<A, C> {
             return observe_chunk(
                 chunk,
                 &mut self.lines,
-                &mut self.row,
+                &mut self.rows,
                 observer,
                 &mut self.found,
             );
@@ -157,20 +152,22 @@ impl<A: Allocator + Copy, C: Channel<A>> Live<A, C> {
         ensures limit { OnOk result (bytes_fed self.new.lines ≤ 2 ^ 30) }
         ensures kinds { IfErr result IsTextFault }
     {
-        let rest = match self.lines.next_row(chunk, &mut self.row)? {
+        let rest = match self.lines.next_row(chunk, &mut self.rows.next)? {
             Some(rest) => rest,
             None => return Ok(()),
         };
         let Some(interface) = self.lines.interface() else {
             return Ok(());
         };
-        let mut observer = Observer::new(*self.row.octets.allocator(), &interface, self.keeps_rows);
-        let first = observer.take(&self.row)?;
+        let alloc = *self.rows.next.octets.allocator();
+        let mut observer = Observer::new(alloc, &interface, self.keeps_rows);
+        let first = observer.take(&self.rows.next)?;
         append_finding(&mut self.found, first)?;
+        self.rows.keep_next(self.keeps_rows);
         observe_chunk(
             rest,
             &mut self.lines,
-            &mut self.row,
+            &mut self.rows,
             &mut observer,
             &mut self.found,
         )?;
@@ -227,7 +224,11 @@ impl<A: Allocator + Copy, C: Channel<A>> Live<A, C> {
         let interface = self.lines.ended_header()?;
         match &self.observer {
             Some(observer) => observer.report(),
-            None => Observer::<A, C>::new(*self.row.octets.allocator(), &interface, false).end(),
+            None => Observer::<A, C>::new(
+                *self.rows.next.octets.allocator(),
+                &interface,
+                false,
+            ).end(),
         }
     }
 
@@ -270,7 +271,7 @@ impl<A: Allocator + Copy, C: Channel<A>> Live<A, C> {
     {
         let Live {
             lines,
-            mut row,
+            rows,
             observer,
             refused,
             ..
@@ -278,6 +279,7 @@ impl<A: Allocator + Copy, C: Channel<A>> Live<A, C> {
         if let Some(fault) = refused {
             return Err(fault);
         }
+        let mut row = rows.next;
         let TextEnd { interface, has_row } = lines.end_row(&mut row)?;
         let alloc = *row.octets.allocator();
         match observer {

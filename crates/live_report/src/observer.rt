@@ -141,6 +141,14 @@ impl<A: Allocator + Copy, C: Channel<A>> Observer<A, C> {
         }
     }
 
+    /// Whether it keeps the row that it took last.
+    #[inline(always)]
+    pub(crate) fn keeps_rows(&self) -> bool
+        ensures { result ≡ self.now.keeps_rows }
+    {
+        self.keeps_rows
+    }
+
     /// The state of the restart machine.
     pub fn restart_state(&self) -> RState
         ensures { result ≡ self.now.walk.machine.state }

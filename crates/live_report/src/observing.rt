@@ -1,16 +1,17 @@
 //! A chunk of a trace, row by row.
 
-ghost use Rattle.std.specs.Prelude.{◌≡◌, ◌+◌, ◌≤◌, ◌^◌, ◌++◌, ◌∷◌, [], length, IfErr, OnOk};
-ghost use Rattle.line_model.specs.text.Text.{early};
+ghost use Rattle.std.specs.Prelude.{◌≡◌, ◌+◌, ◌≤◌, ◌^◌, ◌++◌, ◌∷◌, [], length, true, IfErr, OnOk};
+ghost use Rattle.line_model.specs.text.Text.{early, early_rows};
 ghost use Rattle.line_model.specs.declared.fault.Fault.TheVariants.{Memory};
 ghost use Rattle.trace_text.specs.Progress.{bytes_fed};
 ghost use Rattle.trace_text.specs.StandsFor.{IsFaultOf, IsTextFault};
 ghost use Rattle.live_report.specs.Found.{IsFoundBy, found_at};
-ghost use Rattle.live_report.specs.Lives.{ObservesSome, OfObserved, Observes};
+ghost use Rattle.live_report.specs.Lives.{IsLastRow, ObservesSome, OfObserved, Observes};
 ghost use Rattle.line_model.specs.packets.Says.{item_read};
 ghost use Rattle.live_report.specs.Observing.{LeavesOutWith, MayWalk, ReturnsReportWith, last_item};
 
 use crate::observer::Observer;
+use crate::read_rows::ReadRows;
 use crate::uncounted::Uncounted;
 use channel_run::run::Channel;
 use line_model::fault::Fault;
@@ -21,12 +22,12 @@ use restart_epochs::walk::append_finding;
 use std::alloc::Allocator;
 use trace_text::lines::Lines;
 
-/// Has an observer take the rows of a chunk, each in the place of the one before it, and appends what they find.
+/// Has an observer take the rows of a chunk, and appends what they find.
 #[inline(always)]
 pub fn observe_chunk<A: Allocator + Copy, C: Channel<A>>(
     chunk: &[u8],
     lines: &mut Lines<A>,
-    row: &mut ReadRow<A>,
+    rows: &mut ReadRows<A>,
     observer: &mut Observer<A, C>,
     found: &mut Vec<Finding, A>,
 ) -> Result<(), Fault>
@@ -38,6 +39,9 @@ pub fn observe_chunk<A: Allocator + Copy, C: Channel<A>>(
     ensures found { OfObserved C.Channel lines.old observer.old (λ i text.
         IsFoundBy result found.old.items found.new.items
         (found_at i text) (found_at i (text ++ chunk.now))) }
+    ensures last { OfObserved C.Channel lines.old observer.old (λ i text.
+        observer.old.keeps_rows ≡ true → IsLastRow (early_rows text) rows.old.last
+        → OnOk result (IsLastRow (early_rows (text ++ chunk.now)) rows.new.last)) }
     ensures few { length found.new.items ≤ length found.old.items + length chunk.now }
     ensures keeps { OnOk result (observer.new.keeps_rows ≡ observer.old.keeps_rows) }
     ensures size { OnOk result (bytes_fed lines.new ≡ bytes_fed lines.old + length chunk.now) }
@@ -46,10 +50,11 @@ pub fn observe_chunk<A: Allocator + Copy, C: Channel<A>>(
 {
     let mut rest = chunk;
     while !rest.is_empty() {
-        let Some(after) = lines.next_row(rest, row)? else {
+        let Some(after) = lines.next_row(rest, &mut rows.next)? else {
             return Ok(());
         };
-        append_finding(found, observer.take(row)?)?;
+        append_finding(found, observer.take(&rows.next)?)?;
+        rows.keep_next(observer.keeps_rows());
         rest = after;
     }
     Ok(())

@@ -22,11 +22,10 @@ use std::process::Abort;
 use tests_devices::{CutSink, CutSource, Cuts};
 use trace_text::trace_observer::TraceObserver;
 
-/// Numbers lines, and says so of each from one of them on.
+/// Numbers lines, and says so of each.
 #[derive(Drop)]
 struct Numbered {
     lines: u64,
-    first: u64,
 }
 
 impl<A: Allocator + Copy, O: TraceObserver<A>> Describer<A, O> for Numbered {
@@ -44,7 +43,8 @@ impl<A: Allocator + Copy, O: TraceObserver<A>> Describer<A, O> for Numbered {
         self.lines = self.lines.wrapping_add(1);
         notes.say("line\n")?;
         notes.number(self.lines)?;
-        Ok(self.lines >= self.first)
+        notes.next()?;
+        Ok(true)
     }
 
     fn explain(
@@ -89,9 +89,9 @@ where
 }
 
 /// The annotation of a trace that comes in pieces of so many bytes, with the numbers of its lines.
-fn annotated(alloc: Global, text: &[u8], step: usize, first: u64) -> Answer {
+fn annotated(alloc: Global, text: &[u8], step: usize) -> Answer {
     let cuts = Cuts::of_steps(step, step);
-    let describer = Numbered { lines: 0, first };
+    let describer = Numbered { lines: 0 };
     annotated_by(alloc, alloc, text, cuts, describer)
 }
 
@@ -127,7 +127,7 @@ const ANNOTATED: &[u8] =
 
 /// Annotates the trace as its source cuts it, and reads what was written again.
 fn check_step(rt: &impl Abort, alloc: Global, step: usize) {
-    let answer = annotated(alloc, TRACE, step, 0);
+    let answer = annotated(alloc, TRACE, step);
     agree(rt, &answer, None, ANNOTATED);
     let again = report(alloc, answer.bytes.as_slice());
     agree(rt, &again, None, REPORT);

@@ -123,8 +123,7 @@ pub record HasTried (text : List ℕ) (before after : Option (List ℕ)) (findin
   pub taken : after ≡ with_more before bytes
 
 -- or it failed, and took a first part of them
-pub record HasTriedPart (before after : Option (List ℕ)) : Type 0 where
-  pub text : List ℕ
+pub record HasTriedPart (text : List ℕ) (before after : Option (List ℕ)) : Type 0 where
   pub bytes : List ℕ
   pub findings : ℕ
   pub lines : AreTriedLines text bytes findings

@@ -32,7 +32,7 @@ fn write_tried<A: Allocator + Copy, C: Channel<A>, K: Sink>(
     ensures write_failed { result ≡ Err Fault.Write → K.failures sink.old < K.failures sink.new }
     ensures unwritten { IfErr result (λ fault. fault ≢ Fault.Write → sink.new ≡ sink.old) }
     ensures part { (x : List ℕ) → HasTaken C.Channel x text
-        → result ≡ Err Fault.Write → HasTriedPart (K.taken sink.old) (K.taken sink.new) }
+        → result ≡ Err Fault.Write → HasTriedPart x (K.taken sink.old) (K.taken sink.new) }
 {
     let trials = text.end()?;
     let tried = best_first(alloc, trials.as_slice())?;
@@ -62,8 +62,12 @@ pub fn try_headers<A: Allocator + Copy, S: Source, K: Sink>(
     ensures write_failed { result ≡ Err Fault.Write → K.failures sink.old < K.failures sink.new }
     // The sink is not asked before the whole text was accepted.
     ensures unwritten { IfErr result (λ fault. fault ≢ Fault.Write → sink.new ≡ sink.old) }
-    // Where the sink failed, it took a first part of the lines of a text without a fault.
-    ensures part { result ≡ Err Fault.Write → HasTriedPart (K.taken sink.old) (K.taken sink.new) }
+    // Where the sink failed, it took a first part of these lines.
+    ensures part { (text : List ℕ) → S.left source.old ≡ Some text → result ≡ Err Fault.Write
+        → HasTriedPart text (K.taken sink.old) (K.taken sink.new) }
+    // With a source that does not tell its bytes, it took a first part of the lines of some text.
+    ensures part_of_text { result ≡ Err Fault.Write → (text : List ℕ)
+        × HasTriedPart text (K.taken sink.old) (K.taken sink.new) }
     // The source is asked at least once.
     ensures called { S.calls source.old < S.calls source.new }
     ensures asked { S.calls source.new ≤ S.calls source.old + (2 ^ 30 + 1) }

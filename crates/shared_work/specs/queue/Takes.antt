@@ -3,17 +3,17 @@ use Rattle.std.specs.Prelude.{◌≡◌, ℕ, ◌<◌, List, ◌++◌, true, fal
 use Rattle.crossbeam_queue.specs.Fifo.{Held}
 use Rattle.line_model.specs.basics.Records.{Piece}
 use Rattle.line_model.specs.work.Book.{KnownPlan, IsPlanned}
-use Rattle.line_model.specs.work.Work.{Entry, numbers_of}
+use Rattle.line_model.specs.work.Work.{numbers_of}
 use Rattle.shared_work.specs.declared.queue.rule.Record.{Record}
 use Rattle.shared_work.specs.declared.queue.work.Taken.{Taken}
 use Rattle.shared_work.specs.declared.queue.work.Taken.TheVariants.{Got, Finish, Empty}
 use Rattle.shared_work.specs.queue.Rule.{worker, IsDrained}
 
--- each piece of a bundle is the plan's of its id, and goes into the record; an end marks the pass; an empty queue changes nothing
+-- each piece of a bundle is the plan's of its id, and goes into the record; an end marks the pass; where nothing was taken, nothing has changed
 abbrev pub IsTaken : {A : Type 0} → KnownPlan → Record → Taken A → Record → Type 0
 IsTaken plan v (Got ps) w = All (λ p. IsPlanned plan p.id p) ps × (w ≡ worker (v.taken ++ numbers_of ps) false v.fed)
 IsTaken plan v Finish w = w ≡ worker v.taken true w.fed
-IsTaken plan v Empty w = (w ≡ v) × Held {T = List Entry} 0 (λ items. Unit {0})
+IsTaken plan v Empty w = w ≡ v
 
 -- at an end: at one moment of the call ends alone stood in the queue, and each of the pieces that had been fed, so many, was taken
 abbrev pub WasDrained : {A : Type 0} → KnownPlan → Record → Taken A → ℕ → Type 0

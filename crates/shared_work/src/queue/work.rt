@@ -80,7 +80,7 @@ pub enum Taken<A: Allocator = Global> {
     Got(Bundle<A>),
     /// An end: the pass takes no more.
     Finish,
-    /// The queue was empty at one moment of the call.
+    /// Nothing, and the pass is as it was.
     Empty,
 }
 
@@ -231,9 +231,9 @@ impl<P: Plan, A: Allocator> Work<P, A> {
     }
 
     /// Takes what stands at the front: a bundle, whose pieces are the plan's of their ids and go into the record of the
-    /// pass, or an end, after which the pass takes no more. `Finish` only if at one moment of the call each piece that had been fed was
-    /// taken, and ends alone stood in the queue; the record then has how many were fed. `Empty` only if the queue was
-    /// empty at one moment of the call.
+    /// pass, or an end, after which the pass takes no more. Returns `Finish` only if at one moment of the call each piece that had
+    /// been fed was taken, and ends alone stood in the queue; the record then has how many were fed. `Empty` leaves the
+    /// record as it was.
     pub fn take<R: Wait>(&self, rt: &R, pass: &mut WorkerPass<A>) -> Taken<A>
         requires queue { pass.old.queue ≡ self.now.queue }
         requires unfinished { pass.old.record_of.finished ≡ false }

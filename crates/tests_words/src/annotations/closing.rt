@@ -22,6 +22,9 @@ use trace_text::trace_observer::TraceObserver;
 /// A row, and a last line without an LF.
 const LINES: &str = "X25 1 MOD 8 WIN 2 SIZE 128 PVC 0 SVC 4\n1 T 10010B0000";
 
+/// The same lines, each with its LF and an empty comment.
+const DESCRIBED: &str = "X25 1 MOD 8 WIN 2 SIZE 128 PVC 0 SVC 4\n# \n1 T 10010B0000\n# \n";
+
 /// Ten bytes.
 const WORDS: &str = "ten bytes ";
 
@@ -36,7 +39,7 @@ const TIMES: usize = 300;
 /// The most growths and calls of a sink that these tests look for.
 const MOST: usize = 10_000;
 
-/// Says nothing of rows; behind them a line that is longer than a line may be, and so many more.
+/// Says an empty comment of each line; after the last one a line that is longer than a line may be, and so many more.
 #[derive(Drop)]
 struct Wordy {
     times: usize,
@@ -53,8 +56,9 @@ impl<A: Allocator + Copy, O: TraceObserver<A>> Describer<A, O> for Wordy {
 
     fn begin(&mut self) {}
 
-    fn describe(&mut self, _trace: &O, _notes: &mut Notes<A>) -> Result<bool, AllocError> {
-        Ok(false)
+    fn describe(&mut self, _trace: &O, notes: &mut Notes<A>) -> Result<bool, AllocError> {
+        notes.next()?;
+        Ok(true)
     }
 
     fn explain(
@@ -77,13 +81,6 @@ impl<A: Allocator + Copy, O: TraceObserver<A>> Describer<A, O> for Wordy {
     }
 }
 
-/// The lines of the trace, each with an LF.
-fn lines(alloc: Global) -> Result<String, AllocError> {
-    let mut text = String::from_str(alloc, LINES)?;
-    text.push_str("\n")?;
-    Ok(text)
-}
-
 /// Adds words to a text so many times.
 fn push_again(text: &mut String, words: &str, times: usize) -> Result<(), AllocError> {
     for _ in 0..times {
@@ -94,7 +91,7 @@ fn push_again(text: &mut String, words: &str, times: usize) -> Result<(), AllocE
 
 /// The lines and their closing: its first line has the 8,000 bytes that there is room for.
 fn whole(alloc: Global, times: usize) -> Result<String, AllocError> {
-    let mut text = lines(alloc)?;
+    let mut text = String::from_str(alloc, DESCRIBED)?;
     text.push_str("# ")?;
     push_again(&mut text, WORDS, 800)?;
     text.push_str("\n")?;
@@ -156,7 +153,7 @@ fn a_sink_that_fails_at_any_call_has_a_first_part(rt: HostRuntime) -> Result<(),
 /// What was answered is right: where a growth was refused, the closing is not written, else it is.
 fn is_right(alloc: Global, answer: &Answer, refused: bool) -> Result<bool, AllocError> {
     if refused {
-        Ok(answer.is_part(Fault::Memory, &lines(alloc)?))
+        Ok(answer.is_part(Fault::Memory, DESCRIBED))
     } else {
         Ok(answer.is_whole(&whole(alloc, TIMES)?))
     }

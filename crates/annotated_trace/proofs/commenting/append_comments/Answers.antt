@@ -10,5 +10,5 @@ returns-in_ok-append_to-in-true-default-clause-comments g c before line text d r
       true,
       subst (λ choice. IsToldRightly choice before line true) rows
           (subst (IsToldRightly (g.D.Describer.rows c.args.describer.now) before line) c.in-true-default.is-0 (c.in_ok-told.ensures.told before line text d s lines)),
-      notes_and_marks c.args.choice _ c.args.out.now.items c.append_to.new.out.items c.append_marks.new.out.items _ c.in_ok-append_to-in-true-default.ensures.ok c.append_to.ensures.notes h,
+      notes_and_marks c.args.choice _ c.args.out.now.items c.append_to.new.out.items c.append_marks.new.out.items _ c.in_ok-append_to-in-true-default.ensures.ok c.append_to.ensures.notes (c.in_ok-told.ensures.said c.in-true-default.is-0) h,
     ))

@@ -11,7 +11,7 @@ returns-in-Ok-clause-status g c text told =
 pub returns-in-Err-clause-status : goal.returns-in-Err-clause-status
 returns-in-Err-clause-status g c text told =
     refused_try text (g.S.Source.left c.try_headers.new.source) (g.S.Source.before c.try_headers.new.source) (g.K.Sink.taken c.args.sink.now) (g.K.Sink.taken c.try_headers.new.sink) _ c.in-Err.fault c.refuse_scan.result
-    (c.in-Err.ensures.refused text (c.show_progress.ensures.left ∙ told)) (λ ne. ap g.K.Sink.taken (c.in-Err.ensures.unwritten ne)) (λ e. c.in-Err.ensures.part (ap Err e))
+    (c.in-Err.ensures.refused text (c.show_progress.ensures.left ∙ told)) (λ ne. ap g.K.Sink.taken (c.in-Err.ensures.unwritten ne)) (λ e. c.in-Err.ensures.part text (c.show_progress.ensures.left ∙ told) (ap Err e))
     (λ e well. omega (arith, c.in-Err.ensures.write_failed (ap Err e), well)) c.refuse_scan.ensures.status
 
 pub returns-in-Err-clause-range : goal.returns-in-Err-clause-range

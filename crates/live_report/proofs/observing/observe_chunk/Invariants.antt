@@ -12,7 +12,7 @@ invariant-loop-rest g l = record {
   limit : bytes_fed l.lines ≤ 2 ^ 30;
   keeps : l.observer.keeps_rows ≡ l.fn.observer.keeps_rows;
   course : (i : Interface) (text : List ℕ) → IsObserving g.C.Channel.interface_of g.C.Channel.number_of g.C.Channel.stands_for i text l.fn.lines l.fn.observer
-      → Course g.C.Channel.interface_of g.C.Channel.number_of g.C.Channel.stands_for i text l.chunk l.lines l.observer l.rest l.fn.found.items l.found.items;
+      → Course g.C.Channel.interface_of g.C.Channel.number_of g.C.Channel.stands_for i text l.chunk l.lines l.observer l.rest l.fn.found.items l.found.items l.fn.rows.last l.rows.last;
 }
 
 abbrev pub decreases-loop-rest : goal.decreases-loop-rest

@@ -1,4 +1,4 @@
-use Rattle.std.proofs.Common.{◌<◌, refl, subst}
+use Rattle.std.proofs.Common.{◌<◌, refl, subst, sym}
 use Rattle.std.proofs.lemmas.Result.{IfOk-from_err}
 use Rattle.line_model.specs.declared.fault.Fault.TheVariants.{Write}
 use Rattle.trace_text.proofs.SourceLemmas.{passed_on, same_fault}
@@ -47,9 +47,15 @@ pub returns-clause-unwritten : goal.returns-clause-unwritten
 returns-clause-unwritten g c = whole_kept c.args.sink.now c.read_to_end.new.out c.write_tried.new.sink c.write_tried.result c.in_ok-read_to_end.ensures.whole.fed.1 c.write_tried.ensures.unwritten
 
 pub returns-clause-part : goal.returns-clause-part
-returns-clause-part g c e =
+returns-clause-part g c text told e =
     let w = c.in_ok-read_to_end.ensures.whole in
-    subst (λ sink. HasTriedPart (g.K.Sink.taken sink) (g.K.Sink.taken c.write_tried.new.sink)) w.fed.1 (c.write_tried.ensures.part w.text w.fed.0 e)
+    subst (λ t. HasTriedPart t (g.K.Sink.taken c.args.sink.now) (g.K.Sink.taken c.write_tried.new.sink)) (sym (w.source text told).0)
+    (subst (λ sink. HasTriedPart w.text (g.K.Sink.taken sink) (g.K.Sink.taken c.write_tried.new.sink)) w.fed.1 (c.write_tried.ensures.part w.text w.fed.0 e))
+
+pub returns-clause-part_of_text : goal.returns-clause-part_of_text
+returns-clause-part_of_text g c e =
+    let w = c.in_ok-read_to_end.ensures.whole in
+    (w.text, subst (λ sink. HasTriedPart w.text (g.K.Sink.taken sink) (g.K.Sink.taken c.write_tried.new.sink)) w.fed.1 (c.write_tried.ensures.part w.text w.fed.0 e))
 
 pub returns-clause-called : goal.returns-clause-called
 returns-clause-called g c = c.read_to_end.ensures.called
@@ -81,7 +87,13 @@ returns-in_err-read_to_end-clause-write_failed g c e =
     absurd (walk_unwritten _ _ u.fed u.last fault u.why (same_fault c.from_residual.result fault Write c.from_residual.ensures.1 e))
 
 pub returns-in_err-read_to_end-clause-part : goal.returns-in_err-read_to_end-clause-part
-returns-in_err-read_to_end-clause-part g c e =
+returns-in_err-read_to_end-clause-part g c text told e =
+    let fault = c.in_err-read_to_end.field-0.0 in
+    let u = c.in_err-read_to_end.ensures.stopped in
+    absurd (walk_unwritten _ _ u.fed u.last fault u.why (same_fault c.from_residual.result fault Write c.from_residual.ensures.1 e))
+
+pub returns-in_err-read_to_end-clause-part_of_text : goal.returns-in_err-read_to_end-clause-part_of_text
+returns-in_err-read_to_end-clause-part_of_text g c e =
     let fault = c.in_err-read_to_end.field-0.0 in
     let u = c.in_err-read_to_end.ensures.stopped in
     absurd (walk_unwritten _ _ u.fed u.last fault u.why (same_fault c.from_residual.result fault Write c.from_residual.ensures.1 e))

@@ -20,7 +20,6 @@ pub returns-in_err-write_lines-clause-part : goal.returns-in_err-write_lines-cla
 returns-in_err-write_lines-clause-part g c x h e =
     let tried = c.in_ok-tried.tried.items in
     record {
-      text = x;
       bytes = tried_text tried;
       findings = fewest tried;
       lines = lines_of_trials g.C.Channel x c.in_ok-trials.trials.items tried (c.in_ok-trials.ensures.tried x h) (λ is rs all. c.in_ok-tried.ensures.all is rs (subst (AreTrials g.C.Channel rs is) (sym c.as_slice.ensures.value) all)) c.in_ok-tried.ensures.sorted;

@@ -6,7 +6,7 @@ use Rattle.trace_text.specs.StandsFor.{IsTextFault}
 use Rattle.live_report.specs.Reports.{IsReportFault}
 use Rattle.line_model.specs.declared.finding.Finding.{Finding}
 use Rattle.live_report.specs.Found.{found}
-use Rattle.live_report.proofs.FollowLemmas.{always, fed_few, found_length, text_report, told_first}
+use Rattle.live_report.proofs.FollowLemmas.{always, fed_few, found_length, text_report, told_all, told_first}
 use Rattle.live_report.proofs.follow.Follower.write_found.Goals as goal
 
 pub overflow_add-self : goal.overflow_add-self
@@ -29,6 +29,11 @@ returns-clause-stands g c text s =
       told = omega (arith, s.told, count, more);
       few = omega (arith, told, few, count, c.in_ok-read.ensures.size);
     })
+
+pub returns-clause-told : goal.returns-clause-told
+returns-clause-told g c text before s has =
+    told_all c.write_findings-written.result before (g.K.Sink.taken c.args.sink.now) (g.K.Sink.taken c.write_findings-written.new.sink) text (text ++ c.args.chunk.now) c.found-found.result.now c.feed-read.new.self.found.items c.found-found.ensures has
+    (c.in_ok-read.ensures.found text s.live) c.write_findings-written.ensures.ok
 
 pub returns-clause-taken : goal.returns-clause-taken
 returns-clause-taken g c text before s has =

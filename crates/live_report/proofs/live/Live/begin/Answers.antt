@@ -1,16 +1,16 @@
 use Rattle.std.proofs.Common.{◌≡◌, ◌∙◌, ◌<◌, ◌++◌, List, [], Err, ap, subst, sym, refl, length, length-append, arith}
 use Rattle.std.specs.Prelude.{IfErr}
 use Rattle.std.specs.Option.{option_to_list}
-use Rattle.line_model.specs.text.Text.{early}
+use Rattle.line_model.specs.text.Text.{early, early_rows}
 use Rattle.line_model.specs.declared.fault.Fault.TheVariants.{Memory}
 use Rattle.line_model.specs.declared.finding.Finding.{Finding}
 use Rattle.std.proofs.lemmas.Result.{err_from_is_err_and}
 use Rattle.trace_text.proofs.SourceLemmas.{passed_on}
 use Rattle.trace_text.specs.StandsFor.{IsFaultOf, IsTextFault, ReadsChunk}
 use Rattle.live_report.specs.Found.{HasFound, IsFoundBy, IsFoundUpTo, found, found_at}
-use Rattle.live_report.specs.Lives.{IsObserving}
+use Rattle.live_report.specs.Lives.{IsLastRow, IsObserving}
 use Rattle.live_report.proofs.FoundLemmas.{at_most_one, found_next, found_unheaded, found_up_to}
-use Rattle.live_report.proofs.ChunkLemmas.{ReadsRow}
+use Rattle.live_report.proofs.ChunkLemmas.{ReadsRow, taken_is_last}
 use Rattle.live_report.proofs.LiveLemmas.{chunk_text, first_found, first_rows, first_observed, found_headed, found_no_more, found_no_row, nothing_seen, stands_observing}
 use Rattle.live_report.proofs.live.Live.begin.Goals as goal
 
@@ -75,6 +75,9 @@ returns-clause-stands g c text s =
     stands_observing g.C.Channel.interface_of g.C.Channel.number_of g.C.Channel.stands_for c.in-Some-interface.interface _ (text ++ c.args.chunk.now) c.observe_chunk.new.observer
     (subst (λ x. IsObserving g.C.Channel.interface_of g.C.Channel.number_of g.C.Channel.stands_for c.in-Some-interface.interface x c.observe_chunk.new.lines c.observe_chunk.new.observer) (chunk_text c.args.self.now.lines c.next_row.new.self text c.args.chunk.now c.in-Some.rest.now c.next_row.new.row row)
     (c.in_ok-observe_chunk.ensures.observes c.in-Some-interface.interface (text ++ row.1.taken) observed)) refl s.running (c.in_ok-observe_chunk.ensures.keeps ∙ c.in_ok-first.ensures.keeps ∙ c.new-observer.ensures.keeps ∙ ap (λ v. v.keeps_rows) c.self.view_is)
+    (λ keeps. subst (λ x. IsLastRow (early_rows x) c.observe_chunk.new.rows.last) (chunk_text c.args.self.now.lines c.next_row.new.self text c.args.chunk.now c.in-Some.rest.now c.next_row.new.row row)
+    (c.in_ok-observe_chunk.ensures.last c.in-Some-interface.interface (text ++ row.1.taken) observed (c.in_ok-first.ensures.keeps ∙ c.new-observer.ensures.keeps ∙ ap (λ v. v.keeps_rows) c.self.view_is ∙ keeps)
+    (subst (IsLastRow (early_rows (text ++ row.1.taken))) (sym (c.keep_next.ensures keeps)) (taken_is_last c.args.self.now.lines c.next_row.new.self text c.args.chunk.now c.in-Some.rest.now c.next_row.new.row s.reads row))))
 
 pub returns-in_err-observe_chunk-clause-refused : goal.returns-in_err-observe_chunk-clause-refused
 returns-in_err-observe_chunk-clause-refused g c text s =

@@ -1,9 +1,10 @@
 use Rattle.std.proofs.Common.{refl, []}
 use Rattle.line_model.proofs.TextLemmas.{early_rows-nothing}
+use Rattle.live_report.proofs.ChunkLemmas.{none_last}
 use Rattle.live_report.proofs.live.Live.begun.Goals as goal
 
 pub returns-clause-stands : goal.returns-clause-stands
-returns-clause-stands g c = record { reads = c.new.ensures; running = refl; observed = early_rows-nothing; keeps = tt }
+returns-clause-stands g c = record { reads = c.new.ensures; running = refl; observed = early_rows-nothing; keeps = tt; last = λ keeps. none_last c.new-2.result.last }
 
 pub returns-clause-fed : goal.returns-clause-fed
-returns-clause-fed g c = record { fed = λ h. ([], record { reads = c.new.ensures; running = refl; observed = early_rows-nothing; keeps = tt }); kinds = tt }
+returns-clause-fed g c = record { fed = λ h. ([], record { reads = c.new.ensures; running = refl; observed = early_rows-nothing; keeps = tt; last = λ keeps. none_last c.new-2.result.last }); kinds = tt }

@@ -1,4 +1,4 @@
-use Rattle.std.proofs.Common.{◌≡◌, ◌∷◌, ◌++◌, ◌∙◌, [], ap, subst, sym, None, Some, false, true, append-nil, rules}
+use Rattle.std.proofs.Common.{◌≡◌, ◌∷◌, ◌++◌, ◌∙◌, [], ap, subst, None, Some, true, append-nil, rules}
 use Rattle.line_model.specs.work.Work.{numbers_of}
 use Rattle.line_model.specs.work.Work.Entry.{finish}
 use Rattle.shared_work.specs.queue.Entries.{jobs}
@@ -33,7 +33,7 @@ returns-clause-taken g c =
       | in-None w ↦
           let popped : c.pop_as.result ≡ None = search rules in
           let rule = rw popped at c.pop_as.ensures.rule in
-          rw w.result-is (ap (λ v. v.record_of) rule.0 ∙ known, rule.1)
+          rw w.result-is (ap (λ v. v.record_of) rule.0 ∙ known)
     ]
 
 pub returns-clause-pieces : goal.returns-clause-pieces

@@ -1,0 +1,49 @@
+//! The row that was read last, and room for the next one.
+
+ghost use Rattle.std.specs.Prelude.{◌≡◌, true};
+
+use line_model::row::ReadRow;
+use line_model::state::Side;
+use std::alloc::Allocator;
+use std::mem::swap;
+
+/// A row with no octets, to put others in. It takes no memory.
+fn blank_row<A: Allocator>(alloc: A) -> ReadRow<A> {
+    ReadRow {
+        number: 0,
+        side: Side::T,
+        length: 0,
+        octets: Vec::new(alloc),
+    }
+}
+
+/// Two rows that change places where rows are kept, so the last one stays as it was while the next one is read.
+#[derive(Drop)]
+pub(crate) struct ReadRows<A: Allocator> {
+    /// The row that was read last, where rows are kept.
+    pub(crate) last: ReadRow<A>,
+    /// What the next row is read into.
+    pub(crate) next: ReadRow<A>,
+}
+
+impl<A: Allocator + Copy> ReadRows<A> {
+    /// No row was read. It takes no memory.
+    pub(crate) fn new(alloc: A) -> Self {
+        ReadRows {
+            last: blank_row(alloc),
+            next: blank_row(alloc),
+        }
+    }
+}
+
+impl<A: Allocator> ReadRows<A> {
+    /// The next row was read whole: where rows are kept, it is the last one now.
+    #[inline(always)]
+    pub(crate) fn keep_next(&mut self, keeps_rows: bool)
+        ensures { keeps_rows ≡ true → self.new.last ≡ self.old.next }
+    {
+        if keeps_rows {
+            swap(&mut self.last, &mut self.next);
+        }
+    }
+}
