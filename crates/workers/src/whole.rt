@@ -62,11 +62,16 @@ fn gather_ran<'w, P: Plan, L: Ledgers + QueueName, A: Allocator + Copy, T: Drop>
         shares,
         fault,
     } = ran;
-    let gathered = match fault {
-        Some(fault) => Err(fault),
-        None => gather_all(alloc, book, pass, shares),
-    };
-    Worked { task, gathered }
+    if let Some(fault) = fault {
+        return Worked {
+            task,
+            gathered: Err(fault),
+        };
+    }
+    Worked {
+        task,
+        gathered: gather_all(alloc, book, pass, shares),
+    }
 }
 
 /// A new queue with its feeder's pass, and the allocator of all that is made for it.
