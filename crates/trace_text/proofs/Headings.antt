@@ -11,7 +11,7 @@ use Rattle.std.proofs.lemmas.Fmt.{decimal_is_IsNumeral, decimal_digit, decimal_n
 use Rattle.std.proofs.lemmas.Str.Parse.{IsDigitsTest, numerals_by_value}
 use Rattle.line_model.specs.basics.Limits.{is_channels, is_numbering, packet_sizes}
 use Rattle.line_model.specs.declared.interface.Interface.{Interface}
-use Rattle.line_model.specs.text.Header.{HeaderNumbers, header_numbers, interface_of, interface_with, number_of, numbers_in, words_of}
+use Rattle.line_model.specs.text.Header.{header_numbers, interface_of, interface_with, number_of, numbers_in, words_of}
 use Rattle.line_model.specs.text.Text.{Line, begun_line, content_of, contents_kind, early, early_rows, ended_lines, first_fault, form_kind, has_header, head_in, head_of, header_kind, is_comment, is_some_line, last_number, last_or, line_kind, row_number, rows_in, size_of}
 use Rattle.line_model.proofs.LineLemmas.{size_kind-zero}
 use Rattle.line_model.specs.text.RowLine.{row_of}
