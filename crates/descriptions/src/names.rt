@@ -38,6 +38,7 @@ pub fn packet(from: Side, packet: &Packet) -> &'static str {
         Packet::Restart => by_side(from, "restart request", "restart indication"),
         Packet::RestartConfirm => "restart confirmation",
         Packet::Channel { kind, .. } => channel_packet(from, kind),
+        Packet::GapOfAll => "gap of all logical channels",
     }
 }
 
@@ -59,6 +60,7 @@ fn channel_packet(from: Side, kind: &PacketKind) -> &'static str {
         PacketKind::Rnr(_) => "RNR",
         PacketKind::Rej => "REJ",
         PacketKind::Undefined => "packet of an undefined type",
+        PacketKind::Gap => "gap",
     }
 }
 

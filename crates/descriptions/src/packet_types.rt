@@ -22,6 +22,7 @@ pub fn packet_type(side: Side, packet: &Packet) -> &'static str {
         Packet::Restart => by_side(side, "restart_request", "restart_indication"),
         Packet::RestartConfirm => "restart_confirmation",
         Packet::Channel { kind, .. } => kind_type(side, kind),
+        Packet::GapOfAll => "gap",
     }
 }
 
@@ -43,5 +44,6 @@ fn kind_type(side: Side, kind: &PacketKind) -> &'static str {
         PacketKind::Rnr(_) => "rnr",
         PacketKind::Rej => "rej",
         PacketKind::Undefined => "undefined",
+        PacketKind::Gap => "gap",
     }
 }

@@ -1,5 +1,6 @@
 //! The parameters of an interface.
 
+ghost use Rattle.std.specs.Prelude.{◌≡◌, false};
 ghost use Rattle.line_model.specs.basics.Limits.{IsInterface};
 
 use crate::state::{ChannelState, DState, PState, Side};
@@ -21,13 +22,15 @@ pub struct Interface {
     pub two_way: u16,
     /// Channels `two_way` + 1 to `svc` are for outgoing calls only.
     pub svc: u16,
-    /// The trace begins in the middle: nothing is known of the channels in epoch 1.
+    /// The trace begins in the middle: nothing is known of the channels in epoch 1, or with gaps all are adrift.
     pub join: bool,
+    /// Gaps of the recording are rows. No header says so yet.
+    pub gaps: bool,
     pub ghost lawful: { IsInterface modulus window size pvc incoming two_way svc },
+    pub ghost whole: { gaps ≡ false },
 }
 
 impl Interface {
-    ghost use Rattle.std.specs.Prelude.{◌≡◌};
     ghost use Rattle.line_model.specs.channels.Channels.{is_permanent, is_against, is_joined, fresh_state};
 
     /// Whether a logical channel is a permanent virtual circuit.
@@ -51,7 +54,7 @@ impl Interface {
     pub fn fresh_state(&self, epoch: u32, channel: u16) -> ChannelState
         ensures { result ≡ fresh_state (is_joined self.now epoch) (is_permanent self.now channel) }
     {
-        if self.join && epoch == 1 {
+        if self.join && !self.gaps && epoch == 1 {
             ChannelState::Unknown
         } else if self.is_permanent(channel) {
             ChannelState::Transfer(DState::D1)

@@ -99,6 +99,8 @@ pub enum PacketKind {
     Rej,
     /// A type that no packet has.
     Undefined,
+    /// No packet: packets on the channel may not have been recorded (profile).
+    Gap,
 }
 
 /// A packet, decoded.
@@ -120,6 +122,8 @@ pub enum Packet {
     RestartConfirm,
     /// A packet on an assigned logical channel.
     Channel { channel: u16, kind: PacketKind },
+    /// No packet: packets on any channel may not have been recorded (profile).
+    GapOfAll,
 }
 
 impl Class {
@@ -156,6 +160,7 @@ impl Packet {
             Packet::Restart => Class::Restart,
             Packet::RestartConfirm => Class::RestartConfirm,
             Packet::Channel { kind, .. } => kind.class(),
+            Packet::GapOfAll => Class::Unassigned,
         }
     }
 }
@@ -182,7 +187,7 @@ impl PacketKind {
             PacketKind::Rr(_) => Class::Rr,
             PacketKind::Rnr(_) => Class::Rnr,
             PacketKind::Rej => Class::Rej,
-            PacketKind::Undefined => Class::Undefined,
+            PacketKind::Undefined | PacketKind::Gap => Class::Undefined,
         }
     }
 }

@@ -36,6 +36,7 @@ const INTERFACE: Interface = Interface {
     two_way: 4,
     svc: 4,
     join: false,
+    gaps: false,
 };
 
 /// A row: its number, its side, its octets in hex.

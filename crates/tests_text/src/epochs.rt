@@ -28,6 +28,7 @@ pub(crate) const PLAIN: Interface = Interface {
     two_way: 4,
     svc: 4,
     join: false,
+    gaps: false,
 };
 
 /// Pushes the next row.

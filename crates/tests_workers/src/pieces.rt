@@ -26,6 +26,7 @@ const PLAIN: Interface = Interface {
     two_way: 4,
     svc: 4,
     join: false,
+    gaps: false,
 };
 
 /// A piece without rows.

@@ -49,5 +49,6 @@ pub fn with_numbers(own: &Interface, modulus: u8, window: u8, size: u16) -> Opti
         two_way: own.two_way,
         svc: own.svc,
         join: own.join,
+        gaps: false,
     })
 }

@@ -11,7 +11,7 @@ use Rattle.std.proofs.lemmas.Fmt.{decimal_is_IsNumeral, decimal_digit, decimal_n
 use Rattle.std.proofs.lemmas.Str.Parse.{IsDigitsTest, numerals_by_value}
 use Rattle.line_model.specs.basics.Limits.{is_channels, is_numbering, packet_sizes}
 use Rattle.line_model.specs.declared.interface.Interface.{Interface}
-use Rattle.line_model.specs.text.Header.{HeaderNumbers, header_numbers, interface_of, interface_with, number_of, numbers_in, words_of}
+use Rattle.line_model.specs.text.Header.{header_numbers, interface_of, interface_with, number_of, numbers_in, words_of}
 use Rattle.line_model.specs.text.Text.{Line, begun_line, content_of, contents_kind, early, early_rows, ended_lines, first_fault, form_kind, has_header, head_in, head_of, header_kind, is_comment, is_some_line, last_number, last_or, line_kind, row_number, rows_in, size_of}
 use Rattle.line_model.proofs.LineLemmas.{size_kind-zero}
 use Rattle.line_model.specs.text.RowLine.{row_of}
@@ -22,7 +22,7 @@ use Rattle.trace_text.specs.Progress.{Progress}
 use Rattle.trace_text.proofs.BlockLemmas.{comment_sound, fits, first_sound, seam}
 use Rattle.trace_text.proofs.CutLemmas.{words-found, words-none}
 use Rattle.trace_text.proofs.FeedLemmas.{early-none, rows-sound}
-use Rattle.trace_text.proofs.HeaderLemmas.{interface_with-some}
+use Rattle.trace_text.proofs.HeaderLemmas.{numbers_of, own_numbers}
 use Rattle.trace_text.proofs.NumberLemmas.{both}
 use Rattle.trace_text.proofs.RowFront.{lacks-append, number_lacks}
 
@@ -158,9 +158,6 @@ are_words : (i : Interface) → IsSmall i → AreWords (header_words i)
 are_words i s =
     (name (codes "X25") refl refl refl, (name (codes "2") refl refl refl, (name (codes "MOD") refl refl refl, (decimal_word i.modulus s.modulus, (name (codes "WIN") refl refl refl, (decimal_word i.window s.window, (name (codes "SIZE") refl refl refl, (decimal_word i.size s.size, (name (codes "PVC") refl refl refl, (decimal_word i.pvc s.pvc, (name (codes "IN") refl refl refl, (decimal_word i.incoming s.incoming, (name (codes "TWO") refl refl refl, (decimal_word i.two_way s.two_way, (name (codes "OUT") refl refl refl, (decimal_word i.svc s.svc, joined_words i.join))))))))))))))))
 
-abbrev numbers_of : Interface → HeaderNumbers
-numbers_of i = record { modulus = i.modulus; window = i.window; size = i.size; pvc = i.pvc; incoming = i.incoming; two_way = i.two_way; svc = i.svc; join = i.join }
-
 words_numbers : (m w s p a t o : List ℕ) (modulus window size pvc incoming two_way svc : ℕ) (join : Bool)
     → number_of m ≡ Some modulus → number_of w ≡ Some window → number_of s ≡ Some size → number_of p ≡ Some pvc → number_of a ≡ Some incoming → number_of t ≡ Some two_way → number_of o ≡ Some svc
     → numbers_in (codes "X25" ∷ codes "2" ∷ codes "MOD" ∷ m ∷ codes "WIN" ∷ w ∷ codes "SIZE" ∷ s ∷ codes "PVC" ∷ p ∷ codes "IN" ∷ a ∷ codes "TWO" ∷ t ∷ codes "OUT" ∷ o ∷ joined join)
@@ -180,7 +177,7 @@ header_says i s =
 
 header_interface : (i : Interface) → IsSmall i → interface_of (header_of i) ≡ Some i
 unfolding interface_of
-header_interface i s = ap (λ n. option_and_then interface_with n) (header_says i s) ∙ interface_with-some (numbers_of i) i.lawful
+header_interface i s = ap (λ n. option_and_then interface_with n) (header_says i s) ∙ own_numbers i
 
 header_sound : (i : Interface) → IsSmall i → header_kind (header_of i) ≡ None
 unfolding header_kind

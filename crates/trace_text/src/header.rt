@@ -210,6 +210,7 @@ fn interface_with_numbers(numbers: Numbers) -> Option<Interface>
         two_way: two_way as u16,
         svc: svc as u16,
         join,
+        gaps: false,
     })
 }
 

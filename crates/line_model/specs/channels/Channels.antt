@@ -1,5 +1,5 @@
 -- Channels: what is known of each after some rows (X.25 clauses 4 and 5, Annex B).
-use Rattle.std.specs.Prelude.{ℕ, Bool, true, false, nat_le, ◌&&◌, List, [], Option, None, is_some, ◌==◌, ◌+◌}
+use Rattle.std.specs.Prelude.{ℕ, Bool, true, false, not, nat_le, ◌&&◌, List, [], Option, None, is_some, ◌==◌, ◌+◌}
 use Rattle.line_model.specs.declared.interface.Interface.{Interface}
 use Rattle.line_model.specs.declared.state.Side.{Side}
 use Rattle.line_model.specs.declared.state.Side.TheVariants.{T, N}
@@ -92,7 +92,7 @@ is_against i N c = is_outgoing_only i c
 
 -- where the trace begins in the middle, the channels of epoch 1 are unknown (profile)
 abbrev pub is_joined : Interface → (epoch : ℕ) → Bool
-is_joined i e = i.join && (e == 1)
+is_joined i e = i.join && (not i.gaps && (e == 1))
 
 -- p1, or d1 where the channel is permanent, if it is known
 abbrev pub fresh_state : (joined permanent : Bool) → ChannelState

@@ -124,7 +124,7 @@ packet_with i xs k = packet.TheVariants.Channel (channel_of xs) (kind_of i xs k)
 abbrev pub packet_of : Interface → List ℕ → Packet
 packet_of i xs = packet_with i xs (class_of i xs)
 
--- the class of a packet that was decoded
+-- the class of what stands on a channel; a gap, which is no packet, has that of a type that no packet has
 abbrev pub kind_class : PacketKind → Class
 kind_class kind.TheVariants.TwoOctets = TwoOctets
 kind_class kind.TheVariants.RestartHere = RestartHere
@@ -141,6 +141,7 @@ kind_class (kind.TheVariants.Rr n) = Rr
 kind_class (kind.TheVariants.Rnr n) = Rnr
 kind_class kind.TheVariants.Rej = Rej
 kind_class kind.TheVariants.Undefined = Undefined
+kind_class kind.TheVariants.Gap = Undefined
 
 -- the class of a packet that was decoded
 abbrev pub packet_class : Packet → Class
@@ -152,3 +153,4 @@ packet_class packet.TheVariants.Registration = Registration
 packet_class packet.TheVariants.Restart = Restart
 packet_class packet.TheVariants.RestartConfirm = RestartConfirm
 packet_class (packet.TheVariants.Channel c k) = kind_class k
+packet_class packet.TheVariants.GapOfAll = Unassigned

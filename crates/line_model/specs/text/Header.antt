@@ -109,7 +109,7 @@ unfoldable pub interface_with : HeaderNumbers → Option Interface
 interface_with n =
     let make : (b : Bool) → is_lawful n ≡ b → Option Interface =
     λ b. elim b as (λ v. is_lawful n ≡ v → Option Interface) [
-      | true ↦ λ e. Some (record { modulus = n.modulus; window = n.window; size = n.size; pvc = n.pvc; incoming = n.incoming; two_way = n.two_way; svc = n.svc; join = n.join; lawful = e })
+      | true ↦ λ e. Some (record { modulus = n.modulus; window = n.window; size = n.size; pvc = n.pvc; incoming = n.incoming; two_way = n.two_way; svc = n.svc; join = n.join; gaps = false; lawful = e; whole = refl })
       | false ↦ λ e. None
     ] in
     make (is_lawful n) refl

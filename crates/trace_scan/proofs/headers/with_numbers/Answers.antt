@@ -14,4 +14,4 @@ pub invariant_of-result : goal.invariant_of-result
 invariant_of-result c = record { lawful = lawful_numbers c.args.own.now c.args.modulus c.args.window c.args.size (sym c.if-not-is_numbered.ensures) (sym c.if-not-is_packet_size.ensures) }
 
 pub returns : goal.returns
-returns c = sym (interface_with-some _ _)
+returns c = sym (interface_with-some _ _ _)
