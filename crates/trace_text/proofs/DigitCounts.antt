@@ -1,5 +1,5 @@
 -- Digits at the front of a text that are counted, and not converted.
-use Rattle.std.proofs.Common.{◌≡◌, ◌∙◌, sym, ap, refl, subst, ℕ, ◌+◌, ◌-◌, ◌*◌, ◌/◌, ◌%◌, ◌<◌, ◌≤◌, true, List, [], ◌∷◌, ◌++◌, length, min, replicate, take, drop, get_or, ltb, length-drop, length-take-le, Bool, false, leb, get_or-take, Option, Some, None, append_assoc, arith, length-append, take-take}
+use Rattle.std.proofs.Common.{◌≡◌, ◌∙◌, sym, ap, refl, subst, ℕ, ◌+◌, ◌-◌, ◌*◌, ◌/◌, ◌%◌, ◌<◌, ◌≤◌, true, List, [], ◌∷◌, ◌++◌, length, min, replicate, take, take_all, drop, get_or, ltb, length-drop, length-take-le, Bool, false, leb, get_or-take, Option, Some, None, append_assoc, arith, length-append, take-take}
 use Rattle.std.specs.Prelude.{is_some, not, zero, suc}
 use Rattle.std.specs.List.{AllPass}
 use lib.Seq.{take-add, take-append-add}
@@ -40,6 +40,14 @@ begins-octets text rest count there digits some few even at =
       some = omega (arith, some);
       few = omega (arith, few);
     }
+
+-- the LF after them
+pub line-end : (text back : List ℕ) (count : ℕ) → back ≡ drop count text → 1 ≤ length back → get_or back 0 0 ≡ 10 → drop count text ≡ 10 ∷ take (length back - 1) (drop 1 back)
+line-end text back count rest long first = sym rest ∙ begins back long first
+  where
+    begins : (xs : List ℕ) → 1 ≤ length xs → get_or xs 0 0 ≡ 10 → xs ≡ 10 ∷ take (length xs - 1) (drop 1 xs)
+    begins [] n e = absurd (omega (arith, n))
+    begins (x ∷ xs) n e = let tail : take (length (x ∷ xs) - 1) xs ≡ xs = take_all (length (x ∷ xs) - 1) xs (omega arith) in λ i. e i ∷ sym tail i
 
 -- the digits that were counted
 pub record HasCounted (text rest : List ℕ) : Type 0 where
