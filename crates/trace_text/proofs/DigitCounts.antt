@@ -82,7 +82,7 @@ counted text rest block count n c e few digits m =
     counted-last text rest count n c (subst (AllPass is_hex_digit) (ap (take count) e ∙ take-take count 64 rest few) digits) m
 
 -- bytes that all hit are digits
-pub all-hit : (bytes hits : List ℕ) (count : ℕ) → length bytes ≡ 64 → AreHits (chunk 0 64 bytes) hits → count ≤ 64 → ((i : ℕ) → i < count → ltb (get_or hits i 0) 128 ≡ false) → AllPass is_hex_digit (take count bytes)
+pub all-hit : (bytes hits : List ℕ) (count : ℕ) → length bytes ≡ 64 → AreHits (chunk 0 64 bytes) hits → count ≤ 64 → ((i : ℕ) → i < count → not (ltb (get_or hits i 0) 128) ≡ true) → AllPass is_hex_digit (take count bytes)
 all-hit bytes hits count whole are few none =
     let size : length (take count bytes) ≡ count = length-take-le count bytes (omega (arith, whole, few)) in
     let lanes : length (chunk 0 64 bytes) ≡ 64 = length-chunk 0 64 bytes (omega (arith, whole)) in
@@ -90,7 +90,7 @@ all-hit bytes hits count whole are few none =
     (λ i l.
     let less : i < count = omega (arith, l, size) in
     let lane : get_or (chunk 0 64 bytes) i 0 ≡ get_or bytes i 0 = get_or-chunk 0 64 bytes i 0 (omega (arith, less, few)) ∙ ap (λ m. get_or bytes m 0) (omega arith) in
-    ap is_hex_digit (get_or-take count bytes i 0 less ∙ sym lane) ∙ sym (are.1 i (omega (arith, less, few, lanes))) ∙ ap not (none i less))
+    ap is_hex_digit (get_or-take count bytes i 0 less ∙ sym lane) ∙ sym (are.1 i (omega (arith, less, few, lanes))) ∙ none i less)
 
 -- ---- the values of the first 32 bytes
 
