@@ -76,7 +76,9 @@ impl<A: Allocator + Clone> Begun<A> {
         ensures size { self.new.size ≡ self.old.size }
         ensures holds { Holds self.new [] }
     {
-        self.joined = None;
+        if self.joined.is_some() {
+            self.joined = None;
+        }
     }
 
     /// Takes the next packet of the side.

@@ -14,12 +14,13 @@ pub(crate) struct Direction {
     pub(crate) unconfirmed: bool,
 }
 
-/// What is left of a sum of two residues: no division, which would cost more than all else that a data packet asks.
-pub(crate) fn residue(sum: u8, modulus: u8) -> u8
-    requires { sum < modulus + modulus }
-    ensures { result ≡ sum % modulus }
+/// What is left of a number: the modulus is a power of two, so a mask takes the place of a division, which would cost
+/// more than all else that a data packet asks.
+pub(crate) fn residue(number: u8, modulus: u8) -> u8
+    requires eight { (modulus ≡ 8) ⊎ (modulus ≡ 128) }
+    ensures { result ≡ number % modulus }
 {
-    if sum < modulus { sum } else { sum - modulus }
+    number & (modulus - 1)
 }
 
 impl Direction {

@@ -1,5 +1,5 @@
 -- Digits at the front of a text that are counted, and not converted.
-use Rattle.std.proofs.Common.{◌≡◌, ◌∙◌, sym, ap, refl, subst, ℕ, ◌+◌, ◌-◌, ◌*◌, ◌/◌, ◌%◌, ◌<◌, ◌≤◌, true, List, [], ◌∷◌, ◌++◌, length, min, replicate, take, drop, get_or, ltb, length-drop, length-take-le, Bool, false, leb, get_or-take, Option, Some, None, append_assoc, arith, length-append, take-take}
+use Rattle.std.proofs.Common.{◌≡◌, ◌∙◌, sym, ap, refl, subst, ℕ, ◌+◌, ◌-◌, ◌*◌, ◌/◌, ◌%◌, ◌<◌, ◌≤◌, true, List, [], ◌∷◌, ◌++◌, length, min, replicate, take, take_all, drop, get_or, ltb, length-drop, length-take-le, Bool, false, leb, get_or-take, Option, Some, None, append_assoc, arith, length-append, take-take}
 use Rattle.std.specs.Prelude.{is_some, not, zero, suc}
 use Rattle.std.specs.List.{AllPass}
 use lib.Seq.{take-add, take-append-add}
@@ -41,6 +41,14 @@ begins-octets text rest count there digits some few even at =
       few = omega (arith, few);
     }
 
+-- the LF after them
+pub line-end : (text back : List ℕ) (count : ℕ) → back ≡ drop count text → 1 ≤ length back → get_or back 0 0 ≡ 10 → drop count text ≡ 10 ∷ take (length back - 1) (drop 1 back)
+line-end text back count rest long first = sym rest ∙ begins back long first
+  where
+    begins : (xs : List ℕ) → 1 ≤ length xs → get_or xs 0 0 ≡ 10 → xs ≡ 10 ∷ take (length xs - 1) (drop 1 xs)
+    begins [] n e = absurd (omega (arith, n))
+    begins (x ∷ xs) n e = let tail : take (length (x ∷ xs) - 1) xs ≡ xs = take_all (length (x ∷ xs) - 1) xs (omega arith) in λ i. e i ∷ sym tail i
+
 -- the digits that were counted
 pub record HasCounted (text rest : List ℕ) : Type 0 where
   pub done : List ℕ
@@ -74,7 +82,7 @@ counted text rest block count n c e few digits m =
     counted-last text rest count n c (subst (AllPass is_hex_digit) (ap (take count) e ∙ take-take count 64 rest few) digits) m
 
 -- bytes that all hit are digits
-pub all-hit : (bytes hits : List ℕ) (count : ℕ) → length bytes ≡ 64 → AreHits (chunk 0 64 bytes) hits → count ≤ 64 → ((i : ℕ) → i < count → ltb (get_or hits i 0) 128 ≡ false) → AllPass is_hex_digit (take count bytes)
+pub all-hit : (bytes hits : List ℕ) (count : ℕ) → length bytes ≡ 64 → AreHits (chunk 0 64 bytes) hits → count ≤ 64 → ((i : ℕ) → i < count → not (ltb (get_or hits i 0) 128) ≡ true) → AllPass is_hex_digit (take count bytes)
 all-hit bytes hits count whole are few none =
     let size : length (take count bytes) ≡ count = length-take-le count bytes (omega (arith, whole, few)) in
     let lanes : length (chunk 0 64 bytes) ≡ 64 = length-chunk 0 64 bytes (omega (arith, whole)) in
@@ -82,7 +90,7 @@ all-hit bytes hits count whole are few none =
     (λ i l.
     let less : i < count = omega (arith, l, size) in
     let lane : get_or (chunk 0 64 bytes) i 0 ≡ get_or bytes i 0 = get_or-chunk 0 64 bytes i 0 (omega (arith, less, few)) ∙ ap (λ m. get_or bytes m 0) (omega arith) in
-    ap is_hex_digit (get_or-take count bytes i 0 less ∙ sym lane) ∙ sym (are.1 i (omega (arith, less, few, lanes))) ∙ ap not (none i less))
+    ap is_hex_digit (get_or-take count bytes i 0 less ∙ sym lane) ∙ sym (are.1 i (omega (arith, less, few, lanes))) ∙ none i less)
 
 -- ---- the values of the first 32 bytes
 

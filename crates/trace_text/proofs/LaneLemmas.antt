@@ -1,5 +1,5 @@
 -- Vectors that are computed lane by lane, and the octets that 32 bytes write.
-use Rattle.std.proofs.Common.{◌≡◌, ◌∙◌, sym, ap, ap₂, refl, subst, ℕ, ◌+◌, ◌*◌, ◌/◌, ◌%◌, ◌^◌, ◌<◌, ◌≤◌, Bool, true, false, cond, List, [], ◌∷◌, map, length, drop, take, get_or, replicate, ltb, arith, w8, get_or-take, length-take-le, inl, inr}
+use Rattle.std.proofs.Common.{◌≡◌, ◌≢◌, ◌∙◌, w64, sym, ap, ap₂, refl, subst, ℕ, ◌+◌, ◌-◌, ◌*◌, ◌/◌, ◌%◌, ◌^◌, ◌<◌, ◌≤◌, Bool, true, false, cond, List, [], ◌∷◌, map, length, drop, take, get_or, replicate, ltb, leb, arith, w8, get_or-take, length-take-le, inl, inr}
 use Rattle.std.specs.Prelude.{◌⊎◌, suc, zero, Option, Some, None, is_some, not}
 use Rattle.std.specs.List.{AllPass}
 use Rattle.std.proofs.lemmas.List.Elements.{All-get_or}
@@ -10,8 +10,10 @@ use Rattle.std.proofs.lemmas.Bool.{not-true}
 use Rattle.std.proofs.lemmas.Bool.Decides.{nat_tests}
 use Rattle.std.proofs.lemmas.List.{get_or-map, length-map}
 use Rattle.std.proofs.lemmas.List.FromFn.{get_or-map-range_with_len}
-use Rattle.std.proofs.lemmas.Simd.{Each1-from_get_or, Each1-get_or, get_or_wider, leading_from_mask_l, map-map, mask_l-mod, tops_compared, trailing_mask_l, zip2-map, zip2_splat_left}
+use Rattle.std.proofs.lemmas.Simd.{bit_mask_l, Each1-from_get_or, Each1-get_or, get_or_wider, leading_from_mask_l, map-map, mask_l-lt, mask_l-mod, tops_compared, trailing_mask_l, zip2-map, zip2_splat_left}
 use lib.Count.{count_trailing_zeros}
+use Rattle.std.specs.Int.{bit_at, trailing_ones}
+use Rattle.std.proofs.lemmas.Nat.Bits.{bit_at-trailing_ones, bit_at_ones}
 use lib.Lanes.{Each1, chunk, digits_l, number_l, zip2, mask_l, sel_l, top}
 use Rattle.trace_text.specs.Digits.{AreDigitValues, AreHits, AreOctets, HasDecoded, HasValues, IsDigitValue, octet_of}
 use Rattle.trace_text.proofs.DigitLemmas.{octets-each, right_octet}
@@ -57,13 +59,13 @@ all_values f v result bytes e all = all_lanes IsDigitValue f v result bytes e (�
 pub all_hits : (f : ℕ → ℕ) (v result : List ℕ) → Each1 (λ d. d < 256) v → result ≡ map f v → are_hits 0 (map f (range_with_len 0 256)) ≡ true → AreHits v result
 all_hits f v result bytes e all = all_lanes (λ d m. not (ltb m 128) ≡ is_hex_digit d) f v result bytes e (λ d byte. table_hit (map f (range_with_len 0 256)) d all byte)
 
--- which lanes are above a limit, as a mask
-abbrev pub mask_of : ℕ → ℕ → List ℕ → ℕ
-mask_of n most v = mask_l (map (top 7) (zip2 (λ a b. cond (ltb a b) 255 0) (replicate n most) v)) % 2 ^ 64
+-- which lanes a limit compares with so, as a mask
+abbrev pub mask_of : (ℕ → ℕ → Bool) → ℕ → ℕ → List ℕ → ℕ
+mask_of t n limit v = mask_l (map (top 7) (zip2 (λ a b. cond (t a b) 255 0) (replicate n limit) v)) % 2 ^ 64
 
-great_mask : (n most : ℕ) (v : List ℕ) → length v ≡ n → n ≤ 64 → mask_of n most v ≡ mask_l (map (ltb most) v)
-great_mask n most v long few =
-    ap (λ (ms : List Bool). mask_l ms % 2 ^ 64) (tops_compared w8 ltb (replicate n most) v ∙ zip2_splat_left ltb most n v long) ∙ mask_l-mod (map (ltb most) v) 64 (omega (arith, length-map v (ltb most), long, few))
+mask_is : (t : ℕ → ℕ → Bool) (n limit : ℕ) (v : List ℕ) → length v ≡ n → n ≤ 64 → mask_of t n limit v ≡ mask_l (map (t limit) v)
+mask_is t n limit v long few =
+    ap (λ (ms : List Bool). mask_l ms % 2 ^ 64) (tops_compared w8 t (replicate n limit) v ∙ zip2_splat_left t limit n v long) ∙ mask_l-mod (map (t limit) v) 64 (omega (arith, length-map v (t limit), long, few))
 
 not_great : (most x : ℕ) → ltb most x ≡ false → x ≤ most
 not_great most x k = grind (arith, nat_tests)
@@ -79,12 +81,37 @@ first_passes p v m n long few mask some =
     ap (count_trailing_zeros 64) mask ∙ trailing_mask_l p 64 v (omega (arith, long, few)) (omega (arith, mask, some)) in
     (omega (arith, count, long, prefix_len-le-length (λ x. not (p x)) v), λ i h. not-true _ (prefix_len_passes (λ x. not (p x)) v i 0 (omega (arith, h, count))))
 
-pub none_great : (n most : ℕ) (v : List ℕ) → length v ≡ n → n ≤ 64 → mask_of n most v ≡ 0 → (i : ℕ) → i < n → get_or v i 0 ≤ most
-none_great n most v long few none i h = not_great most (get_or v i 0) (none_passes (ltb most) v (mask_of n most v) n long (great_mask n most v long few) none i h)
+is_set : (b : Bool) → ◌≡◌ {A = ℕ} (cond b 1 0) 1 → b ≡ true
+is_set true h = refl
+is_set false h = cc
 
-pub first_great : (n most : ℕ) (v : List ℕ) → length v ≡ n → n ≤ 64 → 0 < mask_of n most v → (count_trailing_zeros 64 (mask_of n most v) ≤ n) × ((i : ℕ) → i < count_trailing_zeros 64 (mask_of n most v) → get_or v i 0 ≤ most)
+lane_passes : (p : ℕ → Bool) (v : List ℕ) (m i : ℕ) → m ≡ mask_l (map p v) → i < length v → bit_at m i ≡ 1 → p (get_or v i 0) ≡ true
+lane_passes p v m i mask there bit = sym (get_or-map p v i 0 false there) ∙ is_set (get_or (map p v) i false) (sym (bit_mask_l (map p v) i) ∙ ap (λ (n : ℕ). bit_at n i) (sym mask) ∙ bit)
+
+not_less : (least x : ℕ) → leb least x ≡ true → not (ltb x least) ≡ true
+not_less least x k = grind (arith, nat_tests, k)
+
+-- where every lane of 64 has its bit, each is the limit or more
+pub all_least : (least : ℕ) (v : List ℕ) → length v ≡ 64 → mask_of leb 64 least v ≡ 2 ^ 64 - 1 → (i : ℕ) → i < 64 → not (ltb (get_or v i 0) least) ≡ true
+all_least least v long all i h =
+    not_less least (get_or v i 0) (lane_passes (leb least) v (mask_of leb 64 least v) i (mask_is leb 64 least v long (omega arith)) (omega (arith, h, long)) (ap (λ (n : ℕ). bit_at n i) all ∙ bit_at_ones 64 i h))
+
+-- and else each before the lowest bit that is not set
+pub first_least : (least : ℕ) (v : List ℕ) → length v ≡ 64 → mask_of leb 64 least v ≢ 2 ^ 64 - 1 →
+    (trailing_ones w64 (mask_of leb 64 least v) ≤ 64) × ((i : ℕ) → i < trailing_ones w64 (mask_of leb 64 least v) → not (ltb (get_or v i 0) least) ≡ true)
+first_least least v long some =
+    let m : ℕ = mask_of leb 64 least v in
+    let mask = mask_is leb 64 least v long (omega arith) in
+    let below : m < 2 ^ 64 = subst (λ (n : ℕ). n < 2 ^ 64) (sym mask) (subst (λ (k : ℕ). mask_l (map (leb least) v) < 2 ^ k) (length-map v (leb least) ∙ long) (mask_l-lt (map (leb least) v))) in
+    let lowest = bit_at-trailing_ones w64 m (omega (arith, below, some)) in
+    (omega (arith, lowest.0), λ i h. not_less least (get_or v i 0) (lane_passes (leb least) v m i mask (omega (arith, h, lowest.0, long)) (lowest.2 i h)))
+
+pub none_great : (n most : ℕ) (v : List ℕ) → length v ≡ n → n ≤ 64 → mask_of ltb n most v ≡ 0 → (i : ℕ) → i < n → get_or v i 0 ≤ most
+none_great n most v long few none i h = not_great most (get_or v i 0) (none_passes (ltb most) v (mask_of ltb n most v) n long (mask_is ltb n most v long few) none i h)
+
+pub first_great : (n most : ℕ) (v : List ℕ) → length v ≡ n → n ≤ 64 → 0 < mask_of ltb n most v → (count_trailing_zeros 64 (mask_of ltb n most v) ≤ n) × ((i : ℕ) → i < count_trailing_zeros 64 (mask_of ltb n most v) → get_or v i 0 ≤ most)
 first_great n most v long few some =
-    let first = first_passes (ltb most) v (mask_of n most v) n long few (great_mask n most v long few) some in
+    let first = first_passes (ltb most) v (mask_of ltb n most v) n long few (mask_is ltb n most v long few) some in
     (first.0, λ i h. not_great most (get_or v i 0) (first.1 i h))
 
 -- the octets that pairs of values make: a pair is a + 256 * b, and its octet is the second byte of that times 4,097

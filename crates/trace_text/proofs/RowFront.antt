@@ -1,5 +1,5 @@
 -- A row by its front, and by the digits after it.
-use Rattle.std.proofs.Common.{◌≡◌, ◌≢◌, ◌∙◌, sym, ap, refl, ℕ, ◌*◌, ◌<◌, ◌≤◌, ◌%◌, Bool, true, false, List, [], ◌∷◌, ◌++◌, append_assoc, length, take, drop, get_or, Option, Some, None, Ok, arith}
+use Rattle.std.proofs.Common.{◌≡◌, ◌≢◌, ◌∙◌, sym, ap, refl, ℕ, ◌*◌, ◌-◌, ◌<◌, ◌≤◌, ◌%◌, Bool, true, false, List, [], ◌∷◌, ◌++◌, append_assoc, length, take, take_all, drop, get_or, Option, Some, None, Ok, arith}
 use Rattle.std.specs.Prelude.{codes, nat_lt, nat_le, ◌==◌, ◌&&◌, ◌||◌, not, is_none, slice_index, if◌then◌else◌}
 use Rattle.std.specs.Char.{is_ascii_digit}
 use Rattle.std.specs.List.{list_all, list_any}
@@ -8,6 +8,7 @@ use Rattle.std.specs.Option.{option_and_then}
 use Rattle.std.specs.Str.Parse.{digits_value}
 use Rattle.std.specs.Str.{bytes_eq}
 use Rattle.std.proofs.lemmas.Bool.{eqb-true, leb-true, ne_eqb, or_parts}
+use Rattle.std.proofs.lemmas.Bool.Decides.{nat_tests}
 use Rattle.std.proofs.lemmas.List.Elements.{All-get_or}
 use Rattle.std.proofs.lemmas.List.Folds.{list_any_none}
 use Rattle.hex.specs.Hex.{decode_of, is_hex_digit}
@@ -20,7 +21,7 @@ use Rattle.line_model.specs.declared.state.Side.{Side}
 use Rattle.trace_text.specs.Cuts.{Lacks}
 use Rattle.line_model.specs.text.Text.{is_comment}
 use Rattle.trace_text.specs.Digits.{BeginsOctets}
-use Rattle.trace_text.specs.Reads.{BeginsLine, BeginsNumber, BeginsRow}
+use Rattle.trace_text.specs.Reads.{BeginsLine, BeginsRow}
 use Rattle.trace_text.proofs.DigitLemmas.{octets-decode, twice}
 use Rattle.trace_text.proofs.CutLemmas.{words-found, words-none}
 use Rattle.trace_text.proofs.NumberLemmas.{both, number_is}
@@ -150,11 +151,26 @@ front-line last number side size text after rest b w =
       writes = front_row last number side line d.digits w.octets begins some few even decoded;
     }
 
--- the digits at the front of a text, and the space after them
-pub number-front : (text rest : List ℕ) (count value : ℕ) → count ≢ 0 → count ≤ 9 → count ≤ length text → list_all is_ascii_digit (take count text) ≡ true → get_or text 0 0 ≢ 48 → value ≡ digits_value 10 (take count text) → drop count text ≡ 32 ∷ rest → BeginsNumber text value rest
-number-front text rest count value some few there digits first v at = record {
-  word = take count text;
-  whole = sym (take-append-drop count text) ∙ ap (λ xs. take count text ++ xs) at;
-  one_word = number_lacks 32 (take count text) refl digits;
-  value = number_is text count value (omega (arith, some)) few there digits (ne_eqb (get_or text 0 0) 48 first) v;
-}
+begins-three : (xs : List ℕ) (a b d : ℕ) → 3 ≤ length xs → get_or xs 0 0 ≡ a → get_or xs 1 0 ≡ b → get_or xs 2 0 ≡ d → xs ≡ a ∷ b ∷ d ∷ take (length xs - 3) (drop 3 xs)
+begins-three [] a b d n e f g = absurd (omega (arith, n))
+begins-three (x ∷ []) a b d n e f g = absurd (omega (arith, n))
+begins-three (x ∷ y ∷ []) a b d n e f g = absurd (omega (arith, n))
+begins-three (x ∷ y ∷ z ∷ xs) a b d n e f g =
+    let tail : take (length (x ∷ y ∷ z ∷ xs) - 3) xs ≡ xs = take_all (length (x ∷ y ∷ z ∷ xs) - 3) xs (omega arith) in
+    λ i. e i ∷ f i ∷ g i ∷ sym tail i
+
+-- the digits at the front of a text and a side after them, each with its space
+pub row-front : (last : ℕ) (text back : List ℕ) (count number letter : ℕ) (side : Side) → count ≢ 0 → count ≤ 9 → count ≤ length text → list_all is_ascii_digit (take count text) ≡ true → get_or text 0 0 ≢ 48 → number ≡ digits_value 10 (take count text) → last < number →
+    back ≡ drop count text → 3 ≤ length back → get_or back 0 0 ≡ 32 → get_or back 1 0 ≡ letter → get_or back 2 0 ≡ 32 → Lacks 32 (letter ∷ []) → side_of (letter ∷ []) ≡ Some side → BeginsRow last text number side (take (length back - 3) (drop 3 back))
+row-front last text back count number letter side some few there digits first v more rest long a b d apart names =
+    let above : nat_lt last number ≡ true = grind (arith, nat_tests, more) in
+    let value : number_of (take count text) ≡ Some number = number_is text count number (omega (arith, some)) few there digits (ne_eqb (get_or text 0 0) 48 first) v in
+    record {
+      word = take count text;
+      letter = letter;
+      whole = sym (take-append-drop count text) ∙ ap (λ xs. take count text ++ xs) (sym rest ∙ begins-three back 32 letter 32 long a b d);
+      one_word = number_lacks 32 (take count text) refl digits;
+      no_space = apart;
+      rises = rw (value, above) refl;
+      names = names;
+    }

@@ -1,6 +1,6 @@
 -- What one line says.
 use Rattle.std.specs.Prelude.{◌≡◌, ℕ, Bool, true, false, List, [], ◌∷◌, ◌++◌, Option, None, Some, length, if◌then◌else◌}
-use Rattle.line_model.specs.text.Header.{interface_of, number_of}
+use Rattle.line_model.specs.text.Header.{interface_of}
 use Rattle.line_model.specs.text.RowLine.{rising_number, row_kind, row_of, side_of}
 use Rattle.line_model.specs.text.Text.{is_comment}
 use Rattle.line_model.specs.declared.fault.Kind.{Kind}
@@ -36,13 +36,6 @@ ReadsAs after_header last line Packet row = (is_comment line ≡ false) × (afte
 abbrev pub Breaks : Option Kind → LineFault → Type 0
 Breaks kind Memory = Unit {0}
 Breaks kind (Broken k) = kind ≡ Some k
-
--- a text begins with a number that is a word, and a space after it
-pub record BeginsNumber (text : List ℕ) (number : ℕ) (rest : List ℕ) : Type 0 where
-  pub word : List ℕ
-  pub whole : text ≡ word ++ 32 ∷ rest
-  pub one_word : Lacks 32 word
-  pub value : number_of word ≡ Some number
 
 -- a line begins as a row's: a number above the last one, a side, and what follows the space behind it
 pub record BeginsRow (last : ℕ) (line : List ℕ) (number : ℕ) (side : Side) (rest : List ℕ) : Type 0 where

@@ -1,6 +1,6 @@
 //! Cutting bytes at the first byte of a kind.
 
-ghost use Rattle.std.specs.Prelude.{◌≡◌, ◌++◌, ◌∷◌, IfSome, MatchOption};
+ghost use Rattle.std.specs.Prelude.{◌≡◌, ◌++◌, ◌∷◌, MatchOption};
 ghost use Rattle.trace_text.specs.Cuts.{Lacks};
 
 use memchr::memchr;
@@ -13,15 +13,5 @@ pub fn split_at_byte(text: &[u8], byte: u8) -> Option<(&[u8], &[u8])>
     match memchr(byte, text) {
         Some(i) => Some((&text[..i], &text[i + 1..])),
         None => None,
-    }
-}
-
-/// What follows a byte that a text begins with.
-pub fn after_byte(text: &[u8], byte: u8) -> Option<&[u8]>
-    ensures { IfSome result (λ rest. text.now ≡ byte ∷ rest.now) }
-{
-    match text {
-        [first, rest @ ..] if *first == byte => Some(rest),
-        _ => None,
     }
 }

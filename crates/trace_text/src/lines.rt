@@ -6,9 +6,9 @@ ghost use Rattle.trace_text.specs.Reads.{kept_row, whole_row};
 
 use crate::content::{Content, LineFault};
 use crate::cuts::split_at_byte;
-use crate::digits::convert_digits;
+use crate::digits::{convert_digits, split_digits};
 use crate::reading::read_line;
-use crate::row_front::read_front;
+use crate::row_front::split_front;
 use line_model::fault::{Fault, Kind};
 use line_model::interface::Interface;
 use line_model::row::{ReadRow, Row, is_unqualified};
@@ -297,18 +297,19 @@ impl<A: Allocator> Lines<A> {
         if whole || self.interface.is_none() || !self.begun.is_empty() {
             return None;
         }
-        let front = read_front(self.last, chunk)?;
-        let len = chunk.len() - front.rest.len() - 1;
+        let (number, side, digits) = split_front(self.last, chunk)?;
+        let (length, values, rest) = split_digits(digits)?;
+        let len = chunk.len() - rest.len() - 1;
         if size_fault(self.start, 1, len).is_some() {
             return None;
         }
-        convert_digits(front.values, front.digits, front.length, &mut row.octets)?;
-        row.number = front.number;
-        row.side = front.side;
-        row.length = front.length;
-        self.last = front.number;
+        convert_digits(values, digits, length, &mut row.octets)?;
+        row.number = number;
+        row.side = side;
+        row.length = length;
+        self.last = number;
         self.next_line(len);
-        Some(front.rest)
+        Some(rest)
     }
 
     /// Reads lines up to the first row, or the whole chunk. The row is put in the place of another, with all its octets

@@ -1,10 +1,12 @@
-use Rattle.std.proofs.Common.{◌∙◌, sym, arith}
-use Rattle.std.proofs.Math.Nat.{mod-eq_of_lt, mod-eq-sub-mod}
+use Rattle.std.proofs.Common.{◌≡◌, ◌-◌, ◌%◌, ℕ, inl, inr}
+use Rattle.std.specs.Prelude.{◌⊎◌}
+use Rattle.std.specs.Int.Bits.{bit_and}
+use Rattle.std.proofs.lemmas.Nat.{and_mask}
 use Rattle.data_transfer.proofs.direction.residue.Goals as goal
 
-pub returns-then-sum-modulus : goal.returns-then-sum-modulus
-returns-then-sum-modulus c = sym (mod-eq_of_lt (grind (arith, c.if-sum-modulus.true)))
+masked : (n m : ℕ) → (m ≡ 8) ⊎ (m ≡ 128) → bit_and n (m - 1) ≡ n % m
+masked n m (inl e) = rw e (and_mask n 3)
+masked n m (inr e) = rw e (and_mask n 7)
 
-pub returns-else-sum-modulus : goal.returns-else-sum-modulus
-returns-else-sum-modulus c =
-    sym (mod-eq-sub-mod (grind (arith, c.if-sum-modulus.false)) ∙ mod-eq_of_lt (grind (arith, c.if-sum-modulus.false, c.requires)))
+pub returns : goal.returns
+returns c = masked c.args.number c.args.modulus c.requires.eight

@@ -13,7 +13,7 @@ use Rattle.trace_text.proofs.lines.Lines.read_first.Goals as goal
 pub next_line-requires : goal.next_line-requires
 next_line-requires g c =
     let fits = sym c.size_fault.ensures ∙ is_missing c.size_fault.result (sym c.if-is_some.ensures) in
-    omega (arith, (size_kind-none c.self.inside.start 1 (length c.args.chunk.now - length c.in_ok-front.front.rest.now - 1) fits).1)
+    omega (arith, (size_kind-none c.self.inside.start 1 (length c.args.chunk.now - length c.in_ok-length.rest.now - 1) fits).1)
 
 pub returns : goal.returns
 returns g c =
@@ -21,14 +21,15 @@ returns g c =
     let none : length c.self.inside.begun.items ≡ 0 = let none : vec_len c.self.inside.begun ≡ 0 = eqb-true (vec_len c.self.inside.begun) 0 (sym c.if-not-is_empty.ensures) in
     omega (arith, none, c.self.inside.begun.ok) in
     let kept = c.self.inside in
-    let front = c.in_ok-front.front in
-    let written = c.in_ok-front.ensures.1 in
+    let front = c.in_ok-number in
+    let back = c.in_ok-length in
+    let written = back.ensures.0 in
     let row : Row = record { number = front.number; side = front.side; octets = written.octets } in
     let before : Progress = record { ended = kept.ended; start = kept.start; interface = kept.interface; last = kept.last; begun = kept.begun.items; refused = kept.refused } in
-    let line = front-line kept.last front.number front.side front.length c.args.chunk.now front.digits.now front.rest.now c.in_ok-front.ensures.0 written in (
+    let line = front-line kept.last front.number front.side back.length c.args.chunk.now front.digits.now back.rest.now front.ensures written in (
       row,
-      subst (λ (v : Progress). TakesLine v c.next_line.new.self c.args.chunk.now front.rest.now row) c.self.view_is
-          (takes-first before c.next_line.new.self c.args.chunk.now front.rest.now row line c.if-is_none.ensures none fits c.next_line.ensures),
-      ap₂ (λ (n : ℕ) (os : List ℕ). record { number = front.number; side = front.side; length = n; octets = os }) (sym written.count) (c.in_ok-convert_digits.ensures front.rest.now written)
+      subst (λ (v : Progress). TakesLine v c.next_line.new.self c.args.chunk.now back.rest.now row) c.self.view_is
+          (takes-first before c.next_line.new.self c.args.chunk.now back.rest.now row line c.if-is_none.ensures none fits c.next_line.ensures),
+      ap₂ (λ (n : ℕ) (os : List ℕ). record { number = front.number; side = front.side; length = n; octets = os }) (sym written.count) (c.in_ok-convert_digits.ensures back.rest.now written)
           ∙ ap (λ b. kept_row b row) (sym c.if-whole.false),
     )
