@@ -588,3 +588,4 @@ impl<A: Allocator + Clone> Lines<A> {
 }
 
 pub mod block;
+pub mod row;
