@@ -1,16 +1,16 @@
 -- The line that writes a row, as it is read.
-use Rattle.std.proofs.Common.{◌≡◌, ◌∙◌, sym, ap, refl, ℕ, ◌+◌, ◌*◌, ◌-◌, ◌^◌, ◌<◌, ◌≤◌, true, false, List, [], ◌∷◌, ◌++◌, length, length-append, take, take_all, get_or, Some, None, arith, inl, inr}
+use Rattle.std.proofs.Common.{◌≡◌, ◌∙◌, sym, ap, refl, ℕ, ◌+◌, ◌*◌, ◌-◌, ◌^◌, ◌<◌, ◌≤◌, true, List, [], ◌∷◌, ◌++◌, length, length-append, take, take_all, get_or, Some, None, arith, inl, inr}
 use Rattle.std.specs.Prelude.{decimal, is_some, nat_lt, if◌then◌else◌}
 use Rattle.std.specs.Char.{is_ascii_digit}
 use Rattle.std.specs.List.{list_all}
 use Rattle.std.specs.Option.{option_and_then}
-use Rattle.std.specs.Str.Parse.{AllDigits}
+use Rattle.std.specs.Str.Parse.{AllDigits, digits_value}
 use Rattle.std.proofs.Math.Nat.{pow-le-pow_right}
 use Rattle.std.proofs.lemmas.Bool.{cases_lt, le-leb, lt-ltb, ne_eqb}
 use Rattle.std.proofs.lemmas.Fmt.{decimal_is_IsNumeral, first_decimal, length-decimal-le}
 use Rattle.std.proofs.lemmas.Int.Digits.{digits_value-lt}
 use Rattle.std.proofs.lemmas.Str.Parse.{digit_at}
-use Rattle.hex.specs.Hex.{IsBytes, encode_upper, encode_with, upper_digits}
+use Rattle.hex.specs.Hex.{IsBytes, encode_upper, upper_digits}
 use Rattle.hex.proofs.HexLemmas.{decode_of-encode_upper, length-encode_with}
 use Rattle.line_model.specs.basics.Records.{Row}
 use Rattle.line_model.specs.declared.state.Side.{Side}
@@ -33,7 +33,8 @@ digits_pass : (cs : List ℕ) → AllDigits 10 cs → list_all is_ascii_digit cs
 digits_pass [] h = refl
 digits_pass (c ∷ cs) h =
     let range = digit_at (c ∷ cs) 0 h (omega arith) in
-    rw (le-leb 48 c (omega (arith, range)), le-leb c 57 (omega (arith, range)), digits_pass cs h.1) refl
+    let digit : is_ascii_digit c ≡ true = rw (le-leb 48 c (omega (arith, range)), le-leb c 57 (omega (arith, range))) refl in
+    rw (digit, digits_pass cs h.1) refl
 
 -- ---- the word of a number
 
@@ -47,7 +48,7 @@ number_of-decimal n some small =
     let few : length (decimal n) ≤ 9 = length-decimal-le 9 n (omega arith) (omega (arith, small)) wide in
     let whole : take (length (decimal n)) (decimal n) ≡ decimal n = take_all (length (decimal n)) (decimal n) (omega arith) in
     let first = first_decimal n some wide in
-    rw whole at (number_is (decimal n) (length (decimal n)) n numeral.0.0 few (omega arith)
+    rw whole at (number_is (decimal n) (length (decimal n)) n (omega (arith, numeral.0.0)) few (omega arith)
     (ap (list_all is_ascii_digit) whole ∙ decimal_passes n small)
     (ne_eqb (get_or (decimal n) 0 0) 48 (λ e. absurd (omega (arith, e, first))))
     (sym (ap (λ ds. digits_value 10 ds) whole ∙ numeral.1)))
@@ -59,7 +60,7 @@ more_digits k n least small =
     let below = digits_value-lt 10 (decimal n) numeral.0.1 in
     elim (cases_lt k (length (decimal n))) [
       | inl more ↦ more
-      | inr few ↦ let bound : 10 ^ length (decimal n) ≤ 10 ^ k = pow-le-pow_right (omega arith) few in absurd (omega (arith, numeral.1, below, bound, least))
+      | inr few ↦ let bound : 10 ^ length (decimal n) ≤ 10 ^ k = pow-le-pow_right {n = 10} (omega arith) few in absurd (omega (arith, numeral.1, below, bound, least))
     ]
 
 -- how many digits a number has
@@ -70,7 +71,9 @@ digits_are k n least most small =
 -- ---- the line
 
 rises : (last n : ℕ) → last < n → n < 1000000000 → rising_number last (decimal n) ≡ Some n
-rises last n more small = rw (number_of-decimal n (omega (arith, more)) small, lt-ltb last n more) refl
+rises last n more small =
+    let above : (if nat_lt last n then Some n else None) ≡ Some n = rw (lt-ltb last n more) refl in
+    ap (λ o. option_and_then (λ m. if nat_lt last m then Some m else None) o) (number_of-decimal n (omega (arith, more)) small) ∙ above
 
 letter_lacks : (side : Side) → Lacks 32 (side_letter side ∷ [])
 letter_lacks T = refl
@@ -98,7 +101,7 @@ some_octets (o ∷ os) h = refl
 row_line : (last : ℕ) (row : Row) → last < row.number → row.number < 1000000000 → IsBytes row.octets → 0 < length row.octets → length row.octets ≤ 4200 → BeginsLine last (row_text row) row []
 row_line last row more small bytes some few =
     decoded-line last row.number row.side (row_text row) (octets_word row.octets ++ 10 ∷ []) (encode_upper row.octets) row.octets [] (begins last row more small)
-    (ap (λ ds. ds ++ 10 ∷ []) (some_octets row.octets some)) (decode_of-encode_upper row.octets bytes) some few
+    (ap (λ (ds : List ℕ). ds ++ 10 ∷ []) (some_octets row.octets some)) (decode_of-encode_upper row.octets bytes) some few
 
 row_length : (row : Row) → 0 < length row.octets → length (row_text row) ≡ length (decimal row.number) + 3 + 2 * length row.octets + 1
 row_length row some =

@@ -1,6 +1,6 @@
 //! Numbers of 1 to 9 digits.
 
-ghost use Rattle.std.specs.Prelude.{◌≡◌, ◌<◌, decimal, length};
+ghost use Rattle.std.specs.Prelude.{◌≡◌, ◌<◌, ◌≤◌, decimal, length};
 ghost use Rattle.line_model.specs.text.Header.{is_number as is_number_word};
 ghost use Rattle.line_model.specs.text.Header.{number_of};
 ghost use Rattle.std.specs.List.{list_all};
@@ -46,7 +46,8 @@ pub const LARGEST_NUMBER: u32 = 999_999_999;
 pub fn digit_count(number: u32) -> usize
     requires some { 0 < number }
     requires small { number < 1000000000 }
-    ensures { result ≡ length (decimal number) }
+    ensures value { result ≡ length (decimal number) }
+    ensures few { result ≤ 9 }
 {
     match number {
         0..=9 => 1,
