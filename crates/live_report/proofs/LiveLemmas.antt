@@ -1,5 +1,5 @@
 -- A trace that is fed: its first row begins the observer.
-use Rattle.std.proofs.Common.{◌≡◌, ◌∙◌, sym, ap, subst, ℕ, true, List, [], ◌∷◌, ◌++◌, Option, Some, None, Result, Ok, Err, OnOk, append_assoc, append-nil}
+use Rattle.std.proofs.Common.{◌≡◌, ◌∙◌, sym, ap, subst, refl, ℕ, Bool, true, false, List, [], ◌∷◌, ◌++◌, Option, Some, None, Result, Ok, Err, OnOk, append_assoc, append-nil}
 use Rattle.std.specs.Prelude.{IfErr, IfSome}
 use Rattle.std.specs.Result.{result_err}
 use Rattle.line_model.specs.declared.interface.Interface.{Interface}
@@ -123,3 +123,9 @@ passed_row I N S i text line row reader after o next out out_after more w t kept
           (record { more = more; out_has = has; known_has = ap (λ items. (report_of i items).findings) (next_items i reader after text line [] row w.reads t) ∙ finds }),
       subst (λ x. IsLastRow (early_rows x) row) all (taken_is_last reader after text line [] row w.reads t),
     )
+
+-- it was fed a text with the line, or still that text
+pub fed_on : (r : Result Bool Fault) (o : Option Fault) (P : List ℕ → Type 0) (text line : List ℕ) → o ≡ result_err r → (r ≡ Ok true → P (text ++ line)) → (r ≡ Ok false → P text) → o ≡ None → (fed : List ℕ) × P fed
+fed_on (Ok true) o P text line e taken passed none = (text ++ line, taken refl)
+fed_on (Ok false) o P text line e taken passed none = (text, passed refl)
+fed_on (Err f) o P text line e taken passed none = absurd (let bad : Some f ≡ None = sym e ∙ none in cc)

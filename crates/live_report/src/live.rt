@@ -8,7 +8,6 @@ ghost use Rattle.trace_text.specs.Progress.{bytes_fed};
 ghost use Rattle.trace_text.specs.StandsFor.{IsFaultOf, IsTextFault};
 ghost use Rattle.trace_text.specs.EndedPart.{ended_part};
 ghost use Rattle.trace_text.specs.RowTexts.{row_text};
-ghost use Rattle.line_model.specs.declared.fault.Fault.TheVariants.{Memory};
 ghost use Rattle.live_report.specs.Found.{HasFound, IsFoundBy, found};
 ghost use Rattle.live_report.specs.Lives.{IsFed, IsFedOn, IsLastRow, KeepsRowsOf, OfFed, RefusesEarly, WasFed};
 ghost use Rattle.live_report.specs.Reports.{IsMissing, IsRefusal, IsReportFault, IsReported, IsTaken};
@@ -220,7 +219,7 @@ impl<A: Allocator + Copy, C: Channel<A>> Live<A, C> {
         ensures found { OfFed C.Channel self.old (λ text. result ≡ Ok true
             → HasFound self.old.found.items self.new.found.items (found text)
             (found (text ++ row_text (record { number = number; side = side; octets = octets.now })))) }
-        ensures memory { IfErr result (λ fault. fault ≡ Memory) }
+        ensures kinds { IfErr result IsTextFault }
     {
         let Some(observer) = &mut self.observer else {
             return Ok(false);
@@ -236,7 +235,7 @@ impl<A: Allocator + Copy, C: Channel<A>> Live<A, C> {
 
     /// Reads a packet as the line that writes it, but without that line: its number, its side and its octets. `false`:
     /// nothing was read, and the line has to be fed, as that of the first row, of a packet without octets, and of one
-    /// whose line is faulty here. Fails only when memory is refused; from then on it answers the same.
+    /// whose line is faulty here. Fails only when memory is refused, or `feed` has refused; then it answers the same.
     #[inline(always)]
     pub fn packet(&mut self, number: u32, side: Side, octets: &[u8]) -> Result<bool, Fault>
         requires fed { IsFed C.interface_of C.number_of C.stands_for self.old }
@@ -249,11 +248,13 @@ impl<A: Allocator + Copy, C: Channel<A>> Live<A, C> {
         ensures found { OfFed C.Channel self.old (λ text. result ≡ Ok true
             → HasFound [] self.new.found.items (found text)
             (found (text ++ row_text (record { number = number; side = side; octets = octets.now })))) }
-        ensures memory { IfErr result (λ fault. fault ≡ Memory) }
+        ensures kinds { IfErr result IsTextFault }
         ensures refuses { IfErr result (λ fault. self.new.refused ≡ Some fault) }
+        ensures again { (fault : Fault) → self.old.refused ≡ Some fault
+            → (result ≡ Err fault) × (self.new ≡ self.old) }
     {
-        if self.refused.is_some() {
-            return Ok(false);
+        if let Some(fault) = self.refused {
+            return Err(fault);
         }
         self.found.clear();
         let taken = self.take_packet(number, side, octets);
