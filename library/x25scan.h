@@ -43,11 +43,11 @@ enum x25scan_error {
     X25SCAN_NOT_OPEN = 8, /* The scan was not opened. */
     X25SCAN_NULL = 9,     /* A pointer is null. */
     X25SCAN_OPEN = 10,    /* The scan is open. */
-    X25SCAN_ROWS = 11,    /* The scan gives rows at its end, and no findings or reports before. */
+    X25SCAN_ROWS = 11,    /* The scan gives rows, and no findings or other reports. */
     X25SCAN_LINE = 12     /* A packet in the midst of a line of text. */
 };
 
-/* What is asked for: at x25scan_open one of the last two, at a report one of the first two. */
+/* What is asked for: at x25scan_open one of the last two, at a report that of the scan. */
 enum x25scan_form {
     X25SCAN_LINES = 0,        /* The report as lines. */
     X25SCAN_JSON = 1,         /* The report as JSON lines. */
@@ -128,8 +128,10 @@ static inline int x25scan_found(x25scan *scan, x25scan_finding *finding) {
     return (int)x25scan_take_finding(scan, finding);
 }
 
-/* Makes the report of the lines that have ended, as X25SCAN_LINES or X25SCAN_JSON, in the place of text that was not
- * read. The trace goes on. Errors: TRACE (kind 21 before the header has ended), ARGUMENT, ENDED, ROWS, MEMORY. */
+/* Makes the report of the lines that have ended, as X25SCAN_LINES or X25SCAN_JSON, or their objects, as
+ * X25SCAN_ROW_OBJECTS where the scan was opened for these, in the place of text that was not read. The trace goes on.
+ * Objects cost as much as all lines so far. Errors: TRACE (kind 21 before the header has ended), ARGUMENT, ENDED, ROWS,
+ * MEMORY. */
 static inline int x25scan_report(x25scan *scan, unsigned form) {
     return scan ? (int)x25scan_make_report(scan, form) : X25SCAN_NULL;
 }
@@ -148,7 +150,7 @@ static inline int x25scan_read(x25scan *scan, void *buffer, size_t room, size_t 
     return (int)x25scan_take_text(scan, x25scan_bytes(buffer), room, length, left);
 }
 
-/* The line that was refused, counted from 1, its kind, 21 to 29, and a sentence that says what is wrong with it: `needed`
+/* The line that the last TRACE refused, counted from 1, its kind, 21 to 29, and a sentence that says what is wrong with it: `needed`
  * bytes, which no 0 ends. Errors: NONE_LEFT; SHORT, with `line`, `kind` and `needed` set. */
 static inline int x25scan_fault(x25scan *scan, uint32_t *line, uint32_t *kind, void *buffer, size_t room, size_t *needed) {
     if (!scan || !line || !kind || (!buffer && room) || !needed) return X25SCAN_NULL;

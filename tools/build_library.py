@@ -67,21 +67,26 @@ def c_archives() -> list[pathlib.Path]:
     return [kit() / "c" / it for it in ("liblibc_c.a", "libos_c.a")]
 
 
+def linker() -> str | None:
+    """What links C."""
+    return shutil.which("cc") or shutil.which("gcc") or shutil.which("clang")
+
+
 def shared(proved: str, folder: pathlib.Path) -> tuple[bool, str]:
     """The shared library, with only the exports visible."""
-    linker = shutil.which("cc") or shutil.which("gcc") or shutil.which("clang")
-    if not linker:
-        return False, "there is no linker for C: install gcc or clang"
     with tempfile.TemporaryDirectory() as place:
         names = pathlib.Path(place, "exports")
         names.write_text("{ global: " + " ".join(f"{it};" for it in EXPORTS) + " local: *; };\n")
-        words: list[object] = [linker, "-shared", f"-Wl,-soname,{SONAME}", f"-Wl,--version-script={names}", "-Wl,--gc-sections", "-Wl,-z,defs"]
+        words: list[object] = [linker(), "-shared", f"-Wl,-soname,{SONAME}", f"-Wl,--version-script={names}", "-Wl,--gc-sections", "-Wl,-z,defs"]
         words += [*(f"-Wl,-u,{it}" for it in EXPORTS), "-o", folder / SONAME, proved, *c_archives()]
         return run(folder, *words)
 
 
 def build(folder: pathlib.Path) -> int:
     """Builds the library into a folder, and returns the exit status."""
+    if not linker():
+        say("the library was not built: there is no linker for C; install gcc or clang")
+        return 4
     is_proved, said = prove()
     if not is_proved:
         sys.stderr.write(said[-6000:] + "\n")
@@ -91,7 +96,7 @@ def build(folder: pathlib.Path) -> int:
         is_made, why = made(said, folder)
         if not is_made:
             say(f"the library was not built: {why.strip()}")
-            return 4
+            return 3
     link = folder / "libx25scan.so"
     link.unlink(missing_ok=True)
     link.symlink_to(SONAME)

@@ -13,9 +13,11 @@ static void expect(int line, int got, int expected) {
 #define EXPECT(call, error) expect(__LINE__, call, error)
 
 #define HEADER "X25 1 MOD 8 WIN 2 SIZE 128 PVC 0 SVC 4"
+#define TEXT HEADER "\n1 T -\n"
+#define NUMBER "The row's number is 8, and that of the row before is 8: numbers rise."
 
 int main(void) {
-    x25scan scan = X25SCAN_INIT, rows = X25SCAN_INIT, faulty = X25SCAN_INIT;
+    x25scan scan = X25SCAN_INIT, rows = X25SCAN_INIT, faulty = X25SCAN_INIT, early = X25SCAN_INIT;
     x25scan_finding finding;
     unsigned char octets[4201] = {0x10, 0x01, 0x0B}, small[4];
     char buffer[4096];
@@ -74,6 +76,25 @@ int main(void) {
     EXPECT(x25scan_feed(&faulty, "1 T -\n", 6), X25SCAN_TRACE);
     EXPECT(x25scan_report(&faulty, X25SCAN_LINES), X25SCAN_TRACE);
     EXPECT(x25scan_close(&faulty), X25SCAN_OK);
+    EXPECT(x25scan_open(&early, X25SCAN_REPORTS), X25SCAN_OK);
+    EXPECT(x25scan_report(&early, X25SCAN_LINES), X25SCAN_TRACE);
+    EXPECT(x25scan_fault(&early, &line, &kind, buffer, sizeof buffer, &needed), X25SCAN_OK);
+    EXPECT((int)kind, 21);
+    EXPECT(x25scan_feed(&early, TEXT "7 T 10010B0000\n", sizeof TEXT + 14), X25SCAN_OK);
+    EXPECT(x25scan_packet(&early, 8, 'N', octets, 3), X25SCAN_OK);
+    EXPECT(x25scan_packet(&early, 8, 'N', octets, 3), X25SCAN_TRACE);
+    EXPECT(x25scan_fault(&early, &line, &kind, buffer, sizeof buffer, &needed), X25SCAN_OK);
+    EXPECT((int)line, 5);
+    EXPECT((int)kind, 25);
+    EXPECT(needed == sizeof NUMBER - 1 && !memcmp(buffer, NUMBER, needed), 1);
+    EXPECT(x25scan_packet(&early, 9, 'T', octets, 3), X25SCAN_TRACE);
+    EXPECT(x25scan_close(&early), X25SCAN_OK);
+    EXPECT(x25scan_open(&rows, X25SCAN_ROW_OBJECTS), X25SCAN_OK);
+    EXPECT(x25scan_feed(&rows, TEXT "2", sizeof TEXT), X25SCAN_OK);
+    EXPECT(x25scan_report(&rows, X25SCAN_ROW_OBJECTS), X25SCAN_OK);
+    EXPECT(x25scan_read(&rows, buffer, sizeof buffer, &length, &left), X25SCAN_OK);
+    EXPECT(length > 0 && !memcmp(buffer, "{\"line\":\"row\"", 13), 1);
+    EXPECT(x25scan_close(&rows), X25SCAN_OK);
     EXPECT(x25scan_open(&rows, X25SCAN_ROW_OBJECTS), X25SCAN_OK);
     EXPECT(x25scan_found(&rows, &finding), X25SCAN_ROWS);
     EXPECT(x25scan_report(&rows, X25SCAN_LINES), X25SCAN_ROWS);

@@ -1,5 +1,5 @@
 -- A trace that is fed: its first row begins the observer.
-use Rattle.std.proofs.Common.{◌≡◌, ◌∙◌, sym, ap, subst, ℕ, true, List, [], ◌∷◌, ◌++◌, Option, Some, None, Result, Ok, Err, OnOk, append_assoc}
+use Rattle.std.proofs.Common.{◌≡◌, ◌∙◌, sym, ap, subst, refl, ℕ, Bool, true, false, List, [], ◌∷◌, ◌++◌, Option, Some, None, Result, Ok, Err, OnOk, append_assoc, append-nil}
 use Rattle.std.specs.Prelude.{IfErr, IfSome}
 use Rattle.std.specs.Result.{result_err}
 use Rattle.line_model.specs.declared.interface.Interface.{Interface}
@@ -20,7 +20,7 @@ use Rattle.live_report.specs.Observing.{AreItems, StandsFor as IsObserverOf}
 use Rattle.live_report.specs.Lives.{IsLastRow, IsObserved, IsObserving, StandsFor}
 use Rattle.live_report.specs.Found.{HasFound, IsFoundBy, IsFoundUpTo, found, found_at}
 use Rattle.live_report.proofs.FoundLemmas.{found_none, found_under, found_unheaded, nothing_found}
-use Rattle.live_report.proofs.ChunkLemmas.{ReadsRow, next_items, next_rows, observed_row}
+use Rattle.live_report.proofs.ChunkLemmas.{ReadsRow, next_items, next_rows, observed_row, taken_is_last}
 use Rattle.line_model.specs.packets.Says.{item_read, items_of}
 
 -- what holds of a result, and something more
@@ -108,3 +108,24 @@ first_found i text chunk rest row reader after out out_after more s none t has f
   out_has = has;
   known_has = ap (λ items. (report_of i items).findings) (next_items i reader after text chunk rest row s t ∙ ap (λ rows. items_of i rows ++ item_read i row ∷ []) none) ∙ finds ∙ ap (λ xs. xs ++ more) (sym (nothing_found text none));
 }
+
+-- ---- a packet whose line is not read
+
+-- the reader went past the line of a row, and the observer took it
+pub passed_row : {A C : Type 0} → (I : C → Interface) (N : C → ℕ) (S : C → Channel → Type 0) (i : Interface) (text line : List ℕ) (row : ReadRow) (reader after : Progress) (o next : Observer A C) (out out_after more : List Finding)
+    → (w : IsObserving I N S i text reader o) → ReadsRow reader after line [] row → after.interface ≡ reader.interface → IsObserverOf I N S i (items_of i (early_rows text) ++ item_read i row ∷ []) next
+    → out_after ≡ out ++ more → (report_of i (items_of i (early_rows text) ++ item_read i row ∷ [])).findings ≡ found_at i text ++ more
+    → IsObserving I N S i (text ++ line) after next × HasFound out out_after (found_at i text) (found_at i (text ++ line)) × IsLastRow (early_rows (text ++ line)) row
+passed_row I N S i text line row reader after o next out out_after more w t kept took has finds =
+    let all : text ++ t.1.taken ≡ text ++ line = ap (λ x. text ++ x) (sym (t.1.whole ∙ append-nil t.1.taken)) in (
+      subst (λ x. IsObserving I N S i x after next) all (observed_row I N S i text line [] row reader after next w.reads t (kept ∙ w.header) took),
+      subst (λ x. HasFound out out_after (found_at i text) (found_at i x)) all
+          (record { more = more; out_has = has; known_has = ap (λ items. (report_of i items).findings) (next_items i reader after text line [] row w.reads t) ∙ finds }),
+      subst (λ x. IsLastRow (early_rows x) row) all (taken_is_last reader after text line [] row w.reads t),
+    )
+
+-- it was fed a text with the line, or still that text
+pub fed_on : (r : Result Bool Fault) (o : Option Fault) (P : List ℕ → Type 0) (text line : List ℕ) → o ≡ result_err r → (r ≡ Ok true → P (text ++ line)) → (r ≡ Ok false → P text) → o ≡ None → (fed : List ℕ) × P fed
+fed_on (Ok true) o P text line e taken passed none = (text ++ line, taken refl)
+fed_on (Ok false) o P text line e taken passed none = (text, passed refl)
+fed_on (Err f) o P text line e taken passed none = absurd (let bad : Some f ≡ None = sym e ∙ none in cc)

@@ -12,4 +12,5 @@ pub mod observer;
 mod observing;
 mod read_rows;
 mod reporting;
+pub mod row_text;
 pub mod uncounted;

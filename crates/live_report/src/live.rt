@@ -1,13 +1,14 @@
 //! Reports of a trace that is fed in chunks.
 
-ghost use Rattle.std.specs.Prelude.{◌≡◌, ◌≢◌, ℕ, ◌+◌, ◌<◌, ◌≤◌, ◌^◌, ◌++◌, [], List, Some, None, Err, length, IfErr, IfOk, OnOk};
+ghost use Rattle.std.specs.Prelude.{◌≡◌, ◌≢◌, ℕ, ◌+◌, ◌<◌, ◌≤◌, ◌^◌, ◌++◌, [], List, Some, None, Ok, Err, true, false, length, IfErr, IfOk, OnOk};
 ghost use Rattle.std.specs.Option.{option_map};
 ghost use Rattle.line_model.specs.text.Text.{early_rows, ended_lines, fault};
 ghost use Rattle.line_model.specs.traces.Traces.{trace_report};
 ghost use Rattle.trace_text.specs.Progress.{bytes_fed};
 ghost use Rattle.trace_text.specs.StandsFor.{IsFaultOf, IsTextFault};
 ghost use Rattle.trace_text.specs.EndedPart.{ended_part};
-ghost use Rattle.live_report.specs.Found.{IsFoundBy, found};
+ghost use Rattle.trace_text.specs.RowTexts.{row_text};
+ghost use Rattle.live_report.specs.Found.{HasFound, IsFoundBy, found};
 ghost use Rattle.live_report.specs.Lives.{IsFed, IsFedOn, IsLastRow, KeepsRowsOf, OfFed, RefusesEarly, WasFed};
 ghost use Rattle.live_report.specs.Reports.{IsMissing, IsRefusal, IsReportFault, IsReported, IsTaken};
 ghost use Rattle.live_report.specs.Uncounted.{trace_uncounted};
@@ -24,6 +25,7 @@ use line_model::finding::Finding;
 use line_model::interface::Interface;
 use line_model::report::Report;
 use line_model::row::ReadRow;
+use line_model::state::Side;
 use line_model::totals::Summary;
 use report_merge::text::write_report;
 use restart_epochs::walk::append_finding;
@@ -204,6 +206,60 @@ impl<A: Allocator + Copy, C: Channel<A>> Live<A, C> {
         let answer = self.feed_rows(chunk);
         self.refused = answer.err();
         answer
+    }
+
+    /// Takes a packet after the first row, and appends what it finds. `false`: the line that writes it has to be fed.
+    #[inline(always)]
+    fn take_packet(&mut self, number: u32, side: Side, octets: &[u8]) -> Result<bool, Fault>
+        requires { (text : List ℕ) × WasFed C.Channel text self.old }
+        ensures taken { OfFed C.Channel self.old (λ text. result ≡ Ok true → WasFed C.Channel
+            (text ++ row_text (record { number = number; side = side; octets = octets.now })) self.new) }
+        ensures passed { OfFed C.Channel self.old (λ text. result ≡ Ok false
+            → WasFed C.Channel text self.new) }
+        ensures found { OfFed C.Channel self.old (λ text. result ≡ Ok true
+            → HasFound self.old.found.items self.new.found.items (found text)
+            (found (text ++ row_text (record { number = number; side = side; octets = octets.now })))) }
+        ensures kinds { IfErr result IsTextFault }
+    {
+        let Some(observer) = &mut self.observer else {
+            return Ok(false);
+        };
+        if !self.lines.pass_row(number, octets.len()) {
+            return Ok(false);
+        }
+        self.rows.put_next(number, side, octets)?;
+        append_finding(&mut self.found, observer.take(&self.rows.next)?)?;
+        self.rows.keep_next(self.keeps_rows);
+        Ok(true)
+    }
+
+    /// Reads a packet as the line that writes it, but without that line: its number, its side and its octets. `false`:
+    /// nothing was read, and the line has to be fed, as that of the first row, of a packet without octets, and of one
+    /// whose line is faulty here. Fails only when memory is refused, or `feed` has refused; then it answers the same.
+    #[inline(always)]
+    pub fn packet(&mut self, number: u32, side: Side, octets: &[u8]) -> Result<bool, Fault>
+        requires fed { IsFed C.interface_of C.number_of C.stands_for self.old }
+        ensures fed { IsFed C.interface_of C.number_of C.stands_for self.new }
+        // Of any text that it was fed: it was fed that text with the line, or still that text.
+        ensures taken { OfFed C.Channel self.old (λ text. result ≡ Ok true → WasFed C.Channel
+            (text ++ row_text (record { number = number; side = side; octets = octets.now })) self.new) }
+        ensures passed { OfFed C.Channel self.old (λ text. result ≡ Ok false
+            → WasFed C.Channel text self.new) }
+        ensures found { OfFed C.Channel self.old (λ text. result ≡ Ok true
+            → HasFound [] self.new.found.items (found text)
+            (found (text ++ row_text (record { number = number; side = side; octets = octets.now })))) }
+        ensures kinds { IfErr result IsTextFault }
+        ensures refuses { IfErr result (λ fault. self.new.refused ≡ Some fault) }
+        ensures again { (fault : Fault) → self.old.refused ≡ Some fault
+            → (result ≡ Err fault) × (self.new ≡ self.old) }
+    {
+        if let Some(fault) = self.refused {
+            return Err(fault);
+        }
+        self.found.clear();
+        let taken = self.take_packet(number, side, octets);
+        self.refused = taken.err();
+        taken
     }
 
     /// The report of the text up to its last LF.

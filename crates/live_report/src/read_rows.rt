@@ -1,10 +1,11 @@
 //! The row that was read last, and room for the next one.
 
-ghost use Rattle.std.specs.Prelude.{◌≡◌, true};
+ghost use Rattle.std.specs.Prelude.{◌≡◌, true, OnOk};
+ghost use Rattle.line_model.specs.packets.Says.{read_octets, read_row};
 
-use line_model::row::ReadRow;
+use line_model::row::{ReadRow, is_unqualified};
 use line_model::state::Side;
-use std::alloc::Allocator;
+use std::alloc::{AllocError, Allocator};
 use std::mem::swap;
 
 /// A row with no octets, to put others in. It takes no memory.
@@ -15,6 +16,17 @@ fn blank_row<A: Allocator>(alloc: A) -> ReadRow<A> {
         length: 0,
         octets: Vec::new(alloc),
     }
+}
+
+/// The octets of a row that are read.
+#[inline(always)]
+fn read_octets(octets: &[u8]) -> &[u8]
+    ensures { result.now ≡ read_octets octets.now }
+{
+    if octets.len() > 4 && is_unqualified(octets) {
+        return &octets[..4];
+    }
+    octets
 }
 
 /// Two rows that change places where rows are kept, so the last one stays as it was while the next one is read.
@@ -37,6 +49,25 @@ impl<A: Allocator + Copy> ReadRows<A> {
 }
 
 impl<A: Allocator> ReadRows<A> {
+    /// Puts a row in the place of the next one. Fails only when memory is refused.
+    #[inline(always)]
+    pub(crate) fn put_next(
+        &mut self,
+        number: u32,
+        side: Side,
+        octets: &[u8],
+    ) -> Result<(), AllocError>
+        ensures next { OnOk result (self.new.next
+            ≡ read_row (record { number = number; side = side; octets = octets.now })) }
+        ensures last { self.new.last ≡ self.old.last }
+    {
+        self.next.number = number;
+        self.next.side = side;
+        self.next.length = octets.len();
+        self.next.octets.clear();
+        self.next.octets.extend_from_slice(read_octets(octets))
+    }
+
     /// The next row was read whole: where rows are kept, it is the last one now.
     #[inline(always)]
     pub(crate) fn keep_next(&mut self, keeps_rows: bool)

@@ -22,7 +22,7 @@ use Rattle.trace_text.specs.Cuts.{Lacks}
 use Rattle.line_model.specs.text.Text.{is_comment}
 use Rattle.trace_text.specs.Digits.{BeginsOctets}
 use Rattle.trace_text.specs.Reads.{BeginsLine, BeginsRow}
-use Rattle.trace_text.proofs.DigitLemmas.{octets-decode, twice}
+use Rattle.trace_text.proofs.DigitLemmas.{octets-decode}
 use Rattle.trace_text.proofs.CutLemmas.{words-found, words-none}
 use Rattle.trace_text.proofs.NumberLemmas.{both, number_is}
 use Rattle.trace_text.proofs.RowLemmas.{octets_of-ok}
@@ -128,28 +128,33 @@ not_comment : (word rest : List ℕ) → 1 ≤ length word → Lacks 35 word →
 not_comment [] rest n h = absurd (omega (arith, n))
 not_comment (b ∷ bs) rest n h = (or_parts (b == 35) (list_any (λ b. b == 35) bs) h).0
 
+-- a row's front and the digits after it, which write these octets, are a line
+pub decoded-line : (last number : ℕ) (side : Side) (text after digits octets rest : List ℕ) → BeginsRow last text number side after → after ≡ digits ++ 10 ∷ rest → decode_of digits ≡ Ok octets → 0 < length octets → length octets ≤ 4200 → BeginsLine last text (record { number = number; side = side; octets = octets }) rest
+decoded-line last number side text after digits octets rest b whole decoded some most =
+    let tail : List ℕ = 32 ∷ b.letter ∷ 32 ∷ digits in
+    let line : List ℕ = b.word ++ tail in
+    let begins : BeginsRow last line number side digits = record { word = b.word; letter = b.letter; whole = refl; one_word = b.one_word; no_space = b.no_space; rises = b.rises; names = b.names } in
+    let long = (decode_of-ok digits octets decoded).2 in
+    let there : 0 < length digits = omega (arith, long, some) in
+    let few : length digits ≤ 8400 = omega (arith, long, most) in
+    let even : length digits % 2 ≡ 0 = (decode_of-ok digits octets decoded).0 in
+    let value = rises_is (number_of b.word) last number b.rises in
+    let word_digits = number_digits b.word number value in
+    record {
+      line = line;
+      whole = b.whole ∙ ap (λ xs. b.word ++ 32 ∷ b.letter ∷ 32 ∷ xs) whole ∙ sym (append_assoc b.word tail (10 ∷ rest));
+      one_line = lacks-append 10 b.word tail (number_lacks 10 b.word refl word_digits) (rw (no_line_end (b.letter == 10) b.letter side refl b.names) (digits_lack 10 digits octets refl decoded));
+      no_comment = not_comment b.word tail (word_length b.word number value) (number_lacks 35 b.word refl word_digits);
+      sound = front_kind last number side line digits octets begins there few even decoded;
+      writes = front_row last number side line digits octets begins there few even decoded;
+    }
+
 -- a row's front and the digits after it are a line
 pub front-line : (last number : ℕ) (side : Side) (size : ℕ) (text after rest : List ℕ) → BeginsRow last text number side after → (w : BeginsOctets after size rest) → BeginsLine last text (record { number = number; side = side; octets = w.octets }) rest
 front-line last number side size text after rest b w =
-    let d = w.digits in
-    let tail : List ℕ = 32 ∷ b.letter ∷ 32 ∷ d.digits in
-    let line : List ℕ = b.word ++ tail in
-    let begins : BeginsRow last line number side d.digits = record { word = b.word; letter = b.letter; whole = refl; one_word = b.one_word; no_space = b.no_space; rises = b.rises; names = b.names } in
-    let decoded : decode_of d.digits ≡ Ok w.octets = octets-decode d.digits w.octets d.octets_are in
-    let long : length d.digits ≡ 2 * size = omega (arith, twice d.digits w.octets d.octets_are, w.count) in
-    let some : 0 < length d.digits = let three = w.some in omega (arith, long, three) in
-    let few : length d.digits ≤ 8400 = let most = w.few in omega (arith, long, most) in
-    let even : length d.digits % 2 ≡ 0 = omega (arith, long) in
-    let value = rises_is (number_of b.word) last number b.rises in
-    let digits = number_digits b.word number value in
-    record {
-      line = line;
-      whole = b.whole ∙ ap (λ xs. b.word ++ 32 ∷ b.letter ∷ 32 ∷ xs) d.whole ∙ sym (append_assoc b.word tail (10 ∷ rest));
-      one_line = lacks-append 10 b.word tail (number_lacks 10 b.word refl digits) (rw (no_line_end (b.letter == 10) b.letter side refl b.names) (digits_lack 10 d.digits w.octets refl decoded));
-      no_comment = not_comment b.word tail (word_length b.word number value) (number_lacks 35 b.word refl digits);
-      sound = front_kind last number side line d.digits w.octets begins some few even decoded;
-      writes = front_row last number side line d.digits w.octets begins some few even decoded;
-    }
+    let three = w.some in
+    let most = w.few in
+    decoded-line last number side text after w.digits.digits w.octets rest b w.digits.whole (octets-decode w.digits.digits w.octets w.digits.octets_are) (omega (arith, w.count, three)) (omega (arith, w.count, most))
 
 begins-three : (xs : List ℕ) (a b d : ℕ) → 3 ≤ length xs → get_or xs 0 0 ≡ a → get_or xs 1 0 ≡ b → get_or xs 2 0 ≡ d → xs ≡ a ∷ b ∷ d ∷ take (length xs - 3) (drop 3 xs)
 begins-three [] a b d n e f g = absurd (omega (arith, n))

@@ -589,3 +589,4 @@ impl<A: Allocator + Clone> Lines<A> {
 }
 
 pub mod block;
+pub mod row;

@@ -1,6 +1,6 @@
 //! Numbers of 1 to 9 digits.
 
-ghost use Rattle.std.specs.Prelude.{◌≡◌};
+ghost use Rattle.std.specs.Prelude.{◌≡◌, ◌<◌, ◌≤◌, decimal, length};
 ghost use Rattle.line_model.specs.text.Header.{is_number as is_number_word};
 ghost use Rattle.line_model.specs.text.Header.{number_of};
 ghost use Rattle.std.specs.List.{list_all};
@@ -36,4 +36,28 @@ pub fn read_number(word: &[u8]) -> Option<u32>
         value = value * 10 + (*digit - b'0') as u32;
     }
     Some(value)
+}
+
+/// The largest number of a row.
+pub const LARGEST_NUMBER: u32 = 999_999_999;
+
+/// How many digits a row's number has.
+#[inline(always)]
+pub fn digit_count(number: u32) -> usize
+    requires some { 0 < number }
+    requires small { number < 1000000000 }
+    ensures value { result ≡ length (decimal number) }
+    ensures few { result ≤ 9 }
+{
+    match number {
+        0..=9 => 1,
+        10..=99 => 2,
+        100..=999 => 3,
+        1000..=9999 => 4,
+        10_000..=99_999 => 5,
+        100_000..=999_999 => 6,
+        1_000_000..=9_999_999 => 7,
+        10_000_000..=99_999_999 => 8,
+        _ => 9,
+    }
 }

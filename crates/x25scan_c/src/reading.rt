@@ -12,8 +12,10 @@ use descriptions::row_objects::RowObjects;
 use line_model::device::{Sink, SliceSource};
 use line_model::fault::Fault;
 use line_model::finding::Finding;
+use line_model::state::Side;
 use live_report::live::Live;
 use live_report::uncounted::Uncounted;
+use memchr::memrchr;
 use std::alloc::Allocator;
 use std::mem::replace;
 
@@ -28,6 +30,30 @@ pub enum Reading<A: Allocator, C: Channel<A>> {
     Ended,
 }
 
+/// A text up to its last line feed.
+fn ended_part(text: &[u8]) -> &[u8] {
+    match memrchr(b'\n', text) {
+        Some(last) => &text[..=last],
+        None => b"",
+    }
+}
+
+/// Writes the rows of a text and its report, as `print_trace`.
+fn print_rows<A: Allocator + Copy, C: Channel<A>, K: Sink>(
+    alloc: A,
+    text: &[u8],
+    sink: &mut K,
+) -> Result<(), Fault> {
+    print_trace(
+        alloc,
+        Live::<A, C>::with_rows(alloc),
+        RowObjects::new(alloc, Rows::All),
+        &mut SliceSource::new(text),
+        sink,
+    )?;
+    Ok(())
+}
+
 /// Reads the next bytes of a text, as `Live::feed`, and appends what their rows found.
 fn feed_live<A: Allocator + Copy, C: Channel<A>>(
     live: &mut Live<A, C>,
@@ -40,6 +66,25 @@ fn feed_live<A: Allocator + Copy, C: Channel<A>>(
     live.feed(chunk)?;
     found.extend_from_slice(live.found())?;
     Ok(())
+}
+
+/// Reads a packet, as `Live::packet`, and appends what it found.
+#[inline(always)]
+fn live_packet<A: Allocator + Copy, C: Channel<A>>(
+    live: &mut Live<A, C>,
+    number: u32,
+    side: Side,
+    octets: &[u8],
+    found: &mut Vec<Finding, A>,
+) -> Result<bool, Fault>
+    requires { IsSound C.Channel (Reading.Report live.old) }
+    ensures { IsSound C.Channel (Reading.Report live.new) }
+{
+    if !live.packet(number, side, octets)? {
+        return Ok(false);
+    }
+    found.extend_from_slice(live.found())?;
+    Ok(true)
 }
 
 impl<A: Allocator + Copy, C: Channel<A>> Reading<A, C> {
@@ -79,12 +124,34 @@ impl<A: Allocator + Copy, C: Channel<A>> Reading<A, C> {
         }
     }
 
-    /// Writes the report of the lines that have ended, as `Live::report`.
-    pub fn report<K: Sink>(&self, sink: &mut K) -> Result<(), Fault>
+    /// Reads a packet, and appends what it found. `false`: nothing was read, and the line that writes it has to be fed.
+    #[inline(always)]
+    pub fn packet(
+        &mut self,
+        number: u32,
+        side: Side,
+        octets: &[u8],
+        found: &mut Vec<Finding, A>,
+    ) -> Result<bool, Fault>
+        requires { IsSound C.Channel self.old }
+        ensures { IsSound C.Channel self.new }
+    {
+        match self {
+            Reading::Report(live) => live_packet(live, number, side, octets, found),
+            _ => Ok(false),
+        }
+    }
+
+    /// Writes the report of the lines that have ended, as `Live::report`, or their rows and their report.
+    pub fn report<K: Sink>(&self, alloc: A, sink: &mut K) -> Result<(), Fault>
         requires { IsSound C.Channel self.now }
     {
-        if let Reading::Report(live) = self {
-            live.report(sink)?;
+        match self {
+            Reading::Report(live) => {
+                live.report(sink)?;
+            }
+            Reading::Rows(text) => print_rows::<A, C, K>(alloc, ended_part(text.as_slice()), sink)?,
+            Reading::Ended => {}
         }
         Ok(())
     }
@@ -99,15 +166,7 @@ impl<A: Allocator + Copy, C: Channel<A>> Reading<A, C> {
                 let mut uncounted = Uncounted::none();
                 live.end(sink, &mut uncounted)?;
             }
-            Reading::Rows(text) => {
-                print_trace(
-                    alloc,
-                    Live::<A, C>::with_rows(alloc),
-                    RowObjects::new(alloc, Rows::All),
-                    &mut SliceSource::new(text.as_slice()),
-                    sink,
-                )?;
-            }
+            Reading::Rows(text) => print_rows::<A, C, K>(alloc, text.as_slice(), sink)?,
             Reading::Ended => {}
         }
         Ok(())

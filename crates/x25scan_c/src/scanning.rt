@@ -8,16 +8,15 @@ use crate::reading::Reading;
 use channel_machine::channel::PackedChannel;
 use channel_run::run::Channel;
 use explanations::advice::advice;
-use itoa::Buffer;
 use json_lines::text::write_json_lines;
 use line_model::device::{Beginning, VecSink};
 use line_model::fault::{Fault, Kind};
 use line_model::finding::Finding;
-use std::alloc::{AllocError, Global};
+use line_model::state::Side;
+use live_report::row_text::put_row;
+use std::alloc::Global;
 use std::mem::replace;
 
-/// The report as lines.
-pub const LINES: u32 = 0;
 /// The report as JSON lines.
 pub const JSON: u32 = 1;
 /// Rows as JSON lines, as they come, and last the report.
@@ -48,34 +47,6 @@ pub struct Scanning {
     has_begun: bool,
     refused: Option<(u32, Kind)>,
     advice: Option<String>,
-}
-
-/// Two hex digits.
-fn push_octet(line: &mut Vec<u8>, octet: u8) -> Result<(), AllocError> {
-    for digit in [octet / 16, octet % 16] {
-        line.push(if digit < 10 {
-            b'0' + digit
-        } else {
-            b'A' + (digit - 10)
-        })?;
-    }
-    Ok(())
-}
-
-/// Puts the line of a row in the place of another.
-fn put_row(line: &mut Vec<u8>, number: u32, side: u8, octets: &[u8]) -> Result<(), AllocError> {
-    let mut digits = Buffer::new();
-    line.clear();
-    line.extend_from_slice(digits.format(number).as_bytes())?;
-    line.extend_from_slice(&[b' ', side, b' '])?;
-    if octets.is_empty() {
-        line.push(b'-')?;
-    }
-    for octet in octets {
-        push_octet(line, *octet)?;
-    }
-    line.push(b'\n')?;
-    Ok(())
 }
 
 impl Scanning {
@@ -116,7 +87,9 @@ impl Scanning {
         ensures { self.new.reading ≡ self.old.reading }
     {
         if let Fault::Trace(line, kind) = fault {
-            if self.refused.is_none() {
+            let is_known =
+                matches!(self.refused, Some((known, broken)) if known == line && broken == kind);
+            if !is_known {
                 let text = self.recent.as_slice();
                 self.advice = advice(alloc, kind, text, self.beginning).ok();
                 self.refused = Some((line, kind));
@@ -150,12 +123,34 @@ impl Scanning {
         requires { IsSound ⟦<PackedChannel<Global> as Channel<Global>>⟧ self.old.reading }
         ensures { IsSound ⟦<PackedChannel<Global> as Channel<Global>>⟧ self.new.reading }
     {
-        if side != b'T' && side != b'N' || octets.len() > MOST_OCTETS {
+        let sender = match side {
+            b'T' => Side::T,
+            b'N' => Side::N,
+            _ => return ARGUMENT,
+        };
+        if octets.len() > MOST_OCTETS {
             return ARGUMENT;
         }
         if self.has_begun {
             return LINE;
         }
+        match self.reading.packet(number, sender, octets, &mut self.found) {
+            Ok(true) => {
+                self.recent.clear();
+                self.beginning = Beginning::Line(number);
+                OK
+            }
+            Ok(false) => self.feed_row(alloc, number, sender, octets),
+            Err(fault) => self.refuse(alloc, fault),
+        }
+    }
+
+    /// Reads the line that writes a packet.
+    #[inline(never)]
+    fn feed_row(&mut self, alloc: Global, number: u32, side: Side, octets: &[u8]) -> u32
+        requires { IsSound ⟦<PackedChannel<Global> as Channel<Global>>⟧ self.old.reading }
+        ensures { IsSound ⟦<PackedChannel<Global> as Channel<Global>>⟧ self.new.reading }
+    {
         let mut line = replace(&mut self.line, Vec::new(alloc));
         let answer = match put_row(&mut line, number, side, octets) {
             Ok(()) => self.feed(alloc, line.as_slice()),
@@ -206,23 +201,25 @@ impl Scanning {
         OK
     }
 
-    /// The report of the lines that have ended takes the place of the text that was not taken. A refusal changes nothing
-    /// of that text.
+    /// The report of the lines that have ended, or their rows, take the place of the text that was not taken. A refusal
+    /// changes nothing of that text.
     pub(crate) fn report(&mut self, alloc: Global, form: u32) -> u32
         requires { IsSound ⟦<PackedChannel<Global> as Channel<Global>>⟧ self.old.reading }
         ensures { self.new.reading ≡ self.old.reading }
     {
-        if form != LINES && form != JSON {
+        if form > ROW_OBJECTS {
             return ARGUMENT;
         }
         if self.reading.has_ended() {
             return ENDED;
         }
-        if self.reading.prints_rows() {
-            return ROWS;
+        match (self.reading.prints_rows(), form == ROW_OBJECTS) {
+            (true, false) => return ROWS,
+            (false, true) => return ARGUMENT,
+            _ => {}
         }
         let mut lines = VecSink::new(Vec::new(alloc));
-        match self.reading.report(&mut lines) {
+        match self.reading.report(alloc, &mut lines) {
             Ok(()) => self.put_report(alloc, form, lines),
             Err(fault) => self.refuse(alloc, fault),
         }

@@ -1,0 +1,48 @@
+/* by_packets [--json | --rows] FILE: feeds the packets of a trace one by one, and prints its report. Comments are left out.
+ * FILE may have no faulty line. */
+#include <stdio.h>
+#include <stdlib.h>
+#include <string.h>
+#include <x25scan.h>
+
+static int feed_header(x25scan *scan, unsigned form, char *header) {
+    int error;
+    if (form != X25SCAN_ROW_OBJECTS) return x25scan_open_header(scan, header);
+    error = x25scan_open(scan, form);
+    if (!error) error = x25scan_feed(scan, header, strlen(header));
+    return error ? error : x25scan_feed(scan, "\n", 1);
+}
+
+static int feed_row(x25scan *scan, char *row) {
+    static unsigned char octets[4200];
+    char *side, *digits;
+    size_t length = 0;
+    unsigned octet;
+    uint32_t number = (uint32_t)strtoul(row, &side, 10);
+    for (digits = side + 3; length < sizeof octets && sscanf(digits, "%2x", &octet) == 1; digits += 2)
+        octets[length++] = (unsigned char)octet;
+    return x25scan_packet(scan, number, side[1], octets, length);
+}
+
+int main(int count, char **words) {
+    static char line[8502];
+    x25scan scan = X25SCAN_INIT;
+    unsigned form = X25SCAN_LINES;
+    char buffer[4096];
+    size_t length, left;
+    FILE *file;
+    int error = 0, is_open = 0;
+    if (count > 2) form = strcmp(words[1], "--json") ? X25SCAN_ROW_OBJECTS : X25SCAN_JSON;
+    if (count < 2 || !(file = fopen(words[count - 1], "rb"))) return 64;
+    while (!error && fgets(line, sizeof line, file)) {
+        line[strcspn(line, "\n")] = 0;
+        if (*line == '#') continue;
+        error = is_open ? feed_row(&scan, line) : feed_header(&scan, form, line);
+        is_open = 1;
+    }
+    if (!error) error = x25scan_end(&scan, form);
+    while (!error && !x25scan_read(&scan, buffer, sizeof buffer, &length, &left) && length) fwrite(buffer, 1, length, stdout);
+    x25scan_close(&scan);
+    fclose(file);
+    return error;
+}
