@@ -1,5 +1,5 @@
 -- Rows in two lists: what is appended to both comes to stand behind the others.
-use Rattle.std.proofs.Common.{◌≡◌, ◌∙◌, ap, ap₂, refl, sym, ℕ, suc, ◌+◌, ◌≤◌, List, [], ◌∷◌, ◌++◌, length, length-drop, take, drop, arith}
+use Rattle.std.proofs.Common.{◌≡◌, ◌∙◌, ap, ap₂, refl, sym, ℕ, suc, ◌+◌, ◌-◌, ◌≤◌, List, [], ◌∷◌, ◌++◌, length, length-drop, take, drop, arith}
 use Rattle.std.proofs.Math.Seq.{take-add, take-length}
 use Rattle.std.proofs.lemmas.List.{take-append-le, drop-append-le, drop-drop, length-take-le}
 use Rattle.std.proofs.lemmas.List.Sums.{sum_by-append, sum_by-cons}
@@ -46,23 +46,37 @@ pub items-length : (hs : List Head) (os : List ℕ) → length (items_of hs os) 
 items-length [] os = refl
 items-length (h ∷ hs) os = ap suc (items-length hs (drop (kept h) os))
 
--- the first n + m after some are the first n of them, and m after those
-pub taken_on : {X : Type 0} (n m place : ℕ) (xs : List X) → take (n + m) (drop place xs) ≡ take n (drop place xs) ++ take m (drop (place + n) xs)
-taken_on n m place xs = take-add n m (drop place xs) ∙ ap (λ l. take n (drop place xs) ++ take m l) (drop-drop n place xs)
+-- some rows of a list are as many as heads of it were taken
+pub place-length : (hs : List Head) (os : List ℕ) (first count : ℕ) → first + count ≤ length hs → length (items_of (take count (drop first hs)) os) ≡ count
+place-length hs os first count inside =
+    let room : count ≤ length (drop first hs) = omega (arith, inside, length-drop first hs) in
+    items-length (take count (drop first hs)) os ∙ length-take-le count (drop first hs) room
 
--- rows of a list, of which the first n keep k octets
-module _ (hs : List Head) (os : List ℕ) (n m first k l octet : ℕ) (whole : octets_of (take (n + m) (drop first hs)) ≡ k + l) (part : octets_of (take n (drop first hs)) ≡ k) (inside : octet + (k + l) ≤ length os) where
-  -- the others keep the other octets
-  pub others_kept : octets_of (take m (drop (first + n) hs)) ≡ l
-  others_kept =
-      let both : octets_of (take (n + m) (drop first hs)) ≡ octets_of (take n (drop first hs)) + octets_of (take m (drop (first + n) hs)) =
-          ap octets_of (taken_on n m first hs) ∙ sum_by-append kept (take n (drop first hs)) (take m (drop (first + n) hs)) in
+-- of what stands at a place, the first n and the others
+pub taken_on : {X : Type 0} (n count place : ℕ) (xs : List X) → n ≤ count → take count (drop place xs) ≡ take n (drop place xs) ++ take (count - n) (drop (place + n) xs)
+taken_on n count place xs few =
+    let sum : count ≡ n + (count - n) = omega (arith, few) in
+    ap (λ i. take i (drop place xs)) sum ∙ take-add n (count - n) (drop place xs) ∙ ap (λ l. take n (drop place xs) ++ take (count - n) l) (drop-drop n place xs)
+
+-- some rows of a list, of which the first n keep k octets
+module _ (hs : List Head) (os : List ℕ) (first count octet all n k : ℕ) (few : n ≤ count) (whole : octets_of (take count (drop first hs)) ≡ all) (part : k ≡ octets_of (take n (drop first hs))) (inside : octet + all ≤ length os) where
+  sum : all ≡ k + octets_of (take (count - n) (drop (first + n) hs))
+  sum =
+      let both = ap octets_of (taken_on n count first hs few) ∙ sum_by-append kept (take n (drop first hs)) (take (count - n) (drop (first + n) hs)) in
       omega (arith, both, whole, part)
 
-  -- they are the first n, and then the others
-  pub items-split : items_of (take (n + m) (drop first hs)) (take (k + l) (drop octet os))
-      ≡ items_of (take n (drop first hs)) (take k (drop octet os)) ++ items_of (take m (drop (first + n) hs)) (take l (drop (octet + k) os))
+  -- they are no more than all
+  pub first_kept-le : k ≤ all
+  first_kept-le = omega (arith, sum)
+
+  -- the others keep the other octets
+  pub others_kept : octets_of (take (count - n) (drop (first + n) hs)) ≡ all - k
+  others_kept = omega (arith, sum)
+
+  -- the first n, and then the others
+  pub items-split : items_of (take count (drop first hs)) (take all (drop octet os))
+      ≡ items_of (take n (drop first hs)) (take k (drop octet os)) ++ items_of (take (count - n) (drop (first + n) hs)) (take (all - k) (drop (octet + k) os))
   items-split =
-      let room : k ≤ length (drop octet os) = omega (arith, inside, length-drop octet os) in
-      ap₂ items_of (taken_on n m first hs) (taken_on k l octet os)
-      ∙ items-append (take n (drop first hs)) (take m (drop (first + n) hs)) (take k (drop octet os)) (take l (drop (octet + k) os)) (part ∙ sym (length-take-le k (drop octet os) room))
+      let room : k ≤ length (drop octet os) = omega (arith, inside, first_kept-le, length-drop octet os) in
+      ap₂ items_of (taken_on n count first hs few) (taken_on k all octet os first_kept-le)
+      ∙ items-append (take n (drop first hs)) (take (count - n) (drop (first + n) hs)) (take k (drop octet os)) (take (all - k) (drop (octet + k) os)) (sym part ∙ sym (length-take-le k (drop octet os) room))

@@ -180,12 +180,16 @@ impl<A: Allocator> Items<A> {
         Ok(())
     }
 
-    /// Appends rows. Where memory is refused the rows are of no use.
+    /// Appends rows. Where memory is refused nothing changes.
     pub fn append(&mut self, rows: Iter<'_>) -> Result<(), AllocError>
-        ensures { OnOk result (self.new ≡ self.old ++ rows) }
+        ensures ok { OnOk result (self.new ≡ self.old ++ rows.entry) }
+        ensures refused { OnErr result (self.new ≡ self.old) }
     {
-        self.heads.extend_from_slice(rows.heads)?;
+        self.heads.reserve(rows.heads.len())?;
         self.octets.extend_from_slice(rows.octets)?;
+        let Ok(()) = self.heads.extend_from_slice(rows.heads) else {
+            unreachable!();
+        };
         Ok(())
     }
 }
