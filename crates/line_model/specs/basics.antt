@@ -3,6 +3,7 @@ pub mod Choice
 pub mod Octets
 pub mod Records
 pub mod Items
+pub mod Parts
 pub mod Bounds
 pub mod Device
 pub mod Written

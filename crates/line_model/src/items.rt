@@ -179,6 +179,19 @@ impl<A: Allocator> Items<A> {
         });
         Ok(())
     }
+
+    /// Appends rows. Where memory is refused nothing changes.
+    pub fn append(&mut self, rows: Iter<'_>) -> Result<(), AllocError>
+        ensures ok { OnOk result (self.new ≡ self.old ++ rows.entry) }
+        ensures refused { OnErr result (self.new ≡ self.old) }
+    {
+        self.heads.reserve(rows.heads.len())?;
+        self.octets.extend_from_slice(rows.octets)?;
+        let Ok(()) = self.heads.extend_from_slice(rows.heads) else {
+            unreachable!();
+        };
+        Ok(())
+    }
 }
 
 impl<A: Allocator + Copy> Items<A> {
@@ -192,14 +205,15 @@ impl<A: Allocator + Copy> Items<A> {
         }
     }
 
-    /// The same rows once more, in as much memory as they take.
-    pub fn copy(&self) -> Result<Items<A>, AllocError>
-        ensures { IfOk result (λ items. items ≡ self.now) }
+    /// No rows, with room for so many and for so many octets.
+    pub fn with_capacity(alloc: A, rows: usize, octets: usize) -> Result<Self, AllocError>
+        ensures { IfOk result (λ items. items ≡ []) }
     {
-        let alloc = *self.heads.allocator();
         Ok(Items {
-            heads: Vec::from_slice(alloc, self.heads.as_slice())?,
-            octets: Vec::from_slice(alloc, self.octets.as_slice())?,
+            heads: Vec::with_capacity(alloc, rows)?,
+            octets: Vec::with_capacity(alloc, octets)?,
         })
     }
 }
+
+pub mod shared;

@@ -15,6 +15,7 @@ pub mod items;
 pub mod laws;
 pub mod lending;
 pub mod packet;
+pub mod part_items;
 pub mod piece;
 pub mod piece_items;
 pub mod report;

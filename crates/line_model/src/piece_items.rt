@@ -3,6 +3,7 @@
 ghost use Rattle.std.specs.Prelude.{◌≡◌, ◌++◌, ◌∷◌, [], length, OnErr, OnOk, IfOk, ◌==◌};
 
 use crate::items::{self, ItemRef, Items};
+use crate::part_items::PartItems;
 use std::alloc::{AllocError, Allocator, Global};
 use std::marker::Model;
 use std::mem;
@@ -16,9 +17,9 @@ use std::mem;
 #[derive(Drop)]
 pub struct PieceItems<A: Allocator = Global> {
     /// All parts but the last.
-    parts: Vec<Items<A>, A>,
+    parts: Vec<PartItems<A>, A>,
     /// The part that goes on.
-    last: Items<A>,
+    last: PartItems<A>,
     /// How many rows there are.
     count: usize,
 }
@@ -40,7 +41,7 @@ impl<A: Allocator> Model for PieceItems<A> {
 pub struct Iter<'a, A: Allocator = Global> {
     /// The rows that are left of the part that was begun.
     begun: items::Iter<'a>,
-    parts: &'a [Items<A>],
+    parts: &'a [PartItems<A>],
     last: items::Iter<'a>,
 }
 
@@ -108,21 +109,8 @@ impl<A: Allocator> PieceItems<A> {
         }
     }
 
-    /// Appends what a row of less than 2^32 octets says. Where memory is refused nothing changes.
-    pub fn push(&mut self, item: &ItemRef<'_>) -> Result<(), AllocError>
-        ensures ok { OnOk result (self.new ≡ self.old ++ item.now ∷ []) }
-        ensures refused { OnErr result (self.new ≡ self.old) }
-    {
-        let Some(count) = self.count.checked_add(1) else {
-            return Err(AllocError);
-        };
-        self.last.push(item)?;
-        self.count = count;
-        Ok(())
-    }
-
     /// Appends the rows of a part, which takes no memory for them. Where memory is refused nothing changes.
-    pub fn add(&mut self, part: Items<A>) -> Result<(), AllocError>
+    pub fn add(&mut self, part: PartItems<A>) -> Result<(), AllocError>
         ensures ok { OnOk result (self.new ≡ self.old ++ part) }
         ensures refused { OnErr result (self.new ≡ self.old) }
     {
@@ -142,11 +130,11 @@ impl<A: Allocator + Copy> PieceItems<A> {
     pub fn new(alloc: A) -> Self
         ensures { result ≡ [] }
     {
-        PieceItems::of(Items::new(alloc))
+        PieceItems::of(PartItems::own(Items::new(alloc)))
     }
 
     /// The rows of a part. It takes no memory.
-    pub fn of(part: Items<A>) -> Self
+    pub fn of(part: PartItems<A>) -> Self
         ensures { result ≡ part }
     {
         PieceItems {
@@ -154,6 +142,23 @@ impl<A: Allocator + Copy> PieceItems<A> {
             count: part.len(),
             last: part,
         }
+    }
+
+    /// Appends what a row of less than 2^32 octets says. Where memory is refused nothing changes.
+    pub fn push(&mut self, item: &ItemRef<'_>) -> Result<(), AllocError>
+        ensures ok { OnOk result (self.new ≡ self.old ++ item.now ∷ []) }
+        ensures refused { OnErr result (self.new ≡ self.old) }
+    {
+        let Some(count) = self.count.checked_add(1) else {
+            return Err(AllocError);
+        };
+        if self.last.push(item)? {
+            self.count = count;
+            return Ok(());
+        }
+        let mut part = Items::new(*self.parts.allocator());
+        part.push(item)?;
+        self.add(PartItems::own(part))
     }
 
     /// The same rows once more, as one part.

@@ -24,3 +24,4 @@ pub mod Added
 pub mod BlockJoins
 pub mod EndedEpochs
 pub mod Hung
+pub mod SharedParts

@@ -12,6 +12,7 @@ use crate::channel_table::ChannelTable;
 use crate::kept_rows::take_first;
 use crate::parts::Part;
 use line_model::interface::Interface;
+use line_model::part_items::PartItems;
 use line_model::piece::Piece;
 use line_model::piece_items::PieceItems;
 use std::alloc::{AllocError, Allocator};
@@ -77,7 +78,7 @@ pub fn append_parts<A: Allocator + Copy>(
             interface: epoch.interface,
             epoch: epoch.number,
             channel: part.channel,
-            items: PieceItems::of(part.items),
+            items: PieceItems::of(PartItems::shared(part.items)),
             end: epoch.end,
         };
         out.push(piece)?;

@@ -7,6 +7,7 @@ ghost use Rattle.restart_epochs.specs.BlockCuts.{AreAdded, HasAll};
 use crate::channel_table::ChannelTable;
 use crate::parts::Part;
 use line_model::items::ItemRef;
+use line_model::part_items::PartItems;
 use line_model::piece_items::PieceItems;
 use std::alloc::{AllocError, Allocator};
 use std::boxed::Box;
@@ -75,6 +76,7 @@ fn keep_part<A: Allocator + Copy>(
     ensures { OnOk result (HasAll part.channel part.items table.old table.new) }
 {
     let Part { channel, items } = part;
+    let items = PartItems::shared(items);
     let Some(mut rows) = take_rows(channel, table) else {
         return keep_first(alloc, channel, PieceItems::of(items), table);
     };

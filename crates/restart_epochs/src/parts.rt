@@ -1,6 +1,6 @@
 //! Rows that lie by logical channel.
 
-use line_model::items::Items;
+use line_model::items::shared::SharedItems;
 use std::alloc::{Allocator, Global};
 use std::marker::Model;
 
@@ -8,7 +8,7 @@ use std::marker::Model;
 #[derive(Drop)]
 pub struct Part<A: Allocator = Global> {
     pub(crate) channel: u16,
-    pub(crate) items: Items<A>,
+    pub(crate) items: SharedItems<A>,
 }
 
 impl<A: Allocator> Model for Part<A> {

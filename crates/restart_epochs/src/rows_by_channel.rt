@@ -2,22 +2,28 @@
 
 ghost use Rattle.std.specs.Prelude.{◌≡◌, ℕ, [], IfOk, MatchOption, OnOk};
 ghost use Rattle.std.specs.Bool.{OnTrue};
+ghost use Rattle.std.specs.List.{flat_map};
 ghost use Rattle.restart_epochs.specs.OpenRows.{no_rows, rows_of, HasMore, IsTakenOut};
 ghost use Rattle.restart_epochs.specs.BlockCuts.{parts_of, AreAllOut};
 
 use crate::channel_table::ChannelTable;
 use crate::parts::Part;
+use line_model::items::shared::SharedItems;
 use line_model::items::{ItemRef, Items};
 use std::alloc::{AllocError, Allocator, Global};
 use std::boxed::Box;
 use std::marker::Model;
 
-/// Rows by logical channel. Rows that are taken out are copied into as much memory as they take; the list of their
-/// channel keeps its own for the next ones.
+/// Rows by logical channel. Rows that are taken out are copied into one list; the list of each channel keeps its memory for
+/// the next ones.
 #[derive(Drop)]
 pub struct RowsByChannel<A: Allocator = Global> {
     alloc: A,
     table: ChannelTable<Items<A>, A>,
+    /// How many rows there are.
+    count: usize,
+    /// How many octets are kept of them.
+    octets: usize,
 }
 
 impl<A: Allocator> Model for RowsByChannel<A> {
@@ -38,6 +44,8 @@ impl<A: Allocator + Copy> RowsByChannel<A> {
         RowsByChannel {
             alloc,
             table: ChannelTable::new(alloc),
+            count: 0,
+            octets: 0,
         }
     }
 
@@ -81,6 +89,8 @@ impl<A: Allocator + Copy> RowsByChannel<A> {
     pub fn push(&mut self, channel: u16, item: &ItemRef<'_>) -> Result<(), AllocError>
         ensures { OnOk result (HasMore channel item.now self.old self.new) }
     {
+        self.count = self.count.saturating_add(1);
+        self.octets = self.octets.saturating_add(item.octets.len());
         let Some(mut list) = self.table.take(channel) else {
             let list = Box::new(self.alloc, Items::new(self.alloc))?;
             return self.push_first(channel, list, item);
@@ -93,32 +103,52 @@ impl<A: Allocator + Copy> RowsByChannel<A> {
         Ok(())
     }
 
-    /// Takes the rows of the first channel that has some out, as a part. Where memory is refused they are lost.
-    fn take_first(&mut self) -> Result<Option<Part<A>>, AllocError>
-        ensures { IfOk result (λ first. MatchOption first ((self.old.channels ≡ []) × (self.new ≡ self.old))
+    /// The rows of all channels in one list, by channel.
+    fn all_rows(&self) -> Result<Items<A>, AllocError>
+        ensures { IfOk result (λ rows. rows ≡ flat_map (rows_of self.now) self.now.channels) }
+    {
+        let mut rows = Items::with_capacity(self.alloc, self.count, self.octets)?;
+        for channel in self.table.channels() {
+            if let Some(list) = self.table.get(*channel) {
+                rows.append(list.iter())?;
+            }
+        }
+        Ok(rows)
+    }
+
+    /// Takes the rows of the first channel that has some out, as a part of the rows of all channels. Where memory is refused
+    /// they are lost.
+    fn take_first(&mut self, rows: &mut SharedItems<A>) -> Result<Option<Part<A>>, AllocError>
+        requires rows { rows.old ≡ flat_map (rows_of self.old) self.old.channels }
+        ensures first { IfOk result (λ first. MatchOption first ((self.old.channels ≡ []) × (self.new ≡ self.old))
             (λ part. IsTakenOut part.channel part.items self.old self.new)) }
+        ensures rows { OnOk result (rows.new ≡ flat_map (rows_of self.new) self.new.channels) }
     {
         let Some((channel, list)) = self.table.pop_first() else {
             return Ok(None);
         };
         let Some(mut list) = list else {
-            let items = Items::new(self.alloc);
+            let items = rows.split_first(0)?;
             return Ok(Some(Part { channel, items }));
         };
-        let items = list.copy()?;
+        let items = rows.split_first(list.len())?;
         list.clear();
         self.table.put(channel, list);
         Ok(Some(Part { channel, items }))
     }
 
-    /// Takes all rows out, those of a channel as one part, in ascending order of the channels. Where memory is refused some are lost.
+    /// Takes all rows out, those of a channel as one part, in ascending order of the channels. The parts lie in one list.
+    /// Where memory is refused some are lost.
     pub fn take_parts(&mut self) -> Result<Vec<Part<A>, A>, AllocError>
         ensures parts { IfOk result (λ parts. parts.items ≡ parts_of (rows_of self.old) self.old.channels) }
         ensures out { OnOk result (AreAllOut self.old self.new) }
     {
+        let mut rows = SharedItems::of(self.all_rows()?)?;
+        self.count = 0;
+        self.octets = 0;
         let mut parts = Vec::new(self.alloc);
         parts.reserve(self.table.len())?;
-        while let Some(part) = self.take_first()? {
+        while let Some(part) = self.take_first(&mut rows)? {
             parts.push(part)?;
         }
         Ok(parts)

@@ -13,6 +13,7 @@ use line_model::finding::{Code, Finding, Xcode};
 use line_model::interface::Interface;
 use line_model::items::Items;
 use line_model::packet::Packet;
+use line_model::part_items::PartItems;
 use line_model::piece::{Piece, PieceReport};
 use line_model::piece_items::PieceItems;
 use line_model::row::Row;
@@ -115,7 +116,7 @@ fn piece_of<A: Allocator + Copy>(
         interface: *interface,
         epoch: 1,
         channel,
-        items: PieceItems::of(items),
+        items: PieceItems::of(PartItems::own(items)),
         end,
     })
 }

@@ -8,6 +8,7 @@ use line_model::finding::{Code, Finding};
 use line_model::interface::Interface;
 use line_model::items::{ItemRef, Items};
 use line_model::packet::Packet;
+use line_model::part_items::PartItems;
 use line_model::piece::Piece;
 use line_model::piece_items::PieceItems;
 use line_model::state::{Side, StateName};
@@ -89,7 +90,7 @@ pub(crate) fn piece_of_rows(
         interface,
         epoch,
         channel: 0,
-        items: PieceItems::of(items),
+        items: PieceItems::of(PartItems::own(items)),
         end: None,
     })
 }

@@ -1,7 +1,9 @@
 //! What rows say in two lists, by values from outside.
 
+use line_model::items::shared::SharedItems;
 use line_model::items::{ItemRef, Items};
 use line_model::packet::{DataHeader, Packet, PacketKind};
+use line_model::part_items::PartItems;
 use line_model::piece_items::PieceItems;
 use line_model::state::Side;
 use std::alloc::Global;
@@ -105,20 +107,23 @@ fn rows_are(items: &Items, lines: &[Line]) -> bool {
 }
 
 /// The same rows, of which a copy was made.
-fn copied(items: &mut Items) -> Result<Items, Fail> {
+fn copied(alloc: Global, items: &mut Items) -> Result<Items, Fail> {
     push_all(items, &LINES)?;
-    Ok(items.copy()?)
+    let mut copy = Items::new(alloc);
+    copy.append(items.iter())?;
+    Ok(copy)
 }
 
-/// The rows of a piece: so many lines in a part, the others up to the last in another, and the last one pushed.
+/// The rows of a piece: so many lines in a part, the others up to the last in another part of the same list, and the last
+/// one pushed.
 fn in_parts(alloc: Global, count: usize) -> Result<PieceItems, Fail> {
-    let (first, others) = LINES[..4].split_at(count.min(4));
-    let (mut part, mut other, mut last) = (Items::new(alloc), Items::new(alloc), Items::new(alloc));
-    push_all(&mut part, first)?;
-    push_all(&mut other, others)?;
+    let (mut list, mut last) = (Items::new(alloc), Items::new(alloc));
+    push_all(&mut list, &LINES[..4])?;
     push_all(&mut last, &LINES[4..])?;
-    let mut items = PieceItems::of(part);
-    items.add(other)?;
+    let mut others = SharedItems::of(list)?;
+    let first = others.split_first(count.min(others.len()))?;
+    let mut items = PieceItems::of(PartItems::shared(first));
+    items.add(PartItems::shared(others))?;
     for item in last.iter() {
         items.push(&item)?;
     }
@@ -137,7 +142,7 @@ fn in_one_list(alloc: Global, items: &PieceItems) -> Result<Items, Fail> {
 #[test]
 fn rows_are_copied_and_cleared(rt: HostRuntime) -> Result<(), Fail> {
     let mut items = Items::new(rt.alloc());
-    let copy = copied(&mut items)?;
+    let copy = copied(rt.alloc(), &mut items)?;
     items.clear();
     assert!(rt; rows_are(&items, &[]) && rows_are(&copy, &LINES));
     push_all(&mut items, &[DATA, CALL])?;

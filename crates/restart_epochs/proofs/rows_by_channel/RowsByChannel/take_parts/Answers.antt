@@ -1,6 +1,6 @@
 use Rattle.std.proofs.Common.{◌≡◌, ◌∙◌, ap, sym, subst, [], ◌∷◌, ◌++◌, append-nil, rules}
-use Rattle.std.specs.List.{AllByRecursion}
-use Rattle.restart_epochs.specs.OpenRows.{HasNoOthers, IsTakenOut, OpenRows, rows_of}
+use Rattle.std.specs.List.{AllByRecursion, flat_map}
+use Rattle.restart_epochs.specs.OpenRows.{IsTakenOut, OpenRows, rows_of}
 use Rattle.restart_epochs.specs.BlockCuts.{parts_of, rows_on}
 use Rattle.restart_epochs.proofs.GivenOut.{all_same, kept_all}
 use Rattle.restart_epochs.proofs.ListedRows.{others_taken}
@@ -10,11 +10,16 @@ use Rattle.restart_epochs.proofs.rows_by_channel.RowsByChannel.take_parts.Goals 
 pub loop-parts-init : goal.loop-parts-init
 loop-parts-init g c =
     let before = c.args.self.now in
+    let table = c.self.inside.table in
+    let same : table ≡ before = c.self.view_is in
+    let none = c.reserve.ensures.items ∙ c.new-parts.ensures.items in
+    let all : c.in_ok-rows.rows ≡ flat_map (rows_of before) before.channels = search rules in
     record {
-      taken = λ k. ap (λ ps. rows_on k ps ++ rows_of before k) (c.reserve.ensures.items ∙ c.new-parts.ensures.items);
-      others = subst HasNoOthers c.self.view_is c.self.invariant;
-      rest = all_same before before.channels;
-      order = ap (λ ps. ps ++ parts_of (rows_of before) before.channels) (c.reserve.ensures.items ∙ c.new-parts.ensures.items);
+      taken = λ k. ap (λ ps. rows_on k ps ++ rows_of table k) none ∙ ap (λ o. rows_of o k) same;
+      others = c.self.invariant;
+      rest = subst (λ (o : OpenRows). AllByRecursion (λ k. rows_of o k ≡ rows_of before k) o.channels) (sym same) (all_same before before.channels);
+      rows = all ∙ ap (λ (o : OpenRows). flat_map (rows_of o) o.channels) (sym same);
+      order = ap (λ ps. ps ++ parts_of (rows_of before) table.channels) none ∙ ap (λ (o : OpenRows). parts_of (rows_of before) o.channels) same;
     }
 
 pub loop-parts-preserved : goal.loop-parts-preserved
@@ -31,6 +36,7 @@ loop-parts-preserved g c =
           ∙ taken_with k part.channel part.items before now after c.loop-parts.parts.items one (inv.taken k);
       others = others_taken part.channel part.items now after one inv.others;
       rest = kept_all before now after part.channel one.others after.channels one.once rest.1;
+      rows = search rules;
       order = ap (λ ps. ps ++ parts_of (rows_of before) after.channels) c.in_ok-push.ensures.items
           ∙ part_with (rows_of before) part.channel part.items c.loop-parts.parts.items now.channels after.channels one.channels (one.items ∙ rest.0) ∙ inv.order;
     }
