@@ -4,4 +4,6 @@
 #[cfg(test)]
 mod feeding;
 #[cfg(test)]
+mod posting;
+#[cfg(test)]
 mod scans;

@@ -2,7 +2,6 @@
 
 mod bundles;
 mod helping;
-mod looking;
 
 ghost use Rattle.std.specs.Prelude.{◌≡◌, length};
 

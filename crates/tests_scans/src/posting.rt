@@ -1,11 +1,13 @@
-//! Four workers that post reports of their own to one book, and look after each post.
+//! Four workers that take pieces, run them, post their reports to one book, and look after each post.
+
+mod pieces;
 
 ghost use Rattle.std.specs.Prelude.{◌≡◌};
 
-use crate::pieces::{findings, sees_all};
-use crate::working::Plain;
+use crate::posting::pieces::{CutPieces, PIECES, cut_pieces};
+use channel_machine::channel::PackedChannel;
+use channel_run::run::run_piece;
 use line_model::fault::Fault;
-use line_model::piece::{Piece, PieceReport};
 use line_model::totals::Totals;
 use shared_work::findings::{AnyReport, Blanks, Book, Ledgers, LockedPosts, Share};
 use shared_work::queue::{Bundle, Work, WorkerPass};
@@ -23,16 +25,12 @@ use workers::{Gathered, Handler, RunOutcome, gather, ready_workers, run_scoped};
 /// How many workers there are.
 const WORKERS: usize = 4;
 
-/// How many pieces they take.
-const PIECES: u32 = 400;
-
-/// What the reports of all pieces count: piece n has n modulo 3 findings, n octets and n modulo 5
-/// segments.
+/// What the pieces of all epochs count: one finding, three accepted data packets and four octets in each epoch.
 const ALL: Totals = Totals {
-    posts: 400,
-    findings: 399,
-    octets: 79_800,
-    segments: 800,
+    posts: 100,
+    findings: 50,
+    octets: 200,
+    segments: 150,
 };
 
 /// The totals of nothing.
@@ -43,21 +41,15 @@ const NONE: Totals = Totals {
     segments: 0,
 };
 
-/// The report of a piece.
-fn report_of(alloc: Global, piece: &Piece) -> Result<PieceReport, Fault> {
-    let id = piece.id;
-    Ok(PieceReport {
-        id,
-        epoch: piece.epoch,
-        channel: piece.channel,
-        findings: findings(alloc, id % 3)?,
-        calls: Vec::new(alloc),
-        octets: (id % 1000) as u64,
-        segments: (id % 5) as u64,
-    })
+/// Whether a look sees at least what a share posted.
+fn sees_all(seen: Totals, own: Totals) -> bool {
+    own.posts <= seen.posts
+        && own.findings <= seen.findings
+        && own.octets <= seen.octets
+        && own.segments <= seen.segments
 }
 
-/// Posts a report for each piece and looks. Counts the looks, and those that were below the worker's own share.
+/// Runs each piece, posts its report and looks. Counts the looks, and those that were below the worker's own share.
 #[derive(Drop)]
 struct Looking<'a, L: Ledgers> {
     locked_posts: &'a LockedPosts<Brand, L>,
@@ -79,7 +71,7 @@ impl<'a, L: Ledgers> Handler<Brand, Global, L> for Looking<'a, L> {
         let ([], piece) = bundle.parts() else {
             return Err(Fault::Memory);
         };
-        let Ok(report) = report_of(alloc, piece) else {
+        let Ok(report) = run_piece::<Global, PackedChannel>(alloc, piece) else {
             return Err(Fault::Memory);
         };
         if self
@@ -108,6 +100,7 @@ fn work_together<R: Threads + Wait + Clock + Sync, L: Ledgers + Send + Sync>(
 ) -> Result<Gathered, Fault>
     requires fresh { book ≡ 0 }
 {
+    let pieces = cut_pieces(alloc)?;
     let (work, pass) = Work::<Brand>::new(alloc, 2)?;
     let ready = ready_workers(alloc, &work, &mut book, pass, WORKERS)?;
     let looking = Looking {
@@ -115,11 +108,7 @@ fn work_together<R: Threads + Wait + Clock + Sync, L: Ledgers + Send + Sync>(
         looks,
         below,
     };
-    let pieces = Plain {
-        alloc,
-        count: PIECES,
-    };
-    match run_scoped(rt, &looking, ready, pieces) {
+    match run_scoped(rt, &looking, ready, CutPieces { pieces }) {
         Ok(
             RunOutcome {
                 task: _,
