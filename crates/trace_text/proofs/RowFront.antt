@@ -1,5 +1,5 @@
 -- A row by its front, and by the digits after it.
-use Rattle.std.proofs.Common.{◌≡◌, ◌≢◌, ◌∙◌, sym, ap, refl, ℕ, ◌*◌, ◌-◌, ◌<◌, ◌≤◌, ◌%◌, Bool, true, false, List, [], ◌∷◌, ◌++◌, append_assoc, length, take, take_all, drop, get_or, Option, Some, None, Ok, arith}
+use Rattle.std.proofs.Common.{◌≡◌, ◌≢◌, ◌∙◌, sym, ap, refl, ℕ, ◌-◌, ◌<◌, ◌≤◌, ◌%◌, Bool, true, false, List, [], ◌∷◌, ◌++◌, append_assoc, length, take, take_all, drop, get_or, Option, Some, None, Ok, arith}
 use Rattle.std.specs.Prelude.{codes, nat_lt, nat_le, ◌==◌, ◌&&◌, ◌||◌, not, is_none, slice_index, if◌then◌else◌}
 use Rattle.std.specs.Char.{is_ascii_digit}
 use Rattle.std.specs.List.{list_all, list_any}
