@@ -28,7 +28,7 @@ invariant_of-piece g c =
     let pieces = c.loop-part.invariant.pieces in
     let i = c.args.epoch.interface in
     let fits = (subst (AllByRecursion (λ p. IsPiece i p.channel p.items)) c.in-Some.ensures.steps.0 pieces).0 in
-    subst (IsPiece i c.part.inside.channel) (sym c.of.ensures) (subst (λ (p : ChannelRows). IsPiece i p.channel p.items) (sym c.part.view_is) fits)
+    subst (IsPiece i c.part.inside.channel) (sym (c.of.ensures ∙ c.shared.ensures)) (subst (λ (p : ChannelRows). IsPiece i p.channel p.items) (sym c.part.view_is) fits)
 
 pub loop-part-preserved : goal.loop-part-preserved
 loop-part-preserved g c =
@@ -40,7 +40,7 @@ loop-part-preserved g c =
     record {
       ids = omega (arith, ids, one);
       pieces = (subst (AllByRecursion (λ p. IsPiece e.interface p.channel p.items)) steps inv.pieces).1;
-      given = part_given e.interface e.number e.end c.loop-part.next c.in-Some.part _ _ c.loop-part.out.items c.push.new.self.items _ c.part.inside.channel c.of.result steps (ap (λ p. p.channel) c.part.view_is) (c.of.ensures ∙ ap (λ p. p.items) c.part.view_is) c.in_ok-push.ensures.items inv.given;
+      given = part_given e.interface e.number e.end c.loop-part.next c.in-Some.part _ _ c.loop-part.out.items c.push.new.self.items _ c.part.inside.channel c.of.result steps (ap (λ p. p.channel) c.part.view_is) (c.of.ensures ∙ c.shared.ensures ∙ ap (λ p. p.items) c.part.view_is) c.in_ok-push.ensures.items inv.given;
     }
 
 pub returns : goal.returns

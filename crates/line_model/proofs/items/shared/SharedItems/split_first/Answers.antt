@@ -13,7 +13,7 @@ cut-requires g c =
     let octets = (arc_value s.lists).octets.items in
     let n = c.args.count in
     let all : length c.args.self.now ≡ s.count =
-        sym (ap (λ (l : List Item). length l) c.self.view_is) ∙ place-length heads (take s.kept (drop s.octet octets)) s.first s.count c.self.invariant.0 in
+    sym (ap (λ (l : List Item). length l) c.self.view_is) ∙ place-length heads (take s.kept (drop s.octet octets)) s.first s.count c.self.invariant.0 in
     let few : n ≤ s.count = omega (arith, all, c.requires.some) in
     let is : c.as_slice.result.now ≡ heads = search rules in
     record { inside = omega (arith, few, c.self.invariant.0, ap (λ (l : List Head). length l) is) }
@@ -25,7 +25,7 @@ count_kept-kept-requires g c =
     let octets = (arc_value s.lists).octets.items in
     let n = c.args.count in
     let all : length c.args.self.now ≡ s.count =
-        sym (ap (λ (l : List Item). length l) c.self.view_is) ∙ place-length heads (take s.kept (drop s.octet octets)) s.first s.count c.self.invariant.0 in
+    sym (ap (λ (l : List Item). length l) c.self.view_is) ∙ place-length heads (take s.kept (drop s.octet octets)) s.first s.count c.self.invariant.0 in
     let few : n ≤ s.count = omega (arith, all, c.requires.some) in
     let cut : c.cut.result.now ≡ take n (drop s.first heads) = search rules in
     let le = first_kept-le heads octets s.first s.count s.octet s.kept n (octets_of (take n (drop s.first heads))) few c.self.invariant.2 refl c.self.invariant.1 in
@@ -39,7 +39,7 @@ overflow_add-self g c =
     let octets = (arc_value s.lists).octets.items in
     let n = c.args.count in
     let all : length c.args.self.now ≡ s.count =
-        sym (ap (λ (l : List Item). length l) c.self.view_is) ∙ place-length heads (take s.kept (drop s.octet octets)) s.first s.count c.self.invariant.0 in
+    sym (ap (λ (l : List Item). length l) c.self.view_is) ∙ place-length heads (take s.kept (drop s.octet octets)) s.first s.count c.self.invariant.0 in
     let few : n ≤ s.count = omega (arith, all, c.requires.some) in
     let is : c.as_slice.result.now ≡ heads = search rules in
     omega (arith, few, c.self.invariant.0, ap (λ (l : List Head). length l) is, c.as_slice.type_inv.0)
@@ -51,7 +51,7 @@ overflow_sub-self g c =
     let octets = (arc_value s.lists).octets.items in
     let n = c.args.count in
     let all : length c.args.self.now ≡ s.count =
-        sym (ap (λ (l : List Item). length l) c.self.view_is) ∙ place-length heads (take s.kept (drop s.octet octets)) s.first s.count c.self.invariant.0 in
+    sym (ap (λ (l : List Item). length l) c.self.view_is) ∙ place-length heads (take s.kept (drop s.octet octets)) s.first s.count c.self.invariant.0 in
     let few : n ≤ s.count = omega (arith, all, c.requires.some) in
     few
 
@@ -62,7 +62,7 @@ overflow_add-self-2 g c =
     let octets = (arc_value s.lists).octets.items in
     let n = c.args.count in
     let all : length c.args.self.now ≡ s.count =
-        sym (ap (λ (l : List Item). length l) c.self.view_is) ∙ place-length heads (take s.kept (drop s.octet octets)) s.first s.count c.self.invariant.0 in
+    sym (ap (λ (l : List Item). length l) c.self.view_is) ∙ place-length heads (take s.kept (drop s.octet octets)) s.first s.count c.self.invariant.0 in
     let few : n ≤ s.count = omega (arith, all, c.requires.some) in
     let k = c.count_kept-kept.result in
     let cut : c.cut.result.now ≡ take n (drop s.first heads) = search rules in
@@ -78,7 +78,7 @@ overflow_sub-self-2 g c =
     let octets = (arc_value s.lists).octets.items in
     let n = c.args.count in
     let all : length c.args.self.now ≡ s.count =
-        sym (ap (λ (l : List Item). length l) c.self.view_is) ∙ place-length heads (take s.kept (drop s.octet octets)) s.first s.count c.self.invariant.0 in
+    sym (ap (λ (l : List Item). length l) c.self.view_is) ∙ place-length heads (take s.kept (drop s.octet octets)) s.first s.count c.self.invariant.0 in
     let few : n ≤ s.count = omega (arith, all, c.requires.some) in
     let k = c.count_kept-kept.result in
     let cut : c.cut.result.now ≡ take n (drop s.first heads) = search rules in
@@ -92,7 +92,7 @@ invariant_of-part g c =
     let octets = (arc_value s.lists).octets.items in
     let n = c.args.count in
     let all : length c.args.self.now ≡ s.count =
-        sym (ap (λ (l : List Item). length l) c.self.view_is) ∙ place-length heads (take s.kept (drop s.octet octets)) s.first s.count c.self.invariant.0 in
+    sym (ap (λ (l : List Item). length l) c.self.view_is) ∙ place-length heads (take s.kept (drop s.octet octets)) s.first s.count c.self.invariant.0 in
     let few : n ≤ s.count = omega (arith, all, c.requires.some) in
     let k = c.count_kept-kept.result in
     let cut : c.cut.result.now ≡ take n (drop s.first heads) = search rules in
@@ -100,9 +100,11 @@ invariant_of-part g c =
     let le = first_kept-le heads octets s.first s.count s.octet s.kept n k few c.self.invariant.2 part c.self.invariant.1 in
     let same = c.in_ok-lists.ensures in
     let same_heads : (arc_value c.in_ok-lists.lists).heads.items ≡ heads = ap (λ l. l.heads.items) same in
-    let same_octets : (arc_value c.in_ok-lists.lists).octets.items ≡ octets = ap (λ l. l.octets.items) same in
-    (omega (arith, few, c.self.invariant.0, ap (λ (l : List Head). length l) same_heads), omega (arith, le, c.self.invariant.1, ap (λ (l : List ℕ). length l) same_octets),
-    ap (λ hs. octets_of (take n (drop s.first hs))) same_heads ∙ sym part)
+    let same_octets : (arc_value c.in_ok-lists.lists).octets.items ≡ octets = ap (λ l. l.octets.items) same in (
+      omega (arith, few, c.self.invariant.0, ap (λ (l : List Head). length l) same_heads),
+      omega (arith, le, c.self.invariant.1, ap (λ (l : List ℕ). length l) same_octets),
+      ap (λ hs. octets_of (take n (drop s.first hs))) same_heads ∙ sym part,
+    )
 
 pub invariant_of-self : goal.invariant_of-self
 invariant_of-self g c =
@@ -111,7 +113,7 @@ invariant_of-self g c =
     let octets = (arc_value s.lists).octets.items in
     let n = c.args.count in
     let all : length c.args.self.now ≡ s.count =
-        sym (ap (λ (l : List Item). length l) c.self.view_is) ∙ place-length heads (take s.kept (drop s.octet octets)) s.first s.count c.self.invariant.0 in
+    sym (ap (λ (l : List Item). length l) c.self.view_is) ∙ place-length heads (take s.kept (drop s.octet octets)) s.first s.count c.self.invariant.0 in
     let few : n ≤ s.count = omega (arith, all, c.requires.some) in
     let k = c.count_kept-kept.result in
     let cut : c.cut.result.now ≡ take n (drop s.first heads) = search rules in
@@ -126,7 +128,7 @@ returns-clause-rows g c =
     let octets = (arc_value s.lists).octets.items in
     let n = c.args.count in
     let all : length c.args.self.now ≡ s.count =
-        sym (ap (λ (l : List Item). length l) c.self.view_is) ∙ place-length heads (take s.kept (drop s.octet octets)) s.first s.count c.self.invariant.0 in
+    sym (ap (λ (l : List Item). length l) c.self.view_is) ∙ place-length heads (take s.kept (drop s.octet octets)) s.first s.count c.self.invariant.0 in
     let few : n ≤ s.count = omega (arith, all, c.requires.some) in
     let k = c.count_kept-kept.result in
     let cut : c.cut.result.now ≡ take n (drop s.first heads) = search rules in
@@ -145,7 +147,7 @@ returns-clause-count g c =
     let octets = (arc_value s.lists).octets.items in
     let n = c.args.count in
     let all : length c.args.self.now ≡ s.count =
-        sym (ap (λ (l : List Item). length l) c.self.view_is) ∙ place-length heads (take s.kept (drop s.octet octets)) s.first s.count c.self.invariant.0 in
+    sym (ap (λ (l : List Item). length l) c.self.view_is) ∙ place-length heads (take s.kept (drop s.octet octets)) s.first s.count c.self.invariant.0 in
     let few : n ≤ s.count = omega (arith, all, c.requires.some) in
     let same = c.in_ok-lists.ensures in
     let same_heads : (arc_value c.in_ok-lists.lists).heads.items ≡ heads = ap (λ l. l.heads.items) same in
