@@ -10,7 +10,6 @@ ghost use Rattle.channel_run.specs.Tally.{Counts};
 ghost use Rattle.channel_run.specs.Live.{StandsFor, channel_so_far, so_far, with_item};
 ghost use Rattle.channel_run.specs.Run.{data_events, row_events};
 ghost use Rattle.channel_run.specs.StatusWord.{view_in};
-ghost use Rattle.channel_run.specs.Taken.{data_in, finding_in};
 ghost use Rattle.channel_run.specs.Views.{IsViewOf};
 
 use crate::run::{Channel, View};
@@ -27,11 +26,12 @@ use std::alloc::Allocator;
 
 /// What a row did to its channel.
 #[derive(Clone, Copy)]
-pub enum Taken {
-    /// The row's one event: a data packet with Q 0 was accepted, with so many octets of user data.
-    Data(u32),
-    /// The events of the row are listed, and this is the finding among them.
-    Listed(Option<Finding>),
+pub struct Taken {
+    /// How many octets of user data data with Q 0 has that the channel accepted, which is the row's one event and is not
+    /// listed. `None`: the events of the row are listed.
+    pub accepted: Option<u32>,
+    /// What the row found.
+    pub finding: Option<Finding>,
 }
 
 /// One logical channel in one epoch: its machine, and what is counted of its rows so far. It keeps no row.
@@ -60,9 +60,9 @@ impl<A: Allocator + Clone, C: Channel<A>> LiveChannel<A, C> {
         })
     }
 
-    /// Takes the next row by what it says. The caller lends the list `events`: with `Taken::Data` it is empty afterwards,
-    /// since that says the row's one event, and with `Taken::Listed` it holds the events of the row and nothing else.
-    /// Fails only when memory is refused; drop the channel then.
+    /// Takes the next row by what it says. The caller lends the list `events`: afterwards it holds the events of the row
+    /// and nothing else, and it is empty where accepted data with Q 0 is the row's one event. Fails only when memory is
+    /// refused; drop the channel then.
     #[inline(always)]
     pub fn take(&mut self, item: &ItemRef<'_>, events: &mut Vec<Event, A>) -> Result<Taken, Fault>
         requires room { (p : Piece) × StandsFor C.interface_of C.number_of C.stands_for self.old p
@@ -72,11 +72,11 @@ impl<A: Allocator + Clone, C: Channel<A>> LiveChannel<A, C> {
             → OnOk result (StandsFor C.interface_of C.number_of C.stands_for self.new
             (with_item p item.now)) }
         ensures events { (p : Piece) → StandsFor C.interface_of C.number_of C.stands_for self.old p
-            → IfOk result (λ taken. events.new.items ++ data_events p.epoch p.channel item.now (data_in taken)
+            → IfOk result (λ taken. events.new.items ++ data_events p.epoch p.channel item.now taken.accepted
             ≡ row_events p.interface p.epoch p.channel (channel_so_far p) item.now) }
-        ensures apart { IfOk result (λ taken. OnSome (data_in taken) (events.new.items ≡ [])) }
+        ensures apart { IfOk result (λ taken. OnSome taken.accepted (events.new.items ≡ [])) }
         ensures finding { (p : Piece) → StandsFor C.interface_of C.number_of C.stands_for self.old p
-            → IfOk result (λ taken. option_to_list (finding_in taken)
+            → IfOk result (λ taken. option_to_list taken.finding
             ≡ findings_of (row_events p.interface p.epoch p.channel (channel_so_far p) item.now)) }
         ensures memory { IfErr result (λ fault. fault ≡ Memory) }
     {
@@ -84,11 +84,17 @@ impl<A: Allocator + Clone, C: Channel<A>> LiveChannel<A, C> {
         match self.machine.advance(self.epoch, item, events)? {
             Some(octets) => {
                 self.tally.add_data(item.side, octets);
-                Ok(Taken::Data(octets))
+                Ok(Taken {
+                    accepted: Some(octets),
+                    finding: None,
+                })
             }
             None => {
                 let finding = self.tally.record_all(events.as_slice())?;
-                Ok(Taken::Listed(finding))
+                Ok(Taken {
+                    accepted: None,
+                    finding,
+                })
             }
         }
     }

@@ -6,12 +6,11 @@ ghost use Rattle.line_model.specs.declared.fault.Fault.TheVariants.{Memory};
 ghost use Rattle.restart_epochs.specs.OpenRows.{OpenRows, rows_of, HasMore};
 ghost use Rattle.channel_run.specs.Live.{channel_so_far};
 ghost use Rattle.channel_run.specs.Run.{row_events};
-ghost use Rattle.channel_run.specs.Taken.{data_in, finding_in};
 ghost use Rattle.live_report.specs.Lanes.{FindsOn, IsOut, LanesStandFor};
 ghost use Rattle.live_report.specs.Turns.{walked_piece, OfLanes, TakesOn, with_data};
 
 use crate::judged_row::{Judge, JudgedRow};
-use channel_run::live::{LiveChannel, Taken};
+use channel_run::live::LiveChannel;
 use channel_run::run::Channel;
 use line_model::event::Event;
 use line_model::fault::Fault;
@@ -80,7 +79,6 @@ pub(crate) fn step_channel<A: Allocator + Copy, C: Channel<A>>(
     let mut live = take_out(alloc, &walk.interface, walk.epoch, channel, lanes)?;
     let before = live.word();
     let taken = live.take(item, events)?;
-    let (accepted, finding) = parts(taken);
     let after = live.word();
     lanes.put(channel, live);
     Ok(JudgedRow {
@@ -91,19 +89,8 @@ pub(crate) fn step_channel<A: Allocator + Copy, C: Channel<A>>(
             channel,
             before,
             after,
-            accepted,
+            accepted: taken.accepted,
         },
-        finding,
+        finding: taken.finding,
     })
-}
-
-/// The octets of accepted data with Q 0, and the finding, of what a row did to its channel.
-#[inline(always)]
-fn parts(taken: Taken) -> (Option<u32>, Option<Finding>)
-    ensures { result ≡ (data_in taken, finding_in taken) }
-{
-    match taken {
-        Taken::Data(octets) => (Some(octets), None),
-        Taken::Listed(finding) => (None, finding),
-    }
 }

@@ -48,7 +48,7 @@ pub struct Observer<A: Allocator, C: Channel<A>> {
     /// The channels that have rows in the epoch that has not ended.
     lanes: ChannelTable<LiveChannel<A, C>, A>,
     /// Whether it keeps each row as it was judged, with its events.
-    keeps_rows: bool,
+    pub(crate) keeps_rows: bool,
     /// The row that was taken last, as it was judged, where rows are kept.
     last: Option<JudgedRow>,
     /// The events of the last row that a channel took; where no rows are kept, without that of accepted data with Q 0.
@@ -139,14 +139,6 @@ impl<A: Allocator + Copy, C: Channel<A>> Observer<A, C> {
             }
             Turn::Stays => Ok(judged_on_line(item, self.walk.machine.state(), step)),
         }
-    }
-
-    /// Whether it keeps the row that it took last.
-    #[inline(always)]
-    pub(crate) fn keeps_rows(&self) -> bool
-        ensures { result ≡ self.now.keeps_rows }
-    {
-        self.keeps_rows
     }
 
     /// The state of the restart machine.

@@ -54,7 +54,7 @@ pub fn observe_chunk<A: Allocator + Copy, C: Channel<A>>(
             return Ok(());
         };
         append_finding(found, observer.take(&rows.next)?)?;
-        rows.keep_next(observer.keeps_rows());
+        rows.keep_next(observer.keeps_rows);
         rest = after;
     }
     Ok(())

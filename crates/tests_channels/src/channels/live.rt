@@ -6,7 +6,7 @@ ghost use Rattle.channel_run.specs.Live.{StandsFor};
 use crate::calls::{ASKED, first_settings};
 use crate::channels::{CUT_PAIRS, Found, INTERFACE, findings_are, piece_of};
 use channel_machine::channel::PlainChannel;
-use channel_run::live::{LiveChannel, Taken};
+use channel_run::live::LiveChannel;
 use channel_run::run::Channel;
 use line_model::call::CallRecord;
 use line_model::event::{Event, How};
@@ -39,14 +39,6 @@ fn told_of<A: Allocator + Copy, C: Channel<A>>(
     ))
 }
 
-/// The finding of a row.
-fn finding_of(taken: Taken) -> Option<Finding> {
-    match taken {
-        Taken::Data(_) => None,
-        Taken::Listed(finding) => finding,
-    }
-}
-
 /// What is told of a piece at its end; and after each of its rows. A list of events is lent.
 fn followed<A: Allocator + Copy, C: Channel<A>>(
     alloc: A,
@@ -57,7 +49,7 @@ fn followed<A: Allocator + Copy, C: Channel<A>>(
     let mut live = LiveChannel::<A, C>::fresh(alloc, &piece.interface, piece.channel, piece.epoch)?;
     for item in piece.items.iter() {
         let taken = live.take(&item, events)?;
-        told.push(told_of(&live, alloc, piece.id, finding_of(taken))?)?;
+        told.push(told_of(&live, alloc, piece.id, taken.finding)?)?;
     }
     live.end(piece.id, piece.end)
 }

@@ -1,7 +1,4 @@
-use Rattle.std.proofs.Common.{◌∙◌, ap, refl, subst, sym}
-use Rattle.std.specs.Prelude.{ℕ, ◌++◌, Option, option_to_list}
-use Rattle.channel_run.specs.Run.{data_events}
-use Rattle.line_model.specs.declared.finding.Finding.{Finding}
+use Rattle.std.proofs.Common.{refl, subst, sym}
 use Rattle.line_model.specs.basics.Bounds.{IsPiece}
 use Rattle.channel_run.specs.Live.{StandsFor as IsLive, with_item}
 use Rattle.live_report.specs.Turns.{walked_piece}
@@ -48,11 +45,9 @@ returns-clause-judge g c rows f after more small =
 pub returns-clause-finding : goal.returns-clause-finding
 returns-clause-finding g c rows f =
     let p = walked_piece c.args.walk.now c.args.channel rows in
-    ap (λ (parts : Option ℕ × Option Finding). option_to_list parts.1) c.parts-accepted.ensures
-    ∙ c.in_ok-taken.ensures.finding p (subst (λ live. IsLive g.C.Channel.interface_of g.C.Channel.number_of g.C.Channel.stands_for live p) (sym c.deref_mut.ensures.value) (c.in_ok-live.ensures.out rows f).stands)
+    c.in_ok-taken.ensures.finding p (subst (λ live. IsLive g.C.Channel.interface_of g.C.Channel.number_of g.C.Channel.stands_for live p) (sym c.deref_mut.ensures.value) (c.in_ok-live.ensures.out rows f).stands)
 
 pub returns-clause-events : goal.returns-clause-events
 returns-clause-events g c rows f =
     let p = walked_piece c.args.walk.now c.args.channel rows in
-    ap (λ (parts : Option ℕ × Option Finding). c.take.new.events.items ++ data_events c.args.walk.now.epoch c.args.channel c.args.item.now parts.0) c.parts-accepted.ensures
-    ∙ c.in_ok-taken.ensures.events p (subst (λ live. IsLive g.C.Channel.interface_of g.C.Channel.number_of g.C.Channel.stands_for live p) (sym c.deref_mut.ensures.value) (c.in_ok-live.ensures.out rows f).stands)
+    c.in_ok-taken.ensures.events p (subst (λ live. IsLive g.C.Channel.interface_of g.C.Channel.number_of g.C.Channel.stands_for live p) (sym c.deref_mut.ensures.value) (c.in_ok-live.ensures.out rows f).stands)

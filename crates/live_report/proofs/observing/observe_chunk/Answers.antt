@@ -57,7 +57,7 @@ loop-rest-preserved g c =
           course row (c.in_ok-after.ensures.header (text ++ course.read) course.observing.reads)
           (c.in_ok-take.ensures.stands i (items_of i (early_rows (text ++ course.read))) course.observing.observes
           (next_rows i c.loop-rest.lines c.next_row.new.self (text ++ course.read) c.loop-rest.rest.now c.in-Some.after.now c.next_row.new.row course.observing.reads row))
-          noted (c.in_ok-take.ensures.finding i (items_of i (early_rows (text ++ course.read))) course.observing.observes)) (λ keeps. c.keep_next.ensures (c.keeps_rows.ensures ∙ keeps));
+          noted (c.in_ok-take.ensures.finding i (items_of i (early_rows (text ++ course.read))) course.observing.observes)) (λ keeps. c.keep_next.ensures keeps);
     }
 
 pub returns-in_default-clause-observes : goal.returns-in_default-clause-observes
