@@ -15,7 +15,6 @@ use Rattle.line_model.specs.packets.Classes.{class_of, data_header, format_of, l
 use Rattle.std.specs.Prelude.{sum_by}
 use Rattle.std.proofs.lemmas.List.Sums.{sum_by-cons}
 use Rattle.line_model.specs.basics.Bounds.{IsSaid, AreSaid}
-use Rattle.line_model.specs.basics.Bounds.IsSaid.{OfRow}
 use Rattle.line_model.specs.packets.Says.{items_of, is_unqualified, said_octets, item_of, read_octets, read_row, item_read}
 
 -- the lists have the same first four octets, and both end before each of them or after it
@@ -149,7 +148,7 @@ read_says i r =
 
 pub all_said : (i : Interface) (rs : List Row) → AreSaid i (items_of i rs)
 all_said i [] = tt
-all_said i (r ∷ rs) = (OfRow r refl, all_said i rs)
+all_said i (r ∷ rs) = (record { row = r; says = refl }, all_said i rs)
 
 -- of all items the last
 pub last_said : (i : Interface) (items : List Item) (item : Item) → AreSaid i (items ++ item ∷ []) → IsSaid i item

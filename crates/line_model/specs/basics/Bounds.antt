@@ -1,24 +1,15 @@
 -- How large the parts of a trace may be.
-use Rattle.std.specs.Prelude.{◌≡◌, ◌≤◌, ℕ, ◌+◌, ◌^◌, true, Option, Some, IfSome, List, [], length, sum_by, All}
+use Rattle.std.specs.Prelude.{◌≡◌, ◌≤◌, ℕ, ◌+◌, ◌^◌, List, length, sum_by, All}
 use Rattle.std.specs.List.{AllByRecursion}
 use Rattle.line_model.specs.declared.interface.Interface.{Interface}
 use Rattle.line_model.specs.declared.finding.Finding.{Finding}
 use Rattle.line_model.specs.basics.Records.{Row, Item, CallRecord}
-use Rattle.line_model.specs.packets.Says.{gap_of, item_of, packet_channel}
-
--- a gap of a channel of the interface, or of all channels: it has no octets
-pub record IsGap (i : Interface) (item : Item) : Type 0 where
-  pub recorded : i.gaps ≡ true
-  pub gap : Option ℕ
-  pub is : gap_of item.packet ≡ Some gap
-  pub within : IfSome gap (λ k. (1 ≤ k) × (k ≤ i.svc))
-  pub length : item.length ≡ 0
-  pub octets : item.octets ≡ []
+use Rattle.line_model.specs.packets.Says.{item_of, packet_channel}
 
 -- what a row of an interface says
-pub data IsSaid (i : Interface) (item : Item) : Type 0 where
-  OfRow : (row : Row) → item ≡ item_of i row → IsSaid i item
-  OfGap : IsGap i item → IsSaid i item
+pub record IsSaid (i : Interface) (item : Item) : Type 0 where
+  pub row : Row
+  pub says : item ≡ item_of i row
 
 -- what rows of an interface say
 abbrev pub AreSaid : Interface → List Item → Type 0

@@ -1,5 +1,5 @@
 -- What the octets of a row say (X.25 clause 5).
-use Rattle.std.specs.Prelude.{ℕ, Bool, ◌==◌, ◌&&◌, List, [], length, take, map, Option, Some, None, if◌then◌else◌}
+use Rattle.std.specs.Prelude.{ℕ, Bool, ◌==◌, ◌&&◌, List, [], length, take, map, Option, None, if◌then◌else◌}
 use Rattle.line_model.specs.declared.interface.Interface.{Interface}
 use Rattle.line_model.specs.declared.packet.DataHeader.{DataHeader}
 use Rattle.line_model.specs.declared.packet.Packet.{Packet}
@@ -65,12 +65,6 @@ abbrev pub receive_in : Packet → Option ℕ
 receive_in (packet.TheVariants.Channel c (kind.TheVariants.Rr n)) = n
 receive_in (packet.TheVariants.Channel c (kind.TheVariants.Rnr n)) = n
 receive_in p = None
-
--- of a gap its channel, and none of a gap of all channels
-abbrev pub gap_of : Packet → Option (Option ℕ)
-gap_of (packet.TheVariants.Channel c kind.TheVariants.Gap) = Some (Some c)
-gap_of packet.TheVariants.GapOfAll = Some None
-gap_of p = None
 
 -- the logical channel of a packet, 0 where it is on none that is assigned
 abbrev pub packet_channel : Packet → ℕ
