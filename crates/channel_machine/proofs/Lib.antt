@@ -20,4 +20,10 @@ pub mod CallFaults
 pub mod Drifting
 pub mod AdriftLemmas
 pub mod Missed
+pub mod Completing
+pub mod Numbering
+pub mod Sequencing
+pub mod SettledRows
+pub mod SettledData
 pub mod AdriftRows
+pub mod GapRows

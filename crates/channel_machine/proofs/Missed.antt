@@ -14,7 +14,7 @@ use Rattle.line_model.specs.channels.Gaps.{of_both}
 use Rattle.line_model.specs.channels.GapStep.{completed_to, count_settled, missed, missing, settled_channel, settled_doubts}
 use Rattle.channel_machine.specs.declared.gaps.settled.Settling.{Settling}
 use Rattle.channel_machine.specs.GapView.{InDoubt}
-use Rattle.channel_machine.specs.SettledNumbers.{NumbersStand}
+use Rattle.channel_machine.specs.SettledNumbers.{IsWidest, NumbersStand}
 use Rattle.channel_machine.specs.Settling.{settled_after}
 use Rattle.data_transfer.specs.FlowResidues.{DirectionStands, FlowResidues, Stands}
 
@@ -157,7 +157,7 @@ settled_equal m N N n l None c e = own_count N n l.receive
 settled_equal m N N n l (Some h) c e = absurd (true≢false (sym e))
 settled_equal m N T n l h c e = absurd (true≢false (sym e))
 
-of_same : (x : Side) (b : Bool) → of_side x (of_both b) ≡ b
+pub of_same : (x : Side) (b : Bool) → of_side x (of_both b) ≡ b
 of_same T b = refl
 of_same N b = refl
 
@@ -194,3 +194,28 @@ set_both m g y received lowest next f0 f1 f2 c e modulus widest free side receiv
     ∙ ap (λ v. with_side g.side lowest v) (ap (λ (f : FlowResidues). f.acknowledged) first ∙ (λ j. with_side (side j) (received_is j) f0.acknowledged))
     ∙ both_set g.side lowest (g.receive % m) f0.acknowledged
     ∙ ap (λ v. with_side g.side v (of_both (g.receive % m))) lowest_is)
+
+room : (m w : ℕ) → (m ≡ 8) ⊎ (m ≡ 128) → w ≡ m - 1 → w + 1 ≡ m
+room m w e is = omega (arith, e, is)
+
+-- the widest windows
+pub widest_room : (x : Side) (f : FlowResidues) → IsWidest f → of_side x f.windows + 1 ≡ f.modulus
+widest_room T f w = room f.modulus f.windows.of_t w.eight (ap (λ v. v.of_t) w.windows)
+widest_room N f w = room f.modulus f.windows.of_n w.eight (ap (λ v. v.of_n) w.windows)
+
+pub side_same : {A : Type 0} (x : Side) (v : Sides A) → with_side x (of_side x v) v ≡ v
+side_same T v = refl
+side_same N v = refl
+
+-- the numbers of a side in doubt, with the packets that were missed up to a number
+pub presumed_by : (x : Side) (n k lowest : ℕ) (m : ℕ) (s : InDoubt) (g : FlowResidues) (c : Channel) → IsWidest s.flow → NumbersStand m s c → of_side x s.doubts.numbers ≡ true →
+    k ≡ n % s.flow.modulus → lowest ≡ of_side x s.flow.acknowledged →
+    g ≡ record s.flow { sent = with_side x k s.flow.sent; acknowledged = with_side x lowest s.flow.acknowledged } → Stands g (counts_of (completed_to m (of_side x s.doubts.numbers) x n c))
+presumed_by x n k lowest m s g c w ns doubt number edge is =
+    let f : FlowResidues = s.flow in
+    let set : g ≡ record f { sent = with_side x (n % f.modulus) f.sent } =
+    is ∙ (λ j. record f { sent = with_side x (number j) f.sent; acknowledged = (ap (λ v. with_side x v f.acknowledged) edge ∙ side_same x f.acknowledged) j }) in
+    subst (λ v. Stands g (counts_of (completed_to m v x n c))) (sym doubt)
+    (subst (λ v. Stands g (counts_of (completed_to v true x n c))) ns.modulus
+    (subst (λ q. Stands q (counts_of (completed_to f.modulus true x n c))) (sym set)
+    (presumed x n f c w.eight w.windows ns.flow (ns.acknowledged x doubt))))

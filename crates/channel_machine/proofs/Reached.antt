@@ -32,7 +32,7 @@ use Rattle.channel_machine.proofs.Entries.{fits}
 use Rattle.channel_machine.proofs.Calls.{bare_after}
 
 -- a channel with the same state and call
-same : (c d : Channel) → d.opening ≡ c.opening → d.accepting ≡ c.accepting → d.state ≡ c.state → IsReached c → IsReached d
+pub same : (c d : Channel) → d.opening ≡ c.opening → d.accepting ≡ c.accepting → d.state ≡ c.state → IsReached c → IsReached d
 same c d o a s r = record {
   bare = subst (λ v. IfNone v (d.accepting ≡ None)) (sym o) (subst (λ w. IfNone c.opening (w ≡ None)) (sym a) r.bare);
   waiting = λ e. record {
@@ -78,7 +78,7 @@ pub unanswered : (to : StateName) (c : Channel) → is_from GoesUp to c.state �
 unanswered to c from r = r.waiting (first_of (is_waiting c.state) (not (is_waiting (state_named to))) from)
 
 -- a move of the tables
-moved : (v : CallChange) (to : StateName) (xs : List ℕ) (c : Channel) → is_from v to c.state ≡ true → IsReached c → IsReached (changing xs v (entering to false c)).after
+pub moved : (v : CallChange) (to : StateName) (xs : List ℕ) (c : Channel) → is_from v to c.state ≡ true → IsReached c → IsReached (changing xs v (entering to false c)).after
 moved (Opens out) to xs c from r = record {
   bare = tt;
   waiting = λ e. record { opened = refl; unanswered = bare_after how.TheVariants.Collision to false c r.bare };
@@ -112,7 +112,7 @@ gives_up D1 c r = idle (entering D3 true c) refl r.bare
 gives_up D2 c r = idle (entering D3 true c) refl r.bare
 gives_up D3 c r = idle (entering D3 true c) refl r.bare
 
-failed : (x : Side) (s : StateName) (n : ℕ) (c : Channel) → IsReached c → IsReached (failing x s n c).after
+pub failed : (x : Side) (s : StateName) (n : ℕ) (c : Channel) → IsReached c → IsReached (failing x s n c).after
 failed T s n c r = gives_up s c r
 failed N s n c r = r
 

@@ -33,7 +33,7 @@ qualified_is i r h x ys said q side octets =
     let long : length ys ≡ r.length - header_length i = ap (λ l. length l) octets ∙ length-drop (header_length i) r.octets ∙ ap (λ n. n - header_length i) (said.full q) in
     λ j. record { side = side j; qualified = h.qualified; more = h.more; delivery = h.delivery; length = long j; octets = octets j }
 
-none_left : (b : Bool) (xs : List ℕ) → xs ≡ [] → [] ≡ drop (if b then 3 else 4) xs
+pub none_left : (b : Bool) (xs : List ℕ) → xs ≡ [] → [] ≡ drop (if b then 3 else 4) xs
 none_left true xs e = sym (ap (λ l. drop 3 l) e)
 none_left false xs e = sym (ap (λ l. drop 4 l) e)
 

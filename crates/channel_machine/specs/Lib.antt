@@ -16,7 +16,10 @@ pub mod Entries
 pub mod GapView
 pub mod Largest
 pub mod SettledNumbers
+pub mod SettledSequences
 pub mod GapSteps
 pub mod GapChannels
+pub mod SettledSteps
+pub mod SettledData
 pub mod Certainties
 pub mod Settling

@@ -1,9 +1,9 @@
 -- The numbers, interrupts and sequences of a settled channel, and what a packet does to them.
-use Rattle.std.specs.Prelude.{ℕ, Bool, true, false, ◌≡◌, ◌-◌, List, [], reverse, take_while, Result, Ok, Err}
+use Rattle.std.specs.Prelude.{ℕ, Bool, true, false, ◌≡◌, ◌⊎◌, ◌-◌, ◌+◌, ◌%◌, ◌<◌, ◌≤◌, List, [], reverse, take_while, Result, Ok, Err}
 use Rattle.line_model.specs.declared.interface.Interface.{Interface}
 use Rattle.line_model.specs.declared.packet.DataHeader.{DataHeader}
 use Rattle.line_model.specs.declared.state.Side.{Side}
-use Rattle.line_model.specs.channels.Channels.{AcceptedData, Channel, of_side}
+use Rattle.line_model.specs.channels.Channels.{AcceptedData, Channel, of_side, with_side}
 use Rattle.line_model.specs.channels.ChannelStep.{counts_of}
 use Rattle.line_model.specs.channels.FlowControl.{Counts, count_data, sent_by}
 use Rattle.line_model.specs.channels.Gaps.{Doubts, of_both}
@@ -14,6 +14,11 @@ use Rattle.data_transfer.specs.Assembler.{begun_on}
 use Rattle.data_transfer.specs.Assembly.{Holds}
 use Rattle.data_transfer.specs.FlowResidues.{FlowResidues, Stands}
 use Rattle.channel_machine.specs.GapView.{InDoubt}
+
+-- windows of the modulus less 1
+pub record IsWidest (f : FlowResidues) : Type 0 where
+  pub eight : (f.modulus ≡ 8) ⊎ (f.modulus ≡ 128)
+  pub windows : f.windows ≡ of_both (f.modulus - 1)
 
 -- numbers with the widest windows; of a side whose next number is in doubt nothing is outstanding, and its sequence is in doubt
 pub record NumbersStand (m : ℕ) (s : InDoubt) (c : Channel) : Type 0 where
@@ -50,12 +55,25 @@ abbrev pub IsCountedInDoubt : {U : Type 0} → Result U ℕ → Interface → (n
 IsCountedInDoubt (Ok u) i new r d = (v : Counts) × (r ≡ Ok v) × NumbersStand i.modulus new (with_counts v d) × SequencesStand i new (with_counts v d)
 IsCountedInDoubt (Err e) i new r d = r ≡ Err e
 
--- the answer to the numbers of a data packet, and those after it
+-- the answer to the numbers of a data packet by that of the counts, and those after it; its next P(S) may have been in doubt
+abbrev pub AreNumbered : Result FlowResidues ℕ → (modulus : ℕ) → (doubt : Bool) → Side → Result Counts ℕ → Type 0
+AreNumbered (Ok f) m doubt x r =
+    (v : Counts) × (r ≡ Ok v) × Stands f (record v { acknowledged = edge_in_doubt m doubt x (of_side x v.sent) v.acknowledged })
+AreNumbered (Err n) m doubt x r = r ≡ Err n
+
+-- the same on a channel
 abbrev pub IsNumbered : Result FlowResidues ℕ → Interface → Doubts → Side → DataHeader → Channel → Type 0
-IsNumbered (Ok f) i b x h c =
-    (v : Counts)
-    × (count_data i.modulus (window_in_doubt i b c x) (counts_of (completed_for_data i.modulus b x h c)) x h.send h.receive ≡ Ok v)
-    × Stands f (record v { acknowledged = edge_in_doubt i.modulus (of_side x b.numbers) x (of_side x v.sent) v.acknowledged })
-    × (f.modulus ≡ i.modulus) × (f.windows ≡ of_both (i.modulus - 1))
-IsNumbered (Err n) i b x h c =
-    count_data i.modulus (window_in_doubt i b c x) (counts_of (completed_for_data i.modulus b x h c)) x h.send h.receive ≡ Err n
+IsNumbered r i b x h c =
+    AreNumbered r i.modulus (of_side x b.numbers) x
+    (count_data i.modulus (window_in_doubt i b c x) (counts_of (completed_for_data i.modulus b x h c)) x h.send h.receive)
+
+-- the counts with nothing of a side outstanding
+abbrev pub all_acknowledged : Side → Counts → Counts
+all_acknowledged x c = record c { acknowledged = with_side x (of_side x c.sent) c.acknowledged }
+
+-- counts that were completed up to a P(S) of a side whose next P(S) is in doubt, and the numbers before
+pub record IsFirst (f : FlowResidues) (x : Side) (send : ℕ) (c : Counts) : Type 0 where
+  pub stands : Stands (record f { sent = with_side x (send % f.modulus) f.sent; acknowledged = with_side x (send % f.modulus) f.acknowledged }) (all_acknowledged x c)
+  pub edge : of_side x f.acknowledged ≡ of_side x c.acknowledged % f.modulus
+  pub ordered : of_side x c.acknowledged ≤ of_side x c.sent
+  pub below : of_side x c.sent < of_side x c.acknowledged + f.modulus

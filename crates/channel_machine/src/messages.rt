@@ -1,8 +1,9 @@
 //! PAD messages on a channel: their findings, and what they say of the settings.
 
-ghost use Rattle.std.specs.Prelude.{◌≡◌, ◌+◌, ◌<◌, ◌≤◌, ◌++◌, ◌∷◌, [], List, ℕ, length, take, option_to_list, flat_map, vec_len, vec_capacity};
+ghost use Rattle.std.specs.Prelude.{◌≡◌, ◌+◌, ◌<◌, ◌≤◌, ◌++◌, ◌∷◌, [], List, ℕ, is_some, length, take, option_to_list, flat_map, vec_len, vec_capacity};
 ghost use Rattle.line_model.specs.channels.Channels.{Told};
-ghost use Rattle.line_model.specs.channels.Pad.{is_parameter, settings_of, settings_after, message_fault};
+ghost use Rattle.line_model.specs.channels.Pad.{form_fault, is_parameter, settings_of, settings_after, message_fault};
+ghost use Rattle.line_model.specs.channels.GapStep.{settings_by_form};
 ghost use Rattle.line_model.specs.channels.ChannelStep.{option_found};
 ghost use Rattle.pad.specs.Codes.{octets_of};
 ghost use Rattle.pad.specs.Pairs.{shown};
@@ -186,6 +187,25 @@ fn report_settings<A: Allocator>(
         MessageCode::Set => report_set(origin, from.other(), message.pairs, events),
         MessageCode::SetAndRead => report_set(origin, from.other(), message.pairs, events),
         _ => {}
+    }
+}
+
+/// Reports the settings that a message says or asks, where it gives no finding: those of a message without a fault of its
+/// own. `octets` are the first 1,025 of the message.
+pub(crate) fn report_settings_of<A: Allocator>(
+    origin: EventOrigin,
+    from: Side,
+    octets: &[u8],
+    events: &mut Vec<Event, A>,
+)
+    requires room { vec_len events.old + 512 ≤ vec_capacity events.old }
+    ensures { (m : List ℕ) → octets.now ≡ take 1025 m
+        → Reports origin events.old.items events.new.items
+        (settings_by_form (is_some (form_fault m)) from m) }
+{
+    match read_message(octets) {
+        Ok(message) => report_settings(origin, from, &message, events),
+        Err(_) => {}
     }
 }
 

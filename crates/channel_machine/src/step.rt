@@ -4,6 +4,7 @@ ghost use Rattle.std.specs.Prelude.{◌≡◌, ◌≤◌, true, false, Some, IfO
 ghost use Rattle.line_model.specs.basics.Bounds.{IsSaid};
 ghost use Rattle.line_model.specs.basics.Records.{Item};
 ghost use Rattle.line_model.specs.channels.Channels.{Channel, is_permanent};
+ghost use Rattle.line_model.specs.channels.GapStep.{is_in_d1};
 ghost use Rattle.line_model.specs.packets.Classes.{packet_class};
 ghost use Rattle.line_model.specs.packets.Says.{header_in};
 ghost use Rattle.line_model.specs.channels.ChannelStep.{call_change, channel_step, data_step, judged, moving, transferring};
@@ -232,6 +233,7 @@ impl<A: Allocator + Clone, S: StatusStore> StatusChannel<A, S> {
             ≡ judged (is_permanent self.now.terms.interface self.now.channel) side
             c.state c.owed class }
         ensures fits { is_entry result.1 side class self.now.state ≡ true }
+        ensures in_d1 { result.1 ≡ Normal → is_in_d1 self.now.state ≡ true }
     {
         judged(
             self.status.interface().is_permanent(self.channel),

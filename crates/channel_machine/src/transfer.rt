@@ -153,7 +153,7 @@ impl<A: Allocator + Clone, S: StatusStore> StatusChannel<A, S> {
 }
 
 /// Whether a complete sequence with a Q bit is a message.
-fn is_message(pad_call: bool, qualified: bool) -> bool
+pub(crate) fn is_message(pad_call: bool, qualified: bool) -> bool
     ensures { result ≡ (pad_call && qualified) }
 {
     pad_call && qualified

@@ -163,6 +163,8 @@ impl Flow {
         ensures lowest { result.lowest ≡ of_side side self.now.acknowledged }
         ensures window { result.window ≡ of_side side self.now.windows }
         ensures interrupted { result.interrupted ≡ of_side side self.now.unconfirmed }
+        ensures in_range { (result.next < self.now.modulus)
+            × (result.lowest < self.now.modulus) }
     {
         let Direction {
             window,

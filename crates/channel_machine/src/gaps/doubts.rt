@@ -1,10 +1,11 @@
 //! What is in doubt of a settled channel.
 
-ghost use Rattle.std.specs.Prelude.{◌≡◌, false, not, true};
+ghost use Rattle.std.specs.Prelude.{◌≡◌, ◌&&◌, false, not, true};
 ghost use Rattle.line_model.specs.channels.Channels.{of_side, with_side};
 ghost use Rattle.line_model.specs.channels.Gaps as gaps;
+ghost use Rattle.line_model.specs.channels.GapStep.{doubts_after_data, doubts_in};
 
-use line_model::state::Side;
+use line_model::state::{ChannelState, DState, Side};
 use std::marker::Model;
 
 /// What is in doubt of a side of a settled channel.
@@ -16,6 +17,21 @@ pub(crate) struct SideDoubts {
     pub(crate) interrupt: bool,
     /// The packet sequence that it has begun.
     pub(crate) sequence: bool,
+}
+
+impl SideDoubts {
+    /// After a data packet that was accepted the next P(S) is certain, and the sequence where the packet ends one.
+    fn settle_data(&mut self, is_category_a: bool)
+        ensures { self.new ≡ record self.old {
+          number = false;
+          sequence = self.old.sequence && is_category_a;
+        } }
+    {
+        self.number = false;
+        if !is_category_a {
+            self.sequence = false;
+        }
+    }
 }
 
 /// What is in doubt of a settled channel.
@@ -99,25 +115,39 @@ impl Doubts {
         }
     }
 
-    /// Other doubts of a side.
-    pub(crate) fn set(&mut self, side: Side, doubts: SideDoubts)
+    /// It is certain whether an interrupt of a side is unconfirmed.
+    pub(crate) fn settle_interrupt(&mut self, side: Side)
         ensures { self.new ≡ record self.old {
-          numbers = with_side side doubts.number self.old.numbers;
-          interrupts = with_side side doubts.interrupt self.old.interrupts;
-          sequences = with_side side doubts.sequence self.old.sequences;
+          interrupts = with_side side false self.old.interrupts;
         } }
     {
         match side {
-            Side::T => self.of_t = doubts,
-            Side::N => self.of_n = doubts,
+            Side::T => self.of_t.interrupt = false,
+            Side::N => self.of_n.interrupt = false,
         }
     }
 
-    /// Leaves in doubt whether another call may be hidden, and nothing else.
-    pub(crate) fn clear(&mut self)
-        ensures { self.new ≡ gaps.no_doubts self.old.hidden }
+    /// After a data packet of a side that was accepted its next P(S) is certain, and its sequence where the packet ends one.
+    pub(crate) fn settle_data(&mut self, side: Side, is_category_a: bool)
+        ensures { self.new ≡ doubts_after_data side is_category_a self.old }
     {
-        self.of_t = NO_DOUBTS;
-        self.of_n = NO_DOUBTS;
+        match side {
+            Side::T => self.of_t.settle_data(is_category_a),
+            Side::N => self.of_n.settle_data(is_category_a),
+        }
+    }
+
+    /// What is in doubt in a state: outside d1 only whether another call may be hidden.
+    pub(crate) fn in_state(self, state: ChannelState) -> Doubts
+        ensures { result ≡ doubts_in state self }
+    {
+        match state {
+            ChannelState::Transfer(DState::D1) => self,
+            _ => Doubts {
+                hidden: self.hidden,
+                of_t: NO_DOUBTS,
+                of_n: NO_DOUBTS,
+            },
+        }
     }
 }

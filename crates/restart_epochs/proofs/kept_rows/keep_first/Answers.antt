@@ -4,7 +4,7 @@ use Rattle.std.proofs.lemmas.List.{nil_from_length}
 use Rattle.std.specs.BTreeSet.{insert_key}
 use Rattle.std.specs.Ordering.{nat_cmp}
 use Rattle.line_model.specs.basics.Records.{Item}
-use Rattle.restart_epochs.specs.OpenRows.{OpenRows, rows_in, rows_of, with_channel}
+use Rattle.restart_epochs.specs.OpenRows.{rows_in, rows_of, with_channel}
 use Rattle.restart_epochs.specs.BlockCuts.{HasAll, with_rows}
 use Rattle.restart_epochs.proofs.kept_rows.keep_first.Goals as goal
 

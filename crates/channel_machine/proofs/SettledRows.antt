@@ -1,0 +1,310 @@
+-- What packets do to a settled channel, as the code does it.
+use Rattle.std.proofs.Common.{◌≡◌, ◌-◌, ℕ, Bool, true, false, true≢false, refl, sym, ◌∙◌, ap, subst, append-nil, List, [], ◌∷◌, Option, Some, None, Result, Ok, Err}
+use Rattle.std.specs.Prelude.{OnOk, is_some}
+use Rattle.line_model.specs.declared.packet.Class as class
+use Rattle.line_model.specs.declared.packet.DataHeader.{DataHeader}
+use Rattle.line_model.specs.declared.packet.Packet.{Packet}
+use Rattle.line_model.specs.packets.Classes.{packet_class}
+use Rattle.line_model.specs.packets.Formats.{direction_fault, format_fault, or_other, packet_fault}
+use Rattle.line_model.specs.basics.Records.{Item}
+use Rattle.line_model.specs.declared.packet.Class.{Class}
+use Rattle.line_model.specs.declared.packet.Class.TheVariants.{Data, Interrupt, InterruptConfirm}
+use Rattle.line_model.specs.packets.Says.{header_in, receive_in}
+use Rattle.line_model.specs.declared.event.Event.{Event}
+use Rattle.line_model.specs.declared.event.How.{How}
+use Rattle.line_model.specs.declared.event.How as how
+use Rattle.line_model.specs.declared.event.What.{What}
+use Rattle.line_model.specs.declared.event.What.TheVariants.{Found}
+use Rattle.line_model.specs.declared.finding.Code.TheVariants.{Number}
+use Rattle.line_model.specs.declared.interface.Interface.{Interface}
+use Rattle.line_model.specs.declared.table.Action.{Action}
+use Rattle.line_model.specs.declared.table.Action.TheVariants as action
+use Rattle.line_model.specs.declared.state.ChannelState.{ChannelState}
+use Rattle.line_model.specs.declared.state.ChannelState.TheVariants.{Setup, Transfer, Unknown}
+use Rattle.line_model.specs.declared.state.DState as transfer
+use Rattle.line_model.specs.declared.state.Side.{Side}
+use Rattle.line_model.specs.declared.state.Side.TheVariants.{T, N}
+use Rattle.line_model.specs.declared.state.StateName.{StateName}
+use Rattle.line_model.specs.declared.state.StateName.TheVariants.{Dash, R1, R2, R3, P1, P2, P3, P4, P5, P6, P7, D1, D2, D3}
+use Rattle.line_model.specs.channels.Channels.{Channel, Opening, is_permanent, of_side, other, with_side}
+use Rattle.line_model.specs.channels.ChannelStep.{Outcome, changing, counts_of, ending_open, entering, failing, judged, opening, and_then, report_nothing}
+use Rattle.line_model.specs.channels.FlowControl.{Counts, count_confirm, count_interrupt, count_receive, no_counts, sent_by}
+use Rattle.line_model.specs.channels.Gaps.{Doubts, no_doubts, of_both}
+use Rattle.line_model.specs.channels.GapStep.{SettledOutcome, completed_for_receive, confirmation_in_doubt, counting_in_doubt, doubts_in, failing_in_doubt, interrupt_in_doubt, is_in_d1, receive_by, receive_in_doubt, transferring_in_doubt, with_interrupt}
+use Rattle.line_model.specs.channels.Verdicts.{CallChange}
+use Rattle.line_model.specs.channels.Verdicts.CallChange.{Opens, GoesUp, Ends, Keeps}
+use Rattle.data_transfer.specs.Assembler.{begun_on}
+use Rattle.data_transfer.specs.Assembly.{Holds}
+use Rattle.data_transfer.specs.FlowResidues as flow
+use Rattle.channel_machine.specs.declared.events.EventOrigin.{EventOrigin}
+use Rattle.channel_machine.specs.Channels.{Does, Known, Stands}
+use Rattle.channel_machine.specs.Contents.{is_call}
+use Rattle.channel_machine.specs.Entries.{is_transfer}
+use Rattle.channel_machine.specs.Events.{Reports}
+use Rattle.channel_machine.specs.GapChannels.{StandsSettled, at_rest}
+use Rattle.channel_machine.specs.GapView.{InDoubt}
+use Rattle.channel_machine.specs.Reached.{IsReached}
+use Rattle.channel_machine.specs.SettledNumbers.{IsCountedInDoubt, NumbersStand, SequencesStand, kept_begun, kept_of, with_counts}
+use Rattle.channel_machine.specs.SettledSteps.{IsControlled, SettledDoes, settled_entry, settled_row}
+use Rattle.channel_machine.proofs.AdriftLemmas.{header_class}
+use Rattle.channel_machine.proofs.Completing.{rest_completed}
+use Rattle.channel_machine.proofs.Missed.{of_same}
+use Rattle.channel_machine.proofs.Reached.{failed, same}
+
+-- what is in doubt in a state
+doubts_same : (q : ChannelState) (b : Doubts) → (is_in_d1 q ≡ false → b ≡ no_doubts b.hidden) → b ≡ doubts_in q b
+doubts_same (Transfer transfer.TheVariants.D1) b h = refl
+doubts_same (Transfer transfer.TheVariants.D2) b h = h refl
+doubts_same (Transfer transfer.TheVariants.D3) b h = h refl
+doubts_same (Setup p) b h = h refl
+doubts_same Unknown b h = h refl
+
+pub doubts_of_d1 : (q : ChannelState) (b : Doubts) → is_in_d1 q ≡ true → b ≡ doubts_in q b
+doubts_of_d1 q b e = doubts_same q b (λ f. absurd (true≢false (sym e ∙ f)))
+
+doubts_outside : (q : ChannelState) (b : Doubts) → is_in_d1 q ≡ false → doubts_in q b ≡ no_doubts (doubts_in q b).hidden
+doubts_outside (Transfer transfer.TheVariants.D1) b e = absurd (true≢false e)
+doubts_outside (Transfer transfer.TheVariants.D2) b e = refl
+doubts_outside (Transfer transfer.TheVariants.D3) b e = refl
+doubts_outside (Setup p) b e = refl
+doubts_outside Unknown b e = refl
+
+unknown_in : (q : ChannelState) (b : Doubts) (x : Side) → (of_side x b.numbers ≡ true → of_side x b.sequences ≡ true) → of_side x (doubts_in q b).numbers ≡ true → of_side x (doubts_in q b).sequences ≡ true
+unknown_in (Transfer transfer.TheVariants.D1) b x h e = h e
+unknown_in (Transfer transfer.TheVariants.D2) b x h e = absurd (true≢false (sym e ∙ of_same x false))
+unknown_in (Transfer transfer.TheVariants.D3) b x h e = absurd (true≢false (sym e ∙ of_same x false))
+unknown_in (Setup p) b x h e = absurd (true≢false (sym e ∙ of_same x false))
+unknown_in Unknown b x h e = absurd (true≢false (sym e ∙ of_same x false))
+
+none_sent : (x : Side) → of_side x (sent_by []) ≡ of_side x (of_both 0)
+none_sent T = refl
+none_sent N = refl
+
+pub none_begun : (doubt hidden : Bool) → kept_of doubt hidden [] ≡ []
+none_begun true hidden = refl
+none_begun false true = refl
+none_begun false false = refl
+
+-- a channel that enters a state
+pub restarted : (s : EventOrigin) (old new : Known) (held left : InDoubt) (before after : List Event) (o : Outcome) (c : Channel) → StandsSettled old held c → Does s old new before after o → at_rest o.after ≡ o.after → IsReached o.after →
+    left.doubts ≡ doubts_in new.state held.doubts → left.flow.modulus ≡ held.flow.modulus → left.flow.windows ≡ held.flow.windows → flow.Stands left.flow no_counts → ((x : Side) → Holds (begun_on left.assembler x) []) →
+    SettledDoes s old new left before after (record { outcome = o; doubts = held.doubts })
+restarted s old new held left before after o c st does rest reached doubts_are modulus windows none begun =
+    let d : Channel = o.after in
+    let doubts : left.doubts ≡ doubts_in d.state held.doubts = doubts_are ∙ ap (λ q. doubts_in q held.doubts) does.stands.state in
+    record {
+      interface = does.interface;
+      channel = does.channel;
+      doubts = doubts;
+      stands = record {
+        rest = subst (λ e. Stands new e) (sym rest) does.stands;
+        reached = reached;
+        numbers = record {
+          flow = subst (λ e. flow.Stands left.flow (counts_of e)) rest none;
+          modulus = modulus ∙ st.numbers.modulus ∙ ap (λ (i : Interface). i.modulus) (sym does.interface);
+          widest = windows ∙ st.numbers.widest ∙ ap (λ (i : Interface). of_both (i.modulus - 1)) (sym does.interface);
+          acknowledged = λ x e. subst (λ k. of_side x (sent_by k.heard) ≡ of_side x k.acknowledged) rest (none_sent x);
+          unknown = λ x e. ap (λ b. of_side x b.sequences) doubts ∙ unknown_in d.state held.doubts x (λ f. st.numbers.unknown x f) (ap (λ b. of_side x b.numbers) (sym doubts) ∙ e);
+        };
+        sequences = λ x. subst (λ e. Holds (begun_on left.assembler x) (kept_begun new.terms.interface left.doubts x e)) rest
+            (subst (λ l. Holds (begun_on left.assembler x) l) (sym (none_begun (of_side x left.doubts.sequences) left.doubts.hidden)) (begun x));
+        outside = λ e. (doubts ∙ doubts_outside d.state held.doubts e ∙ ap (λ b. no_doubts b.hidden) (sym doubts), rest);
+      };
+      reports = does.reports;
+    }
+
+-- one that stays where it is, and owes an indication or not
+pub stays : (s : EventOrigin) (old new : Known) (held : InDoubt) (before after : List Event) (ws : List What) (w : Bool) (c : Channel) → StandsSettled old held c → new.terms.interface ≡ old.terms.interface → new.channel ≡ old.channel →
+    Stands new (at_rest (record c { owed = w })) → Reports s before after ws → SettledDoes s old new held before after (record { outcome = record { reported = ws; after = record c { owed = w } }; doubts = held.doubts })
+stays s old new held before after ws w c st interface number stands reports =
+    let ns : NumbersStand new.terms.interface.modulus held c = subst (λ (i : Interface). NumbersStand i.modulus held c) (sym interface) st.numbers in
+    record {
+      interface = interface;
+      channel = number;
+      doubts = doubts_same c.state held.doubts (λ e. (st.outside e).0);
+      stands = record {
+        rest = stands;
+        reached = same c (record c { owed = w }) refl refl refl st.reached;
+        numbers = record { flow = ns.flow; modulus = ns.modulus; widest = ns.widest; acknowledged = ns.acknowledged; unknown = ns.unknown };
+        sequences = λ x. subst (λ (i : Interface). Holds (begun_on held.assembler x) (kept_begun i held.doubts x c)) (sym interface) (st.sequences x);
+        outside = λ e. ((st.outside e).0, ap (λ (d : Channel). record d { owed = w }) (st.outside e).1);
+      };
+      reports = reports;
+    }
+
+-- an error
+
+ended_rest : (h : How) (o : Option Opening) (c : Channel) → at_rest (ending_open h o (entering P7 true c)).after ≡ (ending_open h o (entering P7 true c)).after
+ended_rest h None c = refl
+ended_rest h (Some o) c = refl
+
+given_up_rest : (q : StateName) (n : ℕ) (c : Channel) → at_rest (failing T q n c).after ≡ (failing T q n c).after
+given_up_rest Dash n c = ended_rest how.TheVariants.N c.opening c
+given_up_rest R1 n c = ended_rest how.TheVariants.N c.opening c
+given_up_rest R2 n c = ended_rest how.TheVariants.N c.opening c
+given_up_rest R3 n c = ended_rest how.TheVariants.N c.opening c
+given_up_rest P1 n c = ended_rest how.TheVariants.N c.opening c
+given_up_rest P2 n c = ended_rest how.TheVariants.N c.opening c
+given_up_rest P3 n c = ended_rest how.TheVariants.N c.opening c
+given_up_rest P4 n c = ended_rest how.TheVariants.N c.opening c
+given_up_rest P5 n c = ended_rest how.TheVariants.N c.opening c
+given_up_rest P6 n c = ended_rest how.TheVariants.N c.opening c
+given_up_rest P7 n c = ended_rest how.TheVariants.N c.opening c
+given_up_rest D1 n c = refl
+given_up_rest D2 n c = refl
+given_up_rest D3 n c = refl
+
+failing_at_rest : (q : StateName) (n : ℕ) (c : Channel) → failing T q n (at_rest c) ≡ failing T q n c
+failing_at_rest Dash n c = refl
+failing_at_rest R1 n c = refl
+failing_at_rest R2 n c = refl
+failing_at_rest R3 n c = refl
+failing_at_rest P1 n c = refl
+failing_at_rest P2 n c = refl
+failing_at_rest P3 n c = refl
+failing_at_rest P4 n c = refl
+failing_at_rest P5 n c = refl
+failing_at_rest P6 n c = refl
+failing_at_rest P7 n c = refl
+failing_at_rest D1 n c = refl
+failing_at_rest D2 n c = refl
+failing_at_rest D3 n c = refl
+
+pub gave_up : (s : EventOrigin) (old new : Known) (held left : InDoubt) (before after : List Event) (x : Side) (q : StateName) (n : ℕ) (c : Channel) → x ≡ T → StandsSettled old held c → Does s old new before after (failing x q n (at_rest c)) →
+    left.doubts ≡ doubts_in new.state held.doubts → left.flow.modulus ≡ held.flow.modulus → left.flow.windows ≡ held.flow.windows → flow.Stands left.flow no_counts → ((x : Side) → Holds (begun_on left.assembler x) []) →
+    SettledDoes s old new left before after (failing_in_doubt x q n held.doubts c)
+gave_up s old new held left before after x q n c side st does doubts modulus windows none begun =
+    subst (λ y. SettledDoes s old new left before after (failing_in_doubt y q n held.doubts c)) (sym side)
+    (restarted s old new held left before after (failing T q n c) c st
+    (subst (λ o. Does s old new before after o) (failing_at_rest q n c) (subst (λ y. Does s old new before after (failing y q n (at_rest c))) side does))
+    (given_up_rest q n c) (failed T q n c st.reached) doubts modulus windows none begun)
+
+pub told : (s : EventOrigin) (old new : Known) (held : InDoubt) (before after : List Event) (x : Side) (q : StateName) (n : ℕ) (c : Channel) → x ≡ N → StandsSettled old held c → Does s old new before after (failing x q n (at_rest c)) →
+    SettledDoes s old new held before after (failing_in_doubt x q n held.doubts c)
+told s old new held before after x q n c side st does =
+    let here : Does s old new before after (failing N q n (at_rest c)) = subst (λ y. Does s old new before after (failing y q n (at_rest c))) side does in
+    subst (λ y. SettledDoes s old new held before after (failing_in_doubt y q n held.doubts c)) (sym side)
+    (stays s old new held before after (Found N q (Number n) ∷ []) c.owed c st here.interface here.channel here.stands here.reports)
+
+-- a move
+
+cleared_rest : (h : How) (o : Option Opening) (to : StateName) (c : Channel) → at_rest (ending_open h o (entering to false c)).after ≡ (ending_open h o (entering to false c)).after
+cleared_rest h None to c = refl
+cleared_rest h (Some o) to c = refl
+
+opened_rest : (o : Option Opening) (out : Bool) (xs : List ℕ) (to : StateName) (c : Channel) →
+    at_rest (and_then (ending_open how.TheVariants.Collision o (entering to false c)) (opening out xs)).after ≡ (and_then (ending_open how.TheVariants.Collision o (entering to false c)) (opening out xs)).after
+opened_rest None out xs to c = refl
+opened_rest (Some o) out xs to c = refl
+
+pub moved_rest : (v : CallChange) (xs : List ℕ) (to : StateName) (c : Channel) → at_rest (changing xs v (entering to false c)).after ≡ (changing xs v (entering to false c)).after
+moved_rest (Opens out) xs to c = opened_rest c.opening out xs to c
+moved_rest GoesUp xs to c = refl
+moved_rest (Ends h) xs to c = cleared_rest h c.opening to c
+moved_rest Keeps xs to c = refl
+
+-- a packet that changes the counts alone
+pub controlled : {U : Type 0} (u : U) (s : EventOrigin) (old : Known) (held left : InDoubt) (before : List Event) (x : Side) (q : StateName) (b : Doubts) (c : Channel) (o : SettledOutcome) → StandsSettled old held c → is_in_d1 old.state ≡ true →
+    IsControlled (Ok u) old.terms.interface x q left b c o → SettledDoes s old old left before before o
+controlled u s old held left before x q b c o st d1 (e, is, rest, numbers, sequences) =
+    let here : is_in_d1 e.state ≡ true = ap (λ d. is_in_d1 d.state) rest ∙ ap (λ q. is_in_d1 q) (sym st.rest.state) ∙ d1 in
+    subst (λ p. SettledDoes s old old left before before p) (sym is) (record {
+      interface = refl;
+      channel = refl;
+      doubts = doubts_of_d1 e.state left.doubts here;
+      stands = record {
+        rest = subst (λ d. Stands old d) (sym rest) st.rest;
+        reached = same c e (ap (λ d. d.opening) rest) (ap (λ d. d.accepting) rest) (ap (λ d. d.state) rest) st.reached;
+        numbers = numbers;
+        sequences = sequences;
+        outside = λ f. absurd (true≢false (sym here ∙ f));
+      };
+      reports = sym (append-nil before);
+    })
+
+-- the answers of the counts
+counted_is : {U : Type 0} (r : Result U ℕ) (i : Interface) (x : Side) (q : StateName) (new : InDoubt) (b after : Doubts) (a : Result Counts ℕ) (d c : Channel) → at_rest d ≡ at_rest c → OnOk r (new.doubts ≡ after) → IsCountedInDoubt r i new a d →
+    IsControlled r i x q new b c (counting_in_doubt x q a b after d c)
+counted_is (Ok u) i x q new b after a d c rest doubts (v, is, numbers, sequences) =
+    (with_counts v d, ap (λ r. counting_in_doubt x q r b after d c) is ∙ ap (λ e. record { outcome = report_nothing (with_counts v d); doubts = e }) (sym doubts), rest, numbers, sequences)
+counted_is (Err e) i x q new b after a d c rest doubts is = ap (λ r. counting_in_doubt x q r b after d c) is
+
+interrupt_at_rest : (b : Bool) (x : Side) (u : Bool) (c : Channel) → at_rest (with_interrupt b x u c) ≡ at_rest c
+interrupt_at_rest true x u c = refl
+interrupt_at_rest false x u c = refl
+
+pub interrupts : {U : Type 0} (r : Result U ℕ) (i : Interface) (x : Side) (q : StateName) (s new : InDoubt) (c : Channel) → OnOk r (new.doubts ≡ record s.doubts { interrupts = with_side x false s.doubts.interrupts }) →
+    IsCountedInDoubt r i new (count_interrupt (counts_of (with_interrupt (of_side x s.doubts.interrupts) x false c)) x) (with_interrupt (of_side x s.doubts.interrupts) x false c) → IsControlled r i x q new s.doubts c (interrupt_in_doubt x q s.doubts c)
+interrupts r i x q s new c doubts counted =
+    let d : Channel = with_interrupt (of_side x s.doubts.interrupts) x false c in
+    counted_is r i x q new s.doubts (record s.doubts { interrupts = with_side x false s.doubts.interrupts }) (count_interrupt (counts_of d) x) d c (interrupt_at_rest (of_side x s.doubts.interrupts) x false c) doubts counted
+
+pub confirms : {U : Type 0} (r : Result U ℕ) (i : Interface) (x : Side) (q : StateName) (s new : InDoubt) (c : Channel) → OnOk r (new.doubts ≡ record s.doubts { interrupts = with_side (other x) false s.doubts.interrupts }) →
+    IsCountedInDoubt r i new (count_confirm (counts_of (with_interrupt (of_side (other x) s.doubts.interrupts) (other x) true c)) x) (with_interrupt (of_side (other x) s.doubts.interrupts) (other x) true c) → IsControlled r i x q new s.doubts c (confirmation_in_doubt x q s.doubts c)
+confirms r i x q s new c doubts counted =
+    let d : Channel = with_interrupt (of_side (other x) s.doubts.interrupts) (other x) true c in
+    counted_is r i x q new s.doubts (record s.doubts { interrupts = with_side (other x) false s.doubts.interrupts }) (count_confirm (counts_of d) x) d c (interrupt_at_rest (of_side (other x) s.doubts.interrupts) (other x) true c) doubts counted
+
+on_ok : {U : Type 0} (r : Result U ℕ) (P : Type 0) → P → OnOk r P
+on_ok (Ok u) P p = p
+on_ok (Err e) P p = tt
+
+pub receives : {U : Type 0} (r : Result U ℕ) (i : Interface) (x : Side) (q : StateName) (n : ℕ) (s new : InDoubt) (c : Channel) → new.doubts ≡ s.doubts →
+    IsCountedInDoubt r i new (count_receive i.modulus (counts_of (completed_for_receive i.modulus s.doubts x n c)) x n) (completed_for_receive i.modulus s.doubts x n c) → IsControlled r i x q new s.doubts c (receive_in_doubt i.modulus x q (Some n) s.doubts c)
+receives r i x q n s new c doubts counted =
+    let d : Channel = completed_for_receive i.modulus s.doubts x n c in
+    counted_is r i x q new s.doubts s.doubts (count_receive i.modulus (counts_of d) x n) d c (rest_completed i.modulus (of_side (other x) s.doubts.numbers) (other x) n c) (on_ok r (new.doubts ≡ s.doubts) doubts) counted
+
+pub receives_none : {U : Type 0} (u : U) (i : Interface) (x y : Side) (q : StateName) (s : InDoubt) (c : Channel) → NumbersStand i.modulus s c → SequencesStand i s c → IsControlled (Ok u) i x q s s.doubts c (receive_in_doubt i.modulus y q None s.doubts c)
+receives_none u i x y q s c numbers sequences = (c, refl, refl, numbers, sequences)
+
+-- every other packet of data transfer has its P(R) counted
+pub other_controls : (i : Interface) (q : StateName) (k : Class) (r : Item) (b : Doubts) (c : Channel) → (k ≡ Data → ⊥) → (k ≡ Interrupt → ⊥) → (k ≡ InterruptConfirm → ⊥) → receive_in_doubt i.modulus r.side q (receive_in r.packet) b c ≡ transferring_in_doubt i q k r b c
+other_controls i q Data r b c d e f = absurd (d refl)
+other_controls i q Interrupt r b c d e f = absurd (e refl)
+other_controls i q InterruptConfirm r b c d e f = absurd (f refl)
+other_controls i q k r b c d e f = refl
+
+-- P(R) of a packet that is no data
+other_receive_by : (o : Option DataHeader) (n : Option ℕ) → is_some o ≡ false → receive_by o n ≡ n
+other_receive_by None n e = refl
+other_receive_by (Some h) n e = absurd (true≢false e)
+
+pub other_receive : (p : Packet) → (packet_class p ≡ Data → ⊥) → receive_by (header_in p) (receive_in p) ≡ receive_in p
+other_receive p other = by (is_some (header_in p)) refl
+  where
+    by : (b : Bool) → is_some (header_in p) ≡ b → receive_by (header_in p) (receive_in p) ≡ receive_in p
+    by true e = absurd (other (header_class p e))
+    by false e = other_receive_by (header_in p) (receive_in p) e
+
+-- a packet of data transfer is none of a call
+pub no_call : (k : Class) → is_transfer k ≡ true → is_call k ≡ false
+no_call class.TheVariants.Call e = absurd (true≢false (sym e))
+no_call class.TheVariants.Accepted e = absurd (true≢false (sym e))
+no_call k e = refl
+
+-- its fault is that of its format
+format_is : (i : Interface) (n : ℕ) (c : Channel) (x : Side) (k : Class) (long : ℕ) (xs : List ℕ) → is_transfer k ≡ true → or_other (direction_fault i n x k) (format_fault i c x k long xs) ≡ format_fault i c x k long xs
+format_is i n c x class.TheVariants.Call long xs e = absurd (true≢false (sym e))
+format_is i n c x k long xs e = refl
+
+pub transfer_fault : (i : Interface) (n : ℕ) (c : Channel) (r : Item) (x : Side) (k : Class) (long : ℕ) (o : Option ℕ) → x ≡ r.side → k ≡ packet_class r.packet → long ≡ r.length → is_transfer (packet_class r.packet) ≡ true →
+    o ≡ format_fault i (at_rest c) x k long r.octets → o ≡ packet_fault i n c r
+transfer_fault i n c r x k long o side of_class of_length e is =
+    is ∙ (λ j. format_fault i (at_rest c) (side j) (of_class j) (of_length j) r.octets) ∙ sym (format_is i n c r.side (packet_class r.packet) r.length r.octets e)
+
+-- a row by its entry
+pub row_of : (i : Interface) (n : ℕ) (x : Side) (k : Class) (q : StateName) (a e : Action) (r : Item) (b : Doubts) (c : Channel) → record { state = q; entry = a } ≡ judged (is_permanent i n) x c.state c.owed k →
+    x ≡ r.side → k ≡ packet_class r.packet → a ≡ e → settled_entry i n (record { state = q; entry = e }) r b c ≡ settled_row i n r b c
+row_of i n x k q a e r b c is side class entry =
+    ap (λ v. settled_entry i n (record { state = q; entry = v }) r b c) (sym entry)
+    ∙ ap (λ v. settled_entry i n v r b c) (is ∙ (λ j. judged (is_permanent i n) (side j) c.state c.owed (class j)))
+
+-- an entry that does nothing
+pub nothing_by : (i : Interface) (n : ℕ) (q : StateName) (r : Item) (b : Doubts) (c : Channel) (a : Action) → ((s : StateName) → ¬ (a ≡ action.Move s)) → ¬ (a ≡ action.Normal) → ((k : ℕ) → ¬ (a ≡ action.Error k)) → ¬ (a ≡ action.Ends) →
+    settled_entry i n (record { state = q; entry = a }) r b c ≡ record { outcome = report_nothing c; doubts = b }
+nothing_by i n q r b c (action.Move s) moves normal error ends = absurd (moves s refl)
+nothing_by i n q r b c action.Normal moves normal error ends = absurd (normal refl)
+nothing_by i n q r b c (action.Error k) moves normal error ends = absurd (error k refl)
+nothing_by i n q r b c action.Ends moves normal error ends = absurd (ends refl)
+nothing_by i n q r b c a moves normal error ends = refl

@@ -1,0 +1,242 @@
+//! What packets do to a settled channel, by the state tables.
+
+ghost use Rattle.std.specs.Prelude.{◌≡◌, ◌<◌, ◌≤◌, ◌||◌, true, false};
+ghost use Rattle.line_model.specs.basics.Bounds.{IsSaid};
+ghost use Rattle.line_model.specs.channels.Channels.{Channel, is_open};
+ghost use Rattle.line_model.specs.channels.GapStep.{failing_in_doubt, is_in_d1, transferring_in_doubt};
+ghost use Rattle.line_model.specs.declared.table.Action.TheVariants.{Move, Normal};
+ghost use Rattle.line_model.specs.packets.Classes.{packet_class};
+ghost use Rattle.channel_machine.specs.Channels.{IsMemory, Stands};
+ghost use Rattle.channel_machine.specs.Entries.{is_entry, is_transfer};
+ghost use Rattle.channel_machine.specs.GapChannels.{at_rest};
+ghost use Rattle.line_model.specs.packets.Formats.{window_in_force};
+ghost use Rattle.channel_machine.specs.SettledSteps.{ComesSettled, IsSettledUnchanged, settled_entry, settled_row};
+ghost use Rattle.channel_machine.specs.Sizes.{largest_length};
+
+use crate::channel::StatusChannel;
+use crate::events::Judgement;
+use crate::gaps::rows::GapRow;
+use crate::gaps::settled::{SettledNumbers, received};
+use crate::status::StatusStore;
+use line_model::event::Event;
+use line_model::fault::Fault;
+use line_model::items::ItemRef;
+use line_model::packet::Class;
+use line_model::state::{ChannelState, DState, Side, StateName};
+use line_model::table::Action;
+use std::alloc::Allocator;
+
+impl<A: Allocator + Clone, S: StatusStore> StatusChannel<A, S> {
+    /// The state of the channel.
+    fn state(&self) -> ChannelState
+        ensures { result ≡ self.now.state }
+    {
+        self.status.state()
+    }
+
+    /// Reports an error of a packet: one of the DTE has the DCE clear or reset, one of the DCE changes nothing.
+    pub(crate) fn fail_settled(
+        &mut self,
+        settled: &mut SettledNumbers<A>,
+        judgement: &Judgement,
+        code: u8,
+        events: &mut Vec<Event, A>,
+    ) -> Result<(), Fault>
+        ensures does { ComesSettled result judgement.now.origin self.old self.new settled.old settled.new
+            events.old.items events.new.items
+            (failing_in_doubt judgement.now.side judgement.now.state code settled.old.doubts) }
+        ensures unchanged { IsSettledUnchanged result self.old self.new settled.old settled.new
+            events.old.items events.new.items }
+        ensures memory { IsMemory result }
+    {
+        self.fail(judgement, code, events)?;
+        match judgement.side {
+            Side::T => settled.restart(self.state()),
+            Side::N => {}
+        }
+        Ok(())
+    }
+
+    /// Handles a packet whose entry is a move.
+    fn move_settled(
+        &mut self,
+        settled: &mut SettledNumbers<A>,
+        judgement: &Judgement,
+        to: StateName,
+        item: &ItemRef<'_>,
+        events: &mut Vec<Event, A>,
+    ) -> Result<(), Fault>
+        requires side { judgement.now.side ≡ item.now.side }
+        requires said { IsSaid self.old.terms.interface item.now }
+        requires fits { is_entry (Move to) judgement.now.side (packet_class item.now.packet)
+            self.old.state ≡ true }
+        ensures does { ComesSettled result judgement.now.origin self.old self.new settled.old settled.new
+            events.old.items events.new.items
+            (settled_entry self.old.terms.interface self.old.channel
+            (record { state = judgement.now.state; entry = Move to }) item.now settled.old.doubts) }
+        ensures unchanged { IsSettledUnchanged result self.old self.new settled.old settled.new
+            events.old.items events.new.items }
+        ensures memory { IsMemory result }
+    {
+        match self.read(item) {
+            Ok(contents) => {
+                self.go(judgement, to, &contents, events)?;
+                settled.restart(self.state());
+                Ok(())
+            }
+            Err(code) => self.fail_settled(settled, judgement, code, events),
+        }
+    }
+
+    /// Steps a settled channel by what a row says.
+    pub(crate) fn step_settled(
+        &mut self,
+        settled: &mut SettledNumbers<A>,
+        row: &GapRow,
+        item: &ItemRef<'_>,
+        events: &mut Vec<Event, A>,
+    ) -> Result<(), Fault>
+        requires side { row.now.side ≡ item.now.side }
+        requires said { IsSaid self.old.terms.interface item.now }
+        ensures does { ComesSettled result row.now.origin self.old self.new settled.old settled.new
+            events.old.items events.new.items
+            (settled_row self.old.terms.interface self.old.channel item.now settled.old.doubts) }
+        ensures unchanged { IsSettledUnchanged result self.old self.new settled.old settled.new
+            events.old.items events.new.items }
+        ensures memory { IsMemory result }
+    {
+        let (state, entry) = self.judge(item.side, item.packet.class());
+        let judgement = Judgement {
+            origin: row.origin,
+            side: item.side,
+            state,
+        };
+        match entry {
+            Action::Move(to) => self.move_settled(settled, &judgement, to, item, events),
+            Action::Normal => self.transfer_settled(settled, &judgement, item, events),
+            Action::Error(code) => self.fail_settled(settled, &judgement, code, events),
+            Action::Ends => {
+                self.settle();
+                Ok(())
+            }
+            _ => Ok(()),
+        }
+    }
+
+    /// Handles a packet of data transfer.
+    fn transfer_settled(
+        &mut self,
+        settled: &mut SettledNumbers<A>,
+        judgement: &Judgement,
+        item: &ItemRef<'_>,
+        events: &mut Vec<Event, A>,
+    ) -> Result<(), Fault>
+        requires side { judgement.now.side ≡ item.now.side }
+        requires said { IsSaid self.old.terms.interface item.now }
+        requires transfer { is_transfer (packet_class item.now.packet) ≡ true }
+        requires in_d1 { is_in_d1 self.old.state ≡ true }
+        ensures does { ComesSettled result judgement.now.origin self.old self.new settled.old settled.new
+            events.old.items events.new.items
+            (settled_entry self.old.terms.interface self.old.channel
+            (record { state = judgement.now.state; entry = Normal }) item.now settled.old.doubts) }
+        ensures unchanged { IsSettledUnchanged result self.old self.new settled.old settled.new
+            events.old.items events.new.items }
+        ensures memory { IsMemory result }
+    {
+        match self.length_fault(judgement.side, item.packet.class(), item.length) {
+            Some(code) => self.fail_settled(settled, judgement, code, events),
+            None => self.carry_settled(settled, judgement, item, events),
+        }
+    }
+
+    /// Handles a packet of data transfer without fault of format.
+    fn carry_settled(
+        &mut self,
+        settled: &mut SettledNumbers<A>,
+        judgement: &Judgement,
+        item: &ItemRef<'_>,
+        events: &mut Vec<Event, A>,
+    ) -> Result<(), Fault>
+        requires side { judgement.now.side ≡ item.now.side }
+        requires said { IsSaid self.old.terms.interface item.now }
+        requires short { packet_class item.now.packet ≡ Class.Data
+            → item.now.length ≤ largest_length }
+        requires in_d1 { is_in_d1 self.old.state ≡ true }
+        ensures does { ComesSettled result judgement.now.origin self.old self.new settled.old settled.new
+            events.old.items events.new.items
+            (transferring_in_doubt self.old.terms.interface judgement.now.state
+            (packet_class item.now.packet) item.now settled.old.doubts) }
+        ensures unchanged { IsSettledUnchanged result self.old self.new settled.old settled.new
+            events.old.items events.new.items }
+        ensures memory { IsMemory result }
+    {
+        match item.packet.class() {
+            Class::Data => self.data_settled(settled, judgement, item, events),
+            _ => self.control_settled(settled, judgement, item, events),
+        }
+    }
+
+    /// Handles an interrupt, an interrupt confirmation, RR or RNR without fault of format.
+    fn control_settled(
+        &mut self,
+        settled: &mut SettledNumbers<A>,
+        judgement: &Judgement,
+        item: &ItemRef<'_>,
+        events: &mut Vec<Event, A>,
+    ) -> Result<(), Fault>
+        requires side { judgement.now.side ≡ item.now.side }
+        requires no_data { packet_class item.now.packet ≡ Class.Data → ⊥ }
+        requires in_d1 { is_in_d1 self.old.state ≡ true }
+        ensures does { ComesSettled result judgement.now.origin self.old self.new settled.old settled.new
+            events.old.items events.new.items
+            (transferring_in_doubt self.old.terms.interface judgement.now.state
+            (packet_class item.now.packet) item.now settled.old.doubts) }
+        ensures unchanged { IsSettledUnchanged result self.old self.new settled.old settled.new
+            events.old.items events.new.items }
+        ensures memory { IsMemory result }
+    {
+        let class = item.packet.class();
+        match settled.control(class, judgement.side, received(&item.packet)) {
+            Ok(()) => Ok(()),
+            Err(code) => self.fail_settled(settled, judgement, code, events),
+        }
+    }
+
+    /// Nothing is owed any more.
+    fn settle(&mut self)
+        ensures interface { self.new.terms.interface ≡ self.old.terms.interface }
+        ensures channel { self.new.channel ≡ self.old.channel }
+        ensures stands { (c : Channel) → Stands self.old c
+            → Stands self.new (record c { owed = false }) }
+    {
+        self.status.settle();
+    }
+
+    /// Whether the channel is in d1.
+    fn is_in_d1(&self) -> bool
+        ensures { result ≡ is_in_d1 self.now.state }
+    {
+        matches!(self.status.state(), ChannelState::Transfer(DState::D1))
+    }
+
+    /// Whether a channel that was settled still is: its call is open, or it is in d1.
+    pub(crate) fn is_settled(&self) -> bool
+        ensures { (c : Channel) → Stands self.now (at_rest c)
+            → result ≡ (is_open c || is_in_d1 c.state) }
+    {
+        self.status.call().is_some() || self.is_in_d1()
+    }
+
+    /// The window in force for data from a side.
+    pub(crate) fn window(&self, side: Side) -> u8
+        ensures window { (c : Channel) → Stands self.now (at_rest c)
+            → result ≡ window_in_force self.now.terms.interface c side }
+        ensures below { result < self.now.terms.interface.modulus }
+    {
+        let values = self.status.terms().values;
+        match side {
+            Side::T => values.window_t,
+            Side::N => values.window_n,
+        }
+    }
+}

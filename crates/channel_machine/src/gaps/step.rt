@@ -1,0 +1,83 @@
+//! What a row does to a channel of a recording with gaps.
+
+ghost use Rattle.std.specs.Prelude.{◌≡◌, IfOk, OnSome};
+ghost use Rattle.line_model.specs.basics.Bounds.{IsSaid};
+ghost use Rattle.line_model.specs.channels.Gaps as gaps;
+ghost use Rattle.line_model.specs.channels.GapStep.{gap_channel_step};
+ghost use Rattle.channel_machine.specs.Channels.{IsMemory};
+ghost use Rattle.channel_machine.specs.Events.{origin_at};
+ghost use Rattle.channel_machine.specs.GapChannels.{GapDoes, GapDoesApart, IsGapUnchanged, Represents, interface_of, number_of};
+ghost use Rattle.channel_machine.specs.GapView.{InDoubt};
+ghost use Rattle.channel_machine.specs.GapView.KnownCertainty.{Settled};
+
+use crate::gaps::channel::{Certainty, GapChannel};
+use crate::gaps::rows::GapRow;
+use crate::status::StatusStore;
+use crate::step::listed;
+use line_model::event::Event;
+use line_model::fault::Fault;
+use line_model::items::ItemRef;
+use std::alloc::Allocator;
+
+impl<A: Allocator + Clone, S: StatusStore> GapChannel<A, S> {
+    /// Steps the channel by what a row says in an epoch, and appends the events of the row, except that of a data packet
+    /// with Q 0 in d1 where nothing is in doubt: it returns that packet's octets of user data instead. Fails only when memory
+    /// is refused, and nothing has changed then.
+    pub fn advance(
+        &mut self,
+        epoch: u32,
+        item: &ItemRef<'_>,
+        events: &mut Vec<Event, A>,
+    ) -> Result<Option<u32>, Fault>
+        requires said { IsSaid (interface_of self.old) item.now }
+        ensures does { (g : gaps.GapChannel) → Represents self.old g
+            → IfOk result (λ accepted. GapDoesApart (origin_at epoch (number_of self.old) item.now)
+            item.now.side self.old self.new events.old.items events.new.items accepted
+            (gap_channel_step (interface_of self.old) (number_of self.old) g item.now)) }
+        ensures apart { IfOk result (λ accepted. OnSome accepted (events.new ≡ events.old)) }
+        ensures unchanged { IsGapUnchanged result self.old self.new events.old.items events.new.items }
+        ensures memory { IsMemory result }
+    {
+        let row = GapRow {
+            origin: self.channel.origin(epoch, item),
+            side: item.side,
+        };
+        match &self.certainty {
+            Certainty::Certain => self.channel.handle(epoch, item, events),
+            Certainty::Adrift(adrift) => {
+                let adrift = *adrift;
+                listed(self.step_adrift(&row, adrift, item, events))
+            }
+            Certainty::Settled(_) => listed(self.step_settled(&row, item, events)),
+        }
+    }
+
+    /// Steps a settled channel by what a row says. After a packet without which no call is open and the channel is out of
+    /// d1, nothing is in doubt any more.
+    fn step_settled(
+        &mut self,
+        row: &GapRow,
+        item: &ItemRef<'_>,
+        events: &mut Vec<Event, A>,
+    ) -> Result<(), Fault>
+        requires side { row.now.side ≡ item.now.side }
+        requires said { IsSaid (interface_of self.old) item.now }
+        ensures does { (s : InDoubt) (g : gaps.GapChannel) → self.old.certainty ≡ Settled s
+            → Represents self.old g → IfOk result (λ _. GapDoes row.now.origin
+            self.old self.new events.old.items events.new.items
+            (gap_channel_step (interface_of self.old) (number_of self.old) g item.now)) }
+        ensures unchanged { IsGapUnchanged result self.old self.new events.old.items events.new.items }
+        ensures memory { IsMemory result }
+    {
+        match &mut self.certainty {
+            Certainty::Settled(settled) => {
+                self.channel.step_settled(settled, row, item, events)?;
+                if !self.channel.is_settled() {
+                    self.certainty = Certainty::Certain;
+                }
+                Ok(())
+            }
+            _ => Ok(()),
+        }
+    }
+}
