@@ -110,15 +110,16 @@ impl<A: Allocator + Clone, S: StatusStore> StatusChannel<A, S> {
         ensures faulted { OnErr result (self.new ≡ self.old) }
     {
         let length = self.user_data_length(item);
-        let is_alike = self.assembler.is_alike(item.side, false);
-        let mut status = self.status;
-        if let Err(code) = status.data(item.side, header.send, header.receive) {
-            return Err(code);
-        }
-        if !is_alike {
+        if !self.assembler.is_alike(item.side, false) {
+            let mut status = self.status;
+            if let Err(code) = status.data(item.side, header.send, header.receive) {
+                return Err(code);
+            }
             return Err(INCONSISTENT_Q_BIT_SETTING);
         }
-        self.status = status;
+        if let Err(code) = self.status.data(item.side, header.send, header.receive) {
+            return Err(code);
+        }
         self.assembler
             .put_unqualified(item.side, header.more, header.delivery, length);
         Ok(length as u32)

@@ -45,15 +45,33 @@ returns-then-not-is_alike-clause-judged g c k q s =
     c.self.view_is (ap (λ (u : Item). u.side) c.item.view_is) c.user_data_length-length.ensures c.requires.said c.requires.unqualified (
       sym (unlike c.in_default.field-0 old.terms.interface old.transfer after.flow x p counts k st.transfer
           (in_force (Unit {0}) (Ok c.in_default.field-0) old.terms.interface old.transfer after.flow k x h.send h.receive st.transfer (c.in_default.ensures.counts (counts_of k) st.transfer.flow))
-          (alike_of i.assembler x p k.heard st.transfer.sequences ∙ sym c.is_alike-is_alike.ensures ∙ c.if-not-is_alike.true) q),
+          (alike_of i.assembler x p k.heard st.transfer.sequences ∙ sym c.is_alike.ensures ∙ c.if-not-is_alike.true) q),
       sym c.self.view_is,
+    )
+
+pub returns-in-Err-data-clause-judged : goal.returns-in-Err-data-clause-judged
+returns-in-Err-data-clause-judged g c k q s =
+    let i = c.self.inside in
+    let old : Known = known i.channel (g.S.StatusStore.status i.status) i.assembler i.settings in
+    let after = g.S.StatusStore.status c.data-2.new.self in
+    let st = subst (λ o. Stands o k) (sym c.self.view_is) s in
+    let x = c.item.inside.side in
+    let r : Item = c.args.item.now in
+    let h = c.args.header.now in
+    let p : AcceptedData = unqualified x h.more h.delivery c.user_data_length-length.result in
+    let counts = counted_in_force old.terms.interface x h.send h.receive k in
+    judged_data {U = ℕ} (Err c.in-Err-data.code) (λ y n. Data y n ∷ []) old c.args.self.now (known i.channel after i.assembler i.settings) x q r h c.user_data_length-length.result k
+    c.self.view_is (ap (λ (u : Item). u.side) c.item.view_is) c.user_data_length-length.ensures c.requires.said c.requires.unqualified (
+      ap (λ a. data_counted old.terms.interface x q p a k) (sym (answered_err (Unit {0}) c.in-Err-data.code old.transfer.flow after.flow counts
+          (in_force (Unit {0}) (Err c.in-Err-data.code) old.terms.interface old.transfer after.flow k x h.send h.receive st.transfer (c.in-Err-data.ensures.counts (counts_of k) st.transfer.flow))).0),
+      ap (λ t. known i.channel t i.assembler i.settings) c.in-Err-data.ensures.unchanged,
     )
 
 pub returns-clause-judged : goal.returns-clause-judged
 returns-clause-judged g c k q s =
     let i = c.self.inside in
     let old : Known = known i.channel (g.S.StatusStore.status i.status) i.assembler i.settings in
-    let after = g.S.StatusStore.status c.data.new.self in
+    let after = g.S.StatusStore.status c.data-2.new.self in
     let st = subst (λ o. Stands o k) (sym c.self.view_is) s in
     let x = c.item.inside.side in
     let r : Item = c.args.item.now in
@@ -62,10 +80,10 @@ returns-clause-judged g c k q s =
     let counts = counted_in_force old.terms.interface x h.send h.receive k in
     let new : Known = known i.channel after c.put_unqualified.new.self i.settings in
     let put = c.put_unqualified.ensures.put k.heard st.transfer.sequences in
-    let (v, is, transfer) = accepted c.in_default.field-0 old.terms.interface old.transfer new.transfer k x h.send h.receive p None st.transfer refl
-    (in_force (Unit {0}) (Ok c.in_default.field-0) old.terms.interface old.transfer after.flow k x h.send h.receive st.transfer (c.in_default.ensures.counts (counts_of k) st.transfer.flow))
+    let (v, is, transfer) = accepted c.in_default-data.field-0 old.terms.interface old.transfer new.transfer k x h.send h.receive p None st.transfer refl
+    (in_force (Unit {0}) (Ok c.in_default-data.field-0) old.terms.interface old.transfer after.flow k x h.send h.receive st.transfer (c.in_default-data.ensures.counts (counts_of k) st.transfer.flow))
     put.0 (untold_is old.terms.interface k x p (without_q (is_pad_call k) false refl))
-    c.data.ensures.rest.modulus c.data.ensures.rest.windows put.1 c.put_unqualified.ensures.sizes st.transfer.settings in
+    c.data-2.ensures.rest.modulus c.data-2.ensures.rest.windows put.1 c.put_unqualified.ensures.sizes st.transfer.settings in
     judged_data (Ok c.user_data_length-length.result) (λ y n. Data y n ∷ []) old c.args.self.now new x q r h c.user_data_length-length.result k
     c.self.view_is (ap (λ (u : Item). u.side) c.item.view_is) c.user_data_length-length.ensures c.requires.said c.requires.unqualified
-    (passes_heard old new x q p None v counts k (ap (λ t. known i.channel t c.put_unqualified.new.self i.settings) c.data.ensures.rest.rest) st is transfer)
+    (passes_heard old new x q p None v counts k (ap (λ t. known i.channel t c.put_unqualified.new.self i.settings) c.data-2.ensures.rest.rest) st is transfer)
