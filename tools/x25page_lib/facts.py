@@ -1,14 +1,15 @@
 """What a page shows of a trace: gathered from the objects of x25scan, each of which is looked at once."""
 from __future__ import annotations
 
-from collections.abc import Callable, Iterable, Iterator
+from collections.abc import Callable, Iterable, Iterator, Sequence
 from dataclasses import dataclass, field
 from typing import Any
 
 from x25tools_lib.halves import Halves
 
 from .calls import BYTES, Calls
-from .ladders import Ladders
+from .evenly import Evenly
+from .ladders import Flowing, Ladders
 from .lanes import Lanes
 from .rows import SECOND, SIDES, Row, RowForms, in_seconds, microseconds
 from .suspicions import Debts
@@ -77,30 +78,30 @@ class Thinned:
         return f"[{','.join(self.texts)}]"
 
 
-class Times:
+class Times(Evenly):
     """The times of some rows, evenly over the trace."""
 
     def __init__(self) -> None:
-        self.step, self.seen = 1, 0
-        self.pairs: list[tuple[int, int]] = []
+        super().__init__([], MOST_TIMES)
         self.last: tuple[int, int] = (0, 0)
 
     def add(self, packet: int, time: int) -> None:
-        if self.seen % self.step == 0:
-            self.pairs.append((packet, time))
-            if len(self.pairs) > MOST_TIMES:
-                self.pairs, self.step = self.pairs[::2], self.step * 2
-        self.seen += 1
-        self.last = (packet, time)
+        """Takes the time of a row."""
+        self.add_all([(packet, time)])
+
+    def add_all(self, values: Sequence[tuple[int, int]]) -> None:
+        """Takes rows with their times."""
+        super().add_all(values)
+        self.last = values[-1] if values else self.last
 
     def all(self, forms: RowForms) -> list[tuple[int, float]]:
         """The pairs of a row and its time after the first one."""
-        pairs = [*self.pairs, self.last] if self.pairs else []
+        pairs = [*self.kept, self.last] if self.kept else []
         return [(packet, forms.since_begin(time)) for packet, time in pairs]
 
     def span(self) -> tuple[float, float] | None:
         """The first and the last time in seconds, or None."""
-        return (self.pairs[0][1] / SECOND, self.last[1] / SECOND) if self.pairs else None
+        return (self.kept[0][1] / SECOND, self.last[1] / SECOND) if self.kept else None
 
 
 @dataclass
@@ -168,6 +169,7 @@ class Facts:
 
     def finish(self) -> None:
         """All objects are taken: the ladders may have what the other parts of the page leave."""
+        self.lanes.settle()
         self.use.finish()
         self.call_text = self.calls.text()
         for channel, counts, first in sorted(self.by_channel.values(), key=lambda it: -sum(it[1])):
@@ -203,6 +205,7 @@ class Facts:
 
     def row(self, row: Row) -> None:
         """Takes a row."""
+        self.lanes.settle()
         packet = self.last = row.packet
         self.rows_of[row.side] += 1
         self.first = self.first or packet
@@ -218,6 +221,18 @@ class Facts:
         else:
             self.lanes.end(row.channel)
             self.news(row, key)
+
+    def count(self, rows: Sequence[Flowing]) -> None:
+        """Takes what quiet rows used, whose lanes take the rest."""
+        packets, sides, _, octets, segments, *_ = zip(*rows)
+        self.last = packets[-1]
+        self.rows_of[1] += sum(sides)
+        self.rows_of[0] += len(rows) - sum(sides)
+        self.use.segments.packets.update(zip(sides, octets, segments))
+        if timed := [row for row in rows if row[2] is not None]:
+            packets, _, times, octets, *_ = zip(*timed)
+            self.times.add_all(list(zip(packets, times)))
+            self.use.pass_time(times, octets)
 
     def news(self, row: Row, key: str) -> None:
         """Takes a row that is more than data that flows."""

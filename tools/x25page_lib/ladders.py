@@ -2,12 +2,12 @@
 from __future__ import annotations
 
 from collections import deque
-from collections.abc import Iterator
+from collections.abc import Iterator, Sequence
 from dataclasses import dataclass, field
 from typing import Any
 
-from .rows import SIDES, Kept, Place, Row, RowForms, cut
-from .texts import encoded
+from .rows import OCTETS, SIDES, SIZE, Kept, Row, cut, is_plain
+from .texts import encoded, plain_texts
 
 # A ladder keeps its first rows, which show how the call was set up.
 BEGINNING = 2
@@ -222,21 +222,33 @@ class Ladder:
         return [item if isinstance(item, str) else item.kept(level).text for item in self.items]
 
 
+# A quiet row: its packet, its side, its time, its octets and segments of data, its ladder, and its array.
+Flowing = tuple[int, int, "int | None", int, "int | None", Ladder, list[Any]]
+
+
+def quiet_texts(arrays: Sequence[list[Any]], level: Level) -> list[str]:
+    """The texts of quiet rows, as a level keeps them."""
+    if level.edge != ALL:
+        for *_, members in arrays:
+            if "frame" in members and "c" in members:
+                # A row that may be left out again has its frame before its segments.
+                members["c"] = members.pop("c")
+    if is_plain("".join([array[OCTETS] for array in arrays])):
+        return plain_texts(arrays)
+    return [encoded(array) for array in arrays]
+
+
 class Ladders:
     """The ladders of all calls, within a budget of bytes: those with the most findings are kept first."""
 
     def __init__(self, budget: int) -> None:
         self.budget, self.size, self.level = budget, 0, 0
+        self.keeps = LEVELS[0]
         self.ladders: dict[str, Ladder] = {}
         self.finished: set[str] = set()
         self.left_out = 0
         # Whether a ladder without a finding was left out, as all further ones are then.
         self.is_full = False
-
-    @property
-    def digits(self) -> int:
-        """How many hex digits of a row without a finding are kept."""
-        return LEVELS[self.level].digits
 
     def add(self, key: str, row: Row) -> None:
         """Takes a row of the ladder with a key."""
@@ -261,20 +273,36 @@ class Ladders:
         if self.size > self.budget:
             self.shrink()
 
-    def flow(self, ladder: Ladder, it: dict[str, Any], place: Place, shown: str, forms: RowForms) -> None:
-        """Takes a quiet row of a ladder that is there, by its object, with so much of its octets as is kept."""
-        before, level, widest = ladder.size, LEVELS[self.level], len(it["hex"])
-        if widest > ladder.widest:
-            ladder.widest = widest
-        ladder.unmarked += 1
-        if level.edge == ALL and not ladder.is_waiting and not ladder.is_closed:
-            ladder.keep_text(forms.flowing(it, place, shown))
-        else:
-            text = forms.flowing(it, place, shown, has_last_frame=False)
-            ladder.place(Kept.flowing(text, it, place), level)
-        self.size += ladder.size - before
-        if self.size > self.budget:
-            self.shrink()
+    def flow(self, rows: Sequence[Flowing]) -> int:
+        """Takes quiet rows, up to one after which less is kept; returns how many it took."""
+        *_, ladders, arrays = zip(*rows)
+        keeps, texts = self.keeps, quiet_texts(arrays, self.keeps)
+        size = self.size + sum(map(len, texts)) + len(texts)
+        if keeps.edge != ALL or size > self.budget:
+            return self.flow_singly(rows, texts)
+        self.size = size
+        for ladder, array, text in zip(ladders, arrays, texts):
+            if 2 * array[SIZE] > ladder.widest:
+                ladder.widest = 2 * array[SIZE]
+            ladder.items.append(text)
+            ladder.size += len(text) + 1
+        return len(rows)
+
+    def flow_singly(self, rows: Sequence[Flowing], texts: Sequence[str]) -> int:
+        """Takes quiet rows of which some may be left out."""
+        keeps = self.keeps
+        for many, ((_, _, _, octets, _, ladder, array), text) in enumerate(zip(rows, texts), 1):
+            before, ladder.widest = ladder.size, max(ladder.widest, 2 * array[SIZE])
+            if keeps.edge == ALL:
+                ladder.keep_text(text)
+            else:
+                ladder.place(Kept.flowing(text, array, octets), keeps)
+            self.size += ladder.size - before
+            if self.size > self.budget:
+                self.shrink()
+                if self.keeps is not keeps:
+                    return many
+        return len(rows)
 
     def finish(self, key: str) -> None:
         """No more rows will come for a ladder."""
@@ -309,6 +337,7 @@ class Ladders:
                 self.drop_quiet(enough)
             if self.size > enough:
                 self.level += 1
+                self.keeps = LEVELS[self.level]
                 self.fold_all()
         if self.size > enough:
             self.drop_quiet(enough)

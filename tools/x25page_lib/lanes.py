@@ -5,14 +5,21 @@ from dataclasses import dataclass
 from operator import itemgetter
 from typing import TYPE_CHECKING, Any
 
-from .ladders import Ladder
-from .rows import Place, Row, is_plain, microseconds
+from x25tools_lib.json_text import names
+
+from .ladders import Flowing, Ladder
+from .rows import LATEST, OCTETS, SECOND, Row, members_of
 from .windows import Flow
 
 if TYPE_CHECKING:
     from .facts import Facts
 
-FLOWING = itemgetter("packet", "side", "channel", "call", "time", "type", "counted", "hex")
+EACH = ("packet", "side", "channel", "call", "time", "hex", "receive", "before", "after", "finding")
+READY = itemgetter(*names(*EACH))
+DATA = itemgetter(*names(*EACH, "counted", "send", "more", "qualified", "delivery", "octets"))
+TYPE, FRAME = names("type", "frame")
+# So many rows wait at most.
+MOST_WAITING = 256
 
 
 @dataclass(slots=True)
@@ -30,6 +37,8 @@ class Lanes:
     def __init__(self, facts: Facts) -> None:
         self.facts = facts
         self.lanes: dict[int | None, Lane] = {}
+        # The rows that were taken and are not counted and kept yet, which is quicker for many at once.
+        self.waiting: list[Flowing] = []
 
     def begin(self, row: Row, key: str) -> None:
         """A quiet row was taken: the next ones of its channel go the same way."""
@@ -46,32 +55,49 @@ class Lanes:
 
     def take(self, it: dict[str, Any]) -> bool:
         """Takes the object of a row, where it is quiet and its lane is there; returns whether it did."""
-        if it["after"] != "d1" or it["before"] != "d1" or it["finding"] is not None:
-            return False
-        packet, letter, channel, call, seconds, kind, counted, octets = FLOWING(it)
-        lane, time = self.lanes.get(channel), microseconds(seconds)
-        if lane is None or lane.call != call or (lane.flow is None) != (time is None):
-            return False
-        is_data, facts = kind == "data", self.facts
-        shown = octets[:facts.ladders.digits]
-        if (it["qualified"] or counted is None if is_data else kind != "rr") or not is_plain(shown):
-            return False
-        side = 0 if letter == "T" else 1
-        facts.last = packet
-        facts.rows_of[side] += 1
-        if is_data:
-            facts.use.add(side, time, it["octets"], counted["segments"])
+        kind, octets, segments = it[TYPE], 0, None
+        if kind == "data":
+            (packet, letter, channel, call, seconds, digits, receive, before, after, finding,
+             counted, send, more, qualified, delivery, octets) = DATA(it)
+            if counted is None or qualified:
+                return False
+            segments = counted["segments"]
+            members = members_of(it) if more or delivery else {"s": send, "r": receive, "o": octets, "c": segments}
+        elif kind == "rr":
+            packet, letter, channel, call, seconds, digits, receive, before, after, finding = READY(it)
+            members = {"r": receive}
         else:
-            facts.use.add(side, time, 0, None)
-        if time is not None and lane.flow is not None:
-            facts.times.add(packet, time)
-            if is_data:
-                lane.flow.data(side, (packet, time), it["receive"], facts.use.windows.spreads)
-            else:
-                lane.flow.ready(side, (packet, time), it["receive"], facts.use.windows.spreads)
-        place = Place(side, time, facts.forms.frame_of(packet, it.get("frame")))
-        level = facts.ladders.level
-        facts.ladders.flow(lane.ladder, it, place, shown, facts.forms)
-        if facts.ladders.level != level:
-            self.lanes.clear()
+            return False
+        lane = self.lanes.get(channel)
+        if lane is None or lane.call != call or finding is not None or before != "d1" or after != "d1":
+            return False
+        time = round(seconds * SECOND) if seconds is not None and seconds < LATEST else None
+        flow, side = lane.flow, 0 if letter == "T" else 1
+        if time is None or flow is None:
+            if time is not flow:
+                return False
+        elif segments is None:
+            flow.ready(side, (packet, time), receive)
+        else:
+            flow.data(side, (packet, time), receive)
+        forms, shown = self.facts.forms, digits[:self.facts.ladders.keeps.digits]
+        array = forms.array((packet, side, time), kind, digits, members, forms.frame_of(packet, it.get(FRAME)))
+        array[OCTETS] = shown
+        self.waiting.append((packet, side, time, octets, segments, lane.ladder, array))
+        if len(self.waiting) == MOST_WAITING:
+            self.settle()
         return True
+
+    def settle(self) -> None:
+        """Counts and keeps the rows that wait."""
+        rows, self.waiting = self.waiting, []
+        if rows:
+            self.facts.count(rows)
+        ladders = self.facts.ladders
+        while rows:
+            keeps = ladders.keeps
+            rows = rows[ladders.flow(rows):]
+            if ladders.keeps is not keeps:
+                self.lanes.clear()
+                for *_, array in rows:
+                    array[OCTETS] = array[OCTETS][:ladders.keeps.digits]

@@ -4,7 +4,7 @@ from __future__ import annotations
 from collections.abc import Hashable
 from functools import lru_cache
 from operator import itemgetter
-from typing import Any, NamedTuple, Protocol
+from typing import Any, Protocol
 
 from x25tools_lib.frames import Frames
 
@@ -15,7 +15,7 @@ SIDES = "TN"
 FLOWING = {"data", "rr", "rnr", "interrupt", "interrupt_confirmation"}
 SHORT = {"send": "s", "receive": "r", "octets": "o", "more": "m", "qualified": "q", "delivery": "d"}
 BITS = (("more", "m"), ("qualified", "q"), ("delivery", "d"))
-OCTETS, FRAME = '"o":', '"frame":'
+OCTETS_TEXT, FRAME_TEXT = '"o":', '"frame":'
 # The members that each row has, and that a page has in other places than the others.
 EACH = ("packet", "side", "channel", "before", "after", "counted", "finding", "owed", "call", "time", "type", "hex")
 BASE, APART = itemgetter(*EACH), frozenset((*EACH, "line", "epoch", "frame"))
@@ -24,6 +24,8 @@ SECOND = 1_000_000
 LATEST = 1 << 32
 # Many rows have the same kind and states.
 REMEMBERED = 1 << 15
+# The places of a quiet row's octets and of their number in its array.
+OCTETS, SIZE = 6, 7
 
 
 def microseconds(seconds: float | None) -> int | None:
@@ -100,14 +102,6 @@ def cut(text: str, digits: int) -> str:
     return text
 
 
-class Place(NamedTuple):
-    """Which side sent a packet, at which time and in which frame, as a page has it."""
-
-    side: int
-    time: int | None
-    frame: int | None
-
-
 def is_plain(text: str) -> bool:
     """Whether a text stands in JSON as it is, as hex digits do."""
     # isalnum of bytes takes a tenth of the time.
@@ -127,24 +121,32 @@ class Kept:
             self.is_data, self.is_marked, self.frame = row.is_data, row.is_marked, row.frame
             return
         packet, side, _ = text[1:].split(",", 2)
-        _, found, octets = text.rpartition(OCTETS)
+        _, found, octets = text.rpartition(OCTETS_TEXT)
         self.packet, self.side, self.code, self.is_marked = int(packet), int(side), None, False
         self.octets, self.is_data = int(octets.split(",")[0]) if found else 0, bool(found)
-        _, is_other, frame = text.rpartition(FRAME)
+        _, is_other, frame = text.rpartition(FRAME_TEXT)
         self.frame = int(frame.rstrip("}]")) if is_other else None
 
     @classmethod
-    def flowing(cls, text: str, it: dict[str, Any], place: Place) -> Kept:
-        """A quiet row by its text and its object."""
+    def flowing(cls, text: str, array: list[Any], octets: int) -> Kept:
+        """A quiet row by its text and its array, with its octets of data."""
         kept = cls.__new__(cls)
-        kept.text, kept.packet, kept.side, kept.frame = text, it["packet"], place.side, place.frame
-        kept.code, kept.is_marked, kept.is_data, kept.octets = None, False, it["type"] == "data", it.get("octets", 0)
+        kept.text, kept.packet, kept.side, kept.octets = text, array[0], array[1], octets
+        kept.code, kept.is_marked, kept.is_data, kept.frame = None, False, "o" in array[-1], array[-1].get("frame")
         return kept
 
     def kept(self, level: Level) -> Kept:
         """The same with as many digits as a level keeps."""
         self.text = cut(self.text, level.digits * 8 if self.code else level.digits)
         return self
+
+
+def members_of(it: dict[str, Any]) -> dict[str, Any]:
+    """What a quiet row says besides, by its object."""
+    if it["type"] != "data":
+        return {"r": it["receive"]}
+    bits = {short: True for name, short in BITS if it[name]}
+    return {"s": it["send"], "r": it["receive"], **bits, "o": it["octets"], "c": it["counted"]["segments"]}
 
 
 class Table:
@@ -181,9 +183,13 @@ class RowForms:
 
         That is nothing where it is the packet's number, or no packet so far has one; and 0 where it is not known.
         """
-        self.frames.add(packet, frame)
+        if frame == packet and not self.frames.distance:
+            return None
+        frames = self.frames
         if frame is None:
-            return None if self.frames.begun is None else 0
+            frames.add(packet, None)
+            return None if frames.begun is None else 0
+        frames.add(packet, frame)
         return frame if frame != packet else None
 
     def since_begin(self, time: int) -> float:
@@ -207,26 +213,20 @@ class RowForms:
         shown = row.hex[:digits]
         if not is_plain(shown):
             return self.text(row, digits)
-        return self.flowing(row.members, Place(row.side, row.time, row.frame), shown)
+        array = self.array((row.packet, row.side, row.time), row.kind, row.hex, members_of(row.members), row.frame)
+        array[OCTETS] = shown
+        return plain(array)
 
-    def flowing(self, it: dict[str, Any], place: Place, shown: str, has_last_frame: bool = True) -> str:
-        """The array of a quiet row by its object, with these digits of its octets; its frame is last, or before its segments."""
-        side, time, frame = place
-        kind = it["type"]
-        seconds = None if time is None else (time - (self.begun or 0)) / SECOND
-        more: dict[str, Any] = {"r": it["receive"]}
-        if kind == "data":
-            more = {"s": it["send"], "r": it["receive"]}
-            if it["more"] or it["qualified"] or it["delivery"]:
-                more |= {short: True for name, short in BITS if it[name]}
-            more["o"] = it["octets"]
-            if frame is not None and not has_last_frame:
-                more["frame"] = frame
-            more["c"] = it["counted"]["segments"]
+    def array(
+        self, row: tuple[int, int, int | None], kind: str, octets: str, members: dict[str, Any], frame: int | None,
+    ) -> list[Any]:
+        """The array of a quiet row, of which there are the packet, the side and the time."""
+        packet, side, time = row
         if frame is not None:
-            more["frame"] = frame
+            members["frame"] = frame
         step = self.steps.get(kind) or self.quiet_step(kind)
-        return plain([it["packet"], side, *step, seconds, shown, len(it["hex"]) // 2, more])
+        seconds = None if time is None else (time - (self.begun or 0)) / SECOND
+        return [packet, side, *step, seconds, octets, len(octets) // 2, members]
 
     def quiet_step(self, kind: str) -> list[int]:
         """The kind of a quiet row and its state, by their places."""

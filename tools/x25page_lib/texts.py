@@ -1,5 +1,6 @@
 """How facts become text of a page: JSON in which nothing can be read as markup."""
 import json
+from collections.abc import Sequence
 from typing import Any
 
 try:
@@ -26,6 +27,11 @@ def plain(value: Any) -> str:
         text: str = dumps(value).decode()
         return text
     return WRITER.encode(value)
+
+
+def plain_texts(arrays: Sequence[Any]) -> list[str]:
+    """JSON of arrays without arrays in them, whose texts are letters and digits alone."""
+    return [f"[{text}]" for text in plain(arrays)[2:-2].split("],[")]
 
 
 def written(value: Any) -> str:

@@ -2,7 +2,8 @@
 from __future__ import annotations
 
 from array import array
-from collections.abc import Iterator
+from collections import Counter
+from collections.abc import Iterator, Sequence
 from typing import Any
 
 from .rows import SECOND, SIDES, Row
@@ -23,19 +24,18 @@ class Segments:
     """The segments of the data that was counted, and those that hold few octets, by side."""
 
     def __init__(self) -> None:
-        self.octets, self.segments, self.small = [0, 0], [0, 0], [0, 0]
-
-    def add(self, side: int, octets: int, segments: int) -> None:
-        """Takes data that was counted."""
-        if segments:
-            self.octets[side] += octets
-            self.segments[side] += segments
-            # The last segment has what the full ones before it leave.
-            self.small[side] += octets - SEGMENT * (segments - 1) < SMALL
+        # How many packets of a side had so many octets and segments, which other packets than data have none of.
+        self.packets: Counter[tuple[int, int, int | None]] = Counter()
 
     def facts(self) -> list[list[int]]:
         """Of each side its octets, its segments, and the segments with fewer than 32 octets."""
-        return [[self.octets[side], self.segments[side], self.small[side]] for side in range(len(SIDES))]
+        sums = [[0, 0, 0] for _ in SIDES]
+        for (side, octets, segments), many in self.packets.items():
+            if segments:
+                # The last segment has what the full ones before it leave.
+                is_small = octets - SEGMENT * (segments - 1) < SMALL
+                sums[side] = [it + many * more for it, more in zip(sums[side], (octets, segments, is_small))]
+        return sums
 
 
 class Parts:
@@ -61,6 +61,19 @@ class Parts:
                 counts = self.parts[time // self.unit]
         counts[0] += 1
         counts[1] += octets
+
+    def add_all(self, times: Sequence[int], octets: Sequence[int]) -> None:
+        """Takes packets by their times and octets: those of one part at once, of others by halves."""
+        part, middle = min(times) // self.unit, len(times) // 2
+        counts = self.parts.get(part)
+        if counts is not None and max(times) // self.unit == part:
+            counts[0] += len(times)
+            counts[1] += sum(octets)
+        elif middle:
+            self.add_all(times[:middle], octets[:middle])
+            self.add_all(times[middle:], octets[middle:])
+        else:
+            self.add(times[0], octets[0])
 
     def join(self) -> None:
         """Goes on to longer parts until few are kept."""
@@ -149,10 +162,15 @@ class Use:
     def add(self, side: int, time: int | None, octets: int, segments: int | None) -> None:
         """Takes the octets of a packet of a side, which count where they have segments."""
         if segments is not None:
-            self.segments.add(side, octets, segments)
+            self.segments.packets[side, octets, segments] += 1
         if time is not None:
             self.time = time
             self.parts.add(time, 0 if segments is None else octets)
+
+    def pass_time(self, times: Sequence[int], octets: Sequence[int]) -> None:
+        """Takes the times of quiet rows, and their octets of data."""
+        self.parts.add_all(times, octets)
+        self.time = times[-1]
 
     def see(self, row: Row, key: str) -> None:
         """Takes what a row asks and answers, with the key of its ladder; no row of half a recording."""

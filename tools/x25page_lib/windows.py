@@ -5,34 +5,45 @@ import heapq
 import math
 from array import array
 from collections import deque
+from operator import itemgetter
 from typing import Any
 
+from .evenly import Evenly
 from .rows import SECOND, SIDES, Row
 
-# So many times of a side are kept, evenly over the trace; of a longer one each second, fourth or further one.
+# So many times of a side are kept, evenly over the trace.
 MOST_TIMES = 1 << 18
 MOST_CLOSED = 1000
+MOST_WAITING = 256
 OPENING = ("call_request", "incoming_call")
 ACCEPTING = ("call_accepted", "call_connected")
 DTE, DCE = (SIDES.index(side) for side in "TN")
 Pair = tuple[int, int]
 
 
-class Spread:
-    """Times in microseconds, for their median and other ranks; beyond a limit each second one, or fourth one."""
+class Spread(Evenly):
+    """Times in microseconds, for their median and other ranks."""
 
     def __init__(self) -> None:
-        self.kept, self.step, self.seen = array("q"), 1, 0
+        super().__init__(array("q"), MOST_TIMES)
         self.longest: tuple[int, int, str] | None = None
+        # Times that are not taken yet, which is quicker for many at once, with their packets and ladders.
+        self.waiting: list[tuple[int, int, str]] = []
 
     def add(self, time: int, packet: int, key: str) -> None:
-        if self.longest is None or time > self.longest[0]:
-            self.longest = (time, packet, key)
-        if self.seen % self.step == 0:
-            self.kept.append(time)
-            if len(self.kept) > MOST_TIMES:
-                self.kept, self.step = self.kept[::2], self.step * 2
-        self.seen += 1
+        """Takes a time with its packet and its ladder."""
+        self.waiting.append((time, packet, key))
+        if len(self.waiting) == MOST_WAITING:
+            self.settle()
+
+    def settle(self) -> None:
+        """Takes the times that wait."""
+        waiting, self.waiting = self.waiting, []
+        if waiting:
+            longest = max(waiting, key=itemgetter(0))
+            if self.longest is None or longest[0] > self.longest[0]:
+                self.longest = longest
+            self.add_all([time for time, _, _ in waiting])
 
     def ranks(self, *parts: float) -> list[float]:
         """The times that these parts of all times do not exceed."""
@@ -41,68 +52,79 @@ class Spread:
 
     def facts(self) -> list[Any] | None:
         """How many there are, the median, the 95th percentile, and the longest with its packet and its ladder."""
+        self.settle()
         if self.longest is None:
             return None
         time, packet, key = self.longest
         return [self.seen, *self.ranks(0.5, 0.95), time / SECOND, packet, key]
 
 
-class Flow:
-    """The data of a channel in d1: what of each side waits for its acknowledgement, and since when its window is closed."""
+class Direction:
+    """The data of one side on a channel in d1: what waits for its acknowledgement, and since when its window is closed."""
 
-    __slots__ = ("waiting", "edges", "not_ready", "closed", "windows", "longest", "key", "modulus")
+    __slots__ = ("waiting", "edge", "window", "modulus", "is_not_ready", "closed", "longest", "spread", "key")
 
-    def __init__(self, windows: Pair, modulus: int, key: str) -> None:
+    def __init__(self, window: int, modulus: int, spread: Spread, key: str) -> None:
         # The packets that wait, with their times.
-        self.waiting: tuple[deque[Pair], deque[Pair]] = (deque(), deque())
-        self.edges, self.not_ready = [0, 0], [False, False]
+        self.waiting: deque[Pair] = deque()
+        self.edge, self.is_not_ready = 0, False
         # The packet that closed the window, with its time; and the longest time, with the packets that began and ended it.
-        self.closed: list[Pair | None] = [None, None]
-        self.longest: list[tuple[int, int, int | None] | None] = [None, None]
-        self.windows, self.modulus, self.key = windows, modulus, key
+        self.closed: Pair | None = None
+        self.longest: tuple[int, int, int | None] | None = None
+        self.window, self.modulus, self.spread, self.key = window, modulus, spread, key
 
-    def acknowledge(self, side: int, receive: int, time: int, spread: Spread) -> None:
-        """P(R) of the other side acknowledges data of a side."""
-        waiting = self.waiting[side]
-        for _ in range(min((receive - self.edges[side]) % self.modulus, len(waiting))):
+    def acknowledge(self, receive: int, time: int) -> None:
+        """P(R) of the other side acknowledges data."""
+        waiting = self.waiting
+        for _ in range(min((receive - self.edge) % self.modulus, len(waiting))):
             packet, sent = waiting.popleft()
-            spread.add(max(0, time - sent), packet, self.key)
-        self.edges[side] = receive
+            self.spread.add(time - sent if time > sent else 0, packet, self.key)
+        self.edge = receive
 
-    def data(self, side: int, sent: Pair, receive: int | None, spreads: tuple[Spread, Spread]) -> None:
-        """Data of a side that was accepted, with its packet and its time."""
-        other, waiting = 1 - side, self.waiting[side]
-        if receive is not None and receive != self.edges[other]:
-            self.acknowledge(other, receive, sent[1], spreads[other])
-        waiting.append(sent)
-        if len(waiting) >= self.windows[side]:
-            self.look(side, *sent)
-        if self.closed[other] is not None or self.not_ready[other]:
-            self.look(other, *sent)
-
-    def ready(self, side: int, sent: Pair, receive: int | None, spreads: tuple[Spread, Spread], is_ready: bool = True) -> None:
-        """An RR of a side, or an RNR, with its packet and its time."""
-        other = 1 - side
-        if receive is not None and receive != self.edges[other]:
-            self.acknowledge(other, receive, sent[1], spreads[other])
-        self.not_ready[other] = not is_ready
-        if self.closed[other] is not None or not is_ready:
-            self.look(other, *sent)
-
-    def look(self, side: int, packet: int, time: int) -> None:
-        """Looks whether the window of a side is closed after a packet."""
-        is_closed = self.not_ready[side] or len(self.waiting[side]) >= self.windows[side]
-        closed = self.closed[side]
+    def look(self, packet: int, time: int) -> None:
+        """Looks whether the window is closed after a packet."""
+        is_closed = self.is_not_ready or len(self.waiting) >= self.window
+        closed = self.closed
         if is_closed and closed is None:
-            self.closed[side] = (packet, time)
+            self.closed = (packet, time)
         elif closed is not None and not is_closed:
-            self.closed[side] = None
-            self.open_again(side, closed, packet, time)
+            self.closed = None
+            self.open_again(closed, packet, time)
 
-    def open_again(self, side: int, closed: Pair, packet: int | None, time: int) -> None:
-        took, longest = max(0, time - closed[1]), self.longest[side]
+    def open_again(self, closed: Pair, packet: int | None, time: int) -> None:
+        took, longest = max(0, time - closed[1]), self.longest
         if longest is None or took > longest[0]:
-            self.longest[side] = (took, closed[0], packet)
+            self.longest = (took, closed[0], packet)
+
+
+class Flow:
+    """The data of both sides on a channel in d1."""
+
+    __slots__ = ("directions", "key")
+
+    def __init__(self, windows: Pair, modulus: int, spreads: tuple[Spread, Spread], key: str) -> None:
+        self.directions = [Direction(*each, key) for each in zip(windows, (modulus, modulus), spreads)]
+        self.key = key
+
+    def data(self, side: int, sent: Pair, receive: int | None) -> None:
+        """Data of a side that was accepted, with its packet and its time."""
+        own, other = self.directions[side], self.directions[1 - side]
+        if receive is not None and receive != other.edge:
+            other.acknowledge(receive, sent[1])
+        own.waiting.append(sent)
+        if own.closed is None and len(own.waiting) >= own.window:
+            own.closed = sent
+        if other.closed is not None or other.is_not_ready:
+            other.look(*sent)
+
+    def ready(self, side: int, sent: Pair, receive: int | None, is_ready: bool = True) -> None:
+        """An RR of a side, or an RNR, with its packet and its time."""
+        other = self.directions[1 - side]
+        if receive is not None and receive != other.edge:
+            other.acknowledge(receive, sent[1])
+        other.is_not_ready = not is_ready
+        if other.closed is not None or not is_ready:
+            other.look(*sent)
 
 
 class Windows:
@@ -121,16 +143,16 @@ class Windows:
         """Data that was accepted, an RR or an RNR in d1."""
         flow, sent = self.flow(row.channel, key), (row.packet, time)
         if row.is_data:
-            flow.data(row.side, sent, row.receive, self.spreads)
+            flow.data(row.side, sent, row.receive)
         else:
-            flow.ready(row.side, sent, row.receive, self.spreads, row.kind != "rnr")
+            flow.ready(row.side, sent, row.receive, row.kind != "rnr")
 
     def flow(self, channel: int | None, key: str) -> Flow:
         """The flow of a channel, which begins where there is none."""
         flow = self.flows.get(channel)
         if flow is None:
             windows = self.agreed.get(channel, self.standard)
-            flow = self.flows[channel] = Flow(windows, self.modulus, key)
+            flow = self.flows[channel] = Flow(windows, self.modulus, self.spreads, key)
         return flow
 
     def signal(self, row: Row, time: int) -> None:
@@ -160,11 +182,11 @@ class Windows:
     def end(self, channel: int | None, time: int) -> None:
         """The flow of a channel ends: what was closed stays so until now."""
         flow = self.flows.pop(channel)
-        for side, closed in enumerate(flow.closed):
-            if closed is not None:
-                flow.open_again(side, closed, None, time)
-            if (longest := flow.longest[side]) is not None:
-                took, first, last = longest
+        for side, it in enumerate(flow.directions):
+            if it.closed is not None:
+                it.open_again(it.closed, None, time)
+            if it.longest is not None:
+                took, first, last = it.longest
                 self.keep(took, first, [flow.key, channel, side, took / SECOND, first, last])
 
     def keep(self, took: int, first: int, line: list[Any]) -> None:
@@ -178,6 +200,8 @@ class Windows:
         """The trace ends."""
         for channel in list(self.flows):
             self.end(channel, time or 0)
+        for spread in self.spreads:
+            spread.settle()
 
     def lines(self) -> list[list[Any]]:
         """The longest time of each call or channel and side that its window was closed, the longest first.

@@ -18,6 +18,12 @@ def read(text: str | bytes) -> Any:
     return loads(text)
 
 
+def names(*words: str) -> tuple[str, ...]:
+    """Names of members as the parser keeps them, which are found quicker in its objects than others."""
+    members = ",".join([f'"{word}":0' for word in words])
+    return tuple(read(f"{{{members}}}"))
+
+
 def objects(stream: BinaryIO) -> Iterator[Any]:
     """The values of a stream that has a JSON text in each line. Raises ValueError where a line is none."""
     rest = b""
@@ -34,7 +40,8 @@ def objects(stream: BinaryIO) -> Iterator[Any]:
 
 def values(lines: bytes) -> list[Any]:
     """The values of lines, a JSON text each."""
-    found: list[Any] = read(b"[" + lines.replace(b"\n", b",") + b"]")
-    if len(found) != lines.count(b"\n") + 1:
+    texts = lines.split(b"\n")
+    found: list[Any] = read(b"[" + b",".join(texts) + b"]")
+    if len(found) != len(texts):
         raise ValueError("a line with several values")
     return found

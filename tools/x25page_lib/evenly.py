@@ -1,0 +1,26 @@
+"""Some of many values, evenly over all of them."""
+from __future__ import annotations
+
+from collections.abc import Sequence
+from typing import Any
+
+
+class Evenly:
+    """Values of a trace: beyond a limit each second one, or fourth one."""
+
+    def __init__(self, kept: Any, most: int) -> None:
+        # The list or the array of what is kept, and how many there were.
+        self.kept, self.most, self.step, self.seen = kept, most, 1, 0
+
+    def add_all(self, values: Sequence[Any]) -> None:
+        """Takes the next values."""
+        at = -self.seen % self.step
+        while at < len(values):
+            end = at + self.step * (self.most + 1 - len(self.kept))
+            self.kept.extend(values[at:end:self.step])
+            if len(self.kept) <= self.most:
+                break
+            last = end - self.step
+            self.kept, self.step = self.kept[::2], self.step * 2
+            at = last + self.step - (self.seen + last) % self.step
+        self.seen += len(values)
