@@ -1,5 +1,7 @@
-use Rattle.std.proofs.Common.{◌∙◌, ◌++◌, ◌∷◌, [], refl, ap, sym, subst, append_assoc}
+use Rattle.std.proofs.Common.{◌≡◌, ◌∙◌, ◌++◌, ◌∷◌, [], refl, ap, sym, subst, append_assoc, append-nil, rules}
 use Rattle.line_model.specs.basics.Bounds.{IsPiece}
+use Rattle.line_model.specs.basics.Records.{Piece}
+use Rattle.line_model.specs.pieces.Plans.{value}
 use Rattle.channel_run.proofs.LiveLemmas.{next_item}
 use Rattle.channel_run.proofs.run.run_piece.Goals as goal
 
@@ -27,3 +29,15 @@ loop-item-preserved g c =
       stands = c.in_ok-take.ensures.stands (record p { items = c.loop-item.yielded }) c.loop-item.invariant.stands room;
       left = c.loop-item.invariant.left ∙ ap (λ l. c.loop-item.yielded ++ l) c.in-Some.ensures.steps ∙ sym (append_assoc c.loop-item.yielded (c.in-Some.item ∷ []) c.next.new.self);
     }
+
+pub returns-clause-value : goal.returns-clause-value
+returns-clause-value g c =
+    let p : Piece = c.args.piece.now in
+    let s = c.piece.inside in
+    let is = c.piece.view_is in
+    let rows = c.loop-item.yielded in
+    let done : c.loop-item.item-iterator ≡ [] = search rules in
+    let all : p.items ≡ rows = c.loop-item.invariant.left ∙ ap (λ l. rows ++ l) done ∙ append-nil rows in
+    let same : record p { items = rows; id = s.id; end = s.end } ≡ p =
+    ap (λ l. record p { items = l; id = s.id; end = s.end }) (sym all) ∙ ap (λ n. record p { id = n; end = s.end }) (ap (λ v. v.id) is) ∙ ap (λ e. record p { end = e }) (ap (λ v. v.end) is) in
+    c.in_ok-report.ensures.value (record p { items = rows }) c.loop-item.invariant.stands ∙ ap value same
