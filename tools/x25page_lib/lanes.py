@@ -84,8 +84,9 @@ class Lanes:
             flow.ready(side, (packet, time), receive)
         else:
             flow.data(side, (packet, time), receive)
-        forms, shown = self.facts.forms, digits[:self.facts.ladders.keeps.digits]
-        array = forms.array((packet, side, time), kind, digits, members, forms.frame_of(packet, it.get(FRAME)))
+        forms, shown, frame = self.facts.forms, digits[:self.facts.ladders.keeps.digits], it.get(FRAME)
+        frame = None if frame == packet and not forms.frames.distance else forms.frame_of(packet, frame)
+        array = forms.array((packet, side, time), kind, digits, members, frame)
         array[OCTETS] = shown
         self.waiting.append((packet, side, time, octets, segments, lane.ladder, array))
         if len(self.waiting) == MOST_WAITING:
