@@ -6,7 +6,7 @@ gathering   what is read of one input: the header, the facts, and what was said 
 facts       what a page keeps of the objects: ladders and their rows, calls, and suspicions of the header
 lanes       the fast path of data and RR with which all goes well
 use         what was used and waited for: segments, packets over time, causes; waits has the requests and their
-            time-outs, windows the flow of data
+            time-outs, windows the flow of data; evenly keeps some of many values
 verdicts    what is said first: who broke the protocol, as far as both sides were recorded
 summary     the facts as text
 pages       the file: the markup, the style and the scripts of the folder page, with the facts; texts writes these

@@ -6,6 +6,7 @@ from dataclasses import dataclass, field
 from typing import Any
 
 from x25tools_lib.halves import Halves
+from x25tools_lib.json_text import names
 
 from .calls import BYTES, Calls
 from .evenly import Evenly
@@ -23,6 +24,7 @@ CALLS, MARKS, ACCOUNTS, SETTINGS, CHANNELS = 4_500_000, 1_000_000, 500_000, 500_
 MOST_TIMES = 1024
 SETTING = ("call", "side", "parameter", "word", "value")
 CLEARING = ("p6", "p7")
+LINE, = names("line")
 
 
 class Budgeted:
@@ -160,10 +162,11 @@ class Facts:
         """Takes all objects of a trace."""
         take_row, takers, forms, takes_flow = self.row, self.takers, self.forms, self.lanes.take
         for it in objects:
-            if it["line"] == "row":
+            line = it[LINE]
+            if line == "row":
                 if not takes_flow(it):
                     take_row(Row(it, forms))
-            elif taker := takers.get(it["line"]):
+            elif taker := takers.get(line):
                 taker(it)
         self.finish()
 

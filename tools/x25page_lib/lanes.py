@@ -14,10 +14,12 @@ from .windows import Flow
 if TYPE_CHECKING:
     from .facts import Facts
 
-EACH = ("packet", "side", "channel", "call", "time", "hex", "receive", "before", "after", "finding")
+STATES = itemgetter(*names("type", "before", "after", "finding", "counted"))
+# The members of a packet that was accepted: of RR, and of data.
+EACH = ("packet", "side", "channel", "call", "time", "hex", "receive")
 READY = itemgetter(*names(*EACH))
-DATA = itemgetter(*names(*EACH, "counted", "send", "more", "qualified", "delivery", "octets"))
-TYPE, FRAME = names("type", "frame")
+DATA = itemgetter(*names(*EACH, "send", "more", "qualified", "delivery", "octets"))
+FRAME, = names("frame")
 # So many rows wait at most.
 MOST_WAITING = 256
 
@@ -55,33 +57,36 @@ class Lanes:
 
     def take(self, it: dict[str, Any]) -> bool:
         """Takes the object of a row, where it is quiet and its lane is there; returns whether it did."""
-        kind, octets, segments = it[TYPE], 0, None
-        if kind == "data":
-            (packet, letter, channel, call, seconds, digits, receive, before, after, finding,
-             counted, send, more, qualified, delivery, octets) = DATA(it)
-            if counted is None or qualified:
+        kind, before, after, finding, counted = STATES(it)
+        if before != "d1" or after != "d1" or finding is not None:
+            return False
+        octets, segments = 0, None
+        if kind == "data" and counted is not None:
+            packet, letter, channel, call, seconds, digits, receive, send, more, qualified, delivery, octets = DATA(it)
+            if qualified:
                 return False
             segments = counted["segments"]
             members = members_of(it) if more or delivery else {"s": send, "r": receive, "o": octets, "c": segments}
         elif kind == "rr":
-            packet, letter, channel, call, seconds, digits, receive, before, after, finding = READY(it)
+            packet, letter, channel, call, seconds, digits, receive = READY(it)
             members = {"r": receive}
         else:
             return False
         lane = self.lanes.get(channel)
-        if lane is None or lane.call != call or finding is not None or before != "d1" or after != "d1":
+        if lane is None or lane.call != call:
             return False
         time = round(seconds * SECOND) if seconds is not None and seconds < LATEST else None
         flow, side = lane.flow, 0 if letter == "T" else 1
-        if time is None or flow is None:
-            if time is not flow:
+        if flow is None or time is None:
+            if flow is not None or time is not None:
                 return False
         elif segments is None:
             flow.ready(side, (packet, time), receive)
         else:
             flow.data(side, (packet, time), receive)
-        forms, shown = self.facts.forms, digits[:self.facts.ladders.keeps.digits]
-        array = forms.array((packet, side, time), kind, digits, members, forms.frame_of(packet, it.get(FRAME)))
+        forms, shown, frame = self.facts.forms, digits[:self.facts.ladders.keeps.digits], it.get(FRAME)
+        frame = None if frame == packet and not forms.frames.distance else forms.frame_of(packet, frame)
+        array = forms.array((packet, side, time), kind, digits, members, frame)
         array[OCTETS] = shown
         self.waiting.append((packet, side, time, octets, segments, lane.ladder, array))
         if len(self.waiting) == MOST_WAITING:

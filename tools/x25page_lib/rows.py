@@ -183,8 +183,6 @@ class RowForms:
 
         That is nothing where it is the packet's number, or no packet so far has one; and 0 where it is not known.
         """
-        if frame == packet and not self.frames.distance:
-            return None
         frames = self.frames
         if frame is None:
             frames.add(packet, None)

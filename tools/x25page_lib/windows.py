@@ -75,10 +75,10 @@ class Direction:
 
     def acknowledge(self, receive: int, time: int) -> None:
         """P(R) of the other side acknowledges data."""
-        waiting = self.waiting
+        waiting, spread = self.waiting, self.spread
         for _ in range(min((receive - self.edge) % self.modulus, len(waiting))):
             packet, sent = waiting.popleft()
-            self.spread.add(time - sent if time > sent else 0, packet, self.key)
+            spread.add(time - sent if time > sent else 0, packet, self.key)
         self.edge = receive
 
     def look(self, packet: int, time: int) -> None:
@@ -92,7 +92,7 @@ class Direction:
             self.open_again(closed, packet, time)
 
     def open_again(self, closed: Pair, packet: int | None, time: int) -> None:
-        took, longest = max(0, time - closed[1]), self.longest
+        took, longest = time - closed[1] if time > closed[1] else 0, self.longest
         if longest is None or took > longest[0]:
             self.longest = (took, closed[0], packet)
 

@@ -10,7 +10,7 @@ except ImportError:
     from json import loads
 
 # So many octets are parsed at once, which takes less time than line after line.
-CHUNK = 1 << 16
+CHUNK = 1 << 14
 
 
 def read(text: str | bytes) -> Any:
