@@ -32,9 +32,13 @@ pub enum Reading<A: Allocator, C: Channel<A>> {
 
 /// A text up to its last line feed.
 fn ended_part(text: &[u8]) -> &[u8] {
-    match memrchr(b'\n', text) {
-        Some(last) => &text[..=last],
-        None => b"",
+    let end = match memrchr(b'\n', text) {
+        Some(last) => last.saturating_add(1),
+        None => 0,
+    };
+    match text.get(..end) {
+        Some(front) => front,
+        None => text,
     }
 }
 

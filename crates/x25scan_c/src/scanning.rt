@@ -87,8 +87,11 @@ impl Scanning {
         ensures { self.new.reading ≡ self.old.reading }
     {
         if let Fault::Trace(line, kind) = fault {
-            let is_known =
-                matches!(self.refused, Some((known, broken)) if known == line && broken == kind);
+            let known = self.refused;
+            let is_known = match known {
+                Some((known, broken)) => known == line && broken == kind,
+                None => false,
+            };
             if !is_known {
                 let text = self.recent.as_slice();
                 self.advice = advice(alloc, kind, text, self.beginning).ok();
