@@ -51,11 +51,11 @@ def rows(source: str | os.PathLike[str] | bytes) -> Iterator[Object]:
 
     Raises as `scan`, before the first object.
     """
-    with Scan(rows=True) as handle:
-        for piece in _pieces(source):
-            handle.feed(piece)
-        text = handle.end("rows")
-    return map(object_of, text.splitlines())
+    handle = Scan(rows=True)
+    for piece in _pieces(source):
+        handle.feed(piece)
+    handle.end_trace("rows")
+    return map(object_of, handle.lines())
 
 
 class Observer:

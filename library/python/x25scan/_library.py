@@ -4,12 +4,15 @@ from __future__ import annotations
 import ctypes
 import functools
 import os
+from collections.abc import Iterator
 from pathlib import Path
 
 from x25scan._rows import Finding
 
 OK, MEMORY, TRACE, NONE_LEFT, SHORT = 0, 1, 2, 5, 6
 FORMS = {"lines": 0, "json": 1, "rows": 2}
+# The room for a piece of what was made, in bytes.
+_ROOM = 1 << 18
 _CODES = {257: "X1", 258: "X2", 259: "X3", 260: "X4", 261: "XL"}
 
 
@@ -126,21 +129,36 @@ class Scan:
 
     def end(self, form: str) -> str:
         """The report of the whole text."""
-        self._check(self._library.x25scan_end_trace(self._at, FORMS[form]))
+        self.end_trace(form)
         return self._text()
+
+    def end_trace(self, form: str) -> None:
+        """Ends the text, and makes its report or its rows."""
+        self._check(self._library.x25scan_end_trace(self._at, FORMS[form]))
 
     def _text(self) -> str:
         """What was made."""
-        length, left = ctypes.c_size_t(), ctypes.c_size_t()
-        take = self._library.x25scan_take_text
-        parts, room = [], 1 << 16
-        while True:
-            buffer = ctypes.create_string_buffer(room)
-            self._check(take(self._at, buffer, room, length, left))
-            parts.append(ctypes.string_at(buffer, length.value))
-            if not left.value:
-                return b"".join(parts).decode("ascii")
-            room = left.value
+        return b"".join(self._made()).decode("ascii")
+
+    def _made(self) -> Iterator[bytes]:
+        """What was made, in pieces."""
+        length, left = ctypes.c_size_t(), ctypes.c_size_t(1)
+        buffer = ctypes.create_string_buffer(_ROOM)
+        while left.value:
+            self._check(self._library.x25scan_take_text(self._at, buffer, _ROOM, length, left))
+            yield ctypes.string_at(buffer, length.value)
+
+    def lines(self) -> Iterator[str]:
+        """The lines of what was made."""
+        rest = b""
+        for piece in self._made():
+            whole, _, more = piece.rpartition(b"\n")
+            if not whole:
+                rest += piece
+                continue
+            yield from (rest + whole).decode("ascii").split("\n")
+            rest = more
+        yield from rest.decode("ascii").splitlines()
 
     def close(self) -> None:
         """Gives back the memory."""
