@@ -1,4 +1,4 @@
-use Rattle.std.proofs.Common.{sym}
+use Rattle.std.proofs.Common.{refl, sym}
 use Rattle.trace_text.proofs.HeaderLemmas.{interface_with-some, unlawful_numbering, unlawful_size}
 use Rattle.trace_scan.proofs.HeaderLemmas.{lawful_numbers}
 use Rattle.trace_scan.proofs.headers.with_numbers.Goals as goal
@@ -11,7 +11,7 @@ returns-then-not-is_numbered c = elim c.then-not-is_numbered.branch [
 ]
 
 pub invariant_of-result : goal.invariant_of-result
-invariant_of-result c = record { lawful = lawful_numbers c.args.own.now c.args.modulus c.args.window c.args.size (sym c.if-not-is_numbered.ensures) (sym c.if-not-is_packet_size.ensures) }
+invariant_of-result c = record { lawful = lawful_numbers c.args.own.now c.args.modulus c.args.window c.args.size (sym c.if-not-is_numbered.ensures) (sym c.if-not-is_packet_size.ensures); whole = refl }
 
 pub returns : goal.returns
 returns c = sym (interface_with-some _ _ _)
