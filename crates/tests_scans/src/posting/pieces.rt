@@ -28,6 +28,7 @@ const PLAIN: Interface = Interface {
     two_way: 4,
     svc: 4,
     join: false,
+    gaps: false,
 };
 
 /// The rows of an epoch: a call on channel 1 with two data packets, and a third that is outside the window; a call on
