@@ -22,6 +22,9 @@ pub const TEXT_LIMIT: u32 = 1 << 30;
 /// The bytes that a line may have without its LF.
 pub const LINE_LIMIT: usize = 8500;
 
+/// The last place where a line of so many bytes may begin.
+const LAST_START: u32 = TEXT_LIMIT - LINE_LIMIT as u32 - 1;
+
 /// A reader of a trace text, which is fed in chunks.
 ///
 /// ```text
@@ -294,21 +297,18 @@ impl<A: Allocator> Lines<A> {
             × TakesLine self.old self.new chunk.now rest.now taken
             × (row.new ≡ kept_row whole taken)) }
     {
-        if whole || self.interface.is_none() || !self.begun.is_empty() {
+        if whole || self.interface.is_none() || !self.begun.is_empty() || self.start > LAST_START {
             return None;
         }
         let (number, side, digits) = split_front(self.last, chunk)?;
         let (length, values, rest) = split_digits(digits)?;
-        let len = chunk.len() - rest.len() - 1;
-        if size_fault(self.start, 1, len).is_some() {
-            return None;
-        }
         convert_digits(values, digits, length, &mut row.octets)?;
         row.number = number;
         row.side = side;
         row.length = length;
         self.last = number;
-        self.next_line(len);
+        self.start += (chunk.len() - rest.len()) as u32;
+        self.ended += 1;
         Some(rest)
     }
 
