@@ -250,14 +250,23 @@ impl<A: Allocator> Lines<A> {
         }
     }
 
+    /// Counts a line of so many bytes with its LF, which came before what is kept of the line begun.
+    fn count_line(&mut self, size: usize)
+        requires some { 1 ≤ size }
+        requires fits { self.old.start + size + length self.old.begun ≤ 2 ^ 30 }
+        ensures { self.new ≡ record self.old { ended = self.old.ended + 1; start = self.old.start + size } }
+    {
+        self.start += size as u32;
+        self.ended += 1;
+    }
+
     /// The next line begins, after one of so many bytes and its LF.
     fn next_line(&mut self, len: usize)
         requires { self.old.start + len + 1 ≤ 2 ^ 30 }
         ensures { self.new ≡ after_line len self.old }
     {
-        self.start += len as u32 + 1;
-        self.ended += 1;
         self.begun.clear();
+        self.count_line(len + 1);
     }
 
     /// Reads the end of a line, without its LF. Returns whether the line is a row, which then is put in the place of
@@ -307,8 +316,7 @@ impl<A: Allocator> Lines<A> {
         row.side = side;
         row.length = length;
         self.last = number;
-        self.start += (chunk.len() - rest.len()) as u32;
-        self.ended += 1;
+        self.count_line(chunk.len() - rest.len());
         Some(rest)
     }
 

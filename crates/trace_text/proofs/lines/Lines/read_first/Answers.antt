@@ -10,18 +10,10 @@ use Rattle.trace_text.proofs.RowFront.{front-few, front-line}
 use Rattle.trace_text.proofs.StepLemmas.{no_bytes, takes-first}
 use Rattle.trace_text.proofs.lines.Lines.read_first.Goals as goal
 
-pub overflow_cast-self : goal.overflow_cast-self
-overflow_cast-self g c = omega (arith, front-few c.self.inside.last c.in_ok-number.number c.in_ok-number.side c.in_ok-length.length c.args.chunk.now c.in_ok-number.digits.now c.in_ok-length.rest.now c.in_ok-number.ensures c.in_ok-length.ensures.0)
-
-pub overflow_add-self : goal.overflow_add-self
-overflow_add-self g c = omega (arith, c.if-self-gt-LAST_START.false, front-few c.self.inside.last c.in_ok-number.number c.in_ok-number.side c.in_ok-length.length c.args.chunk.now c.in_ok-number.digits.now c.in_ok-length.rest.now c.in_ok-number.ensures c.in_ok-length.ensures.0)
-
-pub invariant_of-self : goal.invariant_of-self
-invariant_of-self g c =
-    let few = front-few c.self.inside.last c.in_ok-number.number c.in_ok-number.side c.in_ok-length.length c.args.chunk.now c.in_ok-number.digits.now c.in_ok-length.rest.now c.in_ok-number.ensures c.in_ok-length.ensures.0 in
+pub count_line-requires-clause-fits : goal.count_line-requires-clause-fits
+count_line-requires-clause-fits g c =
     let none : vec_len c.self.inside.begun ≡ 0 = eqb-true (vec_len c.self.inside.begun) 0 (sym c.if-not-is_empty.ensures) in
-    let kept = c.self.invariant in
-    (omega (arith, few, kept.0), omega (arith, few, none, c.self.inside.begun.ok, c.if-self-gt-LAST_START.false), kept.2, kept.3)
+    omega (arith, none, c.self.inside.begun.ok, c.if-self-gt-LAST_START.false, front-few c.self.inside.last c.in_ok-number.number c.in_ok-number.side c.in_ok-length.length c.args.chunk.now c.in_ok-number.digits.now c.in_ok-length.rest.now c.in_ok-number.ensures c.in_ok-length.ensures.0)
 
 pub returns : goal.returns
 returns g c =
@@ -35,12 +27,11 @@ returns g c =
     let before : Progress = record { ended = kept.ended; start = kept.start; interface = kept.interface; last = kept.last; begun = kept.begun.items; refused = kept.refused } in
     let len = length c.args.chunk.now - length back.rest.now in
     let few = front-few kept.last front.number front.side back.length c.args.chunk.now front.digits.now back.rest.now front.ensures written in
-    let after : ℕ → List ℕ → Progress = λ n xs. record before { ended = kept.ended + 1; start = n; last = front.number; begun = xs } in
     let line = front-line kept.last front.number front.side back.length c.args.chunk.now front.digits.now back.rest.now front.ensures written in (
       row,
-      subst (λ (v : Progress). TakesLine v (after (kept.start + len) kept.begun.items) c.args.chunk.now back.rest.now row) c.self.view_is
-          (takes-first before (after (kept.start + len) kept.begun.items) c.args.chunk.now back.rest.now row line c.if-is_none.ensures none (fits kept.start (len - 1) (omega (arith, few)) (omega (arith, few, c.if-self-gt-LAST_START.false)))
-          (ap₂ after (omega (arith, few)) (no_bytes kept.begun.items none))),
+      subst (λ (v : Progress). TakesLine v c.count_line.new.self c.args.chunk.now back.rest.now row) c.self.view_is
+          (takes-first before c.count_line.new.self c.args.chunk.now back.rest.now row line c.if-is_none.ensures none (fits kept.start (len - 1) (omega (arith, few)) (omega (arith, few, c.if-self-gt-LAST_START.false)))
+          (c.count_line.ensures ∙ ap₂ (λ (n : ℕ) (xs : List ℕ). record before { ended = kept.ended + 1; start = n; last = front.number; begun = xs }) (omega (arith, few)) (no_bytes kept.begun.items none))),
       ap₂ (λ (n : ℕ) (os : List ℕ). record { number = front.number; side = front.side; length = n; octets = os }) (sym written.count) (c.in_ok-convert_digits.ensures back.rest.now written)
           ∙ ap (λ b. kept_row b row) (sym c.if-whole.false),
     )
