@@ -56,10 +56,6 @@ line_short [] h = omega arith
 line_short (word ∷ []) h = let few = h.0.short in omega (arith, few)
 line_short (word ∷ next ∷ words) h = let few = h.0.short in omega (arith, few, length-append word (32 ∷ line_of (next ∷ words)), line_short (next ∷ words) h.1)
 
--- a number as a word
-digit_range : (c : ℕ) → 48 ≤ c → c ≤ 57 → is_ascii_digit c ≡ true
-digit_range c l u = grind (arith, nat_tests)
-
 tests_all : IsDigitsTest (λ ds. list_all is_ascii_digit ds ≡ true)
 tests_all = search rules
 

@@ -1,5 +1,5 @@
 -- A row by its front, and by the digits after it.
-use Rattle.std.proofs.Common.{◌≡◌, ◌≢◌, ◌∙◌, sym, ap, refl, ℕ, ◌-◌, ◌<◌, ◌≤◌, ◌%◌, Bool, true, false, List, [], ◌∷◌, ◌++◌, append_assoc, length, take, take_all, drop, get_or, Option, Some, None, Ok, arith}
+use Rattle.std.proofs.Common.{◌≡◌, ◌≢◌, ◌∙◌, sym, ap, refl, ℕ, ◌+◌, ◌-◌, ◌<◌, ◌≤◌, ◌%◌, Bool, true, false, List, [], ◌∷◌, ◌++◌, append_assoc, length, length-append, take, take_all, drop, get_or, Option, Some, None, Ok, arith}
 use Rattle.std.specs.Prelude.{codes, nat_lt, nat_le, ◌==◌, ◌&&◌, ◌||◌, not, is_none, slice_index, if◌then◌else◌}
 use Rattle.std.specs.Char.{is_ascii_digit}
 use Rattle.std.specs.List.{list_all, list_any}
@@ -22,7 +22,7 @@ use Rattle.trace_text.specs.Cuts.{Lacks}
 use Rattle.line_model.specs.text.Text.{is_comment}
 use Rattle.trace_text.specs.Digits.{BeginsOctets}
 use Rattle.trace_text.specs.Reads.{BeginsLine, BeginsRow}
-use Rattle.trace_text.proofs.DigitLemmas.{octets-decode}
+use Rattle.trace_text.proofs.DigitLemmas.{octets-decode, twice}
 use Rattle.trace_text.proofs.CutLemmas.{words-found, words-none}
 use Rattle.trace_text.proofs.NumberLemmas.{both, number_is}
 use Rattle.trace_text.proofs.RowLemmas.{octets_of-ok}
@@ -63,8 +63,8 @@ rises_is (Some n) last number h = above (nat_lt last n) h
     above true k = k
     above false k = cc
 
-is_word : (b : Bool) (word : List ℕ) (n m : ℕ) → is_number word ≡ b → (if b then Some n else None) ≡ Some m → 1 ≤ length word
-is_word true word n m e h = leb-true 1 (length word) (both (nat_le 1 (length word)) (nat_le (length word) 9) (both _ _ e).0).0
+is_word : (b : Bool) (word : List ℕ) (n m : ℕ) → is_number word ≡ b → (if b then Some n else None) ≡ Some m → (1 ≤ length word) × (length word ≤ 9)
+is_word true word n m e h = let long = both (nat_le 1 (length word)) (nat_le (length word) 9) (both _ _ e).0 in (leb-true 1 (length word) long.0, leb-true (length word) 9 long.1)
 is_word false word n m e h = cc
 
 are_digits : (b : Bool) (word : List ℕ) (n m : ℕ) → is_number word ≡ b → (if b then Some n else None) ≡ Some m → list_all is_ascii_digit word ≡ true
@@ -76,7 +76,7 @@ are_digits false word n m e h = cc
 number_digits : (word : List ℕ) (number : ℕ) → number_of word ≡ Some number → list_all is_ascii_digit word ≡ true
 number_digits word number h = are_digits (is_number word) word _ number refl h
 
-word_length : (word : List ℕ) (number : ℕ) → number_of word ≡ Some number → 1 ≤ length word
+word_length : (word : List ℕ) (number : ℕ) → number_of word ≡ Some number → (1 ≤ length word) × (length word ≤ 9)
 word_length word number h = is_word (is_number word) word _ number refl h
 
 no_empty : (xs : List ℕ) → 0 < length xs → not (length xs == 0) ≡ true
@@ -144,7 +144,7 @@ decoded-line last number side text after digits octets rest b whole decoded some
       line = line;
       whole = b.whole ∙ ap (λ xs. b.word ++ 32 ∷ b.letter ∷ 32 ∷ xs) whole ∙ sym (append_assoc b.word tail (10 ∷ rest));
       one_line = lacks-append 10 b.word tail (number_lacks 10 b.word refl word_digits) (rw (no_line_end (b.letter == 10) b.letter side refl b.names) (digits_lack 10 digits octets refl decoded));
-      no_comment = not_comment b.word tail (word_length b.word number value) (number_lacks 35 b.word refl word_digits);
+      no_comment = not_comment b.word tail (word_length b.word number value).0 (number_lacks 35 b.word refl word_digits);
       sound = front_kind last number side line digits octets begins there few even decoded;
       writes = front_row last number side line digits octets begins there few even decoded;
     }
@@ -155,6 +155,18 @@ front-line last number side size text after rest b w =
     let three = w.some in
     let most = w.few in
     decoded-line last number side text after w.digits.digits w.octets rest b w.digits.whole (octets-decode w.digits.digits w.octets w.digits.octets_are) (omega (arith, w.count, three)) (omega (arith, w.count, most))
+
+-- such a line has few bytes
+pub front-few : (last number : ℕ) (side : Side) (size : ℕ) (text after rest : List ℕ) → BeginsRow last text number side after → BeginsOctets after size rest → (length rest < length text) × (length text ≤ 8501 + length rest)
+front-few last number side size text after rest b w =
+    let word = word_length b.word number (rises_is (number_of b.word) last number b.rises) in
+    let most = w.few in
+    let long = twice w.digits.digits w.octets w.digits.octets_are in
+    let front = ap (λ (xs : List ℕ). length xs) b.whole in
+    let back = ap (λ (xs : List ℕ). length xs) w.digits.whole in
+    let one = length-append b.word (32 ∷ b.letter ∷ 32 ∷ after) in
+    let other = length-append w.digits.digits (10 ∷ rest) in
+    (omega (arith, front, back, one, other), omega (arith, word, most, w.count, long, front, back, one, other))
 
 begins-three : (xs : List ℕ) (a b d : ℕ) → 3 ≤ length xs → get_or xs 0 0 ≡ a → get_or xs 1 0 ≡ b → get_or xs 2 0 ≡ d → xs ≡ a ∷ b ∷ d ∷ take (length xs - 3) (drop 3 xs)
 begins-three [] a b d n e f g = absurd (omega (arith, n))

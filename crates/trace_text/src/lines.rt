@@ -22,6 +22,9 @@ pub const TEXT_LIMIT: u32 = 1 << 30;
 /// The bytes that a line may have without its LF.
 pub const LINE_LIMIT: usize = 8500;
 
+/// The last place where a line of so many bytes may begin.
+const LAST_START: u32 = TEXT_LIMIT - LINE_LIMIT as u32 - 1;
+
 /// A reader of a trace text, which is fed in chunks.
 ///
 /// ```text
@@ -247,14 +250,23 @@ impl<A: Allocator> Lines<A> {
         }
     }
 
+    /// Counts a line of so many bytes with its LF, which came before what is kept of the line begun.
+    fn count_line(&mut self, size: usize)
+        requires some { 1 ≤ size }
+        requires fits { self.old.start + size + length self.old.begun ≤ 2 ^ 30 }
+        ensures { self.new ≡ record self.old { ended = self.old.ended + 1; start = self.old.start + size } }
+    {
+        self.start += size as u32;
+        self.ended += 1;
+    }
+
     /// The next line begins, after one of so many bytes and its LF.
     fn next_line(&mut self, len: usize)
         requires { self.old.start + len + 1 ≤ 2 ^ 30 }
         ensures { self.new ≡ after_line len self.old }
     {
-        self.start += len as u32 + 1;
-        self.ended += 1;
         self.begun.clear();
+        self.count_line(len + 1);
     }
 
     /// Reads the end of a line, without its LF. Returns whether the line is a row, which then is put in the place of
@@ -294,21 +306,17 @@ impl<A: Allocator> Lines<A> {
             × TakesLine self.old self.new chunk.now rest.now taken
             × (row.new ≡ kept_row whole taken)) }
     {
-        if whole || self.interface.is_none() || !self.begun.is_empty() {
+        if whole || self.interface.is_none() || !self.begun.is_empty() || self.start > LAST_START {
             return None;
         }
         let (number, side, digits) = split_front(self.last, chunk)?;
         let (length, values, rest) = split_digits(digits)?;
-        let len = chunk.len() - rest.len() - 1;
-        if size_fault(self.start, 1, len).is_some() {
-            return None;
-        }
         convert_digits(values, digits, length, &mut row.octets)?;
         row.number = number;
         row.side = side;
         row.length = length;
         self.last = number;
-        self.next_line(len);
+        self.count_line(chunk.len() - rest.len());
         Some(rest)
     }
 

@@ -1,11 +1,12 @@
-use Rattle.std.proofs.Common.{◌∙◌, ◌≤◌, ◌++◌, ap, arith, drop, length, subst, sym, take, ◌*◌, ℕ, List}
+use Rattle.std.proofs.Common.{◌∙◌, ◌≤◌, ap, arith, drop, subst, sym, take, ◌*◌, ℕ, List}
+use Rattle.std.proofs.lemmas.List.{take-take}
 use Rattle.std.proofs.lemmas.Option.{IfSome_then}
 use Rattle.trace_text.specs.Digits.{AreOctets, HasDecoded}
 use Rattle.trace_text.proofs.DigitLemmas.{converts, decodes-none}
 use Rattle.trace_text.proofs.digits.convert_digits.Goals as goal
 
-pub returns-then-count-gt16 : goal.returns-then-count-gt16
-returns-then-count-gt16 g c rest w =
+pub returns-then-count-gt-FEW_OCTETS : goal.returns-then-count-gt-FEW_OCTETS
+returns-then-count-gt-FEW_OCTETS g c rest w =
     let text = c.args.digits.now in
     let first = c.octets_of-first.ensures.octets text c.requires in
     IfSome_then c.append_octets.result c.append_octets.ensures
@@ -18,7 +19,7 @@ returns g c rest w =
     let front = c.octets_of-first.result in
     let first = c.octets_of-first.ensures.octets text c.requires in
     let count = c.read_count-count.result in
-    let items = c.in-Ok.ensures.items ∙ ap (λ (xs : List ℕ). xs ++ front) c.clear.ensures.items in
-    let few : count ≤ length front = omega (arith, c.if-count-gt16.false, c.octets_of-first.ensures.long) in
+    let few : count ≤ 4 = omega (arith, c.if-count-gt-FEW_OCTETS.false) in
+    let items = c.truncate.ensures.items ∙ ap (take count) (c.in_ok-put_few.ensures ∙ c.in_ok-first_chunk.ensures.cases.same) ∙ take-take count 4 front few in
     converts text rest (drop 32 text) c.truncate.new.self.items front c.args.size count w first c.octets_of-first.ensures.long c.read_count-count.ensures
-    (λ there all. subst (AreOctets (take (2 * count) text)) (sym (c.truncate.ensures.items ∙ ap (take count) items)) (first.octets_are count few there all))
+    (λ there all. subst (AreOctets (take (2 * count) text)) (sym items) (first.octets_are count (omega (arith, few, c.octets_of-first.ensures.long)) there all))

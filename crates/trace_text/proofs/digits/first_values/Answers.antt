@@ -1,5 +1,5 @@
-use Rattle.std.proofs.Common.{◌∙◌, ◌-◌, ap, arith, get_or, get_or-take, length, length-take-le, List, ℕ}
-use Rattle.trace_text.proofs.DigitCounts.{get_or-zeros, has-values}
+use Rattle.std.proofs.Common.{◌∙◌, ap, arith, get_or, get_or-take, length, length-take-le, List, ℕ}
+use Rattle.trace_text.proofs.DigitCounts.{has-values}
 use Rattle.trace_text.proofs.digits.first_values.Goals as goal
 
 pub returns-in-Some : goal.returns-in-Some
@@ -8,10 +8,3 @@ returns-in-Some c =
     let cut = c.in-Some.ensures.cases in
     has-values text c.in-Some.bytes.now c.digit_values.result c.digit_values.ensures (ap (λ (xs : List ℕ). length xs) cut.1 ∙ length-take-le 32 text (omega (arith, cut.0)))
     (λ i h. ap (λ (xs : List ℕ). get_or xs i 0) cut.1 ∙ get_or-take 32 text i 0 h)
-
-pub returns : goal.returns
-returns c =
-    let text = c.args.text.now in
-    let block = c.padded.ensures in
-    has-values text c.padded.result c.digit_values-2.result c.digit_values-2.ensures (omega (arith, c.padded.auto))
-    (λ i h. ap (λ (xs : List ℕ). get_or xs i 0) block ∙ get_or-zeros text (32 - length text) i)
