@@ -2,8 +2,8 @@
 """build_library.py [FOLDER]: proves x25scan_c and builds libx25scan.a and libx25scan.so of it, by default into out/library.
 
 Each is built only where it is not there or a source is newer. The libraries below x25scan_c are those that `rt ci` has
-left in the crates, where these are of the sources (it leaves no archive of a static library), else those of
-tools/build_program.py, which it builds first. FOLDER also gets x25scan.h and x25scan.pc. Without a linker for C it says so, and the status is 4.
+left in the crates, where these are of the sources, else those of tools/build_program.py, which it builds first. FOLDER
+also gets x25scan.h and x25scan.pc. Without a linker for C it says so, and the status is 4.
 """
 from __future__ import annotations
 
@@ -17,7 +17,7 @@ import sys
 import tempfile
 
 sys.dont_write_bytecode = True
-from build_program import CRATES, FRESH, OUT, ROOT, build_libraries, is_older, kit, lanes, libraries, rattle, run, say, sources  # noqa: E402
+from build_program import CRATES, FRESH, OUT, ROOT, build_libraries, is_older, kit, lanes, libraries, library, rattle, run, say, sources  # noqa: E402
 
 NAME = "x25scan_c"
 FOLDER = OUT / "library"
@@ -31,21 +31,26 @@ def inputs() -> list[pathlib.Path]:
     return [ROOT / "crates.txt", *(it for name in [*libraries(NAME), NAME] for it in sources(name))]
 
 
+def left(name: str) -> pathlib.Path:
+    """The library that `rt ci` has left in its crate. It writes no stamp beside it, so `rt lib` would build it again."""
+    return CRATES / name / "out" / "rlib" / f"{name}.rlib"
+
+
+def is_left(name: str) -> bool:
+    """Whether `rt ci` has left a library of the sources. It may have taken files of an earlier run, so the folder's age counts."""
+    return not is_older(left(name), sources(name)) and not left(name).with_name("stamp").exists()
+
+
 def prove() -> tuple[bool, str]:
     """Proves the crate over its libraries, and has LLVM compile it into an archive."""
-    made = CRATES / NAME / "out" / f"lib{NAME}.a"
-    if not is_older(made, inputs()):
-        return True, str(made)
-    if all(not is_older(CRATES / it / "out" / "rlib" / f"{it}.rlib" / "format", sources(it)) for it in libraries(NAME)):
-        is_proved, said = run(CRATES / NAME, "rt", "lib", "--backend", "llvm")
-        return is_proved, str(made) if is_proved else said
-    if not build_libraries(NAME):
+    place = left if all(map(is_left, libraries(NAME))) else library
+    if place is library and not build_libraries(NAME):
         return False, ""
     fresh = FRESH / f"lib{NAME}.a"
     kept = OUT / "inc" / NAME
     kept.mkdir(parents=True, exist_ok=True)
     how: list[object] = ["--crate-type", "staticlib", "--toolchain", kit() / "toolchain", "--backend", "llvm", "--incremental", kept, "-o", fresh]
-    is_proved, said = rattle(NAME, "src/lib.rt", min(lanes(), 4), *how)
+    is_proved, said = rattle(NAME, "src/lib.rt", min(lanes(), 4), *how, place=place)
     return is_proved, str(fresh) if is_proved else said
 
 

@@ -18,7 +18,7 @@ import subprocess
 import sys
 import threading
 import time
-from collections.abc import Iterable, Mapping
+from collections.abc import Callable, Iterable, Mapping
 
 ROOT = pathlib.Path(__file__).resolve().parent.parent
 CRATES = ROOT / "crates"
@@ -79,9 +79,14 @@ def chains(below: Mapping[str, set[str]]) -> dict[str, int]:
     return found
 
 
+def library(name: str) -> pathlib.Path:
+    """A library that was built here."""
+    return LIBRARIES / f"{name}.rlib"
+
+
 def form(name: str) -> pathlib.Path:
     """The file of a built library that says when its build began."""
-    return LIBRARIES / f"{name}.rlib" / "format"
+    return library(name) / "format"
 
 
 def is_older(file: pathlib.Path, others: Iterable[pathlib.Path]) -> bool:
@@ -120,12 +125,12 @@ def run(folder: pathlib.Path, *words: object) -> tuple[bool, str]:
     return ended.returncode == 0, ended.stdout
 
 
-def rattle(name: str, root: str, jobs: int, *how: object) -> tuple[bool, str]:
-    """Has the kit's prover prove a crate over the libraries below it, which are built, and build it."""
+def rattle(name: str, root: str, jobs: int, *how: object, place: Callable[[str], pathlib.Path] = library) -> tuple[bool, str]:
+    """Has the kit's prover prove a crate over the libraries below it, which are built and lie in their places, and build it."""
     used = uses()
     words = [kit() / "bin" / "rattle", "build", "--crate-name", name, root]
     for it in ["std", *used[name]]:
-        words += ["--extern", f"{it}={(LIBRARIES if it in used else kit() / 'rlibs') / it}.rlib"]
+        words += ["--extern", f"{it}={place(it) if it in used else kit() / 'rlibs' / f'{it}.rlib'}"]
     words += ["-L", f"dependency={LIBRARIES}", "-L", f"dependency={kit() / 'rlibs'}"]
     words += ["--antt-project", kit() / "rattle" / "logic" / "antt-project.json", "--logic-built", kit() / "logic_built"]
     words += ["--links", f"{name}=", "--jobs", jobs]
@@ -139,8 +144,8 @@ def prove(name: str, jobs: int) -> tuple[bool, str]:
     is_proved, said = rattle(name, "src/lib.rt", jobs, "--statements", "-o", fresh)
     if is_proved:
         os.utime(fresh / "format", (began, began))
-        shutil.rmtree(LIBRARIES / f"{name}.rlib", ignore_errors=True)
-        os.rename(fresh, LIBRARIES / f"{name}.rlib")
+        shutil.rmtree(library(name), ignore_errors=True)
+        os.rename(fresh, library(name))
     return is_proved, said
 
 

@@ -4,14 +4,14 @@ use Rattle.std.specs.Prelude.{IfErr, IfSome}
 use Rattle.std.specs.Result.{result_err}
 use Rattle.line_model.specs.declared.interface.Interface.{Interface}
 use Rattle.line_model.specs.channels.Channels.{Channel}
-use Rattle.line_model.specs.basics.Records.{ReadRow}
+use Rattle.line_model.specs.basics.Records.{ReadRow, Row}
 use Rattle.line_model.specs.observer.Report.{report_of}
 use Rattle.line_model.specs.declared.fault.Fault.{Fault}
 use Rattle.line_model.specs.declared.fault.Fault.TheVariants.{Memory}
 use Rattle.line_model.specs.declared.finding.Finding.{Finding}
 use Rattle.line_model.specs.text.Text.{early_rows}
 use Rattle.trace_text.specs.Progress.{Progress}
-use Rattle.trace_text.specs.StandsFor.{StandsFor as IsReaderOf, ReadsChunk}
+use Rattle.trace_text.specs.StandsFor.{StandsFor as IsReaderOf, ReadsChunk, TakesRow}
 use Rattle.trace_text.proofs.Grows.{early_head_stays}
 use Rattle.trace_text.proofs.RefusalLemmas.{head_stands, known-here}
 use Rattle.live_report.specs.declared.live.Live.{Live}
@@ -21,7 +21,8 @@ use Rattle.live_report.specs.Lives.{IsLastRow, IsObserved, IsObserving, StandsFo
 use Rattle.live_report.specs.Found.{HasFound, IsFoundBy, IsFoundUpTo, found, found_at}
 use Rattle.live_report.proofs.FoundLemmas.{found_none, found_under, found_unheaded, nothing_found}
 use Rattle.live_report.proofs.ChunkLemmas.{ReadsRow, next_items, next_rows, observed_row, taken_is_last}
-use Rattle.line_model.specs.packets.Says.{item_read, items_of}
+use Rattle.line_model.proofs.Saying.{read_says}
+use Rattle.line_model.specs.packets.Says.{item_of, item_read, items_of, read_row}
 
 -- what holds of a result, and something more
 pub on_both : {T E : Type 0} (r : Result T E) (P Q : Type 0) → OnOk r P → OnOk r Q → OnOk r (P × Q)
@@ -111,17 +112,28 @@ first_found i text chunk rest row reader after out out_after more s none t has f
 
 -- ---- a packet whose line is not read
 
+-- the row whose line the reader went past may come next
+pub passed_rows : (i : Interface) (reader after : Progress) (text line : List ℕ) (row : Row) → IsReaderOf reader text → TakesRow reader after line [] row → AreItems i (items_of i (early_rows text) ++ item_of i row ∷ [])
+passed_rows i reader after text line row s t =
+    subst (λ r. AreItems i (items_of i (early_rows text) ++ r ∷ [])) (read_says i row) (next_rows i reader after text line [] (read_row row) s (row, t, refl))
+
 -- the reader went past the line of a row, and the observer took it
-pub passed_row : {A C : Type 0} → (I : C → Interface) (N : C → ℕ) (S : C → Channel → Type 0) (i : Interface) (text line : List ℕ) (row : ReadRow) (reader after : Progress) (o next : Observer A C) (out out_after more : List Finding)
-    → (w : IsObserving I N S i text reader o) → ReadsRow reader after line [] row → after.interface ≡ reader.interface → IsObserverOf I N S i (items_of i (early_rows text) ++ item_read i row ∷ []) next
-    → out_after ≡ out ++ more → (report_of i (items_of i (early_rows text) ++ item_read i row ∷ [])).findings ≡ found_at i text ++ more
-    → IsObserving I N S i (text ++ line) after next × HasFound out out_after (found_at i text) (found_at i (text ++ line)) × IsLastRow (early_rows (text ++ line)) row
-passed_row I N S i text line row reader after o next out out_after more w t kept took has finds =
+pub passed_row : {A C : Type 0} → (I : C → Interface) (N : C → ℕ) (S : C → Channel → Type 0) (i : Interface) (text line : List ℕ) (row : Row) (reader after : Progress) (o next : Observer A C) (out out_after more : List Finding)
+    → (w : IsObserving I N S i text reader o) → TakesRow reader after line [] row → after.interface ≡ reader.interface → IsObserverOf I N S i (items_of i (early_rows text) ++ item_of i row ∷ []) next
+    → out_after ≡ out ++ more → (report_of i (items_of i (early_rows text) ++ item_of i row ∷ [])).findings ≡ found_at i text ++ more
+    → IsObserving I N S i (text ++ line) after next × HasFound out out_after (found_at i text) (found_at i (text ++ line)) × IsLastRow (early_rows (text ++ line)) (read_row row)
+passed_row I N S i text line row reader after o next out out_after more w takes kept took has finds =
+    let t : ReadsRow reader after line [] (read_row row) = (row, takes, refl) in
+    let says = sym (read_says i row) in
     let all : text ++ t.1.taken ≡ text ++ line = ap (λ x. text ++ x) (sym (t.1.whole ∙ append-nil t.1.taken)) in (
-      subst (λ x. IsObserving I N S i x after next) all (observed_row I N S i text line [] row reader after next w.reads t (kept ∙ w.header) took),
-      subst (λ x. HasFound out out_after (found_at i text) (found_at i x)) all
-          (record { more = more; out_has = has; known_has = ap (λ items. (report_of i items).findings) (next_items i reader after text line [] row w.reads t) ∙ finds }),
-      subst (λ x. IsLastRow (early_rows x) row) all (taken_is_last reader after text line [] row w.reads t),
+      subst (λ x. IsObserving I N S i x after next) all
+          (observed_row I N S i text line [] (read_row row) reader after next w.reads t (kept ∙ w.header) (subst (λ r. IsObserverOf I N S i (items_of i (early_rows text) ++ r ∷ []) next) says took)),
+      subst (λ x. HasFound out out_after (found_at i text) (found_at i x)) all (record {
+        more = more;
+        out_has = has;
+        known_has = ap (λ items. (report_of i items).findings) (next_items i reader after text line [] (read_row row) w.reads t) ∙ subst (λ r. (report_of i (items_of i (early_rows text) ++ r ∷ [])).findings ≡ found_at i text ++ more) says finds;
+      }),
+      subst (λ x. IsLastRow (early_rows x) (read_row row)) all (taken_is_last reader after text line [] (read_row row) w.reads t),
     )
 
 -- it was fed a text with the line, or still that text

@@ -227,9 +227,9 @@ impl<A: Allocator + Copy, C: Channel<A>> Live<A, C> {
         if !self.lines.pass_row(number, octets.len()) {
             return Ok(false);
         }
-        self.rows.put_next(number, side, octets)?;
-        append_finding(&mut self.found, observer.take(&self.rows.next)?)?;
-        self.rows.keep_next(self.keeps_rows);
+        let finding = observer.take_octets(number, side, octets.len(), octets)?;
+        append_finding(&mut self.found, finding)?;
+        self.rows.keep_row(self.keeps_rows, number, side, octets)?;
         Ok(true)
     }
 

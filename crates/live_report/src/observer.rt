@@ -4,7 +4,7 @@ ghost use Rattle.std.specs.Prelude.{◌≡◌, ◌<◌, ◌+◌, ◌^◌, ◌++�
 ghost use Rattle.line_model.specs.basics.Records as records;
 ghost use Rattle.line_model.specs.declared.fault.Fault.TheVariants.{Memory};
 ghost use Rattle.line_model.specs.declared.interface.Interface.{Interface as AnyInterface};
-ghost use Rattle.line_model.specs.packets.Says.{item_read};
+ghost use Rattle.line_model.specs.packets.Says.{item_read, said_octets};
 ghost use Rattle.line_model.specs.pieces.Plans.{value};
 ghost use Rattle.restart_epochs.specs.OpenRows.{OpenRows};
 ghost use Rattle.restart_epochs.specs.Cutting.{Cutting, ended_by, observer, HasTurned};
@@ -31,8 +31,8 @@ use line_model::finding::Finding;
 use line_model::interface::Interface;
 use line_model::items::ItemRef;
 use line_model::report::Report;
-use line_model::row::ReadRow;
-use line_model::state::RState;
+use line_model::row::{ReadRow, is_unqualified};
+use line_model::state::{RState, Side};
 use packet_decode::decode::decode;
 use report_merge::parts::Parts;
 use restart_epochs::channel_table::ChannelTable;
@@ -55,6 +55,13 @@ pub struct Observer<A: Allocator, C: Channel<A>> {
     events: Vec<Event, A>,
     /// The data of the rows that was not counted.
     uncounted: Uncounted,
+}
+
+/// The octets that say more than the packet and its length do.
+fn said_octets(octets: &[u8]) -> &[u8]
+    ensures { result.now ≡ said_octets octets.now }
+{
+    if is_unqualified(octets) { &[] } else { octets }
 }
 
 /// A row of a packet that no channel takes, which the restart machine judged in a state.
@@ -216,8 +223,31 @@ impl<A: Allocator + Copy, C: Channel<A>> Observer<A, C> {
         ensures keeps { self.new.keeps_rows ≡ self.old.keeps_rows }
         ensures memory { IfErr result (λ fault. fault ≡ Memory) }
     {
-        let packet = decode(&self.walk.interface, row.octets.as_slice());
-        self.take_item(&row.item(packet))
+        self.take_octets(row.number, row.side, row.length, row.octets.as_slice())
+    }
+
+    /// Takes the next row by its number, its side, its length and the octets that are read of it, as `take` does.
+    pub(crate) fn take_octets(
+        &mut self,
+        number: u32,
+        side: Side,
+        length: usize,
+        octets: &[u8],
+    ) -> Result<Option<Finding>, Fault>
+        requires room { MayWalk C.Channel self.old (λ i. item_read i (record { number = number; side = side; length = length; octets = octets.now }) ∷ []) }
+        ensures stands { WalksOn C.Channel self.old (λ i. item_read i (record { number = number; side = side; length = length; octets = octets.now })) self.new result }
+        ensures finding { ReturnsFinding C.Channel self.old (λ i. item_read i (record { number = number; side = side; length = length; octets = octets.now })) result }
+        ensures keeps { self.new.keeps_rows ≡ self.old.keeps_rows }
+        ensures memory { IfErr result (λ fault. fault ≡ Memory) }
+    {
+        let packet = decode(&self.walk.interface, octets);
+        self.take_item(&ItemRef {
+            number,
+            side,
+            packet,
+            length,
+            octets: said_octets(octets),
+        })
     }
 
     /// Takes the next row by what it says, as `take` does.

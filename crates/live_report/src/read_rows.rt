@@ -19,7 +19,6 @@ fn blank_row<A: Allocator>(alloc: A) -> ReadRow<A> {
 }
 
 /// The octets of a row that are read.
-#[inline(always)]
 fn read_octets(octets: &[u8]) -> &[u8]
     ensures { result.now ≡ read_octets octets.now }
 {
@@ -49,23 +48,26 @@ impl<A: Allocator + Copy> ReadRows<A> {
 }
 
 impl<A: Allocator> ReadRows<A> {
-    /// Puts a row in the place of the next one. Fails only when memory is refused.
+    /// Where rows are kept, puts a row in the place of the last one. Fails only when memory is refused.
     #[inline(always)]
-    pub(crate) fn put_next(
+    pub(crate) fn keep_row(
         &mut self,
+        keeps_rows: bool,
         number: u32,
         side: Side,
         octets: &[u8],
     ) -> Result<(), AllocError>
-        ensures next { OnOk result (self.new.next
+        ensures { keeps_rows ≡ true → OnOk result (self.new.last
             ≡ read_row (record { number = number; side = side; octets = octets.now })) }
-        ensures last { self.new.last ≡ self.old.last }
     {
-        self.next.number = number;
-        self.next.side = side;
-        self.next.length = octets.len();
-        self.next.octets.clear();
-        self.next.octets.extend_from_slice(read_octets(octets))
+        if !keeps_rows {
+            return Ok(());
+        }
+        self.last.number = number;
+        self.last.side = side;
+        self.last.length = octets.len();
+        self.last.octets.clear();
+        self.last.octets.extend_from_slice(read_octets(octets))
     }
 
     /// The next row was read whole: where rows are kept, it is the last one now.
