@@ -5,7 +5,8 @@ ghost use Rattle.streams.specs.OpenFaults.{IsByItsReason};
 
 use crate::first_bytes::FirstBytes;
 use crate::progress::ShowProgress;
-use line_model::device::{Beginning, Source};
+use crate::room_source::RoomSource;
+use line_model::device::Beginning;
 use std::alloc::{AllocError, Global};
 use std::io;
 use thiserror::Error;
@@ -45,7 +46,7 @@ pub struct LastText {
 }
 
 /// A source that begins as standard input, and turns to the trace that is opened by its name.
-pub trait Input: Source {
+pub trait Input: RoomSource {
     /// The bytes of the trace of a name, where it tells them.
     ghost named: { Self → List ℕ → Option (List ℕ) };
 

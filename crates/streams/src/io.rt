@@ -1,7 +1,7 @@
 //! Readers and writers as sources and sinks. They show the bytes that the readers and writers show: those over memory do,
 //! and those of the system hide theirs.
 
-ghost use Rattle.std.specs.Prelude.{◌≡◌, ◌≤◌, ◌^◌, IsTrue, OnErr, OnOk, length};
+ghost use Rattle.std.specs.Prelude.{◌≡◌, ◌+◌, ◌≤◌, ◌^◌, IfOk, IsTrue, OnErr, OnOk, length, take};
 ghost use Rattle.line_model.specs.basics.Device.{Gives};
 ghost use Rattle.streams.specs.LastBytes.{last_read};
 ghost use Rattle.streams.specs.Shown.{still_shows};
@@ -12,6 +12,7 @@ use crate::last_bytes::LastBytes;
 use crate::opener::Opener;
 use crate::output::Output;
 use crate::progress::{Progress, ShowProgress};
+use crate::room_source::RoomSource;
 use crate::shown_reader::ShownReader;
 use line_model::device::{Beginning, Sink, Source};
 use line_model::history::Count;
@@ -21,7 +22,8 @@ use std::io::{Read, Write};
 use std::snapshot::Snapshot;
 use std::time::Clock;
 
-/// Lines that were refused after more of their text was read, and the number of the row before them.
+/// Lines that were refused after more of their text was read, and the number of the row before them, or 0 where it is not
+/// known.
 #[derive(Drop)]
 struct RefusedLines {
     lines: Vec<u8>,
@@ -29,14 +31,15 @@ struct RefusedLines {
 }
 
 impl RefusedLines {
-    /// A copy of them, which begins with a line.
+    /// A copy of them, which begins with a line where the number before it is known.
     fn text(&self, alloc: Global) -> Result<LastText, AllocError> {
         let mut text = Vec::new(alloc);
         text.extend_from_slice(self.lines.as_slice())?;
-        Ok(LastText {
-            text,
-            beginning: Beginning::Line(self.number_before),
-        })
+        let beginning = match self.number_before {
+            0 => Beginning::Midst,
+            number => Beginning::Line(number),
+        };
+        Ok(LastText { text, beginning })
     }
 }
 
@@ -54,6 +57,8 @@ pub struct FileInput<'a, R: Opener + Clock, I: Read + Drop, W: Write + Drop> {
     name: Option<String>,
     begun: FirstBytes,
     last_bytes: LastBytes,
+    // Whether bytes were given that the last bytes do not have: they were read into a room of the caller.
+    is_past: bool,
     refused: Option<RefusedLines>,
     progress: Progress<W>,
     // What the system said of the last read that failed.
@@ -85,6 +90,7 @@ impl<'a, R: Opener + Clock, I: Read + Drop, W: Write + Drop> FileInput<'a, R, I,
             name: None,
             begun: FirstBytes::new(alloc),
             last_bytes: LastBytes::new(),
+            is_past: false,
             refused: None,
             progress,
             failure: None,
@@ -129,6 +135,37 @@ impl<'a, R: Opener + Clock, I: Read + Drop, W: Write + Drop> FileInput<'a, R, I,
         }
     }
 
+    /// Reads into a room from the file that was opened, else from standard input.
+    fn read_room(&mut self, room: &mut [u8]) -> io::Result<usize>
+        requires room { length room.old ≡ 2 ^ 16 }
+        ensures few { IfOk result (λ n. n ≤ 2 ^ 16) }
+        ensures given { IfOk result (λ n. Gives (⟦<FileInput<'a, R, I, W> as Source>⟧.left self.old)
+            (⟦<FileInput<'a, R, I, W> as Source>⟧.left self.new) (take n room.new)) }
+        ensures failed { OnErr result (⟦<FileInput<'a, R, I, W> as Source>⟧.left self.new
+            ≡ ⟦<FileInput<'a, R, I, W> as Source>⟧.left self.old) }
+        ensures before { ⟦<FileInput<'a, R, I, W> as Source>⟧.before self.new
+            ≡ ⟦<FileInput<'a, R, I, W> as Source>⟧.left self.old }
+        ensures calls { self.new.calls ≡ self.old.calls }
+        ensures failures { self.new.failures ≡ self.old.failures }
+    {
+        match &mut self.file {
+            Some(file) => file.read_into(room),
+            None => self.standard.read_into(room),
+        }
+    }
+
+    /// The reader has failed.
+    fn fail(&mut self, error: io::Error)
+        ensures last_bytes { self.new.last_bytes ≡ self.old.last_bytes }
+        ensures standard { self.new.standard ≡ self.old.standard }
+        ensures file { self.new.file ≡ self.old.file }
+        ensures calls { self.new.calls ≡ self.old.calls }
+        ensures failures { self.new.failures ≡ self.old.failures + 1 }
+    {
+        self.failure = Some(error);
+        self.failures.add_one();
+    }
+
     /// Passes the latest bytes on: the first ones are kept, and progress is shown.
     fn pass_on_latest(&mut self)
         ensures last_bytes { self.new.last_bytes ≡ self.old.last_bytes }
@@ -166,8 +203,7 @@ impl<R: Opener + Clock, I: Read + Drop, W: Write + Drop> Source for FileInput<'_
                 Ok(())
             }
             Err(error) => {
-                self.failure = Some(error);
-                self.failures.add_one();
+                self.fail(error);
                 Err(())
             }
         }
@@ -184,6 +220,30 @@ impl<R: Opener + Clock, I: Read + Drop, W: Write + Drop> Source for FileInput<'_
                 lines: kept,
                 number_before,
             });
+        }
+    }
+}
+
+impl<R: Opener + Clock, I: Read + Drop, W: Write + Drop> RoomSource for FileInput<'_, R, I, W> {
+    /// The first bytes are read where they are kept, and copied.
+    fn read_into(&mut self, room: &mut [u8]) -> Result<usize, ()> {
+        if self.begun.is_whole() {
+            self.read()?;
+            let bytes = self.latest();
+            room[..bytes.len()].copy_from_slice(bytes);
+            return Ok(bytes.len());
+        }
+        self.calls.add_one();
+        match self.read_room(room) {
+            Ok(count) => {
+                self.is_past |= count > 0;
+                self.progress.read(self.system, &room[..count]);
+                Ok(count)
+            }
+            Err(error) => {
+                self.fail(error);
+                Err(())
+            }
         }
     }
 }
@@ -219,8 +279,12 @@ impl<R: Opener + Clock, I: Read + Drop, W: Write + Drop> Input for FileInput<'_,
 
     fn last_text(&self, alloc: Global) -> Result<LastText, AllocError> {
         match &self.refused {
-            Some(refused) => refused.text(alloc),
-            None => Ok(LastText {
+            Some(refused) if self.is_past || refused.number_before > 0 => refused.text(alloc),
+            _ if self.is_past => Ok(LastText {
+                text: Vec::new(alloc),
+                beginning: Beginning::Midst,
+            }),
+            _ => Ok(LastText {
                 text: self.last_bytes.text(alloc)?,
                 beginning: self.last_bytes.beginning(),
             }),

@@ -9,6 +9,7 @@ pub mod last_bytes;
 pub mod opener;
 pub mod output;
 pub mod progress;
+pub mod room_source;
 mod shown_reader;
 mod stretch;
 pub mod system;

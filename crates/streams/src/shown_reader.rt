@@ -1,6 +1,6 @@
 //! A reader, and the bytes that it shows.
 
-ghost use Rattle.std.specs.Prelude.{◌≡◌, ◌≤◌, ◌^◌, OnErr, OnOk, length};
+ghost use Rattle.std.specs.Prelude.{◌≡◌, ◌≤◌, ◌^◌, IfOk, OnErr, OnOk, length, take};
 ghost use Rattle.line_model.specs.basics.Device.{Gives};
 ghost use Rattle.streams.specs.LastBytes.{last_read};
 
@@ -53,5 +53,17 @@ impl<R: Read + Drop> ShownReader<R> {
     {
         self.before = Snapshot::of(&self.reader);
         last_bytes.read(&mut self.reader)
+    }
+
+    /// Reads once, into the front of a room of 65,536 bytes.
+    pub fn read_into(&mut self, room: &mut [u8]) -> io::Result<usize>
+        requires room { length room.old ≡ 2 ^ 16 }
+        ensures few { IfOk result (λ n. n ≤ 2 ^ 16) }
+        ensures given { IfOk result (λ n. Gives self.old.left self.new.left (take n room.new)) }
+        ensures failed { OnErr result (self.new.left ≡ self.old.left) }
+        ensures before { self.new.before ≡ self.old.left }
+    {
+        self.before = Snapshot::of(&self.reader);
+        self.reader.read(room)
     }
 }
