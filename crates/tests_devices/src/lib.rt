@@ -8,6 +8,7 @@ pub mod scarce;
 use line_model::device::{CHUNK, Sink, Source};
 use line_model::history::{Count, History};
 use std::alloc::Global;
+use streams::room_source::RoomSource;
 
 /// Gives the bytes of a slice, at most `step` a call, and fails once `good` of them were given.
 #[derive(Drop)]
@@ -73,6 +74,8 @@ impl Source for CutSource<'_> {
         self.latest
     }
 }
+
+impl RoomSource for CutSource<'_> {}
 
 /// Takes bytes into memory, at most `step` a call, and fails at the call after so many good ones.
 #[derive(Drop)]

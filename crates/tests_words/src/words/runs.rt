@@ -16,6 +16,7 @@ use streams::io::{FileInput, WriteSink};
 use streams::opener::Opener;
 use streams::output::Output;
 use streams::progress::{Progress, ShowProgress};
+use streams::room_source::RoomSource;
 use tests_devices::{CutSink, CutSource, Cuts};
 
 /// The status of a run, and what was written.
@@ -68,6 +69,8 @@ impl Source for CutInput<'_> {
         self.source.latest
     }
 }
+
+impl RoomSource for CutInput<'_> {}
 
 impl Input for CutInput<'_> {
     ghost use Rattle.std.specs.Prelude.{None};
