@@ -84,11 +84,11 @@ fn live_packet<A: Allocator + Copy, C: Channel<A>>(
     requires { IsSound C.Channel (Reading.Report live.old) }
     ensures { IsSound C.Channel (Reading.Report live.new) }
 {
-    if !live.packet(number, side, octets)? {
-        return Ok(false);
+    let is_read = live.packet(number, side, octets)?;
+    if !live.found().is_empty() {
+        found.extend_from_slice(live.found())?;
     }
-    found.extend_from_slice(live.found())?;
-    Ok(true)
+    Ok(is_read)
 }
 
 impl<A: Allocator + Copy, C: Channel<A>> Reading<A, C> {

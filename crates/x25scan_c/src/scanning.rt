@@ -167,19 +167,16 @@ impl Scanning {
     pub(crate) fn next_finding(&mut self) -> Option<Finding>
         ensures { self.new.reading ≡ self.old.reading }
     {
-        let alloc = *self.found.allocator();
-        match self.found.as_slice().get(self.found_taken) {
-            Some(finding) => {
-                let finding = *finding;
-                self.found_taken = self.found_taken.saturating_add(1);
-                Some(finding)
-            }
-            None => {
-                self.found = Vec::new(alloc);
-                self.found_taken = 0;
-                None
-            }
+        if let Some(finding) = self.found.as_slice().get(self.found_taken) {
+            let finding = *finding;
+            self.found_taken = self.found_taken.saturating_add(1);
+            return Some(finding);
         }
+        if self.found_taken > 0 {
+            self.found = Vec::new(*self.found.allocator());
+            self.found_taken = 0;
+        }
+        None
     }
 
     /// Whether it prints rows.
