@@ -19,6 +19,7 @@ use trace_scan::block_queues::{BlockQueues, BlockSizes};
 use trace_scan::blocks::TraceText;
 use trace_scan::feeding::{Read, ReadingTask};
 use trace_scan::gate::{BlockGate, OpenGate};
+use trace_scan::room::Room;
 use trace_scan::text_cutter::TextCutter;
 use workers::{Crew, Worked, work_through};
 
@@ -52,8 +53,8 @@ fn read_by<P: Plan + TraceText + Send + Sync, R: Threads + Wait + Clock + Sync>(
     let queues = BlockQueues::<P, Global>::new(alloc, sizes).ok()?;
     let reading = ReadingTask {
         source: &mut source,
-        alloc,
         queues: &queues,
+        room: Some(Room::new(Vec::new(alloc)).ok()?),
         outcome: None,
     };
     let gate = BlockGate {
@@ -76,7 +77,7 @@ fn read<R: Threads + Wait + Clock + Sync>(
     rt: &R,
     alloc: Global,
     text: &[u8],
-    (step, least_read, most): Step,
+    (step, least_read, enough): Step,
     good: usize,
 ) -> Option<Result<Read, Fault>> {
     let cuts = Cuts {
@@ -84,7 +85,7 @@ fn read<R: Threads + Wait + Clock + Sync>(
         good_bytes: good,
         ..Cuts::none()
     };
-    let sizes = BlockSizes { least_read, most };
+    let sizes = BlockSizes { least_read, enough };
     read_by::<Brand, R>(rt, alloc, text, cuts, sizes)
 }
 

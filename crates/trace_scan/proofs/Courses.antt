@@ -1,7 +1,7 @@
 -- A text whose pieces are fed while it is read from a source.
 use Rattle.std.proofs.Common.{◌≡◌, ◌∙◌, sym, ap, subst, refl, ℕ, ◌+◌, ◌-◌, ◌≤◌, ◌^◌, ◌≢◌, List, [], ◌++◌, length, take, drop, Option, Some, None, Result, Ok, Err, append-nil, inl, inr, ◌⊎◌, arith}
 use Rattle.std.proofs.Math.Seq.{take-add, take-append_seam}
-use Rattle.std.specs.Prelude.{IfOk, IfErr, IfSome, OnOk}
+use Rattle.std.specs.Prelude.{IfOk, IfErr, IfSome}
 use Rattle.std.specs.Option.{option_map}
 use Rattle.line_model.specs.work.Book.{KnownPlan}
 use Rattle.line_model.specs.basics.Records.{Piece}
@@ -221,29 +221,9 @@ end_stopped known before after asked was_fed g all same w h e =
     subst (λ xs. IsRefusal (lag_of known) xs [] g) (append-nil w.text)
     (on_the_way (lag_of known) w.text [] [] g w.sound (omega arith) (subst (λ xs. IsFaultOf (early xs) g) (sym (append-nil w.text)) (fault_given all w.text [] g (at.0 ∙ sym (append-nil w.text)) (subst (λ o. IsFaultWithin o (length w.text) g) (same ∙ e) h))))
 
--- a chunk more was given, of which all but what is in flight was cut
-pub fed_more : {A T : Type 0} (r : Result T Fault) (known : Option (List ℕ)) (queue : QueueId) (start pass : PassView) (text : List ℕ) (sent total : ℕ) (room : List ℕ) (c : TextCutter A) → HasFedOn start pass → BeginsSo known text → length text ≡ total → length text ≤ 2 ^ 30
-    → OnOk r (IsHeld known queue pass sent room c) → OnOk r (sent + length room ≡ total) → OnOk r (sent + length room ≤ bytes_fed c.lines + in_flight)
-    → OnOk r (IsFedTextOf known queue start pass text sent room c)
-fed_more (Err f) known queue start pass text sent total room c fed begins is few held size near = tt
-fed_more (Ok u) known queue start pass text sent total room c fed begins is few held size near = record { fed = fed; begins = begins; size = is ∙ sym size; few = few; held = held; near = omega (arith, is, size, near) }
-
--- so it is where all of it was taken at once
-pub fed_now : {A T : Type 0} (r : Result T Fault) (known : Option (List ℕ)) (queue : QueueId) (start pass : PassView) (text : List ℕ) (sent total : ℕ) (room : List ℕ) (c : TextCutter A) → HasFedOn start pass → BeginsSo known text → length text ≡ total
-    → OnOk r (IsHeld known queue pass sent room c) → OnOk r (sent + length room ≡ total) → OnOk r (sent + length room ≤ 2 ^ 30) → OnOk r (bytes_fed c.lines ≡ sent) → OnOk r (room ≡ [])
-    → OnOk r (IsFedTextOf known queue start pass text sent room c)
-fed_now (Err f) known queue start pass text sent total room c fed begins is held size few all none = tt
-fed_now (Ok u) known queue start pass text sent total room c fed begins is held size few all none =
-    let empty : length room ≡ 0 = ap (λ (xs : List ℕ). length xs) none in
-    record { fed = fed; begins = begins; size = is ∙ sym size; few = omega (arith, is, size, few); held = held; near = omega (arith, is, size, all, empty) }
-
-pub refused_more : {T : Type 0} (r : Result T Fault) (known : Option (List ℕ)) (start pass : PassView) (few size : ℕ) → HasFedOn start pass → few ≤ size → IfErr r (IsFaultWithin known few) → IfErr r (IsRefusedText known start pass size)
-refused_more (Ok u) known start pass few size fed le h = tt
-refused_more (Err f) known start pass few size fed le h = record { fed = fed; refusal = fault_wider known few size f le h }
-
-pub no_failure : {T : Type 0} (r : Result T Fault) (known : Option (List ℕ)) (size : ℕ) → IfErr r (IsFaultWithin known size) → IfErr r (λ f. f ≢ ReadFailed)
-no_failure (Ok u) known size h = tt
-no_failure (Err f) known size h = λ e. no_read_fault f h.kinds e
+-- the same was fed where the room stays
+pub fed_same : {A : Type 0} (known : Option (List ℕ)) (queue : QueueId) (start pass : PassView) (text : List ℕ) (sent : ℕ) (room rest : List ℕ) (c : TextCutter A) → IsFedTextOf known queue start pass text sent room c → rest ≡ room → IsFedTextOf known queue start pass text sent rest c
+fed_same known queue start pass text sent room rest c h same = subst (λ xs. IsFedTextOf known queue start pass text sent xs c) (sym same) h
 
 pub text_fault : (known : Option (List ℕ)) (size : ℕ) (f : Fault) → IsFaultWithin known size f → f ≢ ReadFailed
 text_fault known size f h = λ e. no_read_fault f h.kinds e

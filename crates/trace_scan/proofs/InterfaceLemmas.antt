@@ -3,7 +3,7 @@ use Rattle.std.proofs.Common.{◌≡◌, ◌∙◌, sym, ap, refl, Bool, true, f
 use Rattle.std.proofs.lemmas.Bool.{eqb-true}
 use mathlib.Core.Bool.{beq}
 use Rattle.line_model.specs.declared.interface.Interface.{Interface}
-use Rattle.line_model.specs.text.Header.{HeaderNumbers, interface_with}
+use Rattle.line_model.specs.text.Header.{interface_with}
 use Rattle.trace_text.proofs.HeaderLemmas.{numbers_of, own_numbers}
 use Rattle.trace_text.proofs.NumberLemmas.{both}
 

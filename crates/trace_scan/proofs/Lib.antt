@@ -21,3 +21,5 @@ pub mod TriedLemmas
 pub mod TrialLanes
 pub mod EventLemmas
 pub mod HeaderLemmas
+pub mod Lags
+pub mod RoomLemmas

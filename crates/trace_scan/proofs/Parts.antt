@@ -15,7 +15,7 @@ use Rattle.shared_work.specs.queue.Passes.{PassView, QueueId}
 use Rattle.workers.specs.Workers.{HasFed}
 use Rattle.trace_scan.specs.TextBlocks.{StandsAt}
 use Rattle.trace_scan.specs.TextCuts.{HasTaken, IsPlanOf, known_pieces}
-use Rattle.trace_scan.specs.Readings.{HasFedOn, IsFaultWithin, IsFedSoFar, IsHeld}
+use Rattle.trace_scan.specs.Readings.{HasFedOn, IsFaultWithin, IsFedSoFar, IsHeld, in_flight}
 use Rattle.trace_scan.specs.declared.text_cutter.TextCutter.{TextCutter}
 use Rattle.trace_scan.proofs.Courses.{fault_wider, fed_on, plan_begun}
 use Rattle.trace_scan.proofs.Rows.{all_fed}
@@ -91,16 +91,6 @@ stands_more (Some whole) text chunk bytes place begins size s =
       place_is = s.place_is;
     }
 
--- a text as long as another one that begins so
-pub begins_same : (known : Option (List ℕ)) (text other chunk : List ℕ) → BeginsSo known text → BeginsSo known other → length text ≡ length other → BeginsSo known (other ++ chunk) → BeginsSo known (text ++ chunk)
-begins_same None text other chunk t o size h = tt
-begins_same (Some whole) text other chunk t o size h = subst (λ xs. BeginsSo (Some whole) (xs ++ chunk)) (same_front other text o.0 t.0 (sym o.1 ∙ t.1) (sym size)) h
-
--- the chunk itself stands at the end of what was given
-pub chunk_stands : (known : Option (List ℕ)) (text chunk : List ℕ) (place : ℕ) → BeginsSo known (text ++ chunk) → length text ≡ place → IfSome known (λ whole. StandsAt whole place chunk)
-chunk_stands None text chunk place begins size = tt
-chunk_stands (Some whole) text chunk place begins size = record { before = text; rest = begins.0; is = begins.1; place_is = size }
-
 -- ---- what is held of the text, where it is moved on
 
 pub more_sent : {A : Type 0} (known : Option (List ℕ)) (queue : QueueId) (pass : PassView) (sent more : ℕ) (c : TextCutter A) → IsFedSoFar known queue pass sent c → sent ≤ more → IsFedSoFar known queue pass more c
@@ -159,3 +149,20 @@ err_wider (Err f) known few size le h = fault_wider known few size f le h
 pub ok_is : {T : Type 0} (r : Result T Fault) (a b c : ℕ) → b ≡ c → OnOk r (a ≡ b) → OnOk r (a ≡ c)
 ok_is (Err f) a b c e h = tt
 ok_is (Ok u) a b c e h = h ∙ e
+
+pub ok_few : {T : Type 0} (r : Result T Fault) (a b n : ℕ) → b ≤ n → OnOk r (a ≡ b) → OnOk r (a ≤ n)
+ok_few (Err f) a b n le h = tt
+ok_few (Ok u) a b n le h = omega (arith, le, h)
+
+pub ok_holds : {T P : Type 0} (r : Result T Fault) → P → OnOk r P
+ok_holds (Err f) h = tt
+ok_holds (Ok u) h = h
+
+-- nothing stands after what was sent on, and all of that was taken
+pub few_none : {T : Type 0} (r : Result T Fault) (sent most : ℕ) (room : List ℕ) → room ≡ [] → OnOk r (sent ≤ most) → OnOk r (sent + length room ≤ most)
+few_none (Err f) sent most room none h = tt
+few_none (Ok u) sent most room none h = let empty : length room ≡ 0 = ap (λ (xs : List ℕ). length xs) none in omega (arith, empty, h)
+
+pub near_none : {T : Type 0} (r : Result T Fault) (taken sent : ℕ) (room : List ℕ) → room ≡ [] → OnOk r (taken ≡ sent) → OnOk r (sent + length room ≤ taken + in_flight)
+near_none (Err f) taken sent room none h = tt
+near_none (Ok u) taken sent room none h = let empty : length room ≡ 0 = ap (λ (xs : List ℕ). length xs) none in omega (arith, empty, h)

@@ -5,7 +5,6 @@ pub mod Scan
 pub mod Follow
 pub mod Threaded
 pub mod Headers
-pub mod Lags
 pub mod Watched
 pub mod Reactions
 pub mod Tried

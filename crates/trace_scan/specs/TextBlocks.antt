@@ -19,6 +19,11 @@ pub record BlockView : Type 0 where
   pub start : Start
   pub bytes : List ℕ
 
+-- what contracts see of a room: the bytes that were read, and how many more it has place for
+pub record RoomView : Type 0 where
+  pub items : List ℕ
+  pub spare : ℕ
+
 -- bytes stand at this place of a text
 pub record StandsAt (whole : List ℕ) (place : ℕ) (bytes : List ℕ) : Type 0 where
   pub before : List ℕ

@@ -24,8 +24,8 @@ pub const IN_FLIGHT: usize = MOST_BLOCKS * BLOCK_BYTES;
 pub struct BlockSizes {
     /// A read with fewer bytes is taken at once, with all before it.
     pub least_read: usize,
-    /// A block has no more bytes, unless a single read has.
-    pub most: usize,
+    /// The lines are a block once there are so many bytes.
+    pub enough: usize,
 }
 
 /// Blocks that wait to be read, and blocks that were read, in any order.

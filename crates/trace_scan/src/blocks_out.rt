@@ -1,6 +1,6 @@
 //! The blocks that are out of the hands of the reading thread.
 
-ghost use Rattle.std.specs.Prelude.{◌≡◌, [], IfErr, IfOk, IfSome};
+ghost use Rattle.std.specs.Prelude.{◌≡◌, IfErr, IfOk, IfSome};
 ghost use Rattle.std.specs.Bool.{OnTrue};
 ghost use Rattle.trace_scan.specs.TextBlocks.{IsBlockAt};
 
@@ -53,15 +53,10 @@ impl<'a, P: TraceText, A: Allocator + Copy> BlocksOut<'a, P, A> {
         }
     }
 
-    /// An empty list, which has the room of bytes that were taken, if there is one.
-    pub fn room(&mut self) -> Vec<u8, A>
-        ensures { result.items ≡ [] }
-    {
+    /// The memory of bytes that were taken, if there is some.
+    pub fn memory(&mut self) -> Vec<u8, A> {
         match self.rooms.pop() {
-            Some(mut bytes) => {
-                bytes.clear();
-                bytes
-            }
+            Some(bytes) => bytes,
             None => Vec::new(*self.rooms.allocator()),
         }
     }

@@ -1,8 +1,7 @@
 //! A source that is read to its end while the pieces of its trace are fed.
 
-ghost use Rattle.std.specs.Prelude.{◌≡◌, ◌≢◌, ℕ, ◌+◌, ◌<◌, ◌≤◌, ◌^◌, ◌++◌, [], List, IfErr, IfOk, IfSome, MatchOption, OnOk, false, true, length};
+ghost use Rattle.std.specs.Prelude.{◌≡◌, ◌≢◌, ℕ, ◌+◌, ◌<◌, ◌≤◌, ◌^◌, ◌++◌, [], List, Err, IfErr, IfOk, IfSome, MatchOption, OnOk, false, is_some, true, length};
 ghost use Rattle.std.specs.Option.{option_map};
-ghost use Rattle.std.proofs.Common.{sym};
 ghost use Rattle.line_model.specs.text.Text.{fault};
 ghost use Rattle.line_model.specs.declared.fault.Fault.TheVariants.{Memory};
 ghost use Rattle.line_model.specs.pieces.Plans.{plan};
@@ -10,20 +9,19 @@ ghost use Rattle.line_model.specs.basics.Records as records;
 ghost use Rattle.line_model.specs.traces.Traces.{trace_plan};
 ghost use Rattle.restart_epochs.specs.Cutting.{given_of};
 ghost use Rattle.trace_text.specs.Progress.{bytes_fed};
+ghost use Rattle.trace_text.specs.Sources.{IsFedAll, IsFedUpTo, MayBeFed};
 ghost use Rattle.trace_text.specs.StandsFor.{IsFaultOf, IsTextFault};
 ghost use Rattle.shared_work.specs.queue.Passes.{PassView};
 ghost use Rattle.workers.specs.Workers.{HasFed};
-ghost use Rattle.trace_scan.specs.Lags.{cut_sound};
-ghost use Rattle.trace_scan.specs.TextBlocks.{StandsAt};
 ghost use Rattle.trace_scan.specs.TextCuts.{HasCut, HasTaken, IsFedTo};
 ghost use Rattle.trace_scan.specs.Readings.{HasFedOn, HasRead, HasSentNone, IsCutOf, IsFaultWithin, IsFedTextOf, IsHeld, IsOutcome, IsPlanBegunSo, IsReadEnd, IsReadOf, IsRefusedText, in_flight, lag_of};
 
 use crate::block_queues::{BlockQueues, IN_FLIGHT};
 use crate::blocks::TraceText;
 use crate::blocks_out::BlocksOut;
+use crate::room::Room;
 use crate::taken_text::TakenText;
 use crate::text_cutter::{RefusedLines, RowCutter, TextCutter};
-use line_model::device::Source;
 use line_model::fault::Fault;
 use line_model::finding::Finding;
 use line_model::interface::Interface;
@@ -32,10 +30,9 @@ use memchr::memrchr;
 use restart_epochs::cutter::Cut;
 use shared_work::queue::{FeederPass, Work};
 use std::alloc::{Allocator, Global};
-use std::mem::replace;
 use std::sync::Wait;
 use std::time::Clock;
-use trace_text::consumer::{Consumer, read_to_end};
+use streams::room_source::RoomSource;
 use trace_text::lines::{LINE_LIMIT, TEXT_LIMIT};
 use workers::{Feed, feed_pieces};
 
@@ -132,42 +129,22 @@ fn whole_lines(bytes: &[u8]) -> usize
 struct FedText<'a, P: Plan + TraceText, A: Allocator, R> {
     taken: TakenText<'a, P, A, R>,
     /// What stands after the bytes that were sent on.
-    room: Vec<u8, A>,
+    room: Room<A>,
 }
 
 impl<'a, P: Plan + TraceText, A: Allocator + Copy, R: Wait + Clock> FedText<'a, P, A, R> {
-    /// The lines by which the text was refused after its first row.
+    /// The lines by which the text was refused.
     fn into_refused(self) -> Option<RefusedLines<A>> {
         let FedText { taken, .. } = self;
         let TakenText { text, .. } = taken;
         text.into_refused()
     }
 
-    /// Whether the text has more bytes with these than a text may have.
-    fn passes_limit(&self, chunk: &[u8]) -> bool
-        requires few { self.now.taken.sent + length self.now.room.items ≤ 2 ^ 30 }
-        ensures { result ≡ false
-            → self.now.taken.sent + length self.now.room.items + length chunk.now ≤ 2 ^ 30 }
+    /// Whether the text has more bytes than a text may have.
+    fn passes_limit(&self) -> bool
+        ensures { result ≡ false → self.now.taken.sent + length self.now.room.items ≤ 2 ^ 30 }
     {
-        let given = self.taken.sent as usize + self.room.len();
-        chunk.len() > TEXT_LIMIT as usize - given
-    }
-
-    /// Appends a chunk to the room. `false`: the text would be longer than one may be, or memory is refused, and nothing
-    /// has changed.
-    fn append(&mut self, chunk: &[u8]) -> bool
-        requires few { self.old.taken.sent + length self.old.room.items ≤ 2 ^ 30 }
-        ensures same { (self.new.taken.sent ≡ self.old.taken.sent)
-            × (self.new.taken.text ≡ self.old.taken.text)
-            × (self.new.taken.work.now ≡ self.old.taken.work.now) }
-        ensures appended { result ≡ true → (self.new.room.items ≡ self.old.room.items ++ chunk.now)
-            × (self.old.taken.sent + length self.old.room.items + length chunk.now ≤ 2 ^ 30) }
-        ensures kept { result ≡ false → self.new.room.items ≡ self.old.room.items }
-    {
-        if self.passes_limit(chunk) {
-            return false;
-        }
-        self.room.extend_from_slice(chunk).is_ok()
+        self.room.len().saturating_add(self.taken.sent as usize) > TEXT_LIMIT as usize
     }
 
     /// The first bytes of the room, whose rest begins the next one. `None`: memory is refused, and nothing has changed.
@@ -179,11 +156,8 @@ impl<'a, P: Plan + TraceText, A: Allocator + Copy, R: Wait + Clock> FedText<'a, 
         ensures parts { MatchOption result (self.new.room.items ≡ self.old.room.items)
             (λ lines. self.old.room.items ≡ lines.items ++ self.new.room.items) }
     {
-        let mut next = self.taken.blocks.room();
-        next.extend_from_slice(&self.room[count..]).ok()?;
-        let mut lines = replace(&mut self.room, next);
-        lines.truncate(count);
-        Some(lines)
+        let memory = self.taken.blocks.memory();
+        self.room.split(count, memory)
     }
 
     /// Takes the blocks that are out, and then all of the room.
@@ -198,36 +172,41 @@ impl<'a, P: Plan + TraceText, A: Allocator + Copy, R: Wait + Clock> FedText<'a, 
         ensures sent { OnOk result (self.new.taken.sent ≡ self.old.taken.sent
             + length self.old.room.items) }
         ensures none { self.new.room.items ≡ [] }
+        ensures wide { 2 ^ 16 ≤ self.new.room.spare }
         ensures size { OnOk result (self.new.taken.sent + length self.new.room.items
             ≡ self.old.taken.sent + length self.old.room.items) }
+        ensures limit { OnOk result (self.new.taken.sent + length self.new.room.items ≤ 2 ^ 30) }
         ensures refused { IfErr result (IsFaultWithin P.text (self.old.taken.sent
             + length self.old.room.items)) }
     {
-        let none = Vec::new(*self.room.allocator());
-        let room = replace(&mut self.room, none);
-        self.taken.take(room.as_slice(), pass)
+        let taken = self.taken.take(self.room.as_slice(), pass);
+        self.room.clear();
+        taken
     }
 
-    /// Takes the blocks that are out, then all of the room, and then a chunk after it.
-    fn take_now(&mut self, chunk: &[u8], pass: &mut FeederPass<A>) -> Result<(), Fault>
+    /// The text has ended: takes the blocks that are out and all of the room, whose last line may be refused yet.
+    fn take_rest(
+        &mut self,
+        rest: &mut Option<RefusedLines<A>>,
+        pass: &mut FeederPass<A>,
+    ) -> Result<(), Fault>
         requires plan { P.pieces ≡ option_map trace_plan P.text }
         requires held { IsHeld P.text self.old.taken.work.now.queue pass.old self.old.taken.sent
             self.old.room.items self.old.taken.text }
-        requires next { IfSome P.text (λ whole. StandsAt whole (self.old.taken.sent
-            + length self.old.room.items) chunk.now) }
         ensures fed { HasFedOn pass.old pass.new }
         ensures held { OnOk result (IsHeld P.text self.new.taken.work.now.queue pass.new
             self.new.taken.sent self.new.room.items self.new.taken.text) }
         ensures all { OnOk result (bytes_fed self.new.taken.text.lines ≡ self.new.taken.sent) }
-        ensures size { OnOk result (self.new.taken.sent + length self.new.room.items
-            ≡ self.old.taken.sent + length self.old.room.items + length chunk.now) }
-        ensures limit { OnOk result (self.new.taken.sent + length self.new.room.items ≤ 2 ^ 30) }
-        ensures none { OnOk result (self.new.room.items ≡ []) }
+        ensures sent { OnOk result (self.new.taken.sent ≡ self.old.taken.sent
+            + length self.old.room.items) }
         ensures refused { IfErr result (IsFaultWithin P.text (self.old.taken.sent
-            + length self.old.room.items + length chunk.now)) }
+            + length self.old.room.items)) }
     {
-        self.take_room(pass)?;
-        self.taken.take(chunk, pass)
+        self.taken.take_until(0, pass)?;
+        let number_before = self.taken.text.last_number();
+        let alloc = *self.room.allocator();
+        *rest = RefusedLines::of(alloc, self.room.as_slice(), number_before);
+        self.take_room(pass)
     }
 
     /// Takes these lines of the room, which ends a line before its rest, or hands them out as a block.
@@ -283,8 +262,9 @@ impl<'a, P: Plan + TraceText, A: Allocator + Copy, R: Wait + Clock> FedText<'a, 
         self.send(lines, at_once, pass)
     }
 
-    /// Hands the whole lines of the room out, where they are as many as a block may have with this chunk.
-    fn make_room(&mut self, chunk: &[u8], pass: &mut FeederPass<A>) -> Result<(), Fault>
+    /// Hands the whole lines of the room out where they are enough for a block. Takes them at once where the last read gave
+    /// few bytes, or no row was read yet.
+    fn send_ready(&mut self, last_read: usize, pass: &mut FeederPass<A>) -> Result<(), Fault>
         requires plan { P.pieces ≡ option_map trace_plan P.text }
         requires held { IsHeld P.text self.old.taken.work.now.queue pass.old self.old.taken.sent
             self.old.room.items self.old.taken.text }
@@ -297,25 +277,19 @@ impl<'a, P: Plan + TraceText, A: Allocator + Copy, R: Wait + Clock> FedText<'a, 
         ensures refused { IfErr result (IsFaultWithin P.text (self.old.taken.sent
             + length self.old.room.items)) }
     {
-        if chunk.len()
-            <= self
-                .taken
-                .blocks
-                .sizes()
-                .most
-                .saturating_sub(self.room.len())
-        {
+        let sizes = self.taken.blocks.sizes();
+        let at_once = last_read < sizes.least_read || self.taken.text.start().is_none();
+        if !at_once && self.room.len() < sizes.enough {
             return Ok(());
         }
-        self.send_lines(false, pass)
+        self.send_lines(at_once, pass)
     }
 
-    /// Takes the whole lines of the room at once where the source gives few bytes, or no row was read yet.
-    fn take_early(&mut self, chunk: &[u8], pass: &mut FeederPass<A>) -> Result<(), Fault>
+    /// Makes room for a read. Takes all of the room where memory is refused.
+    fn widen(&mut self, pass: &mut FeederPass<A>) -> Result<(), Fault>
         requires plan { P.pieces ≡ option_map trace_plan P.text }
         requires held { IsHeld P.text self.old.taken.work.now.queue pass.old self.old.taken.sent
             self.old.room.items self.old.taken.text }
-        requires few { self.old.taken.sent + length self.old.room.items ≤ 2 ^ 30 }
         ensures fed { HasFedOn pass.old pass.new }
         ensures held { OnOk result (IsHeld P.text self.new.taken.work.now.queue pass.new
             self.new.taken.sent self.new.room.items self.new.taken.text) }
@@ -323,12 +297,12 @@ impl<'a, P: Plan + TraceText, A: Allocator + Copy, R: Wait + Clock> FedText<'a, 
             ≡ self.old.taken.sent + length self.old.room.items) }
         ensures refused { IfErr result (IsFaultWithin P.text (self.old.taken.sent
             + length self.old.room.items)) }
+        ensures wide { OnOk result (2 ^ 16 ≤ self.new.room.spare) }
     {
-        let is_long = chunk.len() >= self.taken.blocks.sizes().least_read;
-        if is_long && self.taken.text.start().is_some() {
+        if self.room.widen() {
             return Ok(());
         }
-        self.send_lines(true, pass)
+        self.take_room(pass)
     }
 
     /// Takes blocks until no more bytes are in flight than may be.
@@ -343,6 +317,7 @@ impl<'a, P: Plan + TraceText, A: Allocator + Copy, R: Wait + Clock> FedText<'a, 
             ≡ self.old.taken.sent + length self.old.room.items) }
         ensures near { OnOk result (self.new.taken.sent + length self.new.room.items
             ≤ bytes_fed self.new.taken.text.lines + in_flight) }
+        ensures wide { 2 ^ 16 ≤ self.old.room.spare → 2 ^ 16 ≤ self.new.room.spare }
         ensures refused { IfErr result (IsFaultWithin P.text (self.old.taken.sent
             + length self.old.room.items)) }
     {
@@ -351,35 +326,67 @@ impl<'a, P: Plan + TraceText, A: Allocator + Copy, R: Wait + Clock> FedText<'a, 
             None => self.take_room(pass),
         }
     }
-}
 
-impl<P: Plan + TraceText, A: Allocator + Copy, R: Wait + Clock> Consumer<FeederPass<A>>
-    for FedText<'_, P, A, R> {
-    ghost was_fed = { λ first start now pass text. IsFedTextOf P.text now.taken.work.now.queue start pass text now.taken.sent now.room.items now.taken.text };
-
-    ghost refused = { λ first start now pass text last told. IsRefusedText P.text start pass (length (text ++ last)) told };
-
-    // The text is the one that the source tells, if it tells one, and the plan is that of it.
-    ghost expects = { λ text. IsPlanBegunSo P.pieces P.text text };
-
-    ghost lag = { lag_of P.text };
-
-    ghost size = { λ now. now.taken.sent + length now.room.items };
-
-    fn feed(&mut self, chunk: &[u8], pass: &mut FeederPass<A>) -> Result<(), Fault> {
-        self.make_room(chunk, pass)?;
-        if !self.append(chunk) {
-            return self.take_now(chunk, pass);
+    /// Goes on with a text whose last read gave so many bytes, which stand at the end of the room.
+    fn take_read(&mut self, last_read: usize, pass: &mut FeederPass<A>) -> Result<(), Fault>
+        requires plan { P.pieces ≡ option_map trace_plan P.text }
+        requires held { IsHeld P.text self.old.taken.work.now.queue pass.old self.old.taken.sent
+            self.old.room.items self.old.taken.text }
+        ensures fed { HasFedOn pass.old pass.new }
+        ensures held { OnOk result (IsHeld P.text self.new.taken.work.now.queue pass.new
+            self.new.taken.sent self.new.room.items self.new.taken.text) }
+        ensures size { OnOk result (self.new.taken.sent + length self.new.room.items
+            ≡ self.old.taken.sent + length self.old.room.items) }
+        ensures refused { IfErr result (IsFaultWithin P.text (self.old.taken.sent
+            + length self.old.room.items)) }
+        ensures limit { OnOk result (self.new.taken.sent + length self.new.room.items ≤ 2 ^ 30) }
+        ensures near { OnOk result (self.new.taken.sent + length self.new.room.items
+            ≤ bytes_fed self.new.taken.text.lines + in_flight) }
+        ensures wide { OnOk result (2 ^ 16 ≤ self.new.room.spare) }
+    {
+        if self.passes_limit() {
+            return self.take_room(pass);
         }
-        self.take_early(chunk, pass)?;
+        self.send_ready(last_read, pass)?;
+        self.widen(pass)?;
         self.keep_up(pass)
     }
+}
 
-    ghost sound = { λ first start now pass text fed. cut_sound P.text now.taken.work.now.queue start pass text now.taken.sent now.room.items now.taken.text fed };
-
-    ghost sized = { λ first start now pass text fed. sym fed.size };
-
-    ghost few = { λ first start now pass text fed. fed.few };
+/// Reads a source to its end, each read behind the bytes of the room. It stops at the first refusal, and with
+/// `Fault::Read` where the source fails.
+fn read_text<P: Plan + TraceText, A: Allocator + Copy, S: RoomSource, R: Wait + Clock>(
+    source: &mut S,
+    fed: &mut FedText<'_, P, A, R>,
+    pass: &mut FeederPass<A>,
+) -> Result<(), Fault>
+    requires nothing { IsFedTextOf P.text fed.old.taken.work.now.queue pass.old pass.old []
+        fed.old.taken.sent fed.old.room.items fed.old.taken.text }
+    requires wide { 2 ^ 16 ≤ fed.old.room.spare }
+    requires expected { MayBeFed (S.left source.old) (IsPlanBegunSo P.pieces P.text) }
+    requires plan { P.pieces ≡ option_map trace_plan P.text }
+    ensures whole { OnOk result (IsFedAll (lag_of P.text) (S.left source.old) (S.left source.new)
+        (S.before source.new) (λ text. IsFedTextOf P.text fed.new.taken.work.now.queue pass.old
+        pass.new text fed.new.taken.sent fed.new.room.items fed.new.taken.text)) }
+    // At a refusal all was fed that the source gave before its last call.
+    ensures stopped { IfErr result (IsFedUpTo (lag_of P.text) (S.left source.old) (S.left source.new)
+        (S.before source.new) (λ text. IsFedTextOf P.text fed.new.taken.work.now.queue pass.old
+        pass.new text fed.new.taken.sent fed.new.room.items fed.new.taken.text)
+        (λ text last. IsRefusedText P.text pass.old pass.new (length (text ++ last)))) }
+    ensures read_failed { result ≡ Err Fault.Read → S.failures source.old < S.failures source.new }
+    // The source is asked at least once.
+    ensures called { S.calls source.old < S.calls source.new }
+    ensures asked { S.calls source.new ≤ S.calls source.old + (2 ^ 30 + 1) }
+{
+    loop {
+        let Ok(last_read) = fed.room.read(source) else {
+            return Err(Fault::Read);
+        };
+        if last_read == 0 {
+            return Ok(());
+        }
+        fed.take_read(last_read, pass)?;
+    }
 }
 
 /// The source has failed: takes what was given, and returns its fault, or else that of the source.
@@ -423,7 +430,7 @@ fn last_fault<P: Plan + TraceText, A: Allocator + Copy, R: Wait + Clock>(
 /// Reads a source to its end. The pieces of its trace are fed as soon as they are known whole. What was given is taken
 /// before the failure of the source is returned, so that it hides no faulty line. Where lines are refused, they are kept
 /// apart.
-fn read_all<P: Plan + TraceText, A: Allocator + Copy, S: Source, R: Wait + Clock>(
+fn read_all<P: Plan + TraceText, A: Allocator + Copy, S: RoomSource, R: Wait + Clock>(
     source: &mut S,
     fed: FedText<'_, P, A, R>,
     pass: &mut FeederPass<A>,
@@ -432,6 +439,7 @@ fn read_all<P: Plan + TraceText, A: Allocator + Copy, S: Source, R: Wait + Clock
     requires queue { pass.old.queue ≡ fed.taken.work.now.queue }
     requires first { (pass.old.record_of.fed ≡ 0) × (pass.old.record_of.ends ≡ 0) }
     requires none { pass.old.pieces ≡ [] }
+    requires wide { 2 ^ 16 ≤ fed.room.spare }
     requires begun { HasSentNone fed.taken.sent fed.room.items × HasTaken [] fed.taken.text }
     requires text { P.text ≡ S.left source.old }
     requires plan { P.pieces ≡ option_map trace_plan P.text }
@@ -443,9 +451,9 @@ fn read_all<P: Plan + TraceText, A: Allocator + Copy, S: Source, R: Wait + Clock
     ensures asked { S.calls source.new ≤ S.calls source.old + (2 ^ 30 + 1) }
 {
     let mut fed = fed;
-    match read_to_end(source, &mut fed, pass) {
+    match read_text(source, &mut fed, pass) {
         Ok(()) => {
-            if let Err(fault) = fed.take_room(pass) {
+            if let Err(fault) = fed.take_rest(refused, pass) {
                 *refused = fed.into_refused();
                 return Err(fault);
             }
@@ -461,13 +469,20 @@ fn read_all<P: Plan + TraceText, A: Allocator + Copy, S: Source, R: Wait + Clock
     }
 }
 
-/// Gives a source the lines that were refused.
-fn give_back<A: Allocator, S: Source>(source: &mut S, refused: Option<RefusedLines<A>>)
+/// Gives a source the lines that were refused, where reading it ended so.
+fn give_back<A: Allocator, S: RoomSource>(
+    source: &mut S,
+    outcome: &Result<Read<A>, Fault>,
+    refused: Option<RefusedLines<A>>,
+)
     ensures left { S.left source.new ≡ S.left source.old }
     ensures before { S.before source.new ≡ S.before source.old }
     ensures calls { S.calls source.new ≡ S.calls source.old }
     ensures failures { S.failures source.new ≡ S.failures source.old }
 {
+    if outcome.is_ok() {
+        return;
+    }
     if let Some(refused) = refused {
         source.keep_refused(refused.lines.as_slice(), refused.number_before);
     }
@@ -478,15 +493,16 @@ fn give_back<A: Allocator, S: Source>(source: &mut S, refused: Option<RefusedLin
 #[derive(Drop)]
 pub struct ReadingTask<'a, P: Plan + TraceText, A: Allocator, S> {
     pub source: &'a mut S,
-    pub alloc: A,
     pub queues: &'a BlockQueues<P, A>,
+    /// The room of the first block; none after it was read.
+    pub room: Option<Room<A>>,
     pub outcome: Option<Result<Read<A>, Fault>>,
 }
 
-impl<'a, P: Plan + TraceText, A: Allocator + Copy, S: Source> Feed<P, A>
+impl<'a, P: Plan + TraceText, A: Allocator + Copy, S: RoomSource> Feed<P, A>
     for ReadingTask<'a, P, A, S> {
     // The plan is that of the bytes that the source tells.
-    ghost can_feed = { λ task. (P.text ≡ S.left task.source.now) × (P.pieces ≡ option_map trace_plan P.text) };
+    ghost can_feed = { λ task. (P.text ≡ S.left task.source.now) × (P.pieces ≡ option_map trace_plan P.text) × (is_some task.room ≡ true) };
 
     ghost feed_gives = { λ task fed after. (after.source.ghost_name ≡ task.source.ghost_name) × IsOutcome (S.left task.source.now) (S.left after.source.now) (S.before after.source.now) (S.failures task.source.now < S.failures after.source.now) fed after.outcome × (S.calls task.source.now < S.calls after.source.now) × (S.calls after.source.now ≤ S.calls task.source.now + (2 ^ 30 + 1)) };
 
@@ -499,10 +515,15 @@ impl<'a, P: Plan + TraceText, A: Allocator + Copy, S: Source> Feed<P, A>
     fn feed<R: Wait + Clock>(self, rt: &R, work: &Work<P, A>, pass: &mut FeederPass<A>) -> Self {
         let ReadingTask {
             source,
-            alloc,
             queues,
+            room,
             ..
         } = self;
+        let Some(mut room) = room else {
+            unreachable!();
+        };
+        room.clear();
+        let alloc = *room.allocator();
         let fed = FedText {
             taken: TakenText {
                 rt,
@@ -511,16 +532,16 @@ impl<'a, P: Plan + TraceText, A: Allocator + Copy, S: Source> Feed<P, A>
                 blocks: BlocksOut::new(alloc, queues),
                 sent: 0,
             },
-            room: Vec::new(alloc),
+            room,
         };
         let mut refused = None;
-        let outcome = Some(read_all(source, fed, pass, &mut refused));
-        give_back(source, refused);
+        let outcome = read_all(source, fed, pass, &mut refused);
+        give_back(source, &outcome, refused);
         ReadingTask {
             source,
-            alloc,
             queues,
-            outcome,
+            room: None,
+            outcome: Some(outcome),
         }
     }
 }

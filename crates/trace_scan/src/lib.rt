@@ -10,6 +10,7 @@ pub mod gate;
 mod headers;
 mod reactions;
 mod reading;
+pub mod room;
 pub mod scan;
 mod taken_text;
 pub mod text_cutter;

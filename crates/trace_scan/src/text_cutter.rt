@@ -33,11 +33,24 @@ pub(crate) fn item_of_row<'a, A: Allocator>(
     row.item(decode(interface, row.octets.as_slice()))
 }
 
-/// Whole lines that were refused, and the number of the row before them, or 0.
+/// Lines that were refused, and the number of the row before them, or 0 where none is known.
 #[derive(Drop)]
 pub struct RefusedLines<A: Allocator = Global> {
     pub lines: Vec<u8, A>,
     pub number_before: u32,
+}
+
+impl<A: Allocator> RefusedLines<A> {
+    /// A copy of lines that may be refused. `None`: memory for it is refused.
+    #[cold]
+    pub fn of(alloc: A, lines: &[u8], number_before: u32) -> Option<Self> {
+        let mut copy = Vec::new(alloc);
+        copy.extend_from_slice(lines).ok()?;
+        Some(RefusedLines {
+            lines: copy,
+            number_before,
+        })
+    }
 }
 
 /// The cutter of a text whose header was read.
@@ -158,7 +171,7 @@ pub struct TextCutter<A: Allocator = Global> {
     row: ReadRow<A>,
     /// Made once the first row was read.
     row_cutter: Option<RowCutter<A>>,
-    /// The lines by which the text was refused after its first row; none where memory for them was refused.
+    /// The lines by which the text was refused; none where memory for them was refused.
     refused: Option<RefusedLines<A>>,
 }
 
@@ -180,28 +193,16 @@ impl<A: Allocator + Copy> TextCutter<A> {
         }
     }
 
-    /// The lines by which the text was refused after its first row.
+    /// The lines by which the text was refused.
     pub fn into_refused(self) -> Option<RefusedLines<A>> {
         self.refused
     }
 
     /// The number of the last row, where the text that was taken ends with its line; else 0.
-    fn last_number(&self) -> u32 {
+    pub fn last_number(&self) -> u32 {
         match self.lines.end_block(0) {
             Some(span) => span.last,
             None => 0,
-        }
-    }
-
-    /// Keeps lines that were refused after the row of this number.
-    #[cold]
-    fn keep_refused(&mut self, lines: &[u8], number_before: u32) {
-        let mut kept = Vec::new(*self.row.octets.allocator());
-        if number_before > 0 && kept.extend_from_slice(lines).is_ok() {
-            self.refused = Some(RefusedLines {
-                lines: kept,
-                number_before,
-            });
         }
     }
 
@@ -275,7 +276,8 @@ impl<A: Allocator + Copy> TextCutter<A> {
         match self.feed_into(bytes, &mut pieces) {
             Ok(()) => Ok(pieces),
             Err(fault) => {
-                self.keep_refused(bytes, number_before);
+                let alloc = *self.row.octets.allocator();
+                self.refused = RefusedLines::of(alloc, bytes, number_before);
                 Err(fault)
             }
         }

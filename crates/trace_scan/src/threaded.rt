@@ -14,7 +14,8 @@ use crate::block_queues::{BLOCK_BYTES, BlockQueues, BlockSizes};
 use crate::blocks::TraceText;
 use crate::feeding::{Read, ReadingTask};
 use crate::gate::BlockGate;
-use line_model::device::{Sink, Source};
+use crate::room::Room;
+use line_model::device::Sink;
 use line_model::fault::Fault;
 use line_model::lending::take_back;
 use line_model::piece::Plan;
@@ -27,6 +28,7 @@ use std::marker::Brand;
 use std::sync::Wait;
 use std::thread::{Threads, available_parallelism};
 use std::time::Clock;
+use streams::room_source::RoomSource;
 use workers::{Crew, Gate, Gathered, Worked, work_through};
 
 /// What the reading thread read, and what the workers made of its pieces.
@@ -67,7 +69,7 @@ fn block_sizes(rt: &impl Threads) -> BlockSizes {
     };
     BlockSizes {
         least_read,
-        most: BLOCK_BYTES,
+        enough: BLOCK_BYTES,
     }
 }
 
@@ -75,7 +77,7 @@ fn block_sizes(rt: &impl Threads) -> BlockSizes {
 fn work_on_trace<
     P: Plan + TraceText + Send + Sync,
     A: Allocator + Copy + Send + Sync,
-    S: Source,
+    S: RoomSource,
     G: Gate,
     R: Threads + Wait + Clock + Sync,
 >(rt: &R, alloc: A, source: &mut S, crew: Crew<'_, G>) -> Result<ScanParts<A>, Fault>
@@ -93,14 +95,15 @@ fn work_on_trace<
     ensures asked { S.calls source.new ≤ S.calls source.old + (2 ^ 30 + 1) }
 {
     let queues = BlockQueues::<P, A>::new(alloc, block_sizes(rt))?;
+    let room = Room::new(Vec::new(alloc))?;
     let gate = BlockGate {
         gate: crew.gate,
         queues: &queues,
     };
     let reading = ReadingTask {
         source,
-        alloc,
         queues: &queues,
+        room: Some(room),
         outcome: None,
     };
     let crew = Crew {
@@ -115,18 +118,22 @@ fn work_on_trace<
             let Worked { task, gathered } = worked;
             let ReadingTask {
                 source,
+                room,
                 outcome,
                 ..
             } = task;
+            drop(room);
             take_back(source);
             first_fault(outcome, gathered)
         }
         Err((reading, fault)) => {
             let ReadingTask {
                 source,
+                room,
                 outcome,
                 ..
             } = reading;
+            drop(room);
             take_back(source);
             drop(outcome);
             Err(fault)
@@ -152,7 +159,7 @@ pub struct Scan<A: Allocator = Global> {
 /// sink fails, in this order. The fault of a line is the text's however it goes on (`line_model::laws::fault`).
 pub fn scan_with<
     A: Allocator + Copy + Send + Sync,
-    S: Source,
+    S: RoomSource,
     K: Sink,
     G: Gate,
     R: Threads + Wait + Clock + Sync,

@@ -11,6 +11,7 @@ use std::process::Abort;
 use std::sync::Wait;
 use std::thread::Threads;
 use std::time::Clock;
+use streams::room_source::RoomSource;
 use tests_devices::Cuts;
 use tests_devices::scarce::Scarce;
 use trace_scan::gate::OpenGate;
@@ -56,6 +57,8 @@ impl Source for NotingSource<'_> {
         self.latest
     }
 }
+
+impl RoomSource for NotingSource<'_> {}
 
 /// What a scan answered and wrote, and how many growths were asked for before the source was, if it was.
 #[derive(Drop)]

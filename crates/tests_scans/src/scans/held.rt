@@ -20,6 +20,7 @@ use std::test::Fail;
 use std::thread::Threads;
 use std::time::Clock;
 use std::{array, thread};
+use streams::room_source::RoomSource;
 use tests_devices::Cuts;
 use trace_scan::gate::OpenGate;
 use workers::Gate;
@@ -234,6 +235,8 @@ impl Source for WaitingSource<'_> {
         self.latest
     }
 }
+
+impl RoomSource for WaitingSource<'_> {}
 
 /// Scans what a source gives that waits, and sees what it saw of the pieces.
 fn check_waiting<R: Threads + Wait + Clock + Sync + Abort>(

@@ -4,7 +4,7 @@ ghost use Rattle.std.specs.Prelude.{◌≡◌, ◌<◌, ◌≤◌};
 ghost use Rattle.std.specs.Option.{option_map};
 ghost use Rattle.line_model.specs.traces.Traces.{trace_plan};
 
-use line_model::device::{Sink, Source};
+use line_model::device::Sink;
 use line_model::fault::Fault;
 use line_model::piece::Plan;
 use report_merge::merging::merge;
@@ -14,17 +14,19 @@ use std::alloc::Allocator;
 use std::sync::Wait;
 use std::thread::Threads;
 use std::time::Clock;
+use streams::room_source::RoomSource;
 use trace_scan::block_queues::{BlockQueues, BlockSizes};
 use trace_scan::blocks::TraceText;
 use trace_scan::feeding::{Read, ReadingTask};
 use trace_scan::gate::BlockGate;
+use trace_scan::room::Room;
 use trace_scan::threaded::Scan;
 use workers::{Crew, Gate, Gathered, Worked, work_through};
 
 /// Each read of the source that ends a line is a block.
 pub const EACH_READ: BlockSizes = BlockSizes {
     least_read: 1,
-    most: 1,
+    enough: 1,
 };
 
 /// What a scan read, and what its workers made of the pieces.
@@ -62,7 +64,7 @@ impl<A: Allocator + Copy> Parts<A> {
 pub fn read_in_blocks<
     P: Plan + TraceText + Send + Sync,
     A: Allocator + Copy + Send + Sync,
-    S: Source,
+    S: RoomSource,
     G: Gate,
     R: Threads + Wait + Clock + Sync,
 >(
@@ -79,8 +81,8 @@ pub fn read_in_blocks<
 {
     let reading = ReadingTask {
         source,
-        alloc,
         queues,
+        room: Some(Room::new(Vec::new(alloc))?),
         outcome: None,
     };
     match work_through::<P, A, G, R, ReadingTask<P, A, S>>(rt, alloc, crew, reading) {
@@ -97,7 +99,7 @@ pub fn read_in_blocks<
 pub fn scan_in_blocks<
     P: Plan + TraceText + Send + Sync,
     A: Allocator + Copy + Send + Sync,
-    S: Source,
+    S: RoomSource,
     K: Sink,
     G: Gate,
     R: Threads + Wait + Clock + Sync,

@@ -2,6 +2,7 @@
 
 use line_model::device::{CHUNK, Source};
 use line_model::history::{Count, History};
+use streams::room_source::RoomSource;
 
 /// How many bytes the first lines have, with their LFs.
 pub fn length_of_lines(text: &[u8], lines: usize) -> usize {
@@ -67,3 +68,5 @@ impl Source for LineSource<'_> {
         self.latest
     }
 }
+
+impl RoomSource for LineSource<'_> {}

@@ -23,6 +23,7 @@ use std::sync::atomic::{AtomicBool, AtomicU64};
 use std::test::Fail;
 use std::thread::Threads;
 use std::time::Clock;
+use streams::room_source::RoomSource;
 use tests_devices::scarce::Scarce;
 use tests_devices::{CutSink, Cuts};
 use trace_scan::block_queues::BlockQueues;
@@ -203,8 +204,15 @@ impl Source for MeetingSource<'_> {
     }
 }
 
+impl RoomSource for MeetingSource<'_> {}
+
 /// Reads a text by the workers of a meeting.
-fn read_meeting<'m, P: Plan + TraceText + Send + Sync, S: Source, R: Threads + Wait + Clock + Sync>(
+fn read_meeting<
+    'm,
+    P: Plan + TraceText + Send + Sync,
+    S: RoomSource,
+    R: Threads + Wait + Clock + Sync,
+>(
     rt: &R,
     meeting: &'m Meeting<'m>,
     source: &mut S,

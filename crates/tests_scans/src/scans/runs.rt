@@ -1,7 +1,7 @@
 //! Scans over the devices of the tests.
 
 use crate::scans::in_blocks::scan_in_blocks;
-use line_model::device::{Sink, Source};
+use line_model::device::Sink;
 use line_model::fault::Fault;
 use line_model::totals::{Summary, Totals};
 use live_report::uncounted::Uncounted;
@@ -10,6 +10,7 @@ use std::marker::Brand;
 use std::sync::Wait;
 use std::thread::Threads;
 use std::time::Clock;
+use streams::room_source::RoomSource;
 use tests_devices::{CutSink, CutSource, Cuts};
 use trace_scan::following::follow;
 use trace_scan::gate::OpenGate;
@@ -67,7 +68,7 @@ fn unshared<A: Allocator>(heap: A, answer: Result<Summary, Fault>) -> Result<Sca
 
 fn scan_by<
     A: Allocator + Copy + Send + Sync,
-    S: Source,
+    S: RoomSource,
     K: Sink,
     G: Gate,
     R: Threads + Wait + Clock + Sync,
@@ -98,7 +99,7 @@ fn scan_by<
 /// Scans what a source gives.
 pub fn scan_from<
     A: Allocator + Copy + Send + Sync,
-    S: Source,
+    S: RoomSource,
     G: Gate,
     R: Threads + Wait + Clock + Sync,
 >(rt: &R, heap: A, alloc: Global, gate: &G, way: Way, source: &mut S, cuts: Cuts) -> Scanned<A> {

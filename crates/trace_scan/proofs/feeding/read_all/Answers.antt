@@ -6,23 +6,23 @@ use Rattle.trace_scan.proofs.Courses.{all_taken, at_end, end_stopped, has_read, 
 use Rattle.trace_scan.proofs.Parts.{taken_length}
 use Rattle.trace_scan.proofs.feeding.read_all.Goals as goal
 
-pub read_to_end-requires-clause-nothing : goal.read_to_end-requires-clause-nothing
-read_to_end-requires-clause-nothing g c = nothing_fed g.P.TraceText.text c.args.fed.taken.work.now.queue c.args.pass.now c.args.fed.taken.sent c.args.fed.room.items c.args.fed.taken.text c.requires.begun.0 c.requires.begun.1 c.requires.first.0 c.requires.first.1 c.requires.none c.requires.queue
+pub read_text-requires-clause-nothing : goal.read_text-requires-clause-nothing
+read_text-requires-clause-nothing g c = nothing_fed g.P.TraceText.text c.args.fed.taken.work.now.queue c.args.pass.now c.args.fed.taken.sent c.args.fed.room.items c.args.fed.taken.text c.requires.begun.0 c.requires.begun.1 c.requires.first.0 c.requires.first.1 c.requires.none c.requires.queue
 
-pub read_to_end-requires-clause-expected : goal.read_to_end-requires-clause-expected
-read_to_end-requires-clause-expected g c = plan_expected g.P.Plan.pieces g.P.TraceText.text (g.S.Source.left c.args.source.now) c.requires.text c.requires.plan
+pub read_text-requires-clause-expected : goal.read_text-requires-clause-expected
+read_text-requires-clause-expected g c = plan_expected g.P.Plan.pieces g.P.TraceText.text (g.S.Source.left c.args.source.now) c.requires.text c.requires.plan
 
 -- ---- the source has ended
 
-pub take_room-requires-clause-held : goal.take_room-requires-clause-held
-take_room-requires-clause-held g c = c.in-Ok.ensures.whole.fed.held
+pub take_rest-requires-clause-held : goal.take_rest-requires-clause-held
+take_rest-requires-clause-held g c = c.in-Ok.ensures.whole.fed.held
 
-pub returns-in-Err-take_room-clause-read : goal.returns-in-Err-take_room-clause-read
-returns-in-Err-take_room-clause-read g c =
+pub returns-in-Err-take_rest-clause-read : goal.returns-in-Err-take_rest-clause-read
+returns-in-Err-take_rest-clause-read g c =
     let w = c.in-Ok.ensures.whole in
-    let refused = c.in-Err-take_room.fault in
-    let within = subst (λ n. IsFaultWithin g.P.TraceText.text n refused) (sym w.fed.size) c.in-Err-take_room.ensures.refused in
-    has_read g.P.TraceText.text (g.S.Source.left c.args.source.now) (g.S.Source.left c.read_to_end.new.source) (g.S.Source.before c.read_to_end.new.source) _ _ c.take_room.new.pass.pieces (Err refused) c.requires.text w (λ all e. tt) tt
+    let refused = c.in-Err-take_rest.fault in
+    let within = subst (λ n. IsFaultWithin g.P.TraceText.text n refused) (sym w.fed.size) c.in-Err-take_rest.ensures.refused in
+    has_read g.P.TraceText.text (g.S.Source.left c.args.source.now) (g.S.Source.left c.read_text.new.source) (g.S.Source.before c.read_text.new.source) _ _ c.take_rest.new.pass.pieces (Err refused) c.requires.text w (λ all e. tt) tt
     (λ all e. end_stopped g.P.TraceText.text _ _ _ _ refused all c.requires.text w within e) within.kinds
 
 pub finish-requires-clause-ready : goal.finish-requires-clause-ready
@@ -42,7 +42,7 @@ returns-in_default-clause-read g c =
     let size : length so.taken ≡ length w.text = sym (taken_length so.taken _ so.cut.taken) ∙ c.in_default.ensures.all ∙ c.in_default.ensures.sent ∙ sym w.fed.size in
     let is = all_taken g.P.TraceText.text w.text so.taken w.fed.begins so.begins size in
     let told : (all : List ℕ) → g.S.Source.left c.args.source.now ≡ Some all → so.taken ≡ w.text = λ all e. told_taken g.P.TraceText.text (g.S.Source.left c.args.source.now) w.text so.taken all c.requires.text is e in
-    has_read g.P.TraceText.text (g.S.Source.left c.args.source.now) (g.S.Source.left c.read_to_end.new.source) (g.S.Source.before c.read_to_end.new.source) _ _ c.finish.new.pass.pieces c.finish.result c.requires.text w
+    has_read g.P.TraceText.text (g.S.Source.left c.args.source.now) (g.S.Source.left c.read_text.new.source) (g.S.Source.before c.read_text.new.source) _ _ c.finish.new.pass.pieces c.finish.result c.requires.text w
     (λ all e. subst (λ t. IfOk c.finish.result (IsReadOf t c.finish.new.pass.pieces)) (told all e) (c.finish.ensures.read so.taken so.cut))
     (IfOk-weaker c.finish.result _ _ (λ read h. (so.taken, h)) (c.finish.ensures.read so.taken so.cut))
     (λ all e. subst (λ t. IfErr c.finish.result (IsRefusal (lag_of g.P.TraceText.text) t [])) (told all e) (IfErr-weaker c.finish.result _ _ (λ f h. at_end (lag_of g.P.TraceText.text) so.taken f so.cut.taken.reads.sound h) (c.finish.ensures.refused so.taken so.cut)))
@@ -55,7 +55,7 @@ last_fault-last-requires-clause-held g c = let u = c.in-Err.ensures.stopped in s
 
 pub returns-in-Err-clause-read : goal.returns-in-Err-clause-read
 returns-in-Err-clause-read g c =
-    stop_read g.P.TraceText.text (g.S.Source.left c.args.source.now) (g.S.Source.left c.read_to_end.new.source) (g.S.Source.before c.read_to_end.new.source) _ _ _ _ _ _ _ c.last_fault-last.new.pass.pieces c.in-Err.fault c.last_fault-last.result c.requires.text c.in-Err.ensures.stopped
+    stop_read g.P.TraceText.text (g.S.Source.left c.args.source.now) (g.S.Source.left c.read_text.new.source) (g.S.Source.before c.read_text.new.source) _ _ _ _ _ _ _ c.last_fault-last.new.pass.pieces c.in-Err.fault c.last_fault-last.result c.requires.text c.in-Err.ensures.stopped
     c.last_fault-last.ensures.other c.last_fault-last.ensures.read (λ e. c.in-Err.ensures.read_failed (ap (λ f. Err f) e))
 
 pub returns-in-Err-clause-kept : goal.returns-in-Err-clause-kept

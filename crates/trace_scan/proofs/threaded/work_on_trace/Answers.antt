@@ -31,6 +31,11 @@ returns-in_err-queues-clause-stopped g c =
     passed_on c.from_residual.result c.in_err-queues.field-0.0 _ c.from_residual.ensures.1
     (unfed_stopped (g.S.Source.left c.args.source.now) (g.S.Source.left c.args.source.now) (g.S.Source.before c.args.source.now) c.in_err-queues.field-0.0 refl (inl c.in_err-queues.ensures.refused))
 
+pub returns-in_err-room-clause-stopped : goal.returns-in_err-room-clause-stopped
+returns-in_err-room-clause-stopped g c =
+    passed_on c.from_residual-in_err-room.result c.in_err-room.field-0.0 _ c.from_residual-in_err-room.ensures.1
+    (unfed_stopped (g.S.Source.left c.args.source.now) (g.S.Source.left c.args.source.now) (g.S.Source.before c.args.source.now) c.in_err-room.field-0.0 refl (inl c.in_err-room.ensures.refused))
+
 pub returns-clause-stopped : goal.returns-clause-stopped
 returns-clause-stopped g c =
     let same : c.source-in-Err-1.given.0 ≡ c.args.source.now = search rules in
