@@ -12,7 +12,7 @@ returns-clause-read g c =
     let there : c.self.inside.len ≤ length c.self.inside.bytes.items = search rules in (
       take count c.read_into.new.room,
       read_behind c.self.inside.bytes.items c.deref_mut.result.now c.read_into.new.room _ _ c.self.inside.len count c.self.inside.bytes.len c.deref_mut.ensures.value there few within
-      ∙ ap (λ xs. xs ++ take count c.read_into.new.room) (ap (λ (r : RoomView). r.items) c.self.view_is),
+          ∙ ap (λ xs. xs ++ take count c.read_into.new.room) (ap (λ (r : RoomView). r.items) c.self.view_is),
       length-take-le count c.read_into.new.room few,
       c.in_ok-count.ensures.few,
       c.in_ok-count.ensures.given,
