@@ -120,13 +120,6 @@ pub held_after : {A T : Type 0} (r : Result T Fault) (known : Option (List ℕ))
 held_after (Err f) known queue next_queue pass after sent next lines room c d held so at = tt
 held_after (Ok u) known queue next_queue pass after sent next lines room c d held so at = record { cut = so; place = stands_back known sent next (lines ++ room) lines room refl at held.place }
 
-pub size_after : {T : Type 0} (r : Result T Fault) (next now sent : ℕ) (all lines room rest : List ℕ) → all ≡ lines ++ room → now ≡ sent → OnOk r ((next ≡ now + length lines) × (rest ≡ room)) → OnOk r (next + length rest ≡ sent + length all)
-size_after (Err f) next now sent all lines room rest e at h = tt
-size_after (Ok u) next now sent all lines room rest e at h =
-    let whole : length all ≡ length (lines ++ room) = ap (λ (xs : List ℕ). length xs) e in
-    let same : length rest ≡ length room = ap (λ (xs : List ℕ). length xs) h.1 in
-    omega (arith, h.0, at, whole, same, length-append lines room)
-
 -- the same is held where nothing was sent on
 pub held_same : {A : Type 0} (known : Option (List ℕ)) (queue same_queue : QueueId) (pass : PassView) (sent now : ℕ) (room rest : List ℕ) (c d : TextCutter A) → IsHeld known queue pass sent room c → now ≡ sent → d ≡ c → same_queue ≡ queue → room ≡ rest → IsHeld known same_queue pass now rest d
 held_same known queue same_queue pass sent now room rest c d h at text work is =

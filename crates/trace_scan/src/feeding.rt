@@ -209,29 +209,23 @@ impl<'a, P: Plan + TraceText, A: Allocator + Copy, R: Wait + Clock> FedText<'a, 
         self.take_room(pass)
     }
 
-    /// Takes these lines of the room, which ends a line before its rest, or hands them out as a block.
-    fn send(
-        &mut self,
-        lines: Vec<u8, A>,
-        at_once: bool,
-        pass: &mut FeederPass<A>,
-    ) -> Result<(), Fault>
+    /// Takes the blocks that are out, and then the first bytes of the room.
+    fn take_front(&mut self, count: usize, pass: &mut FeederPass<A>) -> Result<(), Fault>
         requires plan { P.pieces ≡ option_map trace_plan P.text }
         requires held { IsHeld P.text self.old.taken.work.now.queue pass.old self.old.taken.sent
-            (lines.items ++ self.old.room.items) self.old.taken.text }
-        requires few { self.old.taken.sent + length lines.items ≤ 2 ^ 30 }
+            self.old.room.items self.old.taken.text }
+        requires count { count ≤ length self.old.room.items }
         ensures fed { HasFedOn pass.old pass.new }
         ensures held { OnOk result (IsHeld P.text self.new.taken.work.now.queue pass.new
             self.new.taken.sent self.new.room.items self.new.taken.text) }
-        ensures size { OnOk result ((self.new.taken.sent ≡ self.old.taken.sent
-            + length lines.items) × (self.new.room.items ≡ self.old.room.items)) }
+        ensures size { OnOk result (self.new.taken.sent + length self.new.room.items
+            ≡ self.old.taken.sent + length self.old.room.items) }
         ensures refused { IfErr result (IsFaultWithin P.text (self.old.taken.sent
-            + length lines.items)) }
+            + length self.old.room.items)) }
     {
-        if at_once {
-            return self.taken.take_lines(lines, pass);
-        }
-        self.taken.hand_out(lines, pass)
+        let taken = self.taken.take(&self.room.as_slice()[..count], pass);
+        self.room.drop_front(count);
+        taken
     }
 
     /// Takes the whole lines of the room, or hands them out as a block. Takes all of it where it ends in a line that is too
@@ -256,10 +250,13 @@ impl<'a, P: Plan + TraceText, A: Allocator + Copy, R: Wait + Clock> FedText<'a, 
         if count == 0 {
             return Ok(());
         }
+        if at_once {
+            return self.take_front(count, pass);
+        }
         let Some(lines) = self.split_room(count) else {
             return self.take_room(pass);
         };
-        self.send(lines, at_once, pass)
+        self.taken.hand_out(lines, pass)
     }
 
     /// Hands the whole lines of the room out where they are enough for a block. Takes them at once where the last read gave

@@ -1,6 +1,6 @@
 //! The room of the next block of a text.
 
-ghost use Rattle.std.specs.Prelude.{◌≡◌, ℕ, ◌+◌, ◌≤◌, ◌^◌, ◌++◌, List, [], IfErr, IfOk, IfSome, MatchOption, OnErr, if◌then◌else◌, length, true};
+ghost use Rattle.std.specs.Prelude.{◌≡◌, ℕ, ◌+◌, ◌≤◌, ◌^◌, ◌++◌, List, [], IfErr, IfOk, IfSome, MatchOption, OnErr, if◌then◌else◌, drop, length, true};
 ghost use Rattle.std.specs.Result.{is_err};
 ghost use Rattle.line_model.specs.basics.Device.{Gives};
 ghost use Rattle.line_model.specs.declared.fault.Fault.TheVariants.{Memory};
@@ -74,6 +74,15 @@ impl<A: Allocator> Room<A> {
         ensures wide { 2 ^ 16 ≤ self.new.spare }
     {
         self.len = 0;
+    }
+
+    /// Lets go of the first bytes.
+    pub fn drop_front(&mut self, count: usize)
+        requires { count ≤ length self.old.items }
+        ensures { self.new.items ≡ drop count self.old.items }
+    {
+        self.bytes.copy_within(count..self.len, 0);
+        self.len -= count;
     }
 
     /// Makes the spare bytes enough for a read. `false`: memory is refused, and nothing has changed.
