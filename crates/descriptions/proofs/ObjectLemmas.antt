@@ -5,8 +5,9 @@ use Rattle.std.proofs.lemmas.Grind.{flat_map-append}
 use Rattle.std.proofs.lemmas.List.{map-append, take_more}
 use Rattle.line_model.specs.basics.Records.{Item, Row}
 use Rattle.line_model.specs.declared.interface.Interface.{Interface}
-use Rattle.line_model.specs.channels.Channels.{Channel}
-use Rattle.line_model.specs.channels.RestartMachine.{LineState, restart_name}
+use Rattle.line_model.specs.channels.Gaps.{GapChannel}
+use Rattle.line_model.specs.channels.RestartMachine.{restart_name}
+use Rattle.line_model.specs.channels.GapRestart.{GapLine}
 use Rattle.line_model.specs.observer.Machine.{Observer, routed}
 use Rattle.line_model.specs.observer.Observer.{x25}
 use Rattle.line_model.specs.observer.Calls.{all_lengths}
@@ -37,7 +38,7 @@ joined_next f xs i x out o1 o2 lt e1 e2 =
 
 -- ---- the states before and after a row
 
-pub words_are : (i : Interface) (taker : Option ℕ) (o more : Observer LineState Channel) (j : Judge) → IsJudge i taker o more j → (word_before j ≡ state_at taker o) × (word_after j ≡ state_at taker more)
+pub words_are : (i : Interface) (taker : Option ℕ) (o more : Observer GapLine GapChannel) (j : Judge) → IsJudge i taker o more j → (word_before j ≡ state_at taker o) × (word_after j ≡ state_at taker more)
 words_are i None o more (judge.Restart before after) h = (ap (λ x. state_word (restart_name x)) h.0, ap (λ x. state_word (restart_name x)) h.1)
 words_are i None o more (judge.Channel k before after accepted) h = absurd h
 words_are i (Some n) o more (judge.Restart before after) h = absurd h

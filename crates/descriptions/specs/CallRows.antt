@@ -4,7 +4,8 @@ use Rattle.line_model.specs.declared.event.Event.{Event}
 use Rattle.line_model.specs.declared.interface.Interface.{Interface}
 use Rattle.line_model.specs.basics.Records.{Item}
 use Rattle.line_model.specs.observer.Calls.{calls_of, is_end, is_opening}
-use Rattle.line_model.specs.observer.Observer.{events, is_ready}
+use Rattle.line_model.specs.channels.GapRestart.{is_ready}
+use Rattle.line_model.specs.observer.Observer.{events}
 use Rattle.restart_epochs.specs.Cutting.{observer}
 use Rattle.annotated_trace.specs.Rows.{has_open}
 use Rattle.descriptions.specs.declared.call_rows.CallRows.{CallRows}

@@ -2,9 +2,10 @@
 use Rattle.std.specs.Prelude.{◌≡◌, ℕ, Bool, true, false, List, [], ◌∷◌, ◌++◌, Option, None, Some, option_to_list, codes, decimal, flat_map}
 use Rattle.json_lines.specs.Json.{json_text}
 use Rattle.line_model.specs.basics.Records.{Item, Report, Row}
-use Rattle.line_model.specs.channels.Channels.{Channel}
+use Rattle.line_model.specs.channels.Gaps.{GapChannel}
 use Rattle.line_model.specs.channels.ChannelStep.{setup_name, transfer_name}
-use Rattle.line_model.specs.channels.RestartMachine.{LineState, restart_name}
+use Rattle.line_model.specs.channels.RestartMachine.{restart_name}
+use Rattle.line_model.specs.channels.GapRestart.{GapLine}
 use Rattle.line_model.specs.declared.event.Event.{Event}
 use Rattle.line_model.specs.declared.finding.Finding.{Finding}
 use Rattle.line_model.specs.declared.interface.Interface.{Interface}
@@ -49,12 +50,12 @@ word_after (judge.Restart before after) = state_word (restart_name after)
 word_after (judge.Channel k before after accepted) = channel_word (view_in after).state
 
 -- the state of the logical channel that takes a row; of the restart machine where none does
-abbrev pub state_at : (taker : Option ℕ) → Observer LineState Channel → List ℕ
-state_at None o = state_word (restart_name o.line.state)
-state_at (Some k) o = channel_word (o.states k).state
+abbrev pub state_at : (taker : Option ℕ) → Observer GapLine GapChannel → List ℕ
+state_at None o = state_word (restart_name o.line.line.state)
+state_at (Some k) o = channel_word (o.states k).channel.state
 
 -- the events of a row on the logical channel that takes it
-abbrev pub events_at : Interface → (taker : Option ℕ) → Observer LineState Channel → Item → List Event
+abbrev pub events_at : Interface → (taker : Option ℕ) → Observer GapLine GapChannel → Item → List Event
 events_at i None o r = []
 events_at i (Some k) o r = row_events i o.epoch k (o.states k) r
 

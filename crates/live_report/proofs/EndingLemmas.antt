@@ -4,7 +4,9 @@ use Rattle.std.specs.List.{AllByRecursion}
 use Rattle.std.proofs.lemmas.Bool.{eqb-true, eqb-false}
 use Rattle.line_model.specs.declared.interface.Interface.{Interface}
 use Rattle.line_model.specs.basics.Records.{Item, Piece, PieceReport}
-use Rattle.line_model.specs.channels.Channels.{Channel}
+use Rattle.line_model.specs.declared.gap.EpochStart.TheVariants.{Restarted}
+use Rattle.line_model.specs.declared.piece.PieceEnd.{PieceEnd}
+use Rattle.line_model.specs.channels.Gaps.{GapChannel}
 use Rattle.line_model.specs.pieces.Plan.{has_some}
 use Rattle.line_model.specs.pieces.Plans.{value}
 use Rattle.restart_epochs.specs.OpenRows.{OpenRows, rows_of, IsListing}
@@ -15,22 +17,22 @@ use Rattle.channel_run.specs.Live.{StandsFor as IsLive}
 use Rattle.live_report.specs.Lanes.{begun_piece, LaneFor, OpenFor}
 
 -- the piece of a channel in an epoch that ended so
-abbrev pub ended_piece : (id : ℕ) → Interface → (epoch : ℕ) → (end : Option ℕ) → (channel : ℕ) → List Item → Piece
-ended_piece id i e end k items = record { id = id; interface = i; epoch = e; channel = k; items = items; end = end }
+abbrev pub ended_piece : (id : ℕ) → Interface → (epoch : ℕ) → (end : Option PieceEnd) → (channel : ℕ) → List Item → Piece
+ended_piece id i e end k items = record { id = id; interface = i; epoch = e; start = Restarted; channel = k; items = items; end = end }
 
 -- some first channels have ended; each of the others has its live channel, and what is listed no more has none
-pub record Ending {A C : Type 0} (I : C → Interface) (N : C → ℕ) (S : C → Channel → Type 0) (i : Interface) (e : ℕ) (end : Option ℕ) (rows : OpenRows)
+pub record Ending {A C : Type 0} (I : C → Interface) (N : C → ℕ) (S : C → GapChannel → Type 0) (i : Interface) (e : ℕ) (end : Option PieceEnd) (rows : OpenRows)
     (first : List PieceReport) (lanes : OpenLanes (LiveChannel A C)) (out : List PieceReport) : Type 0 where
   pub has : AllByRecursion (λ k. has_some (rows_of rows k) ≡ true) lanes.channels
   pub listed : AllByRecursion (λ k. LaneFor I N S (begun_piece i e k (rows_of rows k)) (value_at lanes k)) lanes.channels
   pub others : (k : ℕ) → AllByRecursion (λ j. j ≢ k) lanes.channels → value_at lanes k ≡ None
   pub values : out ++ map value (pieces_out i e end (rows_of rows) (length out) lanes.channels) ≡ first ++ map value (pieces_out i e end (rows_of rows) (length first) rows.channels)
 
-lane_none : {A C : Type 0} → (I : C → Interface) (N : C → ℕ) (S : C → Channel → Type 0) (p : Piece) (o : Option (LiveChannel A C)) → p.items ≡ [] → LaneFor I N S p o → o ≡ None
+lane_none : {A C : Type 0} → (I : C → Interface) (N : C → ℕ) (S : C → GapChannel → Type 0) (p : Piece) (o : Option (LiveChannel A C)) → p.items ≡ [] → LaneFor I N S p o → o ≡ None
 lane_none I N S p None none l = refl
 lane_none I N S p (Some live) none l = absurd (true≢false (sym l.0 ∙ ap has_some none))
 
-pub ending_none : {A C : Type 0} → (I : C → Interface) (N : C → ℕ) (S : C → Channel → Type 0) (i : Interface) (e : ℕ) (end : Option ℕ) (rows : OpenRows) (first : List PieceReport) (lanes : OpenLanes (LiveChannel A C))
+pub ending_none : {A C : Type 0} → (I : C → Interface) (N : C → ℕ) (S : C → GapChannel → Type 0) (i : Interface) (e : ℕ) (end : Option PieceEnd) (rows : OpenRows) (first : List PieceReport) (lanes : OpenLanes (LiveChannel A C))
     → OpenFor I N S i e rows lanes → IsListing rows → Ending I N S i e end rows first lanes first
 ending_none {A} {C} I N S i e end rows first lanes f l = record {
   has = subst (AllByRecursion (λ k. has_some (rows_of rows k) ≡ true)) (sym f.channels) l.listed;
@@ -44,7 +46,7 @@ ending_none {A} {C} I N S i e end rows first lanes f l = record {
     all (k ∷ ks) = (f.each k, all ks)
 
 -- what was popped has a live channel
-pub popped_some : {A C : Type 0} → (I : C → Interface) (N : C → ℕ) (S : C → Channel → Type 0) (i : Interface) (e : ℕ) (end : Option ℕ) (rows : OpenRows) (first : List PieceReport) (before after : OpenLanes (LiveChannel A C)) (out : List PieceReport) (k : ℕ)
+pub popped_some : {A C : Type 0} → (I : C → Interface) (N : C → ℕ) (S : C → GapChannel → Type 0) (i : Interface) (e : ℕ) (end : Option PieceEnd) (rows : OpenRows) (first : List PieceReport) (before after : OpenLanes (LiveChannel A C)) (out : List PieceReport) (k : ℕ)
     → Ending I N S i e end rows first before out → HasPopped k None before after → ⊥
 popped_some I N S i e end rows first before after out k g p =
     let has : AllByRecursion (λ j. has_some (rows_of rows j) ≡ true) (k ∷ after.channels) = subst (AllByRecursion (λ j. has_some (rows_of rows j) ≡ true)) p.channels g.has in
@@ -52,20 +54,20 @@ popped_some I N S i e end rows first before after out k g p =
     let none : rows_of rows k ≡ [] = subst (LaneFor I N S (begun_piece i e k (rows_of rows k))) (sym p.value) lane.0 in
     true≢false (sym has.0 ∙ ap has_some none)
 
-pub popped_live : {A C : Type 0} → (I : C → Interface) (N : C → ℕ) (S : C → Channel → Type 0) (i : Interface) (e : ℕ) (end : Option ℕ) (rows : OpenRows) (first : List PieceReport) (before after : OpenLanes (LiveChannel A C)) (out : List PieceReport) (k : ℕ) (live : LiveChannel A C)
+pub popped_live : {A C : Type 0} → (I : C → Interface) (N : C → ℕ) (S : C → GapChannel → Type 0) (i : Interface) (e : ℕ) (end : Option PieceEnd) (rows : OpenRows) (first : List PieceReport) (before after : OpenLanes (LiveChannel A C)) (out : List PieceReport) (k : ℕ) (live : LiveChannel A C)
     → Ending I N S i e end rows first before out → HasPopped k (Some live) before after → IsLive I N S live (begun_piece i e k (rows_of rows k))
 popped_live I N S i e end rows first before after out k live g p =
     let lane : AllByRecursion (λ j. LaneFor I N S (begun_piece i e j (rows_of rows j)) (value_at before j)) (k ∷ after.channels) = subst (AllByRecursion (λ j. LaneFor I N S (begun_piece i e j (rows_of rows j)) (value_at before j))) p.channels g.listed in
     let here : LaneFor I N S (begun_piece i e k (rows_of rows k)) (Some live) = subst (LaneFor I N S (begun_piece i e k (rows_of rows k))) (sym p.value) lane.0 in
     here.1
 
-kept_lanes : {A C : Type 0} → (I : C → Interface) (N : C → ℕ) (S : C → Channel → Type 0) (i : Interface) (e : ℕ) (rows : OpenRows) (before after : OpenLanes (LiveChannel A C)) (k : ℕ) → ((j : ℕ) → j ≢ k → value_at after j ≡ value_at before j)
+kept_lanes : {A C : Type 0} → (I : C → Interface) (N : C → ℕ) (S : C → GapChannel → Type 0) (i : Interface) (e : ℕ) (rows : OpenRows) (before after : OpenLanes (LiveChannel A C)) (k : ℕ) → ((j : ℕ) → j ≢ k → value_at after j ≡ value_at before j)
     → (ks : List ℕ) → AllByRecursion (λ j. j ≢ k) ks → AllByRecursion (λ j. LaneFor I N S (begun_piece i e j (rows_of rows j)) (value_at before j)) ks → AllByRecursion (λ j. LaneFor I N S (begun_piece i e j (rows_of rows j)) (value_at after j)) ks
 kept_lanes I N S i e rows before after k others [] ne all = tt
 kept_lanes I N S i e rows before after k others (j ∷ ks) ne all =
     (subst (LaneFor I N S (begun_piece i e j (rows_of rows j))) (sym (others j ne.0)) all.0, kept_lanes I N S i e rows before after k others ks ne.1 all.1)
 
-pub ending_more : {A C : Type 0} → (I : C → Interface) (N : C → ℕ) (S : C → Channel → Type 0) (i : Interface) (e : ℕ) (end : Option ℕ) (rows : OpenRows) (first : List PieceReport) (before after : OpenLanes (LiveChannel A C)) (out : List PieceReport) (k : ℕ) (taken : Option (LiveChannel A C)) (report : PieceReport)
+pub ending_more : {A C : Type 0} → (I : C → Interface) (N : C → ℕ) (S : C → GapChannel → Type 0) (i : Interface) (e : ℕ) (end : Option PieceEnd) (rows : OpenRows) (first : List PieceReport) (before after : OpenLanes (LiveChannel A C)) (out : List PieceReport) (k : ℕ) (taken : Option (LiveChannel A C)) (report : PieceReport)
     → Ending I N S i e end rows first before out → HasPopped k taken before after → report ≡ value (ended_piece (length out) i e end k (rows_of rows k))
     → Ending I N S i e end rows first after (out ++ report ∷ [])
 ending_more {A} {C} I N S i e end rows first before after out k taken report g p is =
@@ -86,7 +88,7 @@ ending_more {A} {C} I N S i e end rows first before after out k taken report g p
         let ne = eqb-false j k other in
         p.others j ne ∙ g.others j (subst (AllByRecursion (λ m. m ≢ j)) (sym p.channels) ((λ s. ne (sym s)), not))
 
-pub ending_all : {A C : Type 0} → (I : C → Interface) (N : C → ℕ) (S : C → Channel → Type 0) (i : Interface) (e : ℕ) (end : Option ℕ) (rows : OpenRows) (first : List PieceReport) (lanes : OpenLanes (LiveChannel A C)) (out : List PieceReport)
+pub ending_all : {A C : Type 0} → (I : C → Interface) (N : C → ℕ) (S : C → GapChannel → Type 0) (i : Interface) (e : ℕ) (end : Option PieceEnd) (rows : OpenRows) (first : List PieceReport) (lanes : OpenLanes (LiveChannel A C)) (out : List PieceReport)
     → Ending I N S i e end rows first lanes out → lanes.channels ≡ [] → (out ≡ first ++ map value (pieces_out i e end (rows_of rows) (length first) rows.channels)) × IsEmpty lanes
 ending_all I N S i e end rows first lanes out g none = (
   sym (append-nil out) ∙ ap (λ ks. out ++ map value (pieces_out i e end (rows_of rows) (length out) ks)) (sym none) ∙ g.values,

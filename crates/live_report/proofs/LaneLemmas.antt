@@ -5,7 +5,8 @@ use Rattle.std.specs.Ordering.{nat_cmp}
 use Rattle.std.proofs.lemmas.Bool.{eqb-true, eqb-false}
 use Rattle.line_model.specs.declared.interface.Interface.{Interface}
 use Rattle.line_model.specs.basics.Records.{Item, Piece}
-use Rattle.line_model.specs.channels.Channels.{Channel}
+use Rattle.line_model.specs.declared.gap.EpochStart.TheVariants.{Restarted}
+use Rattle.line_model.specs.channels.Gaps.{GapChannel}
 use Rattle.line_model.specs.pieces.Plan.{has_some}
 use Rattle.restart_epochs.specs.OpenRows.{OpenRows, rows_of, with_channel, HasMore}
 use Rattle.restart_epochs.specs.OpenLanes.{OpenLanes, value_at, HasTaken, HasListed, HasPut}
@@ -22,7 +23,7 @@ has_more : (items : List Item) (item : Item) → has_some (items ++ item ∷ [])
 has_more [] item = refl
 has_more (x ∷ xs) item = refl
 
-pub out_some : {A C : Type 0} → (I : C → Interface) (N : C → ℕ) (S : C → Channel → Type 0) (i : Interface) (e k : ℕ) (rows : OpenRows) (before after : OpenLanes (LiveChannel A C)) (live : LiveChannel A C)
+pub out_some : {A C : Type 0} → (I : C → Interface) (N : C → ℕ) (S : C → GapChannel → Type 0) (i : Interface) (e k : ℕ) (rows : OpenRows) (before after : OpenLanes (LiveChannel A C)) (live : LiveChannel A C)
     → OpenFor I N S i e rows before → HasTaken k (Some live) before after → IsOutFor I N S i e k rows live after
 out_some I N S i e k rows before after live f t =
     let lane : LaneFor I N S (begun_piece i e k (rows_of rows k)) (Some live) = subst (LaneFor I N S (begun_piece i e k (rows_of rows k))) (sym t.value) (f.each k) in
@@ -32,19 +33,19 @@ out_some I N S i e k rows before after live f t =
       channels = t.channels ∙ f.channels ∙ sym (has_with (rows_of rows k) k rows.channels lane.0);
     }
 
-pub out_none : {A C : Type 0} → (I : C → Interface) (N : C → ℕ) (S : C → Channel → Type 0) (i : Interface) (e k : ℕ) (rows : OpenRows) (before middle after : OpenLanes (LiveChannel A C)) (live : LiveChannel A C)
+pub out_none : {A C : Type 0} → (I : C → Interface) (N : C → ℕ) (S : C → GapChannel → Type 0) (i : Interface) (e k : ℕ) (rows : OpenRows) (before middle after : OpenLanes (LiveChannel A C)) (live : LiveChannel A C)
     → OpenFor I N S i e rows before → HasTaken k None before middle → HasListed k middle after
-    → ((p : Piece) → p.interface ≡ i → p.channel ≡ k → p.epoch ≡ e → p.items ≡ [] → IsLive I N S live p)
+    → ((p : Piece) → p.interface ≡ i → p.channel ≡ k → p.epoch ≡ e → p.start ≡ Restarted → p.items ≡ [] → IsLive I N S live p)
     → IsOutFor I N S i e k rows live after
 out_none I N S i e k rows before middle after live f t l fresh =
     let empty : rows_of rows k ≡ [] = subst (LaneFor I N S (begun_piece i e k (rows_of rows k))) (sym t.value) (f.each k) in
     record {
-      stands = fresh (begun_piece i e k (rows_of rows k)) refl refl refl empty;
+      stands = fresh (begun_piece i e k (rows_of rows k)) refl refl refl refl empty;
       others = λ j ne. subst (LaneFor I N S (begun_piece i e j (rows_of rows j))) (sym (l.values j ∙ t.others j ne)) (f.each j);
       channels = l.channels ∙ ap (λ ks. insert_key nat_cmp ks k) (t.channels ∙ f.channels) ∙ ap (λ items. with_channel items k rows.channels) (sym empty);
     }
 
-pub put_back : {A C : Type 0} → (I : C → Interface) (N : C → ℕ) (S : C → Channel → Type 0) (i : Interface) (e k : ℕ) (rows more : OpenRows) (item : Item) (before after : OpenLanes (LiveChannel A C)) (live stepped : LiveChannel A C)
+pub put_back : {A C : Type 0} → (I : C → Interface) (N : C → ℕ) (S : C → GapChannel → Type 0) (i : Interface) (e k : ℕ) (rows more : OpenRows) (item : Item) (before after : OpenLanes (LiveChannel A C)) (live stepped : LiveChannel A C)
     → IsOutFor I N S i e k rows live before → IsLive I N S stepped (with_item (begun_piece i e k (rows_of rows k)) item) → HasPut k stepped before after → HasMore k item rows more
     → OpenFor I N S i e more after
 put_back I N S i e k rows more item before after live stepped out stands put has = record {
@@ -64,7 +65,7 @@ put_back I N S i e k rows more item before after live stepped out stands put has
         (subst (λ items. LaneFor I N S (begun_piece i e j items) (value_at before j)) (sym (has.others j ne)) (out.others j ne))
 
 -- a live channel that is put back as it was
-pub put_same : {A C : Type 0} → (I : C → Interface) (N : C → ℕ) (S : C → Channel → Type 0) (i : Interface) (e k : ℕ) (rows : OpenRows) (before middle after : OpenLanes (LiveChannel A C)) (live stepped : LiveChannel A C)
+pub put_same : {A C : Type 0} → (I : C → Interface) (N : C → ℕ) (S : C → GapChannel → Type 0) (i : Interface) (e k : ℕ) (rows : OpenRows) (before middle after : OpenLanes (LiveChannel A C)) (live stepped : LiveChannel A C)
     → OpenFor I N S i e rows before → HasTaken k (Some live) before middle → stepped ≡ live → HasPut k stepped middle after → OpenFor I N S i e rows after
 put_same I N S i e k rows before middle after live stepped f t same put = record {
   channels = put.channels ∙ t.channels ∙ f.channels;

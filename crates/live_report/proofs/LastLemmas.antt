@@ -4,12 +4,11 @@ use Rattle.std.specs.Prelude.{MatchOption}
 use Rattle.line_model.specs.declared.event.Event.{Event}
 use Rattle.line_model.specs.declared.interface.Interface.{Interface}
 use Rattle.line_model.specs.declared.route.Route.{Route}
-use Rattle.line_model.specs.declared.route.Route.TheVariants.{ToChannel, Leave, Enter, Found, Pass}
+use Rattle.line_model.specs.declared.route.Route.TheVariants.{ToChannel, Leave, Enter, Renew, Found, Pass}
 use Rattle.line_model.specs.basics.Records.{Item}
-use Rattle.line_model.specs.channels.Channels.{Channel}
-use Rattle.line_model.specs.channels.RestartMachine.{LineState}
+use Rattle.line_model.specs.channels.Gaps.{GapChannel}
+use Rattle.line_model.specs.channels.GapRestart.{GapLine, is_ready, routing}
 use Rattle.line_model.specs.observer.Machine.{Observer}
-use Rattle.line_model.specs.observer.Observer.{routing, is_ready}
 use Rattle.line_model.specs.observer.Report.{report_of}
 use Rattle.line_model.specs.pieces.Plan.{has_some}
 use Rattle.channel_run.specs.Live.{channel_so_far}
@@ -51,7 +50,7 @@ same_last (c ∷ a) (d ∷ b) x y h =
 
 -- ---- the last row
 
-pub taker_is : (i : Interface) (to : Option ℕ) (o more : Observer LineState Channel) (j : Judge) → IsJudge i to o more j → taker j ≡ to
+pub taker_is : (i : Interface) (to : Option ℕ) (o more : Observer GapLine GapChannel) (j : Judge) → IsJudge i to o more j → taker j ≡ to
 taker_is i None o more (judge.Restart before after) h = refl
 taker_is i None o more (judge.Channel k before after accepted) h = absurd h
 taker_is i (Some n) o more (judge.Restart before after) h = absurd h
@@ -81,7 +80,7 @@ open_is_ready i rs c k s some = at (is_ready (observer i rs).line) refl
     at false e = absurd (true≢false (sym some ∙ ap has_some (s.rows k ∙ ap (λ b. rows_if b i (places i rs) (observer i rs).epoch k) e)))
 
 -- what a turn makes known of a row
-pub record Judged {B : Type 0} (turn : Turn) (item : Item) (walk : EpochWalk B) (machine : LineState) (rows rows_after : OpenRows) (row : JudgedRow) (events : List Event) : Type 0 where
+pub record Judged {B : Type 0} (turn : Turn) (item : Item) (walk : EpochWalk B) (machine : GapLine) (rows rows_after : OpenRows) (row : JudgedRow) (events : List Event) : Type 0 where
   pub number : row.number ≡ item.number
   pub side : row.side ≡ item.side
   pub packet : row.packet ≡ item.packet
@@ -99,10 +98,10 @@ last_known {B} i rs c a r step v row last events s grown taken packet is same_in
     k : ℕ
     k = packet_channel r.packet
 
-    o : Observer LineState Channel
+    o : Observer GapLine GapChannel
     o = observer i rs
 
-    more : Observer LineState Channel
+    more : Observer GapLine GapChannel
     more = observer i (rs ++ r ∷ [])
 
     routes : (q : Route) → (routing c.line r).route ≡ q → is_to_channel (routing o.line r).route ≡ is_to_channel q
@@ -114,16 +113,16 @@ last_known {B} i rs c a r step v row last events s grown taken packet is same_in
     some_one : (x y : ℕ) → Some x ≡ Some y → x ≡ y
     some_one x y h = cc
 
-    on_line : (q : Route) → (routing c.line r).route ≡ q → is_to_channel q ≡ false → IsRestart v.machine.state step.machine.state row.judge → IsJudgedRow i rs r row events
+    on_line : (q : Route) → (routing c.line r).route ≡ q → is_to_channel q ≡ false → IsRestart v.machine.line.state step.machine.line.state row.judge → IsJudgedRow i rs r row events
     on_line q e to judge =
         let none = routed_none i o.line r (routes q e ∙ to) in
-        let before = ap (λ m. m.state) (same_machine ∙ s.line) in
-        let after = ap (λ m. m.state) (sym taken.line ∙ grown.line) in
+        let before = ap (λ m. m.line.state) (same_machine ∙ s.line) in
+        let after = ap (λ m. m.line.state) (sym taken.line ∙ grown.line) in
         record {
           number = judged.number;
           side = judged.side;
           packet = judged.packet;
-          judge = subst (λ n. IsJudge i n o more row.judge) (sym none) (subst (λ x. IsRestart o.line.state x row.judge) after (subst (λ x. IsRestart x step.machine.state row.judge) before judge));
+          judge = subst (λ n. IsJudge i n o more row.judge) (sym none) (subst (λ x. IsRestart o.line.line.state x row.judge) after (subst (λ x. IsRestart x step.machine.line.state row.judge) before judge));
           finding = finding;
           came = λ n there. absurd (no_one n (sym none ∙ there));
         }
@@ -155,5 +154,6 @@ last_known {B} i rs c a r step v row last events s grown taken packet is same_in
     at ToChannel e j = on_its_channel e j
     at (Leave code) e j = on_line (Leave code) e refl j.judge
     at Enter e j = on_line Enter e refl j.judge
+    at Renew e j = on_line Renew e refl j.judge
     at (Found state code) e j = on_line (Found state code) e refl j.judge
     at Pass e j = on_line Pass e refl j.judge

@@ -3,7 +3,7 @@ use Rattle.std.proofs.Common.{◌≡◌, ◌∙◌, sym, ap, subst, ℕ, true, t
 use Rattle.std.specs.List.{AllByRecursion}
 use Rattle.line_model.specs.declared.interface.Interface.{Interface}
 use Rattle.line_model.specs.basics.Records.{PieceReport}
-use Rattle.line_model.specs.channels.Channels.{Channel}
+use Rattle.line_model.specs.channels.Gaps.{GapChannel}
 use Rattle.line_model.specs.pieces.Plan.{has_some}
 use Rattle.line_model.specs.pieces.Plans.{value}
 use Rattle.restart_epochs.specs.OpenRows.{OpenRows, rows_of, IsListing}
@@ -40,17 +40,17 @@ pub reporting_all : (i : Interface) (e : ℕ) (rows : OpenRows) (first out : Lis
 reporting_all i e rows first out left t none = sym (append-nil out) ∙ ap (λ ks. out ++ map value (pieces_out i e None (rows_of rows) (length out) ks)) (sym none) ∙ t.values
 
 -- a channel that is left has a live channel
-pub told_some : {A C : Type 0} → (I : C → Interface) (N : C → ℕ) (S : C → Channel → Type 0) (i : Interface) (e : ℕ) (rows : OpenRows) (first out : List PieceReport) (left : List ℕ) (k : ℕ) (rest : List ℕ) (lanes : OpenLanes (LiveChannel A C))
+pub told_some : {A C : Type 0} → (I : C → Interface) (N : C → ℕ) (S : C → GapChannel → Type 0) (i : Interface) (e : ℕ) (rows : OpenRows) (first out : List PieceReport) (left : List ℕ) (k : ℕ) (rest : List ℕ) (lanes : OpenLanes (LiveChannel A C))
     → Reporting i e rows first out left → left ≡ k ∷ rest → OpenFor I N S i e rows lanes → value_at lanes k ≡ None → ⊥
 told_some I N S i e rows first out left k rest lanes t next f none =
     let has : AllByRecursion (λ j. has_some (rows_of rows j) ≡ true) (k ∷ rest) = subst (AllByRecursion (λ j. has_some (rows_of rows j) ≡ true)) next t.has in
     let empty : rows_of rows k ≡ [] = subst (LaneFor I N S (begun_piece i e k (rows_of rows k))) none (f.each k) in
     true≢false (sym has.0 ∙ ap has_some empty)
 
-pub reported_lane : {A C : Type 0} → (I : C → Interface) (N : C → ℕ) (S : C → Channel → Type 0) (i : Interface) (e : ℕ) (rows : OpenRows) (k : ℕ) (lanes : OpenLanes (LiveChannel A C)) (live : LiveChannel A C)
+pub reported_lane : {A C : Type 0} → (I : C → Interface) (N : C → ℕ) (S : C → GapChannel → Type 0) (i : Interface) (e : ℕ) (rows : OpenRows) (k : ℕ) (lanes : OpenLanes (LiveChannel A C)) (live : LiveChannel A C)
     → OpenFor I N S i e rows lanes → Some live ≡ value_at lanes k → LaneFor I N S (begun_piece i e k (rows_of rows k)) (Some live)
 reported_lane I N S i e rows k lanes live f some = subst (LaneFor I N S (begun_piece i e k (rows_of rows k))) (sym some) (f.each k)
 
-pub reported_live : {A C : Type 0} → (I : C → Interface) (N : C → ℕ) (S : C → Channel → Type 0) (i : Interface) (e : ℕ) (rows : OpenRows) (k : ℕ) (lanes : OpenLanes (LiveChannel A C)) (live : LiveChannel A C)
+pub reported_live : {A C : Type 0} → (I : C → Interface) (N : C → ℕ) (S : C → GapChannel → Type 0) (i : Interface) (e : ℕ) (rows : OpenRows) (k : ℕ) (lanes : OpenLanes (LiveChannel A C)) (live : LiveChannel A C)
     → OpenFor I N S i e rows lanes → Some live ≡ value_at lanes k → IsLive I N S live (begun_piece i e k (rows_of rows k))
 reported_live I N S i e rows k lanes live f some = (reported_lane I N S i e rows k lanes live f some).1

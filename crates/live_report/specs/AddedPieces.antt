@@ -2,6 +2,7 @@
 use Rattle.std.specs.Prelude.{◌≡◌, ℕ, ◌++◌, List, Option, Result, OnOk, length, map}
 use Rattle.line_model.specs.declared.interface.Interface.{Interface}
 use Rattle.line_model.specs.basics.Records.{PieceReport}
+use Rattle.line_model.specs.declared.piece.PieceEnd.{PieceEnd}
 use Rattle.line_model.specs.pieces.Plans.{value}
 use Rattle.channel_run.specs.declared.live.LiveChannel.{LiveChannel}
 use Rattle.channel_run.specs.declared.run.Channel.{Ghosts as Machine}
@@ -17,7 +18,7 @@ MayAddPieces m lanes parts =
     (i : Interface) × (epoch : ℕ) × (rows : OpenRows) × (first : List PieceReport) × LanesStandFor m i epoch rows lanes × IsListing rows × (parts ≡ gathered first)
 
 -- of any such epoch and reports: the values of its pieces, with this end, were gathered behind them
-abbrev pub AddsPieces : {A C T E : Type 0} → Machine C A → (end : Option ℕ) → OpenLanes (LiveChannel A C) → (before after : Gathered) → Result T E → Type 0
+abbrev pub AddsPieces : {A C T E : Type 0} → Machine C A → (end : Option PieceEnd) → OpenLanes (LiveChannel A C) → (before after : Gathered) → Result T E → Type 0
 AddsPieces m end lanes before after result =
     (i : Interface) (epoch : ℕ) (rows : OpenRows) (first : List PieceReport) → LanesStandFor m i epoch rows lanes → IsListing rows → before ≡ gathered first
     → OnOk result (after ≡ gathered (first ++ map value (pieces_out i epoch end (rows_of rows) (length first) rows.channels)))

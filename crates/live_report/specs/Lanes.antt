@@ -2,8 +2,9 @@
 use Rattle.std.specs.Prelude.{◌≡◌, ◌≢◌, ℕ, true, List, [], Option, Some, None, option_to_list}
 use Rattle.line_model.specs.declared.interface.Interface.{Interface}
 use Rattle.line_model.specs.declared.finding.Finding.{Finding}
-use Rattle.line_model.specs.basics.Records.{Item, Item, Piece}
-use Rattle.line_model.specs.channels.Channels.{Channel}
+use Rattle.line_model.specs.basics.Records.{Item, Piece}
+use Rattle.line_model.specs.declared.gap.EpochStart.TheVariants.{Restarted}
+use Rattle.line_model.specs.channels.Gaps.{GapChannel}
 use Rattle.line_model.specs.observer.Report.{findings_of}
 use Rattle.line_model.specs.pieces.Plan.{has_some}
 use Rattle.restart_epochs.specs.OpenRows.{OpenRows, rows_of, with_channel}
@@ -15,21 +16,21 @@ use Rattle.channel_run.specs.Run.{row_events}
 
 -- the piece of a channel in an epoch that has not ended
 abbrev pub begun_piece : Interface → (epoch channel : ℕ) → List Item → Piece
-begun_piece i e k items = record { id = 0; interface = i; epoch = e; channel = k; items = items; end = None }
+begun_piece i e k items = record { id = 0; interface = i; epoch = e; start = Restarted; channel = k; items = items; end = None }
 
 -- what stands in the lane of a channel: nothing where it has no rows, else a live channel that stands for them
-abbrev pub LaneFor : {A C : Type 0} → (C → Interface) → (C → ℕ) → (C → Channel → Type 0) → Piece → Option (LiveChannel A C) → Type 0
+abbrev pub LaneFor : {A C : Type 0} → (C → Interface) → (C → ℕ) → (C → GapChannel → Type 0) → Piece → Option (LiveChannel A C) → Type 0
 LaneFor interface_of number_of stands_for p None = p.items ≡ []
 LaneFor interface_of number_of stands_for p (Some live) = (has_some p.items ≡ true) × IsLive interface_of number_of stands_for live p
 
 -- the live channels of an epoch stand for the rows of its channels
-pub record OpenFor {A C : Type 0} (interface_of : C → Interface) (number_of : C → ℕ) (stands_for : C → Channel → Type 0)
+pub record OpenFor {A C : Type 0} (interface_of : C → Interface) (number_of : C → ℕ) (stands_for : C → GapChannel → Type 0)
     (i : Interface) (epoch : ℕ) (rows : OpenRows) (lanes : OpenLanes (LiveChannel A C)) : Type 0 where
   pub channels : lanes.channels ≡ rows.channels
   pub each : (k : ℕ) → LaneFor interface_of number_of stands_for (begun_piece i epoch k (rows_of rows k)) (value_at lanes k)
 
 -- the live channel of a channel was taken out of its lane, or begun where it had no rows; the channel is listed
-pub record IsOutFor {A C : Type 0} (interface_of : C → Interface) (number_of : C → ℕ) (stands_for : C → Channel → Type 0)
+pub record IsOutFor {A C : Type 0} (interface_of : C → Interface) (number_of : C → ℕ) (stands_for : C → GapChannel → Type 0)
     (i : Interface) (epoch channel : ℕ) (rows : OpenRows) (live : LiveChannel A C) (lanes : OpenLanes (LiveChannel A C)) : Type 0 where
   pub stands : IsLive interface_of number_of stands_for live (begun_piece i epoch channel (rows_of rows channel))
   pub others : (k : ℕ) → k ≢ channel → LaneFor interface_of number_of stands_for (begun_piece i epoch k (rows_of rows k)) (value_at lanes k)

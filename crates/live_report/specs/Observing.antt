@@ -6,7 +6,7 @@ use Rattle.line_model.specs.declared.finding.Finding.{Finding}
 use Rattle.line_model.specs.basics.Records.{Item, Piece, PieceReport, ReadRow, Report}
 use Rattle.line_model.specs.packets.Says.{item_read}
 use Rattle.line_model.specs.basics.Bounds.{AreSaid}
-use Rattle.line_model.specs.channels.Channels.{Channel}
+use Rattle.line_model.specs.channels.Gaps.{GapChannel}
 use Rattle.line_model.specs.observer.Report.{report_of}
 use Rattle.line_model.specs.pieces.Plans.{value}
 use Rattle.line_model.specs.text.Text.{last_or}
@@ -34,7 +34,7 @@ last_item i true row = item_read i row ∷ []
 
 -- an observer holds what a cutter does, with a live channel in place of the rows of each channel of the open epoch, and
 -- what these reports of the pieces give whose epochs have ended
-pub record Holds {A C : Type 0} (interface_of : C → Interface) (number_of : C → ℕ) (stands_for : C → Channel → Type 0)
+pub record Holds {A C : Type 0} (interface_of : C → Interface) (number_of : C → ℕ) (stands_for : C → GapChannel → Type 0)
     (c : Cutting) (reports : List PieceReport) (o : Observer A C) : Type 0 where
   pub interface : o.walk.interface ≡ c.interface
   pub line : o.walk.machine ≡ c.line
@@ -46,7 +46,7 @@ pub record Holds {A C : Type 0} (interface_of : C → Interface) (number_of : C 
 
 -- an observer took these rows of an interface: it holds what a cutter of them does, and the values of the pieces that
 -- are known whole
-pub record StandsFor {A C : Type 0} (interface_of : C → Interface) (number_of : C → ℕ) (stands_for : C → Channel → Type 0)
+pub record StandsFor {A C : Type 0} (interface_of : C → Interface) (number_of : C → ℕ) (stands_for : C → GapChannel → Type 0)
     (i : Interface) (rs : List Item) (o : Observer A C) : Type 0 where
   pub sound : AreItems i rs
   pub cutting : Cutting

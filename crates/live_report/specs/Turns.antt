@@ -5,7 +5,7 @@ use Rattle.line_model.specs.declared.event.Event.{Event}
 use Rattle.line_model.specs.declared.finding.Finding.{Finding}
 use Rattle.line_model.specs.basics.Bounds.{IsPiece}
 use Rattle.line_model.specs.basics.Records.{Item, Piece}
-use Rattle.line_model.specs.channels.RestartMachine.{LineState}
+use Rattle.line_model.specs.channels.GapRestart.{GapLine}
 use Rattle.restart_epochs.specs.OpenLanes.{OpenLanes}
 use Rattle.restart_epochs.specs.OpenRows.{OpenRows, rows_of, IsListing}
 use Rattle.restart_epochs.specs.declared.walk.EpochWalk.{EpochWalk}
@@ -65,6 +65,6 @@ HasEvents (ToChannel channel) walk rows row events = events ≡ row_events walk.
 HasEvents _ walk rows row events = Unit {0}
 
 -- the machine that judges a row: the channel that it goes to, else the restart machine, which is so after it
-abbrev pub JudgesBy : {B : Type 0} → Turn → EpochWalk B → (machine : LineState) → (rows after : OpenRows) → Judge → Type 0
+abbrev pub JudgesBy : {B : Type 0} → Turn → EpochWalk B → (machine : GapLine) → (rows after : OpenRows) → Judge → Type 0
 JudgesBy (ToChannel channel) walk machine rows after by = TakesOn walk channel rows after by
-JudgesBy _ walk machine rows after by = IsRestart walk.machine.state machine.state by
+JudgesBy _ walk machine rows after by = IsRestart walk.machine.line.state machine.line.state by

@@ -7,6 +7,7 @@ ghost use Rattle.live_report.specs.AddedPieces.{EmptiesLanes, MayAddPieces, Adds
 use channel_run::live::LiveChannel;
 use channel_run::run::Channel;
 use line_model::fault::Fault;
+use line_model::piece::PieceEnd;
 use report_merge::parts::Parts;
 use restart_epochs::channel_table::ChannelTable;
 use std::alloc::Allocator;
@@ -15,7 +16,7 @@ use std::boxed::Box;
 /// Ends the live channels of an epoch, by their channels, and adds what their pieces are worth. It refuses for want of
 /// memory alone.
 pub fn end_channels<A: Allocator + Copy, C: Channel<A>>(
-    end: Option<u32>,
+    end: Option<PieceEnd>,
     lanes: &mut ChannelTable<LiveChannel<A, C>, A>,
     out: &mut Parts<A>,
 ) -> Result<(), Fault>

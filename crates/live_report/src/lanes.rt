@@ -15,6 +15,7 @@ use channel_run::run::Channel;
 use line_model::event::Event;
 use line_model::fault::Fault;
 use line_model::finding::Finding;
+use line_model::gap::EpochStart;
 use line_model::interface::Interface;
 use line_model::items::ItemRef;
 use restart_epochs::channel_table::ChannelTable;
@@ -39,7 +40,10 @@ fn take_out<A: Allocator + Copy, C: Channel<A>>(
         return Ok(live);
     }
     lanes.list(channel)?;
-    let live = Box::new(alloc, LiveChannel::fresh(alloc, interface, channel, epoch)?)?;
+    let live = Box::new(
+        alloc,
+        LiveChannel::fresh(alloc, interface, channel, epoch, EpochStart::Restarted)?,
+    )?;
     Ok(live)
 }
 

@@ -5,7 +5,7 @@ ghost use Rattle.line_model.specs.basics.Records as records;
 ghost use Rattle.line_model.specs.declared.fault.Fault.TheVariants.{Memory};
 ghost use Rattle.line_model.specs.declared.interface.Interface.{Interface as AnyInterface};
 ghost use Rattle.line_model.specs.packets.Says.{item_read, said_octets};
-ghost use Rattle.line_model.specs.pieces.Plans.{value};
+ghost use Rattle.line_model.specs.pieces.Plans.{end_at, value};
 ghost use Rattle.restart_epochs.specs.OpenRows.{OpenRows};
 ghost use Rattle.restart_epochs.specs.Cutting.{Cutting, ended_by, observer, HasTurned};
 ghost use Rattle.report_merge.specs.Gathered.{gathered};
@@ -36,6 +36,7 @@ use line_model::state::{RState, Side};
 use packet_decode::decode::decode;
 use report_merge::parts::Parts;
 use restart_epochs::channel_table::ChannelTable;
+use restart_epochs::parts::end_at;
 use restart_epochs::walk::{EpochWalk, Step, Turn};
 use std::alloc::Allocator;
 
@@ -70,7 +71,7 @@ fn judged_on_line(item: &ItemRef<'_>, before: RState, step: &Step) -> JudgedRow
       number = item.now.number;
       side = item.now.side;
       packet = item.now.packet;
-      judge = Restart before step.now.machine.state;
+      judge = Restart before step.now.machine.line.state;
       finding = step.now.finding;
     } }
 {
@@ -121,7 +122,7 @@ impl<A: Allocator + Copy, C: Channel<A>> Observer<A, C> {
         ensures ended { OfOpen C.Channel self.old.walk self.old.lanes (λ rows. (reports : List records.PieceReport)
             → self.old.ended ≡ gathered reports
             → OnOk result (self.new.ended ≡ gathered (reports ++ map value (ended_by step.now.turn
-            self.old.walk.interface self.old.walk.epoch item.now.number (length reports) rows)))) }
+            self.old.walk.interface self.old.walk.epoch (end_at item.now) (length reports) rows)))) }
         ensures number { IfOk result (λ row. row.number ≡ item.now.number) }
         ensures side { IfOk result (λ row. row.side ≡ item.now.side) }
         ensures packet { IfOk result (λ row. row.packet ≡ item.now.packet) }
@@ -141,7 +142,7 @@ impl<A: Allocator + Copy, C: Channel<A>> Observer<A, C> {
                 step_channel(&self.walk, channel, item, &mut self.events, &mut self.lanes)
             }
             Turn::Ends => {
-                end_channels(Some(item.number), &mut self.lanes, &mut self.ended)?;
+                end_channels(Some(end_at(item)), &mut self.lanes, &mut self.ended)?;
                 Ok(judged_on_line(item, self.walk.machine.state(), step))
             }
             Turn::Stays => Ok(judged_on_line(item, self.walk.machine.state(), step)),
@@ -150,7 +151,7 @@ impl<A: Allocator + Copy, C: Channel<A>> Observer<A, C> {
 
     /// The state of the restart machine.
     pub fn restart_state(&self) -> RState
-        ensures { result ≡ self.now.walk.machine.state }
+        ensures { result ≡ self.now.walk.machine.line.state }
     {
         self.walk.machine.state()
     }

@@ -15,7 +15,8 @@ use Rattle.line_model.specs.basics.Bounds.{AreSaid}
 use Rattle.line_model.specs.observer.MachineEvents.{RowEvent, walk_events}
 use Rattle.line_model.specs.pieces.Merge.{is_line}
 use Rattle.line_model.specs.observer.Peak.{how_many, IsPeakOfTimes}
-use Rattle.line_model.specs.observer.Observer.{x25, start, event_of, events, peak, routing, route_found}
+use Rattle.line_model.specs.channels.GapRestart.{routing}
+use Rattle.line_model.specs.observer.Observer.{x25, start, event_of, events, peak, route_found}
 use Rattle.line_model.specs.observer.Calls.{all_lengths, segments_of, calls_of, up_at}
 use Rattle.line_model.specs.observer.Accounts.{accounts_of}
 use Rattle.line_model.specs.observer.Report.{findings_of, report_of}

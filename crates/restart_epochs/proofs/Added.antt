@@ -1,5 +1,5 @@
 -- Rows that are added channel by channel, and the channels that are listed then.
-use Rattle.std.proofs.Common.{◌≡◌, ◌≢◌, ◌∙◌, sym, ap, subst, refl, ℕ, zero, suc, ◌+◌, ◌<◌, ◌≤◌, inl, inr, Bool, true, false, true≢false, cond, eqb, List, [], ◌∷◌, ◌++◌, length, arith, append-nil, append_assoc, None}
+use Rattle.std.proofs.Common.{◌≡◌, ◌≢◌, ◌∙◌, sym, ap, subst, refl, ℕ, zero, suc, ◌+◌, ◌<◌, ◌≤◌, inl, inr, Bool, true, false, true≢false, cond, eqb, List, [], ◌∷◌, ◌++◌, length, arith, append-nil, append_assoc}
 use Rattle.std.specs.List.{AllByRecursion, range_with_len}
 use Rattle.std.specs.BTreeSet.{insert_key}
 use Rattle.std.specs.Ordering.{nat_cmp}
@@ -9,8 +9,7 @@ use Rattle.line_model.specs.declared.route.Route.TheVariants.{ToChannel}
 use Rattle.line_model.specs.basics.Bounds.{IsSaid}
 use Rattle.line_model.specs.packets.Says.{packet_channel}
 use Rattle.line_model.specs.basics.Records.{Item}
-use Rattle.line_model.specs.channels.RestartMachine.{LineState}
-use Rattle.line_model.specs.observer.Observer.{routing, is_ready, channel_in_r1}
+use Rattle.line_model.specs.channels.GapRestart.{GapLine, is_ready, routing}
 use Rattle.line_model.specs.pieces.Pieces.{piece_rows, StandsOnce}
 use Rattle.line_model.specs.pieces.Plan.{has_some}
 use Rattle.line_model.proofs.Handed.{handed_in_range}
@@ -22,7 +21,7 @@ use Rattle.restart_epochs.proofs.Listed.{insert_listed, none_listed}
 use Rattle.restart_epochs.proofs.ListedRows.{all_but}
 use Rattle.restart_epochs.proofs.Pushes.{served}
 use Rattle.restart_epochs.proofs.Routes.{is_to_channel}
-use Rattle.restart_epochs.proofs.Steps.{in_r1, routed_to}
+use Rattle.restart_epochs.proofs.Steps.{handed_at}
 
 pub none_added : (o : OpenRows) → AreAdded [] o o
 none_added o = record { rows = λ k. refl; channels = refl }
@@ -166,10 +165,10 @@ within_open i rs c s k some = at (is_ready (observer i rs).line) refl
     at false e = absurd (true≢false (sym some ∙ ap has_some (s.rows k ∙ ap (λ b. rows_if b i (places i rs) n k) e)))
 
 -- the line is in r1, and the channels are the interface's
-pub channel_within : (i : Interface) (l : LineState) (item : Item) → (routing l item).route ≡ ToChannel → IsSaid i item → (1 ≤ packet_channel item.packet) × (packet_channel item.packet ≤ i.svc)
+pub channel_within : (i : Interface) (l : GapLine) (item : Item) → (routing l item).route ≡ ToChannel → IsSaid i item → (1 ≤ packet_channel item.packet) × (packet_channel item.packet ≤ i.svc)
 channel_within i l item to said =
     let h = ap is_to_channel to in
-    handed_in_range i item (packet_channel item.packet) said (ap (λ b. cond b (channel_in_r1 item) None) (sym (in_r1 l item h)) ∙ routed_to i l item h)
+    handed_in_range i item (packet_channel item.packet) said (handed_at l item h)
 
 -- ---- the same cutter
 

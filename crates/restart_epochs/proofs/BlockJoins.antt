@@ -7,11 +7,11 @@ use Rattle.std.proofs.lemmas.List.Sums.{sum_by_push}
 use Rattle.line_model.proofs.LineLemmas.{last_or-add}
 use Rattle.line_model.specs.declared.interface.Interface.{Interface}
 use Rattle.line_model.specs.declared.route.Route.{Route}
-use Rattle.line_model.specs.declared.route.Route.TheVariants.{ToChannel, Leave, Enter, Found, Pass}
+use Rattle.line_model.specs.declared.route.Route.TheVariants.{ToChannel, Leave, Enter, Renew, Found, Pass}
 use Rattle.line_model.specs.basics.Bounds.{IsPiece, IsSaid, all_octets}
 use Rattle.line_model.specs.basics.Records.{Item, Piece}
-use Rattle.line_model.specs.channels.RestartMachine.{LineState}
-use Rattle.line_model.specs.observer.Observer.{routing}
+use Rattle.line_model.specs.pieces.Plans.{end_at}
+use Rattle.line_model.specs.channels.GapRestart.{GapLine, routing}
 use Rattle.line_model.specs.packets.Says.{packet_channel}
 use Rattle.line_model.specs.pieces.Plan.{has_some}
 use Rattle.line_model.specs.text.Text.{last_or}
@@ -80,7 +80,7 @@ fit_more i epoch o (x ∷ es) e all fits = (all.0, fit_more i epoch no_rows es e
 -- the row turned the cutter that was joined as it did the block's
 record TurnedBoth (turn : Turn) (item : Item) (c : Cutting) (b b' : BlockRows) : Type 0 where
   rows : HasTurned turn item (joined c b).open_rows (joined c b').open_rows
-  pieces : pieces_ended c b' ≡ pieces_ended c b ++ ended_by turn c.interface (c.epoch + b.epoch) item.number (joined c b).given (joined c b).open_rows
+  pieces : pieces_ended c b' ≡ pieces_ended c b ++ ended_by turn c.interface (c.epoch + b.epoch) (end_at item) (joined c b).given (joined c b).open_rows
   count : (joined c b').given ≡ given_after turn (joined c b).given (joined c b).open_rows
   listed : b'.rows.channels ≡ listed c.interface.svc (rows_of b'.rows)
   fit : AreFit c.interface c.epoch c.open_rows b'.ended
@@ -132,7 +132,7 @@ turned_not c b b' item was fit same kept =
 
 -- the epoch that ends with it
 abbrev ended_rows : BlockRows → Item → EpochRows
-ended_rows b item = record { parts = parts_of (rows_of b.rows) b.rows.channels; epoch = b.epoch; end = item.number }
+ended_rows b item = record { parts = parts_of (rows_of b.rows) b.rows.channels; epoch = b.epoch; end = end_at item }
 
 ended_fits : (i : Interface) (rows : List Item) (c : Cutting) (b : BlockRows) (item : Item) → StandsFor i rows (joined c b) → IsCutting (joined c b) → b.rows.channels ≡ listed c.interface.svc (rows_of b.rows)
     → ((k : ℕ) → rows_on k (ended_rows b item).parts ≡ rows_of b.rows k) → FitsEpoch c.interface c.epoch (rows_after c.open_rows b.ended) (ended_rows b item)
@@ -160,14 +160,14 @@ turned_ends i rows c b b' item stands bounds was fit one out =
     let left : rows_after c.open_rows b'.ended ≡ no_rows = ap (rows_after c.open_rows) one ∙ rows_ended c.open_rows b.ended e in
     let none : (k : ℕ) → rows_of (joined c b').open_rows k ≡ [] = λ k. both_rows n (rows_after c.open_rows b'.ended) b'.rows k ∙ (λ j. rows_of (left j) k ++ out.none k j) in
     let whole : with_parts o e.parts ≡ rows_of c1.open_rows = λ j k. (ap (λ l. rows_of o k ++ l) (out.parts k) ∙ sym (both_rows n o b.rows k)) j in
-    let more : pieces_ended c b' ≡ pieces_ended c b ++ pieces_out c.interface (c.epoch + b.epoch) (Some item.number) (rows_of c1.open_rows) c1.given c1.open_rows.channels =
+    let more : pieces_ended c b' ≡ pieces_ended c b ++ pieces_out c.interface (c.epoch + b.epoch) (Some (end_at item)) (rows_of c1.open_rows) c1.given c1.open_rows.channels =
     ap (pieces_of c.interface c.epoch c.given c.open_rows) one ∙ pieces_more c.interface c.epoch c.given c.open_rows b.ended e
-    ∙ ap (λ f. pieces_ended c b ++ pieces_out c.interface (c.epoch + b.epoch) (Some item.number) f c1.given (listed n f)) whole in
+    ∙ ap (λ f. pieces_ended c b ++ pieces_out c.interface (c.epoch + b.epoch) (Some (end_at item)) f c1.given (listed n f)) whole in
     record {
       rows = (none_listed (λ k. has_some (rows_of (joined c b').open_rows k)) (range_with_len 1 n) (λ k. ap has_some (none k)), λ k. inl (none k));
       pieces = more;
       count = let all : length (pieces_ended c b') ≡ length (pieces_ended c b) + length c1.open_rows.channels =
-          ap (λ (l : List Piece). length l) more ∙ length-append (pieces_ended c b) _ ∙ ap (λ m. length (pieces_ended c b) + m) (out-length c.interface (c.epoch + b.epoch) (Some item.number) (rows_of c1.open_rows) c1.given c1.open_rows.channels) in
+          ap (λ (l : List Piece). length l) more ∙ length-append (pieces_ended c b) _ ∙ ap (λ m. length (pieces_ended c b) + m) (out-length c.interface (c.epoch + b.epoch) (Some (end_at item)) (rows_of c1.open_rows) c1.given c1.open_rows.channels) in
           omega (arith, all);
       listed = out.channels ∙ sym (none_listed (λ k. has_some (rows_of b'.rows k)) (range_with_len 1 n) (λ k. ap has_some (out.none k)));
       fit = subst (AreFit c.interface c.epoch c.open_rows) (sym one) (fit_more c.interface c.epoch c.open_rows b.ended e fit (ended_fits i rows c b item stands bounds was out.parts));
@@ -179,6 +179,7 @@ turned_both i rs items c b b' item h said ToChannel is cut =
     let w = channel_within c.interface b.line item is said in
     turned_on c b b' item (packet_channel item.packet) w.0 w.1 h.listed h.fit cut.0 cut.1
 turned_both i rs items c b b' item h said (Leave code) is cut = turned_ends i (rs ++ items) c b b' item h.stands h.bounds h.listed h.fit cut.0 cut.1
+turned_both i rs items c b b' item h said Renew is cut = turned_ends i (rs ++ items) c b b' item h.stands h.bounds h.listed h.fit cut.0 cut.1
 turned_both i rs items c b b' item h said Enter is cut = turned_not c b b' item h.listed h.fit cut.0 cut.1
 turned_both i rs items c b b' item h said (Found s n) is cut = turned_not c b b' item h.listed h.fit cut.0 cut.1
 turned_both i rs items c b b' item h said Pass is cut = turned_not c b b' item h.listed h.fit cut.0 cut.1
@@ -187,6 +188,7 @@ turned_both i rs items c b b' item h said Pass is cut = turned_not c b b' item h
 
 epoch_raised : (a b : ℕ) (route : Route) → a + epoch_after b route ≡ epoch_after (a + b) route
 epoch_raised a b Enter = omega arith
+epoch_raised a b Renew = omega arith
 epoch_raised a b ToChannel = refl
 epoch_raised a b (Leave code) = refl
 epoch_raised a b (Found s n) = refl
@@ -236,28 +238,28 @@ more_joined i rs items c b b' item step is t come h =
     let step1 = step_joined c step in
     let is1 : IsStep c1.line c1.epoch item step1 = record { machine = is.machine; epoch = ap (λ m. c.epoch + m) is.epoch ∙ epoch_raised c.epoch b.epoch route; finding = is.finding; turn = is.turn } in
     let took : IsTakenBy item step1 c1 c2 = taken_joined c b b' item step t turned in
-    let pushed : Pushed i (rs ++ items) item (ended_by step.turn c1.interface c1.epoch item.number c1.given c1.open_rows) c2 = takes i (rs ++ items) c1 c2 item step1 h.stands next.2 is1 took in
+    let pushed : Pushed i (rs ++ items) item (ended_by step.turn c1.interface c1.epoch (end_at item) c1.given c1.open_rows) c2 = takes i (rs ++ items) c1 c2 item step1 h.stands next.2 is1 took in
     let rising : c1.last < item.number = subst (λ n. n < item.number) (sym h.last) next.0 in
     let few : c1.octets + item.length ≤ 2147483648 = let all = next.3 in omega (arith, all, h.octets) in
     record {
       stands = subst (λ l. StandsFor i l c2) (append_assoc rs items (item ∷ [])) pushed.stands;
       bounds = taken_bounds c1 c2 item step1 h.bounds next.2 rising next.1 few is1 took;
-      given = ap (given_of i) (sym (append_assoc rs items (item ∷ []))) ∙ pushed.given ∙ ap (λ l. l ++ ended_by step.turn c1.interface c1.epoch item.number c1.given c1.open_rows) h.given
-          ∙ append_assoc (given_of i rs) (pieces_ended c b) (ended_by step.turn c1.interface c1.epoch item.number c1.given c1.open_rows) ∙ ap (λ l. given_of i rs ++ l) (sym turned.pieces);
+      given = ap (given_of i) (sym (append_assoc rs items (item ∷ []))) ∙ pushed.given ∙ ap (λ l. l ++ ended_by step.turn c1.interface c1.epoch (end_at item) c1.given c1.open_rows) h.given
+          ∙ append_assoc (given_of i rs) (pieces_ended c b) (ended_by step.turn c1.interface c1.epoch (end_at item) c1.given c1.open_rows) ∙ ap (λ l. given_of i rs ++ l) (sym turned.pieces);
       last = took.counted.last ∙ sym (ap (last_or c.last) (map-append (λ (x : Item). x.number) items (item ∷ [])) ∙ last_or-add c.last item.number (numbers items));
       octets = let sum = sum_by_push (λ (x : Item). x.length) items item in omega (arith, took.counted.octets, h.octets, sum);
       listed = turned.listed;
       fit = turned.fit;
     }
 
-pub cut_more : (l : LineState) (items : List Item) (b b' : BlockRows) (item : Item) (step : Step) → IsStep b.line b.epoch item step → IsBlockTaken item step b b' → IsCutApart l items b → IsCutApart l (items ++ item ∷ []) b'
+pub cut_more : (l : GapLine) (items : List Item) (b b' : BlockRows) (item : Item) (step : Step) → IsStep b.line b.epoch item step → IsBlockTaken item step b b' → IsCutApart l items b → IsCutApart l (items ++ item ∷ []) b'
 cut_more l items b b' item step is t apart i rs c stands bounds line come =
     more_joined i rs items c b b' item step is t come (apart i rs c stands bounds line (come_first c.interface c.last c.octets items (item ∷ []) come))
 
 -- ---- before the first row
 
 -- no row of a block was taken
-pub record IsBlockBegun (l : LineState) (b : BlockRows) : Type 0 where
+pub record IsBlockBegun (l : GapLine) (b : BlockRows) : Type 0 where
   pub line : b.line ≡ l
   pub epoch : b.epoch ≡ 0
   pub packets : b.packets ≡ 0
@@ -288,7 +290,7 @@ begun_joined i rs c b s h =
       open_rows = record { rows = rows; channels = ap (listed n) fun ∙ ap (λ (j : Interface). listed j.svc (rows_of c.open_rows)) s.interface ∙ sym (lists i rs c s) };
     }
 
-pub cut_begun : (l : LineState) (b : BlockRows) → IsBlockBegun l b → IsCutApart l [] b
+pub cut_begun : (l : GapLine) (b : BlockRows) → IsBlockBegun l b → IsCutApart l [] b
 cut_begun l b h i rs c s bounds line come =
     let same = begun_joined i rs c b s (subst (λ m. IsBlockBegun m b) (sym line) h) in
     let all : rs ++ [] ≡ rs = append-nil rs in

@@ -11,7 +11,7 @@ use Rattle.std.proofs.lemmas.List.Elements.{All-append}
 use Rattle.line_model.specs.declared.interface.Interface.{Interface}
 use Rattle.line_model.specs.basics.Records.{Item}
 use Rattle.line_model.specs.declared.finding.Finding.{Finding}
-use Rattle.line_model.specs.channels.RestartMachine.{LineState}
+use Rattle.line_model.specs.channels.GapRestart.{GapLine}
 use Rattle.line_model.specs.basics.Bounds.{IsItem, IsPiece}
 use Rattle.restart_epochs.specs.OpenRows.{rows_of, with_channel}
 use Rattle.restart_epochs.specs.Cutting.{Cutting, IsCutting, IsLane, IsCounted, IsKeptOn, IsStepped, IsLeft}
@@ -79,7 +79,7 @@ kept_bounds c c' k item h kept is rising number octets =
 counted_octets : (c c' : Cutting) (r : Item) → IsCounted r c c' → c.octets + r.length ≤ 2147483648 → c'.octets ≤ 2147483648
 counted_octets c c' r counted h = omega (arith, h, counted.octets)
 
-pub stepped_bounds : (c c' : Cutting) (r : Item) (machine : LineState) (epoch : ℕ) (found : List Finding) → IsCutting c → IsStepped r machine epoch found c c' → epoch ≤ c.epoch + 1 → c.last < r.number → r.number ≤ 999999999 → c.octets + r.length ≤ 2147483648 → IsCutting c'
+pub stepped_bounds : (c c' : Cutting) (r : Item) (machine : GapLine) (epoch : ℕ) (found : List Finding) → IsCutting c → IsStepped r machine epoch found c c' → epoch ≤ c.epoch + 1 → c.last < r.number → r.number ≤ 999999999 → c.octets + r.length ≤ 2147483648 → IsCutting c'
 stepped_bounds c c' r machine epoch found h step next rising number octets =
     let rows = h.rows in
     let epochs = h.epochs in
@@ -103,8 +103,8 @@ left_lane : (i : Interface) (k n a : ℕ) (items was : List Item) (P : Type 0) �
 left_lane i k n a items was P h (inl none) = subst (IsLane i k n a) (sym none) (no_items i k n a)
 left_lane i k n a items was P h (inr same) = subst (IsLane i k n a) (sym same.0) h
 
-pub left_bounds : (c c' : Cutting) (r : Item) (machine : LineState) (found : List Finding) → IsCutting c → IsLeft r machine found c c' → c.last < r.number → r.number ≤ 999999999 → c.octets + r.length ≤ 2147483648 → IsCutting c'
-left_bounds c c' r machine found h left rising number octets =
+pub left_bounds : (c c' : Cutting) (r : Item) (machine : GapLine) (epoch : ℕ) (found : List Finding) → IsCutting c → IsLeft r machine epoch found c c' → epoch ≤ c.epoch + 1 → c.last < r.number → r.number ≤ 999999999 → c.octets + r.length ≤ 2147483648 → IsCutting c'
+left_bounds c c' r machine epoch found h left next rising number octets =
     let rows = h.rows in
     let epochs = h.epochs in
     let ids = h.ids in
@@ -113,7 +113,7 @@ left_bounds c c' r machine found h left rising number octets =
       rows = omega (arith, rows, rising, left.counted.packets, left.counted.last);
       last = omega (arith, number, left.counted.last);
       octets = counted_octets c c' r left.counted octets;
-      epochs = omega (arith, epochs, left.epoch, left.counted.packets);
+      epochs = omega (arith, epochs, next, left.epoch, left.counted.packets);
       ids = omega (arith, ids, none, left.given, left.counted.packets);
       lanes = λ j. lane_at_new c c' r left.counted j (rows_of c'.open_rows j)
           (left_lane c.interface j (c.packets + 1) (c.octets + r.length) (rows_of c'.open_rows j) (rows_of c.open_rows j) _

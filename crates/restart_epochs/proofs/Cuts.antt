@@ -6,12 +6,28 @@ use Rattle.std.proofs.lemmas.List.{map-append, length-map}
 use Rattle.std.proofs.lemmas.List.FromFn.{length-enumerate_from}
 use Rattle.line_model.specs.declared.interface.Interface.{Interface}
 use Rattle.line_model.specs.basics.Records.{Item, Piece}
+use Rattle.line_model.specs.declared.gap.EpochStart.TheVariants.{Restarted}
 use Rattle.line_model.specs.pieces.Pieces.{Placed, piece_rows, piece_end}
 use Rattle.line_model.specs.pieces.Plan.{has_some, plan_of}
-use Rattle.line_model.specs.pieces.Plans.{piece_of, plan}
+use Rattle.line_model.specs.basics.Bounds.{AreSaid}
+use Rattle.line_model.specs.pieces.Plans.{end_at, piece_of, plan}
+use Rattle.line_model.proofs.PieceStarts.{piece_alone, placed_alone}
 use Rattle.line_model.specs.observer.Observer.{x25, start}
 use Rattle.restart_epochs.specs.Cutting.{observer, places, channels_in}
 use Rattle.line_model.proofs.Pieces.{filter_append}
+use Rattle.restart_epochs.proofs.Starts.{starts_restarted}
+
+-- the piece of an epoch and a channel, without gaps
+abbrev pub piece_in : Interface → List (Placed Item) → ℕ × (ℕ × ℕ) → Piece
+piece_in i ps p = record {
+  id = p.0;
+  interface = i;
+  epoch = p.1.0;
+  start = Restarted;
+  channel = p.1.1;
+  items = piece_rows p.1.0 p.1.1 ps;
+  end = option_map end_at (piece_end p.1.0 ps);
+}
 
 abbrev pub keys_in : Interface → List (Placed Item) → ℕ → List (ℕ × ℕ)
 keys_in i ps e = map (λ k. (e, k)) (channels_in i ps e)
@@ -21,11 +37,11 @@ abbrev pub keys_to : Interface → List (Placed Item) → ℕ → List (ℕ × �
 keys_to i ps n = flat_map (keys_in i ps) (range_with_len 1 n)
 
 abbrev pub pieces_to : Interface → List (Placed Item) → ℕ → List Piece
-pieces_to i ps n = map (piece_of i ps) (enumerate_from 0 (keys_to i ps n))
+pieces_to i ps n = map (piece_in i ps) (enumerate_from 0 (keys_to i ps n))
 
 -- the pieces of one epoch, from an id on
 abbrev pub pieces_in : Interface → List (Placed Item) → (id epoch : ℕ) → List Piece
-pieces_in i ps id e = map (piece_of i ps) (enumerate_from id (keys_in i ps e))
+pieces_in i ps id e = map (piece_in i ps) (enumerate_from id (keys_in i ps e))
 
 -- ---- the plan is the pieces up to the last epoch
 
@@ -55,8 +71,17 @@ plan_keys i rs =
     ∙ filter_flat_map f g (range_with_len 1 (observer i rs).epoch)
     ∙ flat_map_each (λ e. filter f (g e)) (keys_in i (places i rs)) (λ e. filter_map_pairs f e (range_with_len 1 i.svc)) (range_with_len 1 (observer i rs).epoch)
 
-pub plan_is : (i : Interface) (rs : List Item) → plan i rs ≡ pieces_to i (places i rs) (observer i rs).epoch
-plan_is i rs = ap (λ qs. map (piece_of i (places i rs)) (enumerate_from 0 qs)) (plan_keys i rs)
+pieces_said : (i : Interface) (rs : List Item) → AreSaid i rs → (ks : List (ℕ × (ℕ × ℕ))) → map (piece_of i (places i rs)) ks ≡ map (piece_in i (places i rs)) ks
+pieces_said i rs said [] = refl
+pieces_said i rs said (k ∷ ks) =
+    let one : piece_of i (places i rs) k ≡ piece_in i (places i rs) k =
+    piece_alone i (places i rs) (placed_alone i (start i) rs said) k ∙ (λ j. record (piece_in i (places i rs) k) { start = starts_restarted i rs said k.1.0 j }) in
+    λ j. one j ∷ pieces_said i rs said ks j
+
+pub plan_is : (i : Interface) (rs : List Item) → AreSaid i rs → plan i rs ≡ pieces_to i (places i rs) (observer i rs).epoch
+plan_is i rs said =
+    ap (λ qs. map (piece_of i (places i rs)) (enumerate_from 0 qs)) (plan_keys i rs)
+    ∙ pieces_said i rs said (enumerate_from 0 (keys_to i (places i rs) (observer i rs).epoch))
 
 -- ---- one more epoch
 
@@ -80,9 +105,9 @@ enumerate_more n (x ∷ xs) ys =
 
 pub pieces_more : (i : Interface) (ps : List (Placed Item)) (n : ℕ) → pieces_to i ps (suc n) ≡ pieces_to i ps n ++ pieces_in i ps (length (keys_to i ps n)) (n + 1)
 pieces_more i ps n =
-    ap (λ qs. map (piece_of i ps) (enumerate_from 0 qs)) (keys_more i ps n)
-    ∙ ap (map (piece_of i ps)) (enumerate_more 0 (keys_to i ps n) (keys_in i ps (n + 1)))
-    ∙ map-append (piece_of i ps) (enumerate_from 0 (keys_to i ps n)) (enumerate_from (0 + length (keys_to i ps n)) (keys_in i ps (n + 1)))
+    ap (λ qs. map (piece_in i ps) (enumerate_from 0 qs)) (keys_more i ps n)
+    ∙ ap (map (piece_in i ps)) (enumerate_more 0 (keys_to i ps n) (keys_in i ps (n + 1)))
+    ∙ map-append (piece_in i ps) (enumerate_from 0 (keys_to i ps n)) (enumerate_from (0 + length (keys_to i ps n)) (keys_in i ps (n + 1)))
     ∙ ap (λ m. pieces_to i ps n ++ pieces_in i ps m (n + 1)) (omega arith)
 
 -- ---- epochs that a row did not touch
@@ -99,19 +124,19 @@ filter_each f g h (k ∷ ks) = ap (λ b. cond b (k ∷ filter f ks) (filter f ks
 keys_same : (i : Interface) (ps qs : List (Placed Item)) (e : ℕ) → SameEpoch e ps qs → keys_in i qs e ≡ keys_in i ps e
 keys_same i ps qs e s = ap (map (λ k. (e, k))) (filter_each (λ k. has_some (piece_rows e k qs)) (λ k. has_some (piece_rows e k ps)) (λ k. ap has_some (s.rows k)) (range_with_len 1 i.svc))
 
-piece_same : (i : Interface) (ps qs : List (Placed Item)) (e id k : ℕ) → SameEpoch e ps qs → piece_of i qs (id, (e, k)) ≡ piece_of i ps (id, (e, k))
+piece_same : (i : Interface) (ps qs : List (Placed Item)) (e id k : ℕ) → SameEpoch e ps qs → piece_in i qs (id, (e, k)) ≡ piece_in i ps (id, (e, k))
 piece_same i ps qs e id k s =
-    ap (λ rows. record { id = id; interface = i; epoch = e; channel = k; items = rows; end = option_map (λ (r : Item). r.number) (piece_end e qs) }) (s.rows k)
-    ∙ ap (λ end. record { id = id; interface = i; epoch = e; channel = k; items = piece_rows e k ps; end = option_map (λ (r : Item). r.number) end }) s.end
+    ap (λ rows. record { id = id; interface = i; epoch = e; start = Restarted; channel = k; items = rows; end = option_map end_at (piece_end e qs) }) (s.rows k)
+    ∙ ap (λ end. record { id = id; interface = i; epoch = e; start = Restarted; channel = k; items = piece_rows e k ps; end = option_map end_at end }) s.end
 
-mapped_same : (i : Interface) (ps qs : List (Placed Item)) (e id : ℕ) (ks : List ℕ) → SameEpoch e ps qs → map (piece_of i qs) (enumerate_from id (map (λ k. (e, k)) ks)) ≡ map (piece_of i ps) (enumerate_from id (map (λ k. (e, k)) ks))
+mapped_same : (i : Interface) (ps qs : List (Placed Item)) (e id : ℕ) (ks : List ℕ) → SameEpoch e ps qs → map (piece_in i qs) (enumerate_from id (map (λ k. (e, k)) ks)) ≡ map (piece_in i ps) (enumerate_from id (map (λ k. (e, k)) ks))
 mapped_same i ps qs e id [] s = refl
 mapped_same i ps qs e id (k ∷ ks) s =
-    ap (λ p. p ∷ map (piece_of i qs) (enumerate_from (id + 1) (map (λ j. (e, j)) ks))) (piece_same i ps qs e id k s)
-    ∙ ap (λ l. piece_of i ps (id, (e, k)) ∷ l) (mapped_same i ps qs e (id + 1) ks s)
+    ap (λ p. p ∷ map (piece_in i qs) (enumerate_from (id + 1) (map (λ j. (e, j)) ks))) (piece_same i ps qs e id k s)
+    ∙ ap (λ l. piece_in i ps (id, (e, k)) ∷ l) (mapped_same i ps qs e (id + 1) ks s)
 
 pub pieces_in_same : (i : Interface) (ps qs : List (Placed Item)) (e id : ℕ) → SameEpoch e ps qs → pieces_in i qs id e ≡ pieces_in i ps id e
-pieces_in_same i ps qs e id s = ap (λ ks. map (piece_of i qs) (enumerate_from id ks)) (keys_same i ps qs e s) ∙ mapped_same i ps qs e id (channels_in i ps e) s
+pieces_in_same i ps qs e id s = ap (λ ks. map (piece_in i qs) (enumerate_from id ks)) (keys_same i ps qs e s) ∙ mapped_same i ps qs e id (channels_in i ps e) s
 
 keys_to_same : (i : Interface) (ps qs : List (Placed Item)) (n : ℕ) → ((e : ℕ) → e ≤ n → SameEpoch e ps qs) → keys_to i qs n ≡ keys_to i ps n
 keys_to_same i ps qs zero s = refl
@@ -136,7 +161,7 @@ pieces_to_same i ps qs (suc n) s =
 ended : Piece → Bool
 ended p = is_some p.end
 
-has_number : (o : Option Item) → is_some (option_map (λ (r : Item). r.number) o) ≡ is_some o
+has_number : (o : Option Item) → is_some (option_map end_at o) ≡ is_some o
 has_number None = refl
 has_number (Some r) = refl
 
@@ -144,16 +169,16 @@ kept_step : (b : Bool) (p : Piece) (ps qs : List Piece) → b ≡ true → ps �
 kept_step b p ps qs h e = ap (λ v. cond v (p ∷ ps) ps) h ∙ ap (λ l. p ∷ l) e
 
 kept_in : (i : Interface) (ps : List (Placed Item)) (e id : ℕ) (ks : List ℕ) → is_some (piece_end e ps) ≡ true
-    → filter (λ p. is_some p.end) (map (piece_of i ps) (enumerate_from id (map (λ k. (e, k)) ks))) ≡ map (piece_of i ps) (enumerate_from id (map (λ k. (e, k)) ks))
+    → filter (λ p. is_some p.end) (map (piece_in i ps) (enumerate_from id (map (λ k. (e, k)) ks))) ≡ map (piece_in i ps) (enumerate_from id (map (λ k. (e, k)) ks))
 kept_in i ps e id [] h = refl
-kept_in i ps e id (k ∷ ks) h = kept_step _ (piece_of i ps (id, (e, k))) _ _ (has_number (piece_end e ps) ∙ h) (kept_in i ps e (id + 1) ks h)
+kept_in i ps e id (k ∷ ks) h = kept_step _ (piece_in i ps (id, (e, k))) _ _ (has_number (piece_end e ps) ∙ h) (kept_in i ps e (id + 1) ks h)
 
 dropped_in : (i : Interface) (ps : List (Placed Item)) (e id : ℕ) (ks : List ℕ) → piece_end e ps ≡ None
-    → filter (λ p. is_some p.end) (map (piece_of i ps) (enumerate_from id (map (λ k. (e, k)) ks))) ≡ []
+    → filter (λ p. is_some p.end) (map (piece_in i ps) (enumerate_from id (map (λ k. (e, k)) ks))) ≡ []
 dropped_in i ps e id [] h = refl
 dropped_in i ps e id (k ∷ ks) h =
-    let more : List Piece = filter (λ p. is_some p.end) (map (piece_of i ps) (enumerate_from (id + 1) (map (λ j. (e, j)) ks))) in
-    ap (λ (o : Option Item). cond (is_some (option_map (λ (r : Item). r.number) o)) (piece_of i ps (id, (e, k)) ∷ more) more) h ∙ dropped_in i ps e (id + 1) ks h
+    let more : List Piece = filter (λ p. is_some p.end) (map (piece_in i ps) (enumerate_from (id + 1) (map (λ j. (e, j)) ks))) in
+    ap (λ (o : Option Item). cond (is_some (option_map end_at o)) (piece_in i ps (id, (e, k)) ∷ more) more) h ∙ dropped_in i ps e (id + 1) ks h
 
 pub all_given : (i : Interface) (ps : List (Placed Item)) (n : ℕ) → ((e : ℕ) → 1 ≤ e → e ≤ n → is_some (piece_end e ps) ≡ true) → filter (λ p. is_some p.end) (pieces_to i ps n) ≡ pieces_to i ps n
 all_given i ps zero h = refl
@@ -175,4 +200,4 @@ others_given i ps n h none =
     ∙ append-nil (pieces_to i ps n)
 
 pub pieces-length : (i : Interface) (ps : List (Placed Item)) (n : ℕ) → length (pieces_to i ps n) ≡ length (keys_to i ps n)
-pieces-length i ps n = length-map (enumerate_from 0 (keys_to i ps n)) (piece_of i ps) ∙ length-enumerate_from 0 (keys_to i ps n)
+pieces-length i ps n = length-map (enumerate_from 0 (keys_to i ps n)) (piece_in i ps) ∙ length-enumerate_from 0 (keys_to i ps n)

@@ -4,6 +4,8 @@ use Rattle.std.specs.List.{AllByRecursion, range_with_len}
 use Rattle.line_model.specs.declared.interface.Interface.{Interface}
 use Rattle.line_model.specs.basics.Bounds.{IsPiece}
 use Rattle.line_model.specs.basics.Records.{Item, Piece}
+use Rattle.line_model.specs.declared.gap.EpochStart.TheVariants.{Restarted}
+use Rattle.line_model.specs.declared.piece.PieceEnd.{PieceEnd}
 use Rattle.line_model.specs.pieces.Plan.{has_some}
 use Rattle.restart_epochs.specs.BlockCuts.{AreAdded, AreFit, ChannelRows, EpochRows, HasEnded, HaveEnded, MayEnd, MayEndAll, listed, part_pieces, parts_of, pieces_of, rows_after, rows_on, with_parts}
 use Rattle.restart_epochs.specs.Cutting.{IsEmptied, pieces_out}
@@ -15,9 +17,9 @@ use Rattle.restart_epochs.proofs.TakenParts.{none_listed}
 
 -- ---- an epoch whose rows are parts alone
 
-out_parts : (i : Interface) (e : ℕ) (end : Option ℕ) (rows : ℕ → List Item) (id : ℕ) (ks : List ℕ) → part_pieces i e end id (parts_of rows ks) ≡ pieces_out i e end rows id ks
+out_parts : (i : Interface) (e : ℕ) (end : Option PieceEnd) (rows : ℕ → List Item) (id : ℕ) (ks : List ℕ) → part_pieces i e end id (parts_of rows ks) ≡ pieces_out i e end rows id ks
 out_parts i e end rows id [] = refl
-out_parts i e end rows id (k ∷ ks) = ap (λ l. record { id = id; interface = i; epoch = e; channel = k; items = rows k; end = end } ∷ l) (out_parts i e end rows (id + 1) ks)
+out_parts i e end rows id (k ∷ ks) = ap (λ l. record { id = id; interface = i; epoch = e; start = Restarted; channel = k; items = rows k; end = end } ∷ l) (out_parts i e end rows (id + 1) ks)
 
 fit_parts : (i : Interface) (rows : ℕ → List Item) → ((k : ℕ) → IsPiece i k (rows k)) → (ks : List ℕ) → AllByRecursion (λ p. IsPiece i p.channel p.items) (parts_of rows ks)
 fit_parts i rows h [] = tt
@@ -186,9 +188,9 @@ ending_all i epoch first before all out given now left grown h none =
 
 -- ---- one part more
 
-pub part_given : (i : Interface) (e : ℕ) (end : Option ℕ) (id : ℕ) (p : ChannelRows) (left rest : List ChannelRows) (out grown all : List Piece) (channel : ℕ) (items : List Item) → left ≡ p ∷ rest → channel ≡ p.channel → items ≡ p.items
-    → grown ≡ out ++ record { id = id; interface = i; epoch = e; channel = channel; items = items; end = end } ∷ [] → out ++ part_pieces i e end id left ≡ all → grown ++ part_pieces i e end (id + 1) rest ≡ all
+pub part_given : (i : Interface) (e : ℕ) (end : Option PieceEnd) (id : ℕ) (p : ChannelRows) (left rest : List ChannelRows) (out grown all : List Piece) (channel : ℕ) (items : List Item) → left ≡ p ∷ rest → channel ≡ p.channel → items ≡ p.items
+    → grown ≡ out ++ record { id = id; interface = i; epoch = e; start = Restarted; channel = channel; items = items; end = end } ∷ [] → out ++ part_pieces i e end id left ≡ all → grown ++ part_pieces i e end (id + 1) rest ≡ all
 part_given i e end id p left rest out grown all channel items step at own g h =
-    ap (λ l. l ++ part_pieces i e end (id + 1) rest) (g ∙ (λ j. out ++ record { id = id; interface = i; epoch = e; channel = at j; items = own j; end = end } ∷ []))
-    ∙ append_assoc out (record { id = id; interface = i; epoch = e; channel = p.channel; items = p.items; end = end } ∷ []) (part_pieces i e end (id + 1) rest)
+    ap (λ l. l ++ part_pieces i e end (id + 1) rest) (g ∙ (λ j. out ++ record { id = id; interface = i; epoch = e; start = Restarted; channel = at j; items = own j; end = end } ∷ []))
+    ∙ append_assoc out (record { id = id; interface = i; epoch = e; start = Restarted; channel = p.channel; items = p.items; end = end } ∷ []) (part_pieces i e end (id + 1) rest)
     ∙ ap (λ ps. out ++ part_pieces i e end id ps) (sym step) ∙ h

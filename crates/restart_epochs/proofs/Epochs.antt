@@ -5,7 +5,7 @@ use Rattle.std.specs.List.{filter}
 use Rattle.std.proofs.lemmas.List.{map-append}
 use Rattle.line_model.specs.declared.interface.Interface.{Interface}
 use Rattle.line_model.specs.basics.Records.{Item}
-use Rattle.line_model.specs.observer.Machine.{Machine, Observer, routed, after, walk}
+use Rattle.line_model.specs.observer.Machine.{Machine, Observer, after, walk}
 use Rattle.line_model.specs.pieces.Shuffle.{is_channel}
 use Rattle.line_model.specs.pieces.Pieces.{Placed, place, placed, piece_rows, piece_end}
 use Rattle.line_model.specs.observer.Observer.{x25, start}

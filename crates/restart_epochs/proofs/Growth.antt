@@ -5,9 +5,14 @@ use Rattle.std.specs.List.{filter}
 use Rattle.std.proofs.lemmas.Bool.{ne_eqb, and_right, eq-eqb, eqb-true, eqb-false}
 use Rattle.line_model.specs.declared.interface.Interface.{Interface}
 use Rattle.line_model.specs.basics.Records.{Item, Piece}
+use Rattle.line_model.specs.basics.Bounds.{AreSaid}
 use Rattle.line_model.specs.pieces.Shuffle.{is_channel}
 use Rattle.line_model.specs.pieces.Pieces.{Placed, piece_end}
 use Rattle.restart_epochs.specs.Cutting.{observer, places, given_of, EndsOf}
+use Rattle.restart_epochs.specs.Walks.{epoch_after}
+use Rattle.restart_epochs.proofs.Routes.{fits_route, is_leaving, is_to_channel}
+use Rattle.line_model.specs.declared.route.Route.{Route}
+use Rattle.line_model.specs.declared.route.Route.TheVariants.{Pass, Found, Leave, Enter, Renew, ToChannel}
 use Rattle.restart_epochs.proofs.Epochs.{rows_same, end_same, end_stays, end_new}
 use Rattle.restart_epochs.proofs.Cuts.{SameEpoch, pieces_to, pieces_in, pieces_more, pieces_to_same, keys_to, pieces-length, plan_is, all_given, others_given}
 
@@ -50,27 +55,50 @@ ends_leave ps p epoch h at leaves = record {
 split_last : (e epoch : ℕ) → e < epoch + 1 → (e ≢ epoch → e < epoch)
 split_last e epoch lt ne = omega (arith, lt, ne)
 
-pub ends_enter : (ps : List (Placed Item)) (p : Placed Item) (epoch : ℕ) → EndsOf ps epoch false → p.epoch ≡ epoch → p.leaves ≡ false → EndsOf (ps ++ p ∷ []) (epoch + 1) true
-ends_enter ps p epoch h at stays = record {
+-- the next epoch begins once one has ended
+pub ends_begin : (ps : List (Placed Item)) (epoch : ℕ) → EndsOf ps epoch false → EndsOf ps (epoch + 1) true
+ends_begin ps epoch h = record {
   begun = omega arith;
-  ended = λ e lo hi. ap (λ o. is_some o) (end_same e ps p (stays_in p e stays)) ∙ was e lo hi (eqb e epoch) refl;
+  ended = λ e lo hi. was e lo hi (eqb e epoch) refl;
   left = λ r. absurd (true≢false r);
-  unended = λ r. end_same (epoch + 1) ps p (stays_in p (epoch + 1) stays) ∙ h.later_end (epoch + 1) (omega arith);
-  later = λ e k lt. rows_same e k ps p (not_of (is_channel k p.channel) p epoch e at (λ q. omega (arith, q, lt))) ∙ h.later e k (omega (arith, lt));
-  later_end = λ e lt. end_same e ps p (stays_in p e stays) ∙ h.later_end e (omega (arith, lt));
+  unended = λ r. h.later_end (epoch + 1) (omega arith);
+  later = λ e k lt. h.later e k (omega (arith, lt));
+  later_end = λ e lt. h.later_end e (omega (arith, lt));
 }
   where
     was : (e : ℕ) → 1 ≤ e → e < epoch + 1 → (b : Bool) → eqb e epoch ≡ b → is_some (piece_end e ps) ≡ true
     was e lo hi true same = subst (λ n. is_some (piece_end n ps) ≡ true) (sym (eqb-true e epoch same)) (h.left refl)
     was e lo hi false other = h.ended e lo (split_last e epoch hi (eqb-false e epoch other))
 
+-- the epochs after a row that goes to no channel, by its route
+pub ends_by : (ps : List (Placed Item)) (p : Placed Item) (epoch : ℕ) (t : Route) (b a : Bool) → fits_route b a t ≡ true → is_to_channel t ≡ false → EndsOf ps epoch b → p.epoch ≡ epoch → p.leaves ≡ is_leaving t
+    → EndsOf (ps ++ p ∷ []) (epoch_after epoch t) a
+ends_by ps p epoch Pass true true fit to h at leaves = ends_same ps p epoch true h at leaves
+ends_by ps p epoch Pass false false fit to h at leaves = ends_same ps p epoch false h at leaves
+ends_by ps p epoch Pass true false fit to h at leaves = absurd (true≢false (sym fit))
+ends_by ps p epoch Pass false true fit to h at leaves = absurd (true≢false (sym fit))
+ends_by ps p epoch (Found s n) true true fit to h at leaves = ends_same ps p epoch true h at leaves
+ends_by ps p epoch (Found s n) false false fit to h at leaves = ends_same ps p epoch false h at leaves
+ends_by ps p epoch (Found s n) true false fit to h at leaves = absurd (true≢false (sym fit))
+ends_by ps p epoch (Found s n) false true fit to h at leaves = absurd (true≢false (sym fit))
+ends_by ps p epoch (Leave c) true false fit to h at leaves = ends_leave ps p epoch h at leaves
+ends_by ps p epoch (Leave c) true true fit to h at leaves = absurd (true≢false (sym fit))
+ends_by ps p epoch (Leave c) false a fit to h at leaves = absurd (true≢false (sym fit))
+ends_by ps p epoch Enter false true fit to h at leaves = ends_begin (ps ++ p ∷ []) epoch (ends_same ps p epoch false h at leaves)
+ends_by ps p epoch Enter false false fit to h at leaves = absurd (true≢false (sym fit))
+ends_by ps p epoch Enter true a fit to h at leaves = absurd (true≢false (sym fit))
+ends_by ps p epoch Renew true true fit to h at leaves = ends_begin (ps ++ p ∷ []) epoch (ends_leave ps p epoch h at leaves)
+ends_by ps p epoch Renew true false fit to h at leaves = absurd (true≢false (sym fit))
+ends_by ps p epoch Renew false a fit to h at leaves = absurd (true≢false (sym fit))
+ends_by ps p epoch ToChannel b a fit to h at leaves = absurd (true≢false to)
+
 -- how many epochs are known whole
 abbrev pub whole_epochs : (epoch : ℕ) (ready : Bool) → ℕ
 whole_epochs epoch true = epoch - 1
 whole_epochs epoch false = epoch
 
-pub given_pieces : (i : Interface) (rs : List Item) (ready : Bool) → EndsOf (places i rs) (observer i rs).epoch ready → given_of i rs ≡ pieces_to i (places i rs) (whole_epochs (observer i rs).epoch ready)
-given_pieces i rs true h = ap (filter (λ p. is_some p.end)) (plan_is i rs) ∙ at (observer i rs).epoch h.begun h.ended (h.unended refl)
+pub given_pieces : (i : Interface) (rs : List Item) (ready : Bool) → AreSaid i rs → EndsOf (places i rs) (observer i rs).epoch ready → given_of i rs ≡ pieces_to i (places i rs) (whole_epochs (observer i rs).epoch ready)
+given_pieces i rs true said h = ap (filter (λ p. is_some p.end)) (plan_is i rs said) ∙ at (observer i rs).epoch h.begun h.ended (h.unended refl)
   where
     at : (n : ℕ) → 1 ≤ n → ((e : ℕ) → 1 ≤ e → e < n → is_some (piece_end e (places i rs)) ≡ true) → piece_end n (places i rs) ≡ None
         → filter (λ p. is_some p.end) (pieces_to i (places i rs) n) ≡ pieces_to i (places i rs) (n - 1)
@@ -79,8 +107,8 @@ given_pieces i rs true h = ap (filter (λ p. is_some p.end)) (plan_is i rs) ∙ 
         let one : suc n ≡ n + 1 = omega arith in
         others_given i (places i rs) n (λ e low high. ended e low (omega (arith, high))) (subst (λ m. piece_end m (places i rs) ≡ None) one none)
         ∙ ap (pieces_to i (places i rs)) (omega arith)
-given_pieces i rs false h =
-    ap (filter (λ p. is_some p.end)) (plan_is i rs)
+given_pieces i rs false said h =
+    ap (filter (λ p. is_some p.end)) (plan_is i rs said)
     ∙ all_given i (places i rs) (observer i rs).epoch (λ e lo hi. was e lo hi (eqb e (observer i rs).epoch) refl)
   where
     was : (e : ℕ) → 1 ≤ e → e ≤ (observer i rs).epoch → (b : Bool) → eqb e (observer i rs).epoch ≡ b → is_some (piece_end e (places i rs)) ≡ true

@@ -1,6 +1,7 @@
 pub mod Routes
 pub mod KeptLine
 pub mod Epochs
+pub mod Starts
 pub mod Steps
 pub mod Cuts
 pub mod Growth

@@ -5,7 +5,7 @@ use Rattle.line_model.specs.declared.interface.Interface.{Interface}
 use Rattle.line_model.specs.basics.Records.{Item}
 use Rattle.line_model.specs.pieces.Plan.{has_some}
 use Rattle.line_model.specs.pieces.Pieces.{piece_rows}
-use Rattle.line_model.specs.observer.Observer.{is_ready}
+use Rattle.line_model.specs.channels.GapRestart.{is_ready}
 use Rattle.restart_epochs.specs.OpenLanes.{lane_at}
 use Rattle.restart_epochs.specs.OpenRows.{OpenRows, rows_in, rows_of, with_channel, HasMore, IsListing}
 use Rattle.restart_epochs.specs.Cutting.{Cutting, StandsFor, IsCutting, observer, places, rows_if, channels_if, no_cutting}

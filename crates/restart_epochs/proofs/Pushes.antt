@@ -1,5 +1,5 @@
 -- A cutter that stands for some rows stands for one more after it took it.
-use Rattle.std.proofs.Common.{◌≡◌, ◌≢◌, ◌∙◌, sym, ap, subst, refl, ℕ, zero, suc, ◌+◌, ◌-◌, ◌≤◌, ◌⊎◌, inl, inr, Bool, true, false, true≢false, ◌&&◌, cond, eqb, not, List, [], ◌∷◌, ◌++◌, map, length, Option, Some, None, arith, append-nil, length-append}
+use Rattle.std.proofs.Common.{◌≡◌, ◌≢◌, ◌∙◌, sym, ap, subst, refl, ℕ, zero, suc, ◌+◌, ◌-◌, ◌≤◌, ◌⊎◌, inl, inr, Bool, true, false, true≢false, ◌&&◌, cond, eqb, List, [], ◌∷◌, ◌++◌, map, length, Option, Some, None, arith, append-nil, length-append}
 use Rattle.std.specs.Prelude.{option_map}
 use Rattle.std.specs.List.{filter, range_with_len, enumerate_from, AllByRecursion}
 use Rattle.std.specs.BTreeSet.{insert_key}
@@ -8,44 +8,46 @@ use Rattle.std.proofs.lemmas.Bool.{ne_eqb, eq-eqb, eqb-true, eqb-false}
 use Rattle.line_model.specs.declared.interface.Interface.{Interface}
 use Rattle.line_model.specs.declared.finding.Finding.{Finding}
 use Rattle.line_model.specs.basics.Records.{Item, Piece}
+use Rattle.line_model.specs.declared.gap.EpochStart.TheVariants.{Restarted}
+use Rattle.line_model.specs.declared.piece.PieceEnd.{PieceEnd}
 use Rattle.line_model.specs.basics.Bounds.{IsSaid, AreSaid}
 use Rattle.line_model.proofs.Rising.{all_append}
 use Rattle.line_model.specs.packets.Says.{packet_channel}
-use Rattle.line_model.specs.channels.RestartMachine.{LineState}
+use Rattle.line_model.specs.channels.GapRestart.{GapLine, is_ready, routing}
 use Rattle.line_model.specs.pieces.Shuffle.{is_channel}
-use Rattle.line_model.specs.observer.Machine.{Observer, line_moved}
-use Rattle.line_model.specs.channels.Channels.{Channel}
 use Rattle.line_model.specs.pieces.Pieces.{Placed, piece_rows, piece_end, StandsOnce}
 use Rattle.line_model.specs.pieces.Plan.{has_some}
-use Rattle.line_model.specs.pieces.Plans.{piece_of, plan, line_findings}
-use Rattle.line_model.proofs.Handed.{handed_in_range, has_channels}
+use Rattle.line_model.specs.pieces.Plans.{end_at, plan, line_findings}
+use Rattle.line_model.proofs.Handed.{handed_in_range}
+use Rattle.line_model.proofs.GapMachines.{has_channels}
 use Rattle.line_model.proofs.Merged.{piece_once}
-use Rattle.line_model.specs.observer.Observer.{x25, start, routing, is_ready, line_in_r1, channel_in_r1}
+use Rattle.line_model.specs.observer.Observer.{x25, start, is_renewal}
+use Rattle.line_model.specs.declared.route.Route.{Route}
+use Rattle.line_model.specs.declared.route.Route.TheVariants.{Enter, Found, Leave, Pass, Renew, ToChannel}
 use Rattle.restart_epochs.specs.OpenRows.{OpenRows, rows_of, with_channel, HasMore}
 use Rattle.restart_epochs.specs.Cutting.{Cutting, observer, places, given_of, EndsOf, channels_in, rows_if, channels_if, StandsFor, pieces_out, IsKeptOn, IsStepped, IsLeft}
-use Rattle.restart_epochs.specs.Walks.{route_finding}
-use Rattle.restart_epochs.proofs.Routes.{is_to_channel}
+use Rattle.restart_epochs.specs.Walks.{epoch_after, route_finding}
+use Rattle.restart_epochs.proofs.Routes.{fits, is_leaving, is_quiet, is_to_channel, leaves_at, leaving_line, quiet_line, quiet_stays}
 use Rattle.restart_epochs.proofs.Epochs.{place_of, places_more, rows_same, rows_on_more, end_new}
-use Rattle.restart_epochs.proofs.Steps.{OnChannel, on_channel, OnLine, on_line}
-use Rattle.restart_epochs.proofs.Cuts.{filter_each, pieces_to, pieces_in, pieces_more, pieces_to_same, pieces-length, plan_is}
-use Rattle.restart_epochs.proofs.Growth.{ends_nothing, ends_same, ends_leave, ends_enter, whole_epochs, given_pieces, same_below, same_line, leave_pieces}
+use Rattle.restart_epochs.proofs.Steps.{OnChannel, handed_at, on_channel, OnLine, on_line}
+use Rattle.restart_epochs.proofs.Cuts.{filter_each, piece_in, pieces_to, pieces_in, pieces_more, pieces_to_same, pieces-length, plan_is}
+use Rattle.restart_epochs.proofs.Growth.{ends_nothing, ends_begin, ends_same, ends_leave, whole_epochs, given_pieces, same_below, same_line, leave_pieces}
 use Rattle.restart_epochs.proofs.LineFindings.{line_findings_more, to_none}
 use Rattle.restart_epochs.proofs.Listed.{insert_listed, none_listed}
-use mathlib.Core.Bool.{and-not_self}
 
 -- ---- the pieces of an epoch, as they are given out
 
-mapped_out : (i : Interface) (ps : List (Placed Item)) (e : ℕ) (end : Option ℕ) (rows : ℕ → List Item) → option_map (λ (r : Item). r.number) (piece_end e ps) ≡ end
+mapped_out : (i : Interface) (ps : List (Placed Item)) (e : ℕ) (end : Option PieceEnd) (rows : ℕ → List Item) → option_map end_at (piece_end e ps) ≡ end
     → ((k : ℕ) → rows k ≡ piece_rows e k ps) → (id : ℕ) (ks : List ℕ)
-    → map (piece_of i ps) (enumerate_from id (map (λ k. (e, k)) ks)) ≡ pieces_out i e end rows id ks
+    → map (piece_in i ps) (enumerate_from id (map (λ k. (e, k)) ks)) ≡ pieces_out i e end rows id ks
 mapped_out i ps e end rows h same id [] = refl
 mapped_out i ps e end rows h same id (k ∷ ks) =
-    ap (λ p. p ∷ map (piece_of i ps) (enumerate_from (id + 1) (map (λ j. (e, j)) ks)))
-    (ap (λ items. record { id = id; interface = i; epoch = e; channel = k; items = items; end = option_map (λ (r : Item). r.number) (piece_end e ps) }) (sym (same k))
-    ∙ ap (λ o. record { id = id; interface = i; epoch = e; channel = k; items = rows k; end = o }) h)
-    ∙ ap (λ l. record { id = id; interface = i; epoch = e; channel = k; items = rows k; end = end } ∷ l) (mapped_out i ps e end rows h same (id + 1) ks)
+    ap (λ p. p ∷ map (piece_in i ps) (enumerate_from (id + 1) (map (λ j. (e, j)) ks)))
+    (ap (λ items. record { id = id; interface = i; epoch = e; start = Restarted; channel = k; items = items; end = option_map end_at (piece_end e ps) }) (sym (same k))
+    ∙ ap (λ o. record { id = id; interface = i; epoch = e; start = Restarted; channel = k; items = rows k; end = o }) h)
+    ∙ ap (λ l. record { id = id; interface = i; epoch = e; start = Restarted; channel = k; items = rows k; end = end } ∷ l) (mapped_out i ps e end rows h same (id + 1) ks)
 
-pub pieces_in_out : (i : Interface) (ps : List (Placed Item)) (id e : ℕ) (end : Option ℕ) (rows : ℕ → List Item) → option_map (λ (r : Item). r.number) (piece_end e ps) ≡ end
+pub pieces_in_out : (i : Interface) (ps : List (Placed Item)) (id e : ℕ) (end : Option PieceEnd) (rows : ℕ → List Item) → option_map end_at (piece_end e ps) ≡ end
     → ((k : ℕ) → rows k ≡ piece_rows e k ps) → pieces_in i ps id e ≡ pieces_out i e end rows id (channels_in i ps e)
 pieces_in_out i ps id e end rows h same = mapped_out i ps e end rows h same id (channels_in i ps e)
 
@@ -54,7 +56,7 @@ pieces_in_out i ps id e end rows h same = mapped_out i ps e end rows h same id (
 no_channels : (i : Interface) → channels_in i [] 1 ≡ []
 no_channels i = none_listed (λ k. has_some {X = Item} (piece_rows 1 k [])) (range_with_len 1 i.svc) (λ k. refl)
 
-pub stands_nothing : (i : Interface) (c : Cutting) → c.interface ≡ i → c.line ≡ line_in_r1 i.join → c.epoch ≡ 1 → c.given ≡ 0 → c.packets ≡ 0 → c.findings ≡ []
+pub stands_nothing : (i : Interface) (c : Cutting) → c.interface ≡ i → c.line ≡ (start i).line → c.epoch ≡ 1 → c.given ≡ 0 → c.packets ≡ 0 → c.findings ≡ []
     → ((k : ℕ) → rows_of c.open_rows k ≡ []) → c.open_rows.channels ≡ [] → StandsFor i [] c
 stands_nothing i c same line epoch given packets findings rows channels = record {
   said = tt;
@@ -63,7 +65,7 @@ stands_nothing i c same line epoch given packets findings rows channels = record
   epoch = epoch;
   packets = packets;
   findings = findings;
-  given = given ∙ sym (ap (λ (l : List Piece). length l) (given_pieces i [] true ends_nothing));
+  given = given ∙ sym (ap (λ (l : List Piece). length l) (given_pieces i [] true tt ends_nothing));
   rows = rows;
   channels = channels ∙ sym (no_channels i);
   epochs = ends_nothing;
@@ -127,7 +129,7 @@ kept_channels i ps p e channel lo hi at on =
 -- ---- a cutter after one more row
 
 -- what the observer and the places are after a row
-record After (i : Interface) (rs : List Item) (r : Item) (ready : Bool) (epoch : ℕ) (line : LineState) : Type 0 where
+record After (i : Interface) (rs : List Item) (r : Item) (ready : Bool) (epoch : ℕ) (line : GapLine) : Type 0 where
   is_ready : is_ready (observer i (rs ++ r ∷ [])).line ≡ ready
   is_epoch : (observer i (rs ++ r ∷ [])).epoch ≡ epoch
   is_line : (observer i (rs ++ r ∷ [])).line ≡ line
@@ -135,31 +137,31 @@ record After (i : Interface) (rs : List Item) (r : Item) (ready : Bool) (epoch :
 counted_length : (rs : List Item) (r : Item) (n m : ℕ) → n ≡ length rs → m ≡ n + 1 → m ≡ length (rs ++ r ∷ [])
 counted_length rs r n m e h = omega (arith, e, h, length-append rs (r ∷ []))
 
-ends_at : (i : Interface) (rs : List Item) (r : Item) (ready : Bool) (epoch : ℕ) (line : LineState) → After i rs r ready epoch line → EndsOf (places i rs ++ place_of i rs r ∷ []) epoch ready
+ends_at : (i : Interface) (rs : List Item) (r : Item) (ready : Bool) (epoch : ℕ) (line : GapLine) → After i rs r ready epoch line → EndsOf (places i rs ++ place_of i rs r ∷ []) epoch ready
     → EndsOf (places i (rs ++ r ∷ [])) (observer i (rs ++ r ∷ [])).epoch (is_ready (observer i (rs ++ r ∷ [])).line)
 ends_at i rs r ready epoch line a h =
     subst (λ (ps : List (Placed Item)). EndsOf ps (observer i (rs ++ r ∷ [])).epoch (is_ready (observer i (rs ++ r ∷ [])).line)) (sym (places_more i rs r))
     (subst (λ e. EndsOf (places i rs ++ place_of i rs r ∷ []) e (is_ready (observer i (rs ++ r ∷ [])).line)) (sym a.is_epoch)
     (subst (λ b. EndsOf (places i rs ++ place_of i rs r ∷ []) epoch b) (sym a.is_ready) h))
 
-rows_at : (i : Interface) (rs : List Item) (r : Item) (ready : Bool) (epoch : ℕ) (line : LineState) → After i rs r ready epoch line → (k : ℕ)
+rows_at : (i : Interface) (rs : List Item) (r : Item) (ready : Bool) (epoch : ℕ) (line : GapLine) → After i rs r ready epoch line → (k : ℕ)
     → rows_if ready i (places i rs ++ place_of i rs r ∷ []) epoch k ≡ rows_if (is_ready (observer i (rs ++ r ∷ [])).line) i (places i (rs ++ r ∷ [])) (observer i (rs ++ r ∷ [])).epoch k
 rows_at i rs r ready epoch line a k = λ j. rows_if (sym a.is_ready j) i (sym (places_more i rs r) j) (sym a.is_epoch j) k
 
-channels_at : (i : Interface) (rs : List Item) (r : Item) (ready : Bool) (epoch : ℕ) (line : LineState) → After i rs r ready epoch line
+channels_at : (i : Interface) (rs : List Item) (r : Item) (ready : Bool) (epoch : ℕ) (line : GapLine) → After i rs r ready epoch line
     → channels_if ready i (places i rs ++ place_of i rs r ∷ []) epoch ≡ channels_if (is_ready (observer i (rs ++ r ∷ [])).line) i (places i (rs ++ r ∷ [])) (observer i (rs ++ r ∷ [])).epoch
 channels_at i rs r ready epoch line a = λ j. channels_if (sym a.is_ready j) i (sym (places_more i rs r) j) (sym a.is_epoch j)
 
-given_at : (i : Interface) (rs : List Item) (r : Item) (ready : Bool) (epoch : ℕ) (line : LineState) → After i rs r ready epoch line → EndsOf (places i rs ++ place_of i rs r ∷ []) epoch ready
+given_at : (i : Interface) (rs : List Item) (r : Item) (ready : Bool) (epoch : ℕ) (line : GapLine) → AreSaid i (rs ++ r ∷ []) → After i rs r ready epoch line → EndsOf (places i rs ++ place_of i rs r ∷ []) epoch ready
     → given_of i (rs ++ r ∷ []) ≡ pieces_to i (places i rs ++ place_of i rs r ∷ []) (whole_epochs epoch ready)
-given_at i rs r ready epoch line a h =
+given_at i rs r ready epoch line said a h =
     let there = ends_at i rs r ready epoch line a h in
-    given_pieces i (rs ++ r ∷ []) (is_ready (observer i (rs ++ r ∷ [])).line) there
+    given_pieces i (rs ++ r ∷ []) (is_ready (observer i (rs ++ r ∷ [])).line) said there
     ∙ (λ j. pieces_to i (places_more i rs r j) (whole_epochs (a.is_epoch j) (a.is_ready j)))
 
 -- before the row
 given_before : (i : Interface) (rs : List Item) (c : Cutting) (ready : Bool) → StandsFor i rs c → is_ready (observer i rs).line ≡ ready → given_of i rs ≡ pieces_to i (places i rs) (whole_epochs (observer i rs).epoch ready)
-given_before i rs c ready s h = given_pieces i rs ready (subst (EndsOf (places i rs) (observer i rs).epoch) h s.epochs)
+given_before i rs c ready s h = given_pieces i rs ready s.said (subst (EndsOf (places i rs) (observer i rs).epoch) h s.epochs)
 
 -- ---- by its route
 
@@ -182,9 +184,9 @@ pushed_on_channel i rs r c c' s said h kept =
     let a : After i rs r true o.epoch o.line = record { is_ready = ap is_ready on.line ∙ on.ready; is_epoch = on.epoch; is_line = on.line } in
     let ends : EndsOf (places i rs ++ p ∷ []) o.epoch true = ends_same (places i rs) p o.epoch true (subst (EndsOf (places i rs) o.epoch) on.ready s.epochs) refl on.leaves in
     let was : (j : ℕ) → rows_of c.open_rows j ≡ piece_rows o.epoch j (places i rs) = λ j. s.rows j ∙ ap (λ b. rows_if b i (places i rs) o.epoch j) on.ready in
-    let range = handed_in_range i r k said (ap (λ b. cond b (channel_in_r1 r) None) (sym on.ready) ∙ on.channel) in
+    let range = handed_in_range i r k said (handed_at o.line r (ap (λ l. is_to_channel (routing l r).route) (sym s.line) ∙ h)) in
     let given : given_of i (rs ++ r ∷ []) ≡ given_of i rs =
-    given_at i rs r true o.epoch o.line a ends
+    given_at i rs r true o.epoch o.line (said_more i rs r s said) a ends
     ∙ pieces_to_same i (places i rs) (places i rs ++ p ∷ []) (o.epoch - 1) (λ e le. same_below (places i rs) p o.epoch e refl (let lo = ends.begun in omega (arith, lo, le)))
     ∙ sym (given_before i rs c true s on.ready) in
     record {
@@ -206,9 +208,13 @@ pushed_on_channel i rs r c c' s said h kept =
       given = given ∙ sym (append-nil (given_of i rs));
     }
 
-same_epoch : (i : Interface) (o : Observer LineState Channel) (l : LineState) (b : Bool) → (line_moved (x25 i) o l b b).epoch ≡ o.epoch
-same_epoch i o l true = refl
-same_epoch i o l false = refl
+quiet_epoch : (epoch : ℕ) (route : Route) → is_quiet route ≡ true → epoch_after epoch route ≡ epoch
+quiet_epoch epoch Pass q = refl
+quiet_epoch epoch (Found s n) q = refl
+quiet_epoch epoch ToChannel q = refl
+quiet_epoch epoch (Leave c) q = refl
+quiet_epoch epoch Enter q = absurd (true≢false (sym q))
+quiet_epoch epoch Renew q = absurd (true≢false (sym q))
 
 -- the findings after a row of the line part
 findings_at : (i : Interface) (rs : List Item) (r : Item) (c : Cutting) (findings : List Finding) → StandsFor i rs c → findings ≡ c.findings ++ route_finding r (routing c.line r).route → findings ≡ line_findings i (rs ++ r ∷ [])
@@ -229,22 +235,23 @@ line_channels i ps p e true none = filter_each _ _ (λ k. ap has_some (rows_same
 line_channels i ps p e false none = refl
 
 -- r1 is neither left nor entered
-pub pushed_quietly : (i : Interface) (rs : List Item) (r : Item) (c c' : Cutting) (ready : Bool) → StandsFor i rs c → IsSaid i r → is_to_channel (routing c.line r).route ≡ false
+pub pushed_quietly : (i : Interface) (rs : List Item) (r : Item) (c c' : Cutting) (ready : Bool) → StandsFor i rs c → IsSaid i r → is_quiet (routing c.line r).route ≡ true
     → is_ready c.line ≡ ready → is_ready (routing c.line r).after ≡ ready
     → IsStepped r (routing c.line r).after c.epoch (route_finding r (routing c.line r).route) c c' → Pushed i rs r [] c'
-pushed_quietly i rs r c c' ready s said h before after step =
-    let on = line_at i rs r c s h in
+pushed_quietly i rs r c c' ready s said quiet before after step =
+    let on = line_at i rs r c s (quiet_line (routing c.line r).route quiet) in
     let o = observer i rs in
     let p = place_of i rs r in
-    let l' : LineState = (routing o.line r).after in
+    let l' : GapLine = (routing o.line r).after in
     let was : is_ready o.line ≡ ready = ap is_ready (sym s.line) ∙ before in
     let will : is_ready l' ≡ ready = ap (λ l. is_ready (routing l r).after) (sym s.line) ∙ after in
-    let stays : p.leaves ≡ false = on.leaves ∙ (λ j. was j && not (will j)) ∙ and-not_self ready in
-    let epoch : (observer i (rs ++ r ∷ [])).epoch ≡ o.epoch = on.epoch ∙ (λ j. (line_moved (x25 i) o l' (was j) (will j)).epoch) ∙ same_epoch i o l' ready in
+    let here : is_quiet (routing o.line r).route ≡ true = ap (λ l. is_quiet (routing l r).route) (sym s.line) ∙ quiet in
+    let stays : p.leaves ≡ false = on.leaves ∙ quiet_stays (routing o.line r).route here in
+    let epoch : (observer i (rs ++ r ∷ [])).epoch ≡ o.epoch = on.epoch ∙ quiet_epoch o.epoch (routing o.line r).route here in
     let a : After i rs r ready o.epoch l' = record { is_ready = ap is_ready on.line ∙ will; is_epoch = epoch; is_line = on.line } in
     let ends : EndsOf (places i rs ++ p ∷ []) o.epoch ready = ends_same (places i rs) p o.epoch ready (subst (EndsOf (places i rs) o.epoch) was s.epochs) refl stays in
     let given : given_of i (rs ++ r ∷ []) ≡ given_of i rs =
-    given_at i rs r ready o.epoch l' a ends
+    given_at i rs r ready o.epoch l' (said_more i rs r s said) a ends
     ∙ pieces_to_same i (places i rs) (places i rs ++ p ∷ []) (whole_epochs o.epoch ready) (λ e le. same_line (places i rs) p e on.channel stays)
     ∙ sym (given_before i rs c ready s was) in
     record {
@@ -264,24 +271,25 @@ pushed_quietly i rs r c c' ready s said h before after step =
     }
 
 -- r1 is entered
-pub pushed_entering : (i : Interface) (rs : List Item) (r : Item) (c c' : Cutting) → StandsFor i rs c → IsSaid i r → is_to_channel (routing c.line r).route ≡ false
+pub pushed_entering : (i : Interface) (rs : List Item) (r : Item) (c c' : Cutting) → StandsFor i rs c → IsSaid i r → (routing c.line r).route ≡ Enter
     → is_ready c.line ≡ false → is_ready (routing c.line r).after ≡ true
     → IsStepped r (routing c.line r).after (c.epoch + 1) (route_finding r (routing c.line r).route) c c' → Pushed i rs r [] c'
-pushed_entering i rs r c c' s said h before after step =
-    let on = line_at i rs r c s h in
+pushed_entering i rs r c c' s said enter before after step =
+    let on = line_at i rs r c s (ap is_to_channel enter) in
     let o = observer i rs in
     let p = place_of i rs r in
-    let l' : LineState = (routing o.line r).after in
+    let l' : GapLine = (routing o.line r).after in
     let was : is_ready o.line ≡ false = ap is_ready (sym s.line) ∙ before in
     let will : is_ready l' ≡ true = ap (λ l. is_ready (routing l r).after) (sym s.line) ∙ after in
-    let stays : p.leaves ≡ false = on.leaves ∙ (λ j. was j && not (will j)) in
-    let epoch : (observer i (rs ++ r ∷ [])).epoch ≡ o.epoch + 1 = on.epoch ∙ (λ j. (line_moved (x25 i) o l' (was j) (will j)).epoch) in
+    let here : (routing o.line r).route ≡ Enter = ap (λ l. (routing l r).route) (sym s.line) ∙ enter in
+    let stays : p.leaves ≡ false = on.leaves ∙ ap is_leaving here in
+    let epoch : (observer i (rs ++ r ∷ [])).epoch ≡ o.epoch + 1 = on.epoch ∙ ap (epoch_after o.epoch) here in
     let a : After i rs r true (o.epoch + 1) l' = record { is_ready = ap is_ready on.line ∙ will; is_epoch = epoch; is_line = on.line } in
     let old : EndsOf (places i rs) o.epoch false = subst (EndsOf (places i rs) o.epoch) was s.epochs in
-    let ends : EndsOf (places i rs ++ p ∷ []) (o.epoch + 1) true = ends_enter (places i rs) p o.epoch old refl stays in
+    let ends : EndsOf (places i rs ++ p ∷ []) (o.epoch + 1) true = ends_begin (places i rs ++ p ∷ []) o.epoch (ends_same (places i rs) p o.epoch false old refl stays) in
     let back : whole_epochs (o.epoch + 1) true ≡ o.epoch = omega arith in
     let given : given_of i (rs ++ r ∷ []) ≡ given_of i rs =
-    given_at i rs r true (o.epoch + 1) l' a ends
+    given_at i rs r true (o.epoch + 1) l' (said_more i rs r s said) a ends
     ∙ ap (pieces_to i (places i rs ++ p ∷ [])) back
     ∙ pieces_to_same i (places i rs) (places i rs ++ p ∷ []) o.epoch (λ e le. same_line (places i rs) p e on.channel stays)
     ∙ sym (given_before i rs c false s was) in
@@ -304,7 +312,7 @@ pushed_entering i rs r c c' s said h before after step =
       given = given ∙ sym (append-nil (given_of i rs));
     }
 
-pub out-length : (i : Interface) (e : ℕ) (end : Option ℕ) (rows : ℕ → List Item) (id : ℕ) (ks : List ℕ) → length (pieces_out i e end rows id ks) ≡ length ks
+pub out-length : (i : Interface) (e : ℕ) (end : Option PieceEnd) (rows : ℕ → List Item) (id : ℕ) (ks : List ℕ) → length (pieces_out i e end rows id ks) ≡ length ks
 out-length i e end rows id [] = refl
 out-length i e end rows id (k ∷ ks) = let more = out-length i e end rows (id + 1) ks in omega (arith, more)
 
@@ -318,7 +326,7 @@ last_pieces i ps (suc n) lo =
     ∙ ap (λ m. pieces_to i ps n ++ pieces_in i ps (length (pieces_to i ps n)) m) next
     ∙ ap (λ m. pieces_to i ps m ++ pieces_in i ps (length (pieces_to i ps m)) (suc n)) back
 
--- ---- r1 is left
+-- ---- an epoch ends
 
 -- a channel that is not listed has no rows
 not_listed : (f : ℕ → Bool) (k : ℕ) (ks : List ℕ) → StandsOnce k ks → f k ≡ true → AllByRecursion (λ j. j ≢ k) (filter f ks) → ⊥
@@ -348,36 +356,68 @@ emptied_row : (i : Interface) (rs : List Item) → AreSaid i rs → (e k : ℕ) 
 emptied_row i rs said e k before after listed was (inl none) = none
 emptied_row i rs said e k before after listed was (inr kept) = kept.0 ∙ was ∙ no_rows_of i rs said e k (subst (AllByRecursion (λ j. j ≢ k)) listed kept.1)
 
-pub pushed_leaving : (i : Interface) (rs : List Item) (r : Item) (c c' : Cutting) → StandsFor i rs c → IsSaid i r → is_to_channel (routing c.line r).route ≡ false
-    → is_ready c.line ≡ true → is_ready (routing c.line r).after ≡ false
-    → IsLeft r (routing c.line r).after (route_finding r (routing c.line r).route) c c'
-    → Pushed i rs r (pieces_out c.interface c.epoch (Some r.number) (rows_of c.open_rows) c.given c.open_rows.channels) c'
-pushed_leaving i rs r c c' s said h before after step =
-    let on = line_at i rs r c s h in
+-- the epoch after a row that ends one, by whether the next one begins with it
+abbrev next_if : (renewed : Bool) → ℕ → ℕ
+next_if v e = cond v (e + 1) e
+
+leaving_epoch : (epoch : ℕ) (route : Route) → is_leaving route ≡ true → epoch_after epoch route ≡ next_if (is_renewal route) epoch
+leaving_epoch epoch (Leave c) h = refl
+leaving_epoch epoch Renew h = refl
+leaving_epoch epoch Pass h = refl
+leaving_epoch epoch (Found s n) h = refl
+leaving_epoch epoch ToChannel h = refl
+leaving_epoch epoch Enter h = absurd (true≢false (sym h))
+
+ends_next : (ps : List (Placed Item)) (e : ℕ) (v : Bool) → EndsOf ps e false → EndsOf ps (next_if v e) v
+ends_next ps e true h = ends_begin ps e h
+ends_next ps e false h = h
+
+whole_next : (v : Bool) (e : ℕ) → whole_epochs (next_if v e) v ≡ e
+whole_next true e = omega arith
+whole_next false e = refl
+
+-- the next epoch has no rows yet
+next_rows : (i : Interface) (ps : List (Placed Item)) (e k : ℕ) (v : Bool) → EndsOf ps e false → rows_if v i ps (next_if v e) k ≡ []
+next_rows i ps e k true h = h.later (e + 1) k (omega arith)
+next_rows i ps e k false h = refl
+
+next_channels : (i : Interface) (ps : List (Placed Item)) (e : ℕ) (v : Bool) → EndsOf ps e false → channels_if v i ps (next_if v e) ≡ []
+next_channels i ps e true h = none_listed (λ k. has_some (piece_rows (e + 1) k ps)) (range_with_len 1 i.svc) (λ k. ap has_some (h.later (e + 1) k (omega arith)))
+next_channels i ps e false h = refl
+
+pub pushed_leaving : (i : Interface) (rs : List Item) (r : Item) (c c' : Cutting) → StandsFor i rs c → IsSaid i r → is_leaving (routing c.line r).route ≡ true
+    → IsLeft r (routing c.line r).after (epoch_after c.epoch (routing c.line r).route) (route_finding r (routing c.line r).route) c c'
+    → Pushed i rs r (pieces_out c.interface c.epoch (Some (end_at r)) (rows_of c.open_rows) c.given c.open_rows.channels) c'
+pushed_leaving i rs r c c' s said leaving step =
+    let on = line_at i rs r c s (leaving_line (routing c.line r).route leaving) in
     let o = observer i rs in
     let p = place_of i rs r in
-    let l' : LineState = (routing o.line r).after in
-    let was : is_ready o.line ≡ true = ap is_ready (sym s.line) ∙ before in
-    let will : is_ready l' ≡ false = ap (λ l. is_ready (routing l r).after) (sym s.line) ∙ after in
-    let leaves : p.leaves ≡ true = on.leaves ∙ (λ j. was j && not (will j)) in
-    let epoch : (observer i (rs ++ r ∷ [])).epoch ≡ o.epoch = on.epoch ∙ (λ j. (line_moved (x25 i) o l' (was j) (will j)).epoch) in
-    let a : After i rs r false o.epoch l' = record { is_ready = ap is_ready on.line ∙ will; is_epoch = epoch; is_line = on.line } in
+    let l' : GapLine = (routing o.line r).after in
+    let route : Route = (routing o.line r).route in
+    let here : is_leaving route ≡ true = ap (λ l. is_leaving (routing l r).route) (sym s.line) ∙ leaving in
+    let v : Bool = is_renewal route in
+    let both = leaves_at (is_ready o.line) (is_ready l') route here (fits o.line r) in
+    let was : is_ready o.line ≡ true = both.0 in
+    let leaves : p.leaves ≡ true = on.leaves ∙ here in
+    let a : After i rs r v (next_if v o.epoch) l' = record { is_ready = ap is_ready on.line ∙ both.1; is_epoch = on.epoch ∙ leaving_epoch o.epoch route here; is_line = on.line } in
     let old : EndsOf (places i rs) o.epoch true = subst (EndsOf (places i rs) o.epoch) was s.epochs in
-    let ends : EndsOf (places i rs ++ p ∷ []) o.epoch false = ends_leave (places i rs) p o.epoch old refl leaves in
-    let here : eqb p.epoch o.epoch ≡ true = eq-eqb p.epoch o.epoch refl in
-    let end : option_map (λ (q : Item). q.number) (piece_end o.epoch (places i rs ++ p ∷ [])) ≡ Some r.number =
-    ap (option_map (λ (q : Item). q.number)) (end_new o.epoch (places i rs) p (ap (λ b. b && eqb p.epoch o.epoch) leaves ∙ here) (old.unended refl)) in
+    let left : EndsOf (places i rs ++ p ∷ []) o.epoch false = ends_leave (places i rs) p o.epoch old refl leaves in
+    let ends : EndsOf (places i rs ++ p ∷ []) (next_if v o.epoch) v = ends_next (places i rs ++ p ∷ []) o.epoch v left in
+    let at : eqb p.epoch o.epoch ≡ true = eq-eqb p.epoch o.epoch refl in
+    let end : option_map end_at (piece_end o.epoch (places i rs ++ p ∷ [])) ≡ Some (end_at r) =
+    ap (option_map end_at) (end_new o.epoch (places i rs) p (ap (λ b. b && eqb p.epoch o.epoch) leaves ∙ at) (old.unended refl)) in
     let same_rows : (k : ℕ) → piece_rows o.epoch k (places i rs ++ p ∷ []) ≡ piece_rows o.epoch k (places i rs) = λ k.
     rows_same o.epoch k (places i rs) p (ap (λ q. is_channel k q && eqb p.epoch o.epoch) on.channel) in
     let listed : c.open_rows.channels ≡ channels_in i (places i rs) o.epoch = s.channels ∙ ap (λ b. channels_if b i (places i rs) o.epoch) was in
     let rows : (k : ℕ) → rows_of c.open_rows k ≡ piece_rows o.epoch k (places i rs) = λ k. s.rows k ∙ ap (λ b. rows_if b i (places i rs) o.epoch k) was in
     let before_is : given_of i rs ≡ pieces_to i (places i rs) (o.epoch - 1) = given_before i rs c true s was in
-    let more : pieces_in i (places i rs ++ p ∷ []) (length (pieces_to i (places i rs) (o.epoch - 1))) o.epoch ≡ pieces_out c.interface c.epoch (Some r.number) (rows_of c.open_rows) c.given c.open_rows.channels =
-    pieces_in_out i (places i rs ++ p ∷ []) (length (pieces_to i (places i rs) (o.epoch - 1))) o.epoch (Some r.number) (rows_of c.open_rows) end (λ k. rows k ∙ sym (same_rows k))
-    ∙ (λ j. pieces_out (sym s.interface j) (sym s.epoch j) (Some r.number) (rows_of c.open_rows) (sym (s.given ∙ ap (λ (l : List Piece). length l) before_is) j)
+    let more : pieces_in i (places i rs ++ p ∷ []) (length (pieces_to i (places i rs) (o.epoch - 1))) o.epoch ≡ pieces_out c.interface c.epoch (Some (end_at r)) (rows_of c.open_rows) c.given c.open_rows.channels =
+    pieces_in_out i (places i rs ++ p ∷ []) (length (pieces_to i (places i rs) (o.epoch - 1))) o.epoch (Some (end_at r)) (rows_of c.open_rows) end (λ k. rows k ∙ sym (same_rows k))
+    ∙ (λ j. pieces_out (sym s.interface j) (sym s.epoch j) (Some (end_at r)) (rows_of c.open_rows) (sym (s.given ∙ ap (λ (l : List Piece). length l) before_is) j)
     (sym (listed ∙ sym (line_channels i (places i rs) p o.epoch true on.channel)) j)) in
-    let given : given_of i (rs ++ r ∷ []) ≡ given_of i rs ++ pieces_out c.interface c.epoch (Some r.number) (rows_of c.open_rows) c.given c.open_rows.channels =
-    given_at i rs r false o.epoch l' a ends
+    let given : given_of i (rs ++ r ∷ []) ≡ given_of i rs ++ pieces_out c.interface c.epoch (Some (end_at r)) (rows_of c.open_rows) c.given c.open_rows.channels =
+    given_at i rs r v (next_if v o.epoch) l' (said_more i rs r s said) a ends
+    ∙ ap (pieces_to i (places i rs ++ p ∷ [])) (whole_next v o.epoch)
     ∙ leave_pieces i (places i rs) p o.epoch old.begun refl
     ∙ (λ j. sym before_is j ++ more j) in
     record {
@@ -385,15 +425,15 @@ pushed_leaving i rs r c c' s said h before after step =
         said = said_more i rs r s said;
         interface = step.counted.interface ∙ s.interface;
         line = step.line ∙ ap (λ l. (routing l r).after) s.line ∙ sym on.line;
-        epoch = step.epoch ∙ s.epoch ∙ sym epoch;
+        epoch = step.epoch ∙ (λ j. epoch_after (s.epoch j) (routing (s.line j) r).route) ∙ sym on.epoch;
         packets = counted_length rs r c.packets c'.packets s.packets step.counted.packets;
         findings = findings_at i rs r c c'.findings s step.findings;
         given = step.given ∙ ap (λ n. n + length c.open_rows.channels) s.given
-            ∙ ap (λ n. length (given_of i rs) + n) (sym (out-length c.interface c.epoch (Some r.number) (rows_of c.open_rows) c.given c.open_rows.channels))
-            ∙ sym (ap (λ (l : List Piece). length l) given ∙ length-append (given_of i rs) (pieces_out c.interface c.epoch (Some r.number) (rows_of c.open_rows) c.given c.open_rows.channels));
-        rows = λ k. emptied_row i rs s.said o.epoch k c.open_rows c'.open_rows listed (rows k) (step.emptied k) ∙ rows_at i rs r false o.epoch l' a k;
-        channels = step.channels ∙ channels_at i rs r false o.epoch l' a;
-        epochs = ends_at i rs r false o.epoch l' a ends;
+            ∙ ap (λ n. length (given_of i rs) + n) (sym (out-length c.interface c.epoch (Some (end_at r)) (rows_of c.open_rows) c.given c.open_rows.channels))
+            ∙ sym (ap (λ (l : List Piece). length l) given ∙ length-append (given_of i rs) (pieces_out c.interface c.epoch (Some (end_at r)) (rows_of c.open_rows) c.given c.open_rows.channels));
+        rows = λ k. emptied_row i rs s.said o.epoch k c.open_rows c'.open_rows listed (rows k) (step.emptied k) ∙ sym (next_rows i (places i rs ++ p ∷ []) o.epoch k v left) ∙ rows_at i rs r v (next_if v o.epoch) l' a k;
+        channels = step.channels ∙ sym (next_channels i (places i rs ++ p ∷ []) o.epoch v left) ∙ channels_at i rs r v (next_if v o.epoch) l' a;
+        epochs = ends_at i rs r v (next_if v o.epoch) l' a ends;
       };
       given = given;
     }
@@ -409,10 +449,10 @@ rest_open i rs c s = at (is_ready (observer i rs).line) refl
         let ends : EndsOf (places i rs) o.epoch true = subst (EndsOf (places i rs) o.epoch) e s.epochs in
         let before_is : given_of i rs ≡ pieces_to i (places i rs) (o.epoch - 1) = given_before i rs c true s e in
         let last : pieces_in i (places i rs) (length (pieces_to i (places i rs) (o.epoch - 1))) o.epoch ≡ pieces_out c.interface c.epoch None (rows_of c.open_rows) c.given c.open_rows.channels =
-        pieces_in_out i (places i rs) (length (pieces_to i (places i rs) (o.epoch - 1))) o.epoch None (rows_of c.open_rows) (ap (option_map (λ (q : Item). q.number)) (ends.unended refl)) (λ k. s.rows k ∙ ap (λ b. rows_if b i (places i rs) o.epoch k) e)
+        pieces_in_out i (places i rs) (length (pieces_to i (places i rs) (o.epoch - 1))) o.epoch None (rows_of c.open_rows) (ap (option_map end_at) (ends.unended refl)) (λ k. s.rows k ∙ ap (λ b. rows_if b i (places i rs) o.epoch k) e)
         ∙ (λ j. pieces_out (sym s.interface j) (sym s.epoch j) None (rows_of c.open_rows) (sym (s.given ∙ ap (λ (l : List Piece). length l) before_is) j) (sym (s.channels ∙ ap (λ b. channels_if b i (places i rs) o.epoch) e) j)) in
-        (λ j. before_is j ++ sym last j) ∙ sym (last_pieces i (places i rs) o.epoch ends.begun) ∙ sym (plan_is i rs)
+        (λ j. before_is j ++ sym last j) ∙ sym (last_pieces i (places i rs) o.epoch ends.begun) ∙ sym (plan_is i rs s.said)
     at false e =
         let none : c.open_rows.channels ≡ [] = s.channels ∙ ap (λ b. channels_if b i (places i rs) (observer i rs).epoch) e in
         ap (λ ks. given_of i rs ++ pieces_out c.interface c.epoch None (rows_of c.open_rows) c.given ks) none
-        ∙ append-nil (given_of i rs) ∙ given_before i rs c false s e ∙ sym (plan_is i rs)
+        ∙ append-nil (given_of i rs) ∙ given_before i rs c false s e ∙ sym (plan_is i rs s.said)

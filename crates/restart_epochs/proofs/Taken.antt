@@ -1,52 +1,46 @@
 -- A cutter that took a row by its route.
-use Rattle.std.proofs.Common.{◌≡◌, ◌∙◌, sym, ap, subst, refl, ℕ, ◌+◌, ◌<◌, ◌≤◌, true, List, [], ◌++◌, false, Option, Some, arith, append-nil, append_assoc, Result, Ok, Err, OnOk, option_to_list}
+use Rattle.std.proofs.Common.{◌≡◌, ◌∙◌, sym, ap, subst, refl, ℕ, ◌+◌, ◌<◌, ◌≤◌, true, List, [], ◌++◌, false, Some, arith, append-nil, append_assoc, Result, Ok, Err, OnOk, option_to_list}
 use Rattle.line_model.specs.declared.interface.Interface.{Interface}
 use Rattle.line_model.specs.declared.finding.Finding.{Finding}
 use Rattle.line_model.specs.declared.route.Route.{Route}
-use Rattle.line_model.specs.declared.route.Route.TheVariants.{ToChannel, Leave, Enter, Found, Pass}
+use Rattle.line_model.specs.declared.route.Route.TheVariants.{ToChannel, Leave, Enter, Renew, Found, Pass}
 use Rattle.line_model.specs.basics.Records.{Item, Piece}
+use Rattle.line_model.specs.pieces.Plans.{end_at}
 use Rattle.line_model.specs.basics.Bounds.{IsSaid}
 use Rattle.line_model.specs.packets.Says.{packet_channel}
-use Rattle.line_model.specs.packets.Classes.{packet_class}
-use Rattle.line_model.specs.channels.RestartMachine.{LineState}
-use Rattle.line_model.specs.observer.Observer.{routing, is_ready}
+use Rattle.line_model.specs.channels.GapRestart.{GapLine, is_ready, routing}
 use Rattle.restart_epochs.specs.OpenRows.{OpenRows, rows_of}
 use Rattle.restart_epochs.specs.declared.walk.Step.{Step}
 use Rattle.restart_epochs.specs.Walks.{epoch_after, route_finding, turn_of, IsAdvanced, IsSameWalk, IsStep}
 use Rattle.restart_epochs.specs.declared.walk.EpochWalk.{EpochWalk}
 use Rattle.restart_epochs.specs.Cutting.{Cutting, StandsFor, pieces_out, ended_by, given_after, HasTurned, IsCutting, IsKeptOn, IsStepped, IsLeft, IsTaken, IsTakenBy, IsCounted, given_of}
-use Rattle.restart_epochs.proofs.Routes.{is_to_channel, fits, fits_route, leaves_at, enters_at, is_quiet, quiet_at, quiet_line}
-use Rattle.restart_epochs.proofs.KeptLine.{kept_line}
+use Rattle.restart_epochs.proofs.Routes.{is_leaving, is_to_channel, fits, enters_at, is_quiet, quiet_at}
+use Rattle.restart_epochs.proofs.KeptLine.{kept_row}
 use Rattle.restart_epochs.proofs.Bounds.{kept_bounds, stepped_bounds, left_bounds}
 use Rattle.restart_epochs.proofs.Pushes.{Pushed, pushed_on_channel, pushed_quietly, pushed_entering, pushed_leaving}
-
-fits_here : (l : LineState) (item : Item) → fits_route (is_ready l) (is_ready (routing l item).after) (routing l item).route ≡ true
-fits_here l item = fits l item.side (packet_class item.packet) item.length
 
 takes_quietly : (i : Interface) (rs : List Item) (c c' : Cutting) (item : Item) (found : List Finding) → StandsFor i rs c → IsSaid i item → is_quiet (routing c.line item).route ≡ true → found ≡ route_finding item (routing c.line item).route
     → IsStepped item (routing c.line item).after c.epoch found c c' → Pushed i rs item [] c'
 takes_quietly i rs c c' item found s said quiet f h =
     let step = routing c.line item in
-    let same = quiet_at (is_ready c.line) (is_ready step.after) step.route quiet (fits_here c.line item) in
-    pushed_quietly i rs item c c' (is_ready c.line) s said (quiet_line step.route quiet) refl same (subst (λ l. IsStepped item step.after c.epoch l c c') f h)
+    let same = quiet_at (is_ready c.line) (is_ready step.after) step.route quiet (fits c.line item) in
+    pushed_quietly i rs item c c' (is_ready c.line) s said quiet refl same (subst (λ l. IsStepped item step.after c.epoch l c c') f h)
 
 takes_entering : (i : Interface) (rs : List Item) (c c' : Cutting) (item : Item) (found : List Finding) → StandsFor i rs c → IsSaid i item → (routing c.line item).route ≡ Enter → found ≡ route_finding item (routing c.line item).route
     → IsStepped item (routing c.line item).after (c.epoch + 1) found c c' → Pushed i rs item [] c'
 takes_entering i rs c c' item found s said enter f h =
     let step = routing c.line item in
-    let both = enters_at (is_ready c.line) (is_ready step.after) step.route enter (fits_here c.line item) in
-    pushed_entering i rs item c c' s said (ap is_to_channel enter) both.0 both.1 (subst (λ l. IsStepped item step.after (c.epoch + 1) l c c') f h)
+    let both = enters_at (is_ready c.line) (is_ready step.after) step.route enter (fits c.line item) in
+    pushed_entering i rs item c c' s said enter both.0 both.1 (subst (λ l. IsStepped item step.after (c.epoch + 1) l c c') f h)
 
 -- r1 is entered from another state
-pub enters_unready : (l : LineState) (item : Item) → (routing l item).route ≡ Enter → is_ready l ≡ false
-enters_unready l item enter = (enters_at (is_ready l) (is_ready (routing l item).after) (routing l item).route enter (fits_here l item)).0
+pub enters_unready : (l : GapLine) (item : Item) → (routing l item).route ≡ Enter → is_ready l ≡ false
+enters_unready l item enter = (enters_at (is_ready l) (is_ready (routing l item).after) (routing l item).route enter (fits l item)).0
 
-takes_leaving : (i : Interface) (rs : List Item) (c c' : Cutting) (item : Item) (code : Option ℕ) (found : List Finding) → StandsFor i rs c → IsSaid i item → (routing c.line item).route ≡ Leave code → found ≡ route_finding item (routing c.line item).route
-    → IsLeft item (routing c.line item).after found c c' → Pushed i rs item (pieces_out c.interface c.epoch (Some item.number) (rows_of c.open_rows) c.given c.open_rows.channels) c'
-takes_leaving i rs c c' item code found s said leave f h =
-    let step = routing c.line item in
-    let both = leaves_at (is_ready c.line) (is_ready step.after) step.route code leave (fits_here c.line item) in
-    pushed_leaving i rs item c c' s said (ap is_to_channel leave) both.0 both.1 (subst (λ l. IsLeft item step.after l c c') f h)
+takes_leaving : (i : Interface) (rs : List Item) (c c' : Cutting) (item : Item) (route : Route) → StandsFor i rs c → IsSaid i item → (routing c.line item).route ≡ route → is_leaving route ≡ true
+    → IsLeft item (routing c.line item).after (epoch_after c.epoch route) (route_finding item route) c c' → Pushed i rs item (pieces_out c.interface c.epoch (Some (end_at item)) (rows_of c.open_rows) c.given c.open_rows.channels) c'
+takes_leaving i rs c c' item route s said is leaving h =
+    pushed_leaving i rs item c c' s said (ap is_leaving is ∙ leaving) (subst (λ t. IsLeft item (routing c.line item).after (epoch_after c.epoch t) (route_finding item t) c c') (sym is) h)
 
 pub on_ok : {T E : Type 0} (r : Result T E) (P Q : Type 0) → OnOk r P → (P → Q) → OnOk r Q
 on_ok (Ok _) P Q p f = f p
@@ -68,9 +62,10 @@ taken item c c' new out out' h e counted = record {
 -- ---- by the route of the row
 
 -- what became of the cutter
-abbrev pub WentBy : Route → (c c' : Cutting) (item : Item) → (line : LineState) → Type 0
+abbrev pub WentBy : Route → (c c' : Cutting) (item : Item) → (line : GapLine) → Type 0
 WentBy ToChannel c c' item line = IsKeptOn (packet_channel item.packet) item c c'
-WentBy (Leave code) c c' item line = IsLeft item line (route_finding item (Leave code)) c c'
+WentBy (Leave code) c c' item line = IsLeft item line c.epoch (route_finding item (Leave code)) c c'
+WentBy Renew c c' item line = IsLeft item line (c.epoch + 1) [] c c'
 WentBy Enter c c' item line = IsStepped item line (c.epoch + 1) [] c c'
 WentBy (Found state code) c c' item line = IsStepped item line c.epoch (route_finding item (Found state code)) c c'
 WentBy Pass c c' item line = IsStepped item line c.epoch [] c c'
@@ -89,32 +84,34 @@ went_by c c' item step is t route e = at route e
         → WentBy q c c' item (routing c.line item).after
     at ToChannel to turned given epoch findings = record {
       counted = t.counted;
-      line = line ∙ kept_line c.line item.side (packet_class item.packet) item.length (ap is_to_channel to);
+      line = line ∙ kept_row c.line item (ap is_to_channel to);
       epoch = epoch;
       given = given;
       findings = findings ∙ append-nil c.findings;
       open_rows = turned;
     }
     at (Leave code) to turned given epoch findings = record { counted = t.counted; line = line; epoch = epoch; given = given; findings = findings; channels = turned.0; emptied = turned.1 }
+    at Renew to turned given epoch findings = record { counted = t.counted; line = line; epoch = epoch; given = given; findings = findings; channels = turned.0; emptied = turned.1 }
     at Enter to turned given epoch findings = record { counted = t.counted; line = line; epoch = epoch; given = given; findings = findings; open_rows = turned }
     at (Found state code) to turned given epoch findings = record { counted = t.counted; line = line; epoch = epoch; given = given; findings = findings; open_rows = turned }
     at Pass to turned given epoch findings = record { counted = t.counted; line = line; epoch = epoch; given = given; findings = findings; open_rows = turned }
 
 -- the cutter stands for one more row, and these pieces came to be known whole
 pub takes : (i : Interface) (rs : List Item) (c c' : Cutting) (item : Item) (step : Step) → StandsFor i rs c → IsSaid c.interface item → IsStep c.line c.epoch item step → IsTakenBy item step c c'
-    → Pushed i rs item (ended_by step.turn c.interface c.epoch item.number c.given c.open_rows) c'
+    → Pushed i rs item (ended_by step.turn c.interface c.epoch (end_at item) c.given c.open_rows) c'
 takes i rs c c' item step s known is t = at (routing c.line item).route refl (went_by c c' item step is t (routing c.line item).route refl)
   where
     said : IsSaid i item
     said = subst (λ j. IsSaid j item) s.interface known
 
-    now : (q : Route) → (routing c.line item).route ≡ q → Pushed i rs item (ended_by (turn_of item.packet q) c.interface c.epoch item.number c.given c.open_rows) c'
-        → Pushed i rs item (ended_by step.turn c.interface c.epoch item.number c.given c.open_rows) c'
-    now q e = subst (λ turn. Pushed i rs item (ended_by turn c.interface c.epoch item.number c.given c.open_rows) c') (sym (is.turn ∙ ap (turn_of item.packet) e))
+    now : (q : Route) → (routing c.line item).route ≡ q → Pushed i rs item (ended_by (turn_of item.packet q) c.interface c.epoch (end_at item) c.given c.open_rows) c'
+        → Pushed i rs item (ended_by step.turn c.interface c.epoch (end_at item) c.given c.open_rows) c'
+    now q e = subst (λ turn. Pushed i rs item (ended_by turn c.interface c.epoch (end_at item) c.given c.open_rows) c') (sym (is.turn ∙ ap (turn_of item.packet) e))
 
-    at : (q : Route) → (routing c.line item).route ≡ q → WentBy q c c' item (routing c.line item).after → Pushed i rs item (ended_by step.turn c.interface c.epoch item.number c.given c.open_rows) c'
+    at : (q : Route) → (routing c.line item).route ≡ q → WentBy q c c' item (routing c.line item).after → Pushed i rs item (ended_by step.turn c.interface c.epoch (end_at item) c.given c.open_rows) c'
     at ToChannel e w = now ToChannel e (pushed_on_channel i rs item c c' s said (ap is_to_channel e) w)
-    at (Leave code) e w = now (Leave code) e (takes_leaving i rs c c' item code (route_finding item (Leave code)) s said e (ap (route_finding item) (sym e)) w)
+    at (Leave code) e w = now (Leave code) e (takes_leaving i rs c c' item (Leave code) s said e refl w)
+    at Renew e w = now Renew e (takes_leaving i rs c c' item Renew s said e refl w)
     at Enter e w = now Enter e (takes_entering i rs c c' item [] s said e (ap (route_finding item) (sym e)) w)
     at (Found state code) e w = now (Found state code) e (takes_quietly i rs c c' item (route_finding item (Found state code)) s said (ap is_quiet e) (ap (route_finding item) (sym e)) w)
     at Pass e w = now Pass e (takes_quietly i rs c c' item [] s said (ap is_quiet e) (ap (route_finding item) (sym e)) w)
@@ -126,7 +123,8 @@ taken_bounds c c' item step h said rising number octets is t = at (routing c.lin
   where
     at : (q : Route) → WentBy q c c' item (routing c.line item).after → IsCutting c'
     at ToChannel w = kept_bounds c c' (packet_channel item.packet) item h w (record { said = said; channel = refl }) rising number octets
-    at (Leave code) w = left_bounds c c' item (routing c.line item).after (route_finding item (Leave code)) h w rising number octets
+    at (Leave code) w = left_bounds c c' item (routing c.line item).after c.epoch (route_finding item (Leave code)) h w (omega arith) rising number octets
+    at Renew w = left_bounds c c' item (routing c.line item).after (c.epoch + 1) [] h w (omega arith) rising number octets
     at Enter w = stepped_bounds c c' item (routing c.line item).after (c.epoch + 1) [] h w (omega arith) rising number octets
     at (Found state code) w = stepped_bounds c c' item (routing c.line item).after c.epoch (route_finding item (Found state code)) h w (omega arith) rising number octets
     at Pass w = stepped_bounds c c' item (routing c.line item).after c.epoch [] h w (omega arith) rising number octets
@@ -160,11 +158,11 @@ taken_by c w v u given given' rows rows' last octets last' octets' item step vie
 
 pub pushed_by : {A : Type 0} → (c : Cutting) (w v u : EpochWalk A) (given given' : ℕ) (rows rows' : OpenRows) (last octets last' octets' : ℕ) (item : Item) (step : Step) (out out' : List Piece) → cutting_of w given rows last octets ≡ c
     → IsSaid c.interface item → IsStep w.machine w.epoch item step → IsSameWalk w v → IsAdvanced step v u → HasTurned step.turn item rows rows' → given' ≡ given_after step.turn given rows → last' ≡ item.number → octets' ≡ octets + item.length
-    → out' ≡ out ++ ended_by step.turn v.interface v.epoch item.number given rows → IsTaken item c (cutting_of u given' rows' last' octets') out out'
+    → out' ≡ out ++ ended_by step.turn v.interface v.epoch (end_at item) given rows → IsTaken item c (cutting_of u given' rows' last' octets') out out'
 pushed_by c w v u given given' rows rows' last octets last' octets' item step out out' view said is same on turned count at_last at_octets e =
     let new = cutting_of u given' rows' last' octets' in
     let t = taken_by c w v u given given' rows rows' last octets last' octets' item step view same on turned count at_last at_octets in
-    taken item c new (ended_by step.turn c.interface c.epoch item.number c.given c.open_rows) out out'
+    taken item c new (ended_by step.turn c.interface c.epoch (end_at item) c.given c.open_rows) out out'
     (λ i rs s. takes i rs c new item step s said (subst (λ q. IsStep q.line q.epoch item step) view is) t)
-    (e ∙ (λ j. out ++ ended_by step.turn (same.interface j) (same.epoch j) item.number given rows)
-    ∙ ap (λ q. out ++ ended_by step.turn q.interface q.epoch item.number q.given q.open_rows) view) t.counted
+    (e ∙ (λ j. out ++ ended_by step.turn (same.interface j) (same.epoch j) (end_at item) given rows)
+    ∙ ap (λ q. out ++ ended_by step.turn q.interface q.epoch (end_at item) q.given q.open_rows) view) t.counted

@@ -4,7 +4,10 @@ use Rattle.std.specs.List.{range_with_len}
 use Rattle.std.specs.List.Sorted.{IsStrictlyIncreasing}
 use Rattle.line_model.specs.basics.Bounds.{AreSaid, IsPiece, IsSaid, all_octets}
 use Rattle.line_model.specs.basics.Records.{Item, Piece}
-use Rattle.line_model.specs.channels.RestartMachine.{LineState}
+use Rattle.line_model.specs.declared.gap.EpochStart.TheVariants.{Restarted}
+use Rattle.line_model.specs.declared.piece.PieceEnd.{PieceEnd}
+use Rattle.line_model.specs.pieces.Plans.{end_at}
+use Rattle.line_model.specs.channels.GapRestart.{GapLine}
 use Rattle.line_model.specs.declared.finding.Finding.{Finding}
 use Rattle.line_model.specs.declared.interface.Interface.{Interface}
 use Rattle.line_model.specs.pieces.Plan.{has_some}
@@ -20,12 +23,11 @@ pub record ChannelRows : Type 0 where
   pub channel : ℕ
   pub items : List Item
 
--- the rows of an epoch of a block by channel, how many epochs began before in the block, and the number of the row that
--- ended it
+-- the rows of an epoch of a block by channel, how many epochs began before in the block, and the row that ended it
 pub record EpochRows : Type 0 where
   pub parts : List ChannelRows
   pub epoch : ℕ
-  pub end : ℕ
+  pub end : PieceEnd
 
 -- the rows of a channel in all parts
 abbrev pub rows_on : ℕ → List ChannelRows → List Item
@@ -50,7 +52,7 @@ listed n rows = filter (λ k. has_some (rows k)) (range_with_len 1 n)
 -- are, the number of the last, their octets, the findings of the restart machine, the epochs that ended, and the rows of
 -- the epoch that is open
 pub record BlockRows : Type 0 where
-  pub line : LineState
+  pub line : GapLine
   pub epoch : ℕ
   pub packets : ℕ
   pub last : ℕ
@@ -138,7 +140,7 @@ pub record IsJoined (i : Interface) (rs : List Item) (c : Cutting) (items : List
 
 -- rows were cut after a restart machine: wherever they come to a cutter with this machine, the cutter with the rows of
 -- the block was given them too
-abbrev pub IsCutApart : LineState → List Item → BlockRows → Type 0
+abbrev pub IsCutApart : GapLine → List Item → BlockRows → Type 0
 IsCutApart l items b = (i : Interface) (rs : List Item) (c : Cutting) → StandsFor i rs c → IsCutting c → c.line ≡ l → Comes c.interface c.last c.octets items → IsJoined i rs c items b
 
 -- all rows were taken out, and their parts have each of them
@@ -151,7 +153,7 @@ pub record AreAllOut (before after : OpenRows) : Type 0 where
 abbrev pub HasCut : Turn → Item → (epoch : ℕ) → (ended ended_after : List EpochRows) → (before after : OpenRows) → Type 0
 HasCut (ToChannel channel) item epoch ended ended_after before after = (ended_after ≡ ended) × HasMore channel item before after
 HasCut Ends item epoch ended ended_after before after =
-    (ended_after ≡ ended ++ record { parts = parts_of (rows_of before) before.channels; epoch = epoch; end = item.number } ∷ []) × AreAllOut before after
+    (ended_after ≡ ended ++ record { parts = parts_of (rows_of before) before.channels; epoch = epoch; end = end_at item } ∷ []) × AreAllOut before after
 HasCut Stays item epoch ended ended_after before after = (ended_after ≡ ended) × (after ≡ before)
 
 -- ---- what a cutter took
@@ -181,9 +183,9 @@ AreAdded [] before after = IsSame before after
 AreAdded (p ∷ ps) before after = (next : OpenRows) × HasAll p.channel p.items before next × AreAdded ps next after
 
 -- the pieces of an epoch whose rows are these parts
-abbrev pub part_pieces : Interface → (epoch : ℕ) → (end : Option ℕ) → (id : ℕ) → List ChannelRows → List Piece
+abbrev pub part_pieces : Interface → (epoch : ℕ) → (end : Option PieceEnd) → (id : ℕ) → List ChannelRows → List Piece
 part_pieces i e end id [] = []
-part_pieces i e end id (p ∷ ps) = record { id = id; interface = i; epoch = e; channel = p.channel; items = p.items; end = end } ∷ part_pieces i e end (id + 1) ps
+part_pieces i e end id (p ∷ ps) = record { id = id; interface = i; epoch = e; start = Restarted; channel = p.channel; items = p.items; end = end } ∷ part_pieces i e end (id + 1) ps
 
 -- the rows of an epoch may be added to these, and its pieces be given out
 pub record MayEnd (i : Interface) (epoch given : ℕ) (o : OpenRows) (e : EpochRows) : Type 0 where

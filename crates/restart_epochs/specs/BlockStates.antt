@@ -1,7 +1,7 @@
 -- What a block's cutter was given, and what a block has.
 use Rattle.std.specs.Prelude.{◌≡◌, ℕ, List}
 use Rattle.line_model.specs.basics.Records.{Item}
-use Rattle.line_model.specs.channels.RestartMachine.{LineState}
+use Rattle.line_model.specs.channels.GapRestart.{GapLine}
 use Rattle.restart_epochs.specs.BlockCuts.{BlockRows, HasCut, IsCutApart, rows_on}
 use Rattle.restart_epochs.specs.OpenRows.{OpenRows, rows_of}
 use Rattle.restart_epochs.specs.declared.block_cut.BlockCut.{BlockCut}
@@ -9,7 +9,7 @@ use Rattle.restart_epochs.specs.declared.block_cut.BlockCutter.{BlockCutter}
 use Rattle.restart_epochs.specs.declared.walk.Turn.{Turn}
 
 -- a block's cutter was given these rows after a restart machine
-abbrev pub IsCutSoFar : {A : Type 0} → LineState → List Item → BlockCutter A → Type 0
+abbrev pub IsCutSoFar : {A : Type 0} → GapLine → List Item → BlockCutter A → Type 0
 IsCutSoFar l items s = IsCutApart l items (record {
   line = s.walk.machine;
   epoch = s.walk.epoch;
@@ -35,7 +35,7 @@ block_rows b rows = record {
 }
 
 -- a block has these rows, cut after a restart machine
-pub record IsBlockCut {A : Type 0} (l : LineState) (items : List Item) (b : BlockCut A) : Type 0 where
+pub record IsBlockCut {A : Type 0} (l : GapLine) (items : List Item) (b : BlockCut A) : Type 0 where
   pub rows : OpenRows
   pub tail : (k : ℕ) → rows_on k b.tail.items ≡ rows_of rows k
   pub cut : IsCutApart l items (block_rows b rows)

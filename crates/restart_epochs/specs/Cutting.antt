@@ -3,13 +3,15 @@ use Rattle.std.specs.Prelude.{◌≡◌, ◌≢◌, ◌⊎◌, ℕ, Bool, true, 
 use Rattle.line_model.specs.declared.interface.Interface.{Interface}
 use Rattle.line_model.specs.declared.finding.Finding.{Finding}
 use Rattle.line_model.specs.basics.Records.{Item, Piece}
-use Rattle.line_model.specs.channels.RestartMachine.{LineState}
-use Rattle.line_model.specs.channels.Channels.{Channel}
+use Rattle.line_model.specs.declared.gap.EpochStart.TheVariants.{Restarted}
+use Rattle.line_model.specs.declared.piece.PieceEnd.{PieceEnd}
+use Rattle.line_model.specs.channels.GapRestart.{GapLine, is_ready}
+use Rattle.line_model.specs.channels.Gaps.{GapChannel}
 use Rattle.line_model.specs.observer.Machine.{Observer, walk}
 use Rattle.line_model.specs.pieces.Pieces.{Placed, placed, piece_rows, piece_end}
 use Rattle.line_model.specs.pieces.Plan.{has_some}
 use Rattle.std.specs.List.{range_with_len, AllByRecursion}
-use Rattle.line_model.specs.observer.Observer.{x25, start, is_ready, line_in_r1}
+use Rattle.line_model.specs.observer.Observer.{x25, start}
 use Rattle.line_model.specs.pieces.Plans.{plan, line_findings}
 use Rattle.line_model.specs.basics.Bounds.{AreSaid, IsItem, all_octets}
 use Rattle.restart_epochs.specs.OpenRows.{OpenRows, no_rows, rows_of, IsSame, HasMore}
@@ -18,7 +20,7 @@ use Rattle.restart_epochs.specs.declared.walk.Turn.{Turn}
 use Rattle.restart_epochs.specs.declared.walk.Turn.TheVariants.{ToChannel, Ends, Stays}
 
 -- the observer of an interface after some rows
-abbrev pub observer : Interface → List Item → Observer LineState Channel
+abbrev pub observer : Interface → List Item → Observer GapLine GapChannel
 observer i rs = walk (x25 i) (start i) rs
 
 -- the rows with their epochs and channels
@@ -33,7 +35,7 @@ given_of i rs = filter (λ p. is_some p.end) (plan i rs)
 -- row, all octets, the findings of the restart machine, and the rows of the open epoch
 pub record Cutting : Type 0 where
   pub interface : Interface
-  pub line : LineState
+  pub line : GapLine
   pub epoch : ℕ
   pub given : ℕ
   pub packets : ℕ
@@ -44,7 +46,7 @@ pub record Cutting : Type 0 where
 
 -- what a cutter keeps before the first row
 abbrev pub no_cutting : Interface → Cutting
-no_cutting i = record { interface = i; line = line_in_r1 i.join; epoch = 1; given = 0; packets = 0; last = 0; octets = 0; findings = []; open_rows = no_rows }
+no_cutting i = record { interface = i; line = (start i).line; epoch = 1; given = 0; packets = 0; last = 0; octets = 0; findings = []; open_rows = no_rows }
 
 -- rows of a channel that are no more than these
 pub record IsLane (i : Interface) (k packets octets : ℕ) (items : List Item) : Type 0 where
@@ -114,14 +116,14 @@ abbrev pub OfCut : Cutting → (Interface → List Item → Type 0) → Type 0
 OfCut c Fact = (i : Interface) (rs : List Item) → StandsFor i rs c → Fact i rs
 
 -- the pieces of an epoch with these channels, from an id on
-abbrev pub pieces_out : Interface → (epoch : ℕ) → (end : Option ℕ) → (ℕ → List Item) → (id : ℕ) → List ℕ → List Piece
+abbrev pub pieces_out : Interface → (epoch : ℕ) → (end : Option PieceEnd) → (ℕ → List Item) → (id : ℕ) → List ℕ → List Piece
 pieces_out i e end rows id [] = []
-pieces_out i e end rows id (k ∷ ks) = record { id = id; interface = i; epoch = e; channel = k; items = rows k; end = end } ∷ pieces_out i e end rows (id + 1) ks
+pieces_out i e end rows id (k ∷ ks) = record { id = id; interface = i; epoch = e; start = Restarted; channel = k; items = rows k; end = end } ∷ pieces_out i e end rows (id + 1) ks
 
--- the pieces that a row of this number ends
-abbrev pub ended_by : Turn → Interface → (epoch : ℕ) → (number : ℕ) → (given : ℕ) → OpenRows → List Piece
-ended_by Ends i e number given rows = pieces_out i e (Some number) (rows_of rows) given rows.channels
-ended_by _ i e number given rows = []
+-- the pieces that a row ends
+abbrev pub ended_by : Turn → Interface → (epoch : ℕ) → PieceEnd → (given : ℕ) → OpenRows → List Piece
+ended_by Ends i e end given rows = pieces_out i e (Some end) (rows_of rows) given rows.channels
+ended_by _ i e end given rows = []
 
 -- a row was counted
 pub record IsCounted (r : Item) (before after : Cutting) : Type 0 where
@@ -140,7 +142,7 @@ pub record IsKeptOn (channel : ℕ) (item : Item) (before after : Cutting) : Typ
   pub open_rows : HasMore channel item before.open_rows after.open_rows
 
 -- a row stepped the restart machine, which did not leave r1
-pub record IsStepped (r : Item) (machine : LineState) (next_epoch : ℕ) (found : List Finding) (before after : Cutting) : Type 0 where
+pub record IsStepped (r : Item) (machine : GapLine) (next_epoch : ℕ) (found : List Finding) (before after : Cutting) : Type 0 where
   pub counted : IsCounted r before after
   pub line : after.line ≡ machine
   pub epoch : after.epoch ≡ next_epoch
@@ -152,11 +154,11 @@ pub record IsStepped (r : Item) (machine : LineState) (next_epoch : ℕ) (found 
 abbrev pub IsEmptied : OpenRows → OpenRows → Type 0
 IsEmptied before after = (k : ℕ) → (rows_of after k ≡ []) ⊎ ((rows_of after k ≡ rows_of before k) × AllByRecursion (λ j. j ≢ k) before.channels)
 
--- a row left r1, and the pieces of its epoch were given out
-pub record IsLeft (r : Item) (machine : LineState) (found : List Finding) (before after : Cutting) : Type 0 where
+-- a row ended its epoch, whose pieces were given out
+pub record IsLeft (r : Item) (machine : GapLine) (next_epoch : ℕ) (found : List Finding) (before after : Cutting) : Type 0 where
   pub counted : IsCounted r before after
   pub line : after.line ≡ machine
-  pub epoch : after.epoch ≡ before.epoch
+  pub epoch : after.epoch ≡ next_epoch
   pub given : after.given ≡ before.given + length before.open_rows.channels
   pub findings : after.findings ≡ before.findings ++ found
   pub channels : after.open_rows.channels ≡ []

@@ -5,12 +5,12 @@ use Rattle.line_model.specs.declared.finding.Finding.{Finding}
 use Rattle.line_model.specs.declared.finding.Code.TheVariants.{Number}
 use Rattle.line_model.specs.declared.state.StateName.TheVariants.{R1}
 use Rattle.line_model.specs.declared.route.Route.{Route}
-use Rattle.line_model.specs.declared.route.Route.TheVariants.{Enter, Found, Leave}
+use Rattle.line_model.specs.declared.route.Route.TheVariants.{Enter, Found, Leave, Renew}
 use Rattle.line_model.specs.declared.route.Route as route
 use Rattle.line_model.specs.packets.Says.{packet_channel}
 use Rattle.line_model.specs.basics.Records.{Item}
-use Rattle.line_model.specs.channels.RestartMachine.{LineState}
-use Rattle.line_model.specs.observer.Observer.{line_in_r1, routing}
+use Rattle.line_model.specs.channels.GapRestart.{GapLine, routing}
+use Rattle.line_model.specs.observer.Observer.{start}
 use Rattle.line_model.specs.declared.packet.Packet.{Packet}
 use Rattle.std.specs.Vec.{vec_len, vec_capacity}
 use Rattle.restart_epochs.specs.declared.walk.EpochWalk.{EpochWalk}
@@ -27,12 +27,14 @@ route_finding r _ = []
 -- the epoch after a row, by its route
 abbrev pub epoch_after : ℕ → Route → ℕ
 epoch_after epoch Enter = epoch + 1
+epoch_after epoch Renew = epoch + 1
 epoch_after epoch _ = epoch
 
 -- what a row of this packet does to the logical channels, by its route
 abbrev pub turn_of : Packet → Route → Turn
 turn_of packet route.TheVariants.ToChannel = ToChannel (packet_channel packet)
 turn_of packet (Leave code) = Ends
+turn_of packet Renew = Ends
 turn_of packet _ = Stays
 
 -- the logical channel that takes a row
@@ -41,7 +43,7 @@ channel_in (ToChannel channel) = Some channel
 channel_in _ = None
 
 -- what a row does to a walk in this state of the restart machine and this epoch
-pub record IsStep (line : LineState) (before : ℕ) (item : Item) (step : Step) : Type 0 where
+pub record IsStep (line : GapLine) (before : ℕ) (item : Item) (step : Step) : Type 0 where
   pub machine : step.machine ≡ (routing line item).after
   pub epoch : step.epoch ≡ epoch_after before (routing line item).route
   pub finding : option_to_list step.finding ≡ route_finding item (routing line item).route
@@ -54,13 +56,13 @@ HasRoom w step = vec_len w.findings + length (option_to_list step.finding) ≤ v
 -- before the first row
 pub record IsFresh {A : Type 0} (i : Interface) (w : EpochWalk A) : Type 0 where
   pub interface : w.interface ≡ i
-  pub machine : w.machine ≡ line_in_r1 i.join
+  pub machine : w.machine ≡ (start i).line
   pub epoch : w.epoch ≡ 1
   pub packets : w.packets ≡ 0
   pub findings : w.findings.items ≡ []
 
 -- before the first row of a block, where the restart machine is this
-pub record IsFreshBlock {A : Type 0} (l : LineState) (w : EpochWalk A) : Type 0 where
+pub record IsFreshBlock {A : Type 0} (l : GapLine) (w : EpochWalk A) : Type 0 where
   pub machine : w.machine ≡ l
   pub epoch : w.epoch ≡ 0
   pub packets : w.packets ≡ 0

@@ -2,10 +2,10 @@
 
 ghost use Rattle.std.specs.Prelude.{◌≡◌, ◌+◌, ◌<◌, ◌++◌, ◌∷◌, ◌==◌, ◌^◌, [], List, IfOk, IfSome, OnOk, cond};
 ghost use Rattle.line_model.specs.basics.Records as records;
-ghost use Rattle.line_model.specs.channels.RestartMachine.{LineState};
+ghost use Rattle.line_model.specs.channels.GapRestart.{GapLine};
 ghost use Rattle.restart_epochs.specs.BlockStates.{BlockTurned, IsBlockCut, IsCutSoFar};
 
-use crate::parts::{EndedRows, Part};
+use crate::parts::{EndedRows, Part, end_at};
 use crate::restart::Restart;
 use crate::rows_by_channel::RowsByChannel;
 use crate::walk::{EpochWalk, Turn};
@@ -85,7 +85,7 @@ impl<A: Allocator + Copy> BlockCutter<A> {
         self.octets.checked_add(length)
     }
 
-    /// Keeps a row that goes to a channel, and ends the epoch where a row leaves r1.
+    /// Keeps a row that goes to a channel, and ends the epoch where a row does.
     fn turn(&mut self, turn: Turn, item: &ItemRef<'_>) -> Result<(), AllocError>
         ensures { OnOk result (BlockTurned turn item.now self.old self.new) }
     {
@@ -95,7 +95,7 @@ impl<A: Allocator + Copy> BlockCutter<A> {
                 let ended = EndedRows {
                     parts: self.rows.take_parts()?,
                     epoch: self.walk.epoch,
-                    end: item.number,
+                    end: end_at(item),
                 };
                 self.ended.push(ended)?;
                 Ok(())
@@ -107,7 +107,7 @@ impl<A: Allocator + Copy> BlockCutter<A> {
     /// Takes the next row. A count that grows past its type is refused as memory is. After a refusal the cutter is of no
     /// use.
     pub fn push(&mut self, item: &ItemRef<'_>) -> Result<(), AllocError>
-        ensures { (l : LineState) (items : List records.Item) → IsCutSoFar l items self.old
+        ensures { (l : GapLine) (items : List records.Item) → IsCutSoFar l items self.old
             → OnOk result (IsCutSoFar l (items ++ item.now ∷ []) self.new) }
     {
         let Some(octets) = self.octets_with(item) else {
@@ -123,7 +123,7 @@ impl<A: Allocator + Copy> BlockCutter<A> {
 
     /// The rows as they were cut, and the lists for the next cutter.
     pub fn end(self) -> Result<(BlockCut<A>, RowsByChannel<A>), AllocError>
-        ensures { (l : LineState) (items : List records.Item) → IsCutSoFar l items self
+        ensures { (l : GapLine) (items : List records.Item) → IsCutSoFar l items self
             → IfOk result (λ cut. IsBlockCut l items cut.0) }
     {
         let BlockCutter {

@@ -11,9 +11,10 @@ ghost use Rattle.restart_epochs.specs.BlockCuts.{part_pieces};
 use crate::channel_table::ChannelTable;
 use crate::kept_rows::take_first;
 use crate::parts::Part;
+use line_model::gap::EpochStart;
 use line_model::interface::Interface;
 use line_model::part_items::PartItems;
-use line_model::piece::Piece;
+use line_model::piece::{Piece, PieceEnd};
 use line_model::piece_items::PieceItems;
 use std::alloc::{AllocError, Allocator};
 
@@ -22,8 +23,8 @@ use std::alloc::{AllocError, Allocator};
 pub struct EndedEpoch {
     pub interface: Interface,
     pub number: u32,
-    /// The number of the row that ended it; none at the end of the trace.
-    pub end: Option<u32>,
+    /// The row that ended it; none at the end of the trace.
+    pub end: Option<PieceEnd>,
 }
 
 /// Appends the pieces of an epoch, by their channels, with ids from `first` on. The list has room for them.
@@ -49,6 +50,7 @@ pub fn append_pieces<A: Allocator + Copy>(
             id,
             interface: epoch.interface,
             epoch: epoch.number,
+            start: EpochStart::Restarted,
             channel,
             items,
             end: epoch.end,
@@ -77,6 +79,7 @@ pub fn append_parts<A: Allocator + Copy>(
             id: next,
             interface: epoch.interface,
             epoch: epoch.number,
+            start: EpochStart::Restarted,
             channel: part.channel,
             items: PieceItems::of(PartItems::shared(part.items)),
             end: epoch.end,

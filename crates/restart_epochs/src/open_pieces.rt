@@ -2,6 +2,7 @@
 
 ghost use Rattle.std.specs.Prelude.{◌≡◌, ℕ, ◌<◌, ◌+◌, ◌^◌, ◌++◌, [], OnOk, OnErr, length};
 ghost use Rattle.line_model.specs.basics.Bounds.{IsPiece};
+ghost use Rattle.line_model.specs.pieces.Plans.{end_at};
 ghost use Rattle.restart_epochs.specs.OpenRows.{rows_of, IsSame};
 ghost use Rattle.restart_epochs.specs.Cutting.{ended_by, given_after, pieces_out, HasTurned, IsEmptied};
 ghost use Rattle.restart_epochs.specs.BlockCuts.{HasEnded, HaveEnded, MayEnd, MayEndAll};
@@ -9,7 +10,7 @@ ghost use Rattle.restart_epochs.specs.BlockCuts.{HasEnded, HaveEnded, MayEnd, Ma
 use crate::channel_table::ChannelTable;
 use crate::ended_epoch::{EndedEpoch, append_parts, append_pieces};
 use crate::kept_rows::{keep_parts, keep_row};
-use crate::parts::EndedRows;
+use crate::parts::{EndedRows, end_at};
 use crate::walk::{EpochWalk, Turn};
 use line_model::items::ItemRef;
 use line_model::piece::Piece;
@@ -40,7 +41,7 @@ impl<A: Allocator + Copy> OpenPieces<A> {
         ensures rows { OnOk result (HasTurned turn item.now self.old.rows self.new.rows) }
         ensures count { OnOk result (self.new.given ≡ given_after turn self.old.given self.old.rows) }
         ensures given { OnOk result (out.new.items ≡ out.old.items
-            ++ ended_by turn walk.now.interface walk.now.epoch item.now.number self.old.given self.old.rows) }
+            ++ ended_by turn walk.now.interface walk.now.epoch (end_at item.now) self.old.given self.old.rows) }
         ensures refused { OnErr result ((self.new.given ≡ self.old.given)
             × IsSame self.old.rows self.new.rows × (out.new.items ≡ out.old.items)) }
     {
@@ -52,7 +53,7 @@ impl<A: Allocator + Copy> OpenPieces<A> {
                 let epoch = EndedEpoch {
                     interface: walk.interface,
                     number: walk.epoch,
-                    end: Some(item.number),
+                    end: Some(end_at(item)),
                 };
                 self.give_out(epoch, out)
             }

@@ -1,6 +1,13 @@
 //! Rows that lie by logical channel.
 
+ghost use Rattle.std.specs.Prelude.{◌≡◌};
+ghost use Rattle.line_model.specs.channels.RestartMachine.{is_confirm};
+ghost use Rattle.line_model.specs.pieces.Plans.{end_at};
+
+use line_model::items::ItemRef;
 use line_model::items::shared::SharedItems;
+use line_model::packet::Class;
+use line_model::piece::PieceEnd;
 use std::alloc::{Allocator, Global};
 use std::marker::Model;
 
@@ -19,14 +26,13 @@ impl<A: Allocator> Model for Part<A> {
     ghost view = { λ p. record { channel = p.channel; items = p.items } };
 }
 
-/// The rows of an epoch up to the row that left r1, as far as they are rows of a block.
+/// The rows of an epoch up to the row that ended it, as far as they are rows of a block.
 #[derive(Drop)]
 pub struct EndedRows<A: Allocator = Global> {
     pub(crate) parts: Vec<Part<A>, A>,
     /// How many epochs began before in the block.
     pub(crate) epoch: u32,
-    /// The number of the row that left r1.
-    pub(crate) end: u32,
+    pub(crate) end: PieceEnd,
 }
 
 impl<A: Allocator> Model for EndedRows<A> {
@@ -35,4 +41,21 @@ impl<A: Allocator> Model for EndedRows<A> {
     ghost Value = { EpochRows };
 
     ghost view = { λ e. record { parts = e.parts.items; epoch = e.epoch; end = e.end } };
+}
+
+/// Whether a packet confirms a restart.
+fn is_confirm(class: Class) -> bool
+    ensures { result ≡ is_confirm class }
+{
+    matches!(class, Class::RestartConfirm)
+}
+
+/// The end of the epoch that a row ends.
+pub fn end_at(item: &ItemRef<'_>) -> PieceEnd
+    ensures { result ≡ end_at item.now }
+{
+    PieceEnd {
+        row: item.number,
+        missed: is_confirm(item.packet.class()),
+    }
 }

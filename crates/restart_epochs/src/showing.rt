@@ -9,6 +9,7 @@ ghost use Rattle.restart_epochs.specs.Cutting.{pieces_out};
 use crate::channel_table::ChannelTable;
 use crate::kept_rows::copy_rows;
 use line_model::fault::Fault;
+use line_model::gap::EpochStart;
 use line_model::interface::Interface;
 use line_model::piece::Piece;
 use line_model::piece_items::PieceItems;
@@ -37,6 +38,7 @@ pub fn copy_pieces<A: Allocator + Copy>(
             id,
             interface: *interface,
             epoch,
+            start: EpochStart::Restarted,
             channel: *channel,
             items,
             end: None,

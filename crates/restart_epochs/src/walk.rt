@@ -2,7 +2,6 @@
 //! what it found.
 
 ghost use Rattle.std.specs.Prelude.{option_to_list, ◌≡◌, ◌<◌, ◌+◌, ◌^◌, ◌++◌, IfOk, OnOk, OnErr};
-ghost use Rattle.line_model.specs.observer.Observer.{line_in_r1};
 ghost use Rattle.restart_epochs.specs.Walks.{epoch_after, route_finding, turn_of, HasJoined, HasRoom, IsAdvanced, IsFresh, IsFreshBlock, IsSameWalk, IsStep};
 
 use crate::restart::{Restart, Route, packet_channel};
@@ -18,7 +17,7 @@ use std::alloc::{AllocError, Allocator, Global};
 pub enum Turn {
     /// It goes to one of them.
     ToChannel(u16),
-    /// It ends them all, since it leaves r1.
+    /// It ends them all, since it leaves r1 or begins the next epoch in it.
     Ends,
     /// It does nothing to them.
     Stays,
@@ -59,7 +58,7 @@ impl<A: Allocator> EpochWalk<A> {
     {
         EpochWalk {
             interface: *interface,
-            machine: first_machine(interface.join),
+            machine: Restart::first(interface),
             epoch: 1,
             packets: 0,
             findings: Vec::new(alloc),
@@ -111,12 +110,12 @@ impl<A: Allocator> EpochWalk<A> {
                 turn: Turn::ToChannel(channel),
             });
         }
-        self.step_by_table(item)
+        self.step_by_machine(item)
     }
 
-    /// The step of a row by the table of the restart machine.
+    /// The step of a row by the restart machine.
     #[inline(always)]
-    fn step_by_table(&mut self, item: &ItemRef<'_>) -> Result<Step, AllocError>
+    fn step_by_machine(&mut self, item: &ItemRef<'_>) -> Result<Step, AllocError>
         requires epochs { self.old.epoch + 1 < 2 ^ 32 }
         ensures step { IfOk result (IsStep self.old.machine self.old.epoch item.now) }
         ensures same { IsSameWalk self.old self.new }
@@ -124,7 +123,7 @@ impl<A: Allocator> EpochWalk<A> {
     {
         self.findings.reserve(1)?;
         let mut machine = self.machine;
-        let route = machine.step_by_table(item.packet.class(), item.length, item.side);
+        let route = machine.step(&item.packet, item.length, item.side);
         Ok(Step {
             machine,
             epoch: next_epoch(self.epoch, route),
@@ -149,24 +148,13 @@ impl<A: Allocator> EpochWalk<A> {
     }
 }
 
-/// The restart machine before the first row.
-fn first_machine(join: bool) -> Restart
-    ensures { result ≡ line_in_r1 join }
-{
-    if join {
-        Restart::joined()
-    } else {
-        Restart::new()
-    }
-}
-
 /// The epoch after a row, by its route.
 fn next_epoch(epoch: u32, route: Route) -> u32
     requires { epoch + 1 < 2 ^ 32 }
     ensures { result ≡ epoch_after epoch route }
 {
     match route {
-        Route::Enter => epoch + 1,
+        Route::Enter | Route::Renew => epoch + 1,
         _ => epoch,
     }
 }
@@ -177,7 +165,7 @@ fn turn_by(route: Route, packet: &Packet) -> Turn
 {
     match route {
         Route::ToChannel => Turn::ToChannel(packet_channel(packet)),
-        Route::Leave(_) => Turn::Ends,
+        Route::Leave(_) | Route::Renew => Turn::Ends,
         _ => Turn::Stays,
     }
 }

@@ -228,7 +228,7 @@ fn is_row(item: &ItemRef<'_>, channel: u16, row: &Row) -> bool {
 
 /// Whether this is the piece of an id, with these rows on its channel.
 fn is_piece(piece: &Piece, id: u32, end: Option<u32>, channel: u16, rows: &[Row]) -> bool {
-    if piece.id != id || piece.end != end || piece.channel != channel {
+    if piece.id != id || piece.end.map(|end| end.row) != end || piece.channel != channel {
         return false;
     }
     if piece.items.len() != rows.len() {

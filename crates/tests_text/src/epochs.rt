@@ -41,6 +41,7 @@ fn push(cutter: &mut Cutter, side: Side, octets: &[u8], out: &mut Vec<Piece>) ->
         number: last + 1,
         side,
         octets: octets.to_vec(*out.allocator())?,
+        gap: None,
     };
     let packet = decode(&cutter.interface(), row.octets.as_slice());
     cutter.push(&row.item(packet), out)?;
@@ -56,7 +57,7 @@ fn shape(piece: &Piece) -> Shape {
         piece.epoch,
         piece.channel,
         piece.items.len(),
-        piece.end,
+        piece.end.map(|end| end.row),
     )
 }
 
@@ -159,6 +160,7 @@ fn rows_of<A: Allocator + Copy>(alloc: A, packets: &[(Side, &[u8])]) -> Result<V
             number,
             side: *side,
             octets: octets.to_vec(alloc)?,
+            gap: None,
         })?;
     }
     Ok(rows)

@@ -3,6 +3,7 @@ use Rattle.std.proofs.Common.{◌≡◌, ◌∙◌, sym, ap, subst, ℕ, zero, s
 use Rattle.std.specs.Prelude.{IfSome, slice_get}
 use Rattle.line_model.specs.declared.interface.Interface.{Interface}
 use Rattle.line_model.specs.basics.Records.{Item, Piece}
+use Rattle.line_model.specs.basics.Bounds.{AreSaid}
 use Rattle.line_model.specs.work.Book.{KnownPlan, IsPlanned}
 use Rattle.line_model.specs.pieces.Plans.{plan}
 use Rattle.line_model.proofs.BookTotals.{numbers_law}
@@ -42,10 +43,10 @@ rest_of None first pieces given e h = tt
 rest_of (Some ps) first pieces given e h = (h.0, ap (λ l. l ++ h.0) e ∙ h.1)
 
 -- those that are known whole with some more rows
-pub given_next : (known : KnownPlan) (i : Interface) (rs : List Item) (first pieces : List Piece) (n : ℕ) → n ≡ length first → first ++ pieces ≡ given_of i rs
+pub given_next : (known : KnownPlan) (i : Interface) (rs : List Item) (first pieces : List Piece) (n : ℕ) → AreSaid i (rs ++ []) → n ≡ length first → first ++ pieces ≡ given_of i rs
     → IfSome known (λ ps. (rest : List Piece) × (given_of i rs ++ rest ≡ ps)) → ArePlanned known n pieces
-given_next known i rs first pieces n count whole planned =
-    let all = given_first i rs [] in
+given_next known i rs first pieces n said count whole planned =
+    let all = given_first i rs [] said in
     are_next known i rs first pieces all.0 n count (ap (λ l. l ++ all.0) whole ∙ all.1 ∙ ap (plan i) (append-nil rs)) (rest_of known first pieces (given_of i rs) whole planned)
 
 none_behind : (known : KnownPlan) (first pieces all : List Piece) → first ++ pieces ≡ all → IfSome known (λ ps. ps ≡ all) → IfSome known (λ ps. (rest : List Piece) × ((first ++ pieces) ++ rest ≡ ps))

@@ -1,13 +1,13 @@
 -- What one more row does to the errors of the DTE that are watched.
 use Rattle.std.proofs.Common.{◌≡◌, ap, refl, ℕ, ◌+◌, ◌≤◌, ◌==◌, Bool, true, false, cond, List, [], ◌∷◌, ◌++◌, length, arith, nat_lt}
 use Rattle.line_model.specs.basics.Records.{Item}
-use Rattle.line_model.specs.channels.Channels.{Channel}
-use Rattle.line_model.specs.channels.RestartMachine.{LineState}
+use Rattle.line_model.specs.channels.Gaps.{GapChannel}
+use Rattle.line_model.specs.channels.GapRestart.{GapLine, routing}
 use Rattle.line_model.specs.declared.interface.Interface.{Interface}
 use Rattle.line_model.specs.declared.state.ChannelState.{ChannelState}
 use Rattle.line_model.specs.packets.Classes.{packet_class}
 use Rattle.line_model.specs.observer.Machine.{Observer, after, walk}
-use Rattle.line_model.specs.observer.Observer.{start, routing, x25}
+use Rattle.line_model.specs.observer.Observer.{start, x25}
 use Rattle.restart_epochs.specs.Cutting.{observer}
 use Rattle.restart_epochs.specs.Walks.{turn_of}
 use Rattle.restart_epochs.specs.declared.walk.Turn.{Turn}
@@ -20,7 +20,7 @@ use Rattle.trace_scan.specs.declared.reactions.Reaction.TheVariants.{Answers, En
 pub reaction_same : (r : Item) (a b c d : Bool) (s t : ChannelState) → a ≡ b → c ≡ d → s ≡ t → reaction_by a c (awaits s (packet_class r.packet)) r ≡ reaction_by b d (awaits t (packet_class r.packet)) r
 reaction_same r a b c d s t before after state = λ j. reaction_by (before j) (after j) (awaits (state j) (packet_class r.packet)) r
 
-from_more : (i : Interface) (o : Observer LineState Channel) (w : Watched) (rs : List Item) (r : Item) → watched_from i o w (rs ++ r ∷ []) ≡ watched_next i (walk (x25 i) o rs) r (watched_from i o w rs)
+from_more : (i : Interface) (o : Observer GapLine GapChannel) (w : Watched) (rs : List Item) (r : Item) → watched_from i o w (rs ++ r ∷ []) ≡ watched_next i (walk (x25 i) o rs) r (watched_from i o w rs)
 from_more i o w [] r = refl
 from_more i o w (x ∷ rs) r = from_more i (after (x25 i) o x) (watched_next i o x w) rs r
 
@@ -97,7 +97,7 @@ few_turn n (ToChannel k) x w few = few_noted k n x w few
 few_turn n EndsEpoch x w few = few_noted 0 n x (epoch_ended w) (few_ended n w few)
 few_turn n Stays x w few = few_noted 0 n x w few
 
-few_from : (n : ℕ) (i : Interface) (o : Observer LineState Channel) (w : Watched) (rs : List Item) → AreFewWatched n w → AreFewWatched (n + length rs) (watched_from i o w rs)
+few_from : (n : ℕ) (i : Interface) (o : Observer GapLine GapChannel) (w : Watched) (rs : List Item) → AreFewWatched n w → AreFewWatched (n + length rs) (watched_from i o w rs)
 few_from n i o w [] few = record {
   answered = omega (arith, few.answered);
   unanswered = omega (arith, few.unanswered);
@@ -105,7 +105,7 @@ few_from n i o w [] few = record {
 }
 few_from n i o w (r ∷ rs) few =
     let turn : Turn = turn_of r.packet (routing o.line r).route in
-    let x : Reaction = reaction_on turn i o.line.state (routing o.line r).after.state o.states r in
+    let x : Reaction = reaction_on turn i o.line.line.state (routing o.line r).after.line.state o.states r in
     let next : Watched = watched_next i o r w in
     let more = few_from (n + 1) i (after (x25 i) o r) next rs (few_turn n turn x w few) in
     record {

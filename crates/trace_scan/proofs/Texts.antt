@@ -10,7 +10,8 @@ use Rattle.line_model.specs.pieces.Plans.{plan, line_findings}
 use Rattle.line_model.specs.basics.Records.{Row, Piece}
 use Rattle.line_model.specs.packets.Says.{items_of}
 use Rattle.line_model.specs.traces.Traces.{trace_plan}
-use Rattle.line_model.proofs.Saying.{items_more}
+use Rattle.line_model.proofs.Saying.{all_said, items_more}
+use Rattle.line_model.specs.basics.Bounds.{AreSaid}
 use Rattle.line_model.specs.text.Text.{early, early_head, early_rows, fault, head, rows}
 use Rattle.restart_epochs.specs.Cutting.{given_of}
 use Rattle.restart_epochs.proofs.Heads.{given_first}
@@ -25,18 +26,21 @@ use Rattle.trace_scan.proofs.Nexts.{given_next}
 pub plan_of_head : (text : List ℕ) (i : Interface) → head text ≡ Some i → trace_plan text ≡ plan i (items_of i (rows text))
 plan_of_head text i h = ap (λ (o : Option Interface). elim o as (λ _. List Piece) [ None ↦ [] | Some j ↦ plan j (items_of j (rows text)) ]) h
 
+said_alone : (i : Interface) (rs : List Row) → AreSaid i (items_of i rs ++ [])
+said_alone i rs = subst (AreSaid i) (sym (append-nil (items_of i rs))) (all_said i rs)
+
 stands_first : (known : KnownPlan) (i : Interface) (given : List ℕ) (rs : List Row) → early given ≡ None → early_head given ≡ Some i → early_rows given ≡ rs → IsPlanOf known given
     → IfSome known (λ ps. (rest : List Piece) × (given_of i (items_of i rs) ++ rest ≡ ps))
 stands_first None i given rs sound e same h = tt
 stands_first (Some ps) i given rs sound e same h =
     let all = rows_first given h.0 sound in
-    let first = given_first i (items_of i rs) (items_of i all.0) in
+    let first = given_first i (items_of i rs) (items_of i all.0) (subst (AreSaid i) (items_more i rs all.0) (all_said i (rs ++ all.0))) in
     (first.0, first.1 ∙ ap (plan i) (sym (items_more i rs all.0)) ∙ ap (λ l. plan i (items_of i (l ++ all.0))) (sym same) ∙ ap (λ l. plan i (items_of i l)) (sym all.1) ∙ sym (plan_of_head (given ++ h.0) i (head_stays given h.0 i sound e)) ∙ sym h.1)
 
 ends_with : (known : KnownPlan) (i : Interface) (text : List ℕ) (rs : List Row) → head text ≡ Some i → rows text ≡ rs → IfSome known (λ ps. ps ≡ trace_plan text) → IfSome known (λ ps. (rest : List Piece) × (given_of i (items_of i rs) ++ rest ≡ ps))
 ends_with None i text rs e same h = tt
 ends_with (Some ps) i text rs e same h =
-    let first = given_first i (items_of i rs) [] in
+    let first = given_first i (items_of i rs) [] (said_alone i rs) in
     (first.0, first.1 ∙ ap (plan i) (append-nil (items_of i rs)) ∙ ap (λ l. plan i (items_of i l)) (sym same) ∙ sym (plan_of_head text i e) ∙ sym h)
 
 pub plan_is : (known : KnownPlan) (text : List ℕ) (i j : Interface) (rs : List Row) → head text ≡ Some i → j ≡ i → rows text ≡ rs → IfSome known (λ ps. ps ≡ trace_plan text) → IfSome known (λ ps. ps ≡ plan j (items_of j rs))
@@ -77,9 +81,9 @@ part_next known text part pieces n sound count more planned = at (early_head (te
   where
     at : (o : Option Interface) → early_head (text ++ part) ≡ o → ArePlanned known n pieces
     at None h = none_next known pieces n (nothing_more (known_pieces text) pieces (sym more ∙ ap (λ o. known_of o (text ++ part)) h))
-    at (Some i) h = given_next known i (items_of i (early_rows (text ++ part))) (known_pieces text) pieces n count (sym more ∙ ap (λ o. known_of o (text ++ part)) h)
+    at (Some i) h = given_next known i (items_of i (early_rows (text ++ part))) (known_pieces text) pieces n (said_alone i (early_rows (text ++ part))) count (sym more ∙ ap (λ o. known_of o (text ++ part)) h)
         (stands_first known i (text ++ part) (early_rows (text ++ part)) sound h refl planned)
 
 -- those that are known whole with the last line
 pub line_next : (known : KnownPlan) (text : List ℕ) (i : Interface) (pieces : List Piece) (n : ℕ) → head text ≡ Some i → n ≡ length (known_pieces text) → given_of i (items_of i (rows text)) ≡ known_pieces text ++ pieces → IfSome known (λ ps. ps ≡ trace_plan text) → ArePlanned known n pieces
-line_next known text i pieces n header count more planned = given_next known i (items_of i (rows text)) (known_pieces text) pieces n count (sym more) (ends_with known i text (rows text) header refl planned)
+line_next known text i pieces n header count more planned = given_next known i (items_of i (rows text)) (known_pieces text) pieces n (said_alone i (rows text)) count (sym more) (ends_with known i text (rows text) header refl planned)

@@ -2,20 +2,20 @@
 use Rattle.std.proofs.Common.{◌≡◌, ◌≢◌, sym, ap, subst, refl, ℕ, Bool, true, false, eqb, cond, Some}
 use Rattle.std.proofs.lemmas.Bool.{eqb-true, eqb-false}
 use Rattle.line_model.specs.declared.interface.Interface.{Interface}
-use Rattle.line_model.specs.channels.Channels.{Channel}
+use Rattle.line_model.specs.channels.Gaps.{GapChannel}
 use Rattle.line_model.specs.observer.Machine.{with_state}
 use Rattle.channel_run.specs.declared.run.Channel.{Ghosts as Machine}
 use Rattle.restart_epochs.specs.OpenLanes.{OpenLanes, value_at, HasTaken, HasPut}
 use Rattle.trace_scan.specs.Tried.{AreLanesOf, IsLaneOf}
 
 -- the other lanes stand for their channels
-abbrev pub OthersStand : {A C : Type 0} → Machine C A → Interface → (epoch channel : ℕ) → (ℕ → Channel) → OpenLanes C → Type 0
+abbrev pub OthersStand : {A C : Type 0} → Machine C A → Interface → (epoch channel : ℕ) → (ℕ → GapChannel) → OpenLanes C → Type 0
 OthersStand m i e k states lanes = (j : ℕ) → j ≢ k → IsLaneOf m i e j (states j) (value_at lanes j)
 
-pub out_some : {A C : Type 0} (m : Machine C A) (i : Interface) (e k : ℕ) (states : ℕ → Channel) (before after : OpenLanes C) (c : C) → AreLanesOf m i e states before → HasTaken k (Some c) before after → IsLaneOf m i e k (states k) (Some c)
+pub out_some : {A C : Type 0} (m : Machine C A) (i : Interface) (e k : ℕ) (states : ℕ → GapChannel) (before after : OpenLanes C) (c : C) → AreLanesOf m i e states before → HasTaken k (Some c) before after → IsLaneOf m i e k (states k) (Some c)
 out_some m i e k states before after c h t = subst (IsLaneOf m i e k (states k)) (sym t.value) (h k)
 
-pub put_back : {A C : Type 0} (m : Machine C A) (i : Interface) (e k : ℕ) (states : ℕ → Channel) (next : Channel) (before after : OpenLanes C) (c : C) → OthersStand m i e k states before → IsLaneOf m i e k next (Some c) → HasPut k c before after
+pub put_back : {A C : Type 0} (m : Machine C A) (i : Interface) (e k : ℕ) (states : ℕ → GapChannel) (next : GapChannel) (before after : OpenLanes C) (c : C) → OthersStand m i e k states before → IsLaneOf m i e k next (Some c) → HasPut k c before after
     → AreLanesOf m i e (with_state states k next) after
 put_back m i e k states next before after c others own put j = at (eqb j k) refl
   where

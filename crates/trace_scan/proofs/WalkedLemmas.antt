@@ -8,7 +8,9 @@ use Rattle.line_model.specs.declared.interface.Interface.{Interface}
 use Rattle.line_model.specs.declared.event.Event.{Event}
 use Rattle.line_model.specs.declared.finding.Finding.{Finding}
 use Rattle.line_model.specs.basics.Records.{Item}
-use Rattle.line_model.specs.channels.Channels.{Channel, fresh}
+use Rattle.line_model.specs.basics.Bounds.{AreSaid}
+use Rattle.line_model.specs.declared.gap.EpochStart.TheVariants.{Restarted}
+use Rattle.line_model.specs.channels.Gaps.{GapChannel, fresh_at}
 use Rattle.line_model.specs.observer.Report.{findings_of}
 use Rattle.line_model.proofs.Rising.{RisesFrom, rises-from_index}
 use Rattle.channel_run.specs.Run.{row_events}
@@ -25,7 +27,7 @@ use Rattle.live_report.specs.Observing.{AreItems}
 use Rattle.trace_scan.specs.Tried.{AreLanesOf, HasWalked, IsFew, IsLaneOf, events_after, states_after, tally_of, uncounted_in}
 use Rattle.trace_scan.specs.declared.trial.Tally.{Tally}
 use Rattle.trace_scan.specs.declared.trial.Trial.{Trial}
-use Rattle.line_model.specs.observer.Observer.{routing}
+use Rattle.line_model.specs.channels.GapRestart.{routing}
 use Rattle.line_model.specs.declared.state.RState.{RState}
 use Rattle.trace_scan.specs.Watched.{Watched}
 use Rattle.restart_epochs.specs.Walks.{IsStep, turn_of}
@@ -51,18 +53,22 @@ few_next i rs r t = let few = few_rows i (rs ++ r ∷ []) t in omega (arith, few
 pub few_octets : (i : Interface) (rs : List Item) (r : Item) → AreItems i (rs ++ r ∷ []) → sum_by (λ (x : Item). x.length) rs + r.length ≤ 2 ^ 31
 few_octets i rs r t = let few = t.octets in omega (arith, few, sum_by_push (λ (x : Item). x.length) rs r)
 
+pub said_before : (i : Interface) (rs more : List Item) → AreSaid i (rs ++ more) → AreSaid i rs
+said_before i [] more said = tt
+said_before i (r ∷ rs) more said = (said.0, said_before i rs more said.1)
+
 -- ---- the lanes
 
-fresh_lanes : {A C : Type 0} (m : Machine C A) (i : Interface) (e : ℕ) (states : ℕ → Channel) → ((k : ℕ) → states k ≡ fresh i e k) → AreLanesOf m i e states no_lanes
+fresh_lanes : {A C : Type 0} (m : Machine C A) (i : Interface) (e : ℕ) (states : ℕ → GapChannel) → ((k : ℕ) → states k ≡ fresh_at i Restarted e k) → AreLanesOf m i e states no_lanes
 fresh_lanes m i e states h k = h k
 
-same_lanes : {A C : Type 0} (m : Machine C A) (i : Interface) (e : ℕ) (states after : ℕ → Channel) (lanes : OpenLanes C) → ((k : ℕ) → after k ≡ states k) → AreLanesOf m i e states lanes → AreLanesOf m i e after lanes
+same_lanes : {A C : Type 0} (m : Machine C A) (i : Interface) (e : ℕ) (states after : ℕ → GapChannel) (lanes : OpenLanes C) → ((k : ℕ) → after k ≡ states k) → AreLanesOf m i e states lanes → AreLanesOf m i e after lanes
 same_lanes m i e states after lanes same h k = subst (λ c. IsLaneOf m i e k c (value_at lanes k)) (sym (same k)) (h k)
 
 -- ---- a row was taken
 
 -- what becomes of a trial by the step of a row: `turned` has the lanes before a further epoch makes them fresh
-pub record Takes {A C : Type 0} (m : Machine C A) (states : ℕ → Channel) (r : Item) (step : Step) (before after : Trial A C) (turned : OpenLanes C) : Type 0 where
+pub record Takes {A C : Type 0} (m : Machine C A) (states : ℕ → GapChannel) (r : Item) (step : Step) (before after : Trial A C) (turned : OpenLanes C) : Type 0 where
   pub interface : after.walk.interface ≡ before.walk.interface
   pub line : after.walk.machine ≡ step.machine
   pub epoch : after.walk.epoch ≡ step.epoch
@@ -70,7 +76,7 @@ pub record Takes {A C : Type 0} (m : Machine C A) (states : ℕ → Channel) (r 
   pub lanes : AreLanesOf m before.walk.interface before.walk.epoch (states_after step.turn before.walk.interface states r) turned
   pub same : step.epoch ≡ before.walk.epoch → after.lanes ≡ turned
   pub renewed : step.epoch ≢ before.walk.epoch → after.lanes ≡ no_lanes
-  pub watch : (i : Interface) → before.walk.interface ≡ i → after.watch ≡ watch_turn step.turn (reaction_on step.turn i before.walk.machine.state step.machine.state states r) before.watch
+  pub watch : (i : Interface) → before.walk.interface ≡ i → after.watch ≡ watch_turn step.turn (reaction_on step.turn i before.walk.machine.line.state step.machine.line.state states r) before.watch
 
 -- what is counted of a row with these events, if it has one finding at the most
 pub record Counts (i : Interface) (r : Item) (found : List Finding) (es : List Event) (before after : Tally) : Type 0 where
@@ -99,7 +105,7 @@ lanes_after {A} {C} m i rs r step before after turned w s t = at (eqb step.epoch
         (fresh_lanes m i step.epoch (observer i (rs ++ r ∷ [])).states (s.renewed other)))
 
 -- a row has one finding at the most
-one_of_channel : (i : Interface) (e k : ℕ) (c : Channel) (r : Item) → length (findings_of (row_events i e k c r)) ≤ 1
+one_of_channel : (i : Interface) (e k : ℕ) (c : GapChannel) (r : Item) → length (findings_of (row_events i e k c r)) ≤ 1
 one_of_channel i e k c r =
     let first : Option Finding = slice_get (findings_of (row_events i e k c r)) 0 in
     subst (λ (l : List Finding). length l ≤ 1) (one_finding i e k c r (row_events i e k c r) first refl refl) (at_most_one first)
@@ -125,7 +131,7 @@ tally_after i rs r step before after was s c =
     c.octets ∙ (λ j. (was j).octets + sym s.left.octets j) ∙ sym (octets_more i rs r) in
     λ j. record { findings = findings j; packets = packets j; octets = octets j }
 
-watch_same : (i : Interface) (states : ℕ → Channel) (r : Item) (t u : Turn) (a b c d : RState) (w v : Watched) → t ≡ u → a ≡ b → c ≡ d → w ≡ v → watch_turn t (reaction_on t i a c states r) w ≡ watch_turn u (reaction_on u i b d states r) v
+watch_same : (i : Interface) (states : ℕ → GapChannel) (r : Item) (t u : Turn) (a b c d : RState) (w v : Watched) → t ≡ u → a ≡ b → c ≡ d → w ≡ v → watch_turn t (reaction_on t i a c states r) w ≡ watch_turn u (reaction_on u i b d states r) v
 watch_same i states r t u a b c d w v turn before after same = λ j. watch_turn (turn j) (reaction_on (turn j) i (before j) (after j) states r) (same j)
 
 -- what is watched after a row
@@ -133,8 +139,8 @@ pub watch_after : {A C : Type 0} (m : Machine C A) (i : Interface) (rs : List It
     → Takes m (observer i rs).states r step before after turned → after.watch ≡ watched i (rs ++ r ∷ [])
 watch_after m i rs r step before after turned w is t =
     t.watch i w.interface
-    ∙ watch_same i (observer i rs).states r step.turn _ _ _ _ _ before.watch _ (is.turn ∙ ap (λ l. turn_of r.packet (routing l r).route) w.line) (ap (λ l. l.state) w.line)
-    (ap (λ l. l.state) is.machine ∙ ap (λ l. (routing l r).after.state) w.line) w.watch
+    ∙ watch_same i (observer i rs).states r step.turn _ _ _ _ _ before.watch _ (is.turn ∙ ap (λ l. turn_of r.packet (routing l r).route) w.line) (ap (λ l. l.line.state) w.line)
+    (ap (λ l. l.line.state) is.machine ∙ ap (λ l. (routing l r).after.line.state) w.line) w.watch
     ∙ sym (watched_more i rs r)
 
 pub few_after : (i : Interface) (rs : List Item) (r : Item) (found : List Finding) (es : List Event) (epoch packets next_epoch next_packets : ℕ) (before after : Tally) → IsFew rs epoch packets before → length (found ++ findings_of es) ≤ 1
@@ -173,7 +179,7 @@ lanes_under m i rs t v w interface epoch =
     subst (λ j. AreLanesOf m j v.epoch (observer i rs).states t.lanes) (sym (interface ∙ w.interface))
     (subst (λ e. AreLanesOf m i e (observer i rs).states t.lanes) (sym (epoch ∙ w.epoch)) w.lanes)
 
-pub turned_under : {A C : Type 0} (m : Machine C A) (i j : Interface) (e f : ℕ) (turn : Turn) (states : ℕ → Channel) (r : Item) (turned : OpenLanes C) → i ≡ j → e ≡ f → AreLanesOf m i e (states_after turn i states r) turned → AreLanesOf m j f (states_after turn j states r) turned
+pub turned_under : {A C : Type 0} (m : Machine C A) (i j : Interface) (e f : ℕ) (turn : Turn) (states : ℕ → GapChannel) (r : Item) (turned : OpenLanes C) → i ≡ j → e ≡ f → AreLanesOf m i e (states_after turn i states r) turned → AreLanesOf m j f (states_after turn j states r) turned
 turned_under m i j e f turn states r turned interface epoch h =
     subst (λ k. AreLanesOf m k f (states_after turn k states r) turned) interface (subst (λ n. AreLanesOf m i n (states_after turn i states r) turned) epoch h)
 

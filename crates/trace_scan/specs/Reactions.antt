@@ -2,9 +2,8 @@
 use Rattle.std.specs.Prelude.{ℕ, ◌+◌, ◌-◌, ◌==◌, nat_lt, Bool, true, false, ◌&&◌, List, [], ◌∷◌, ◌++◌, get_or, length, replicate, set, if◌then◌else◌}
 use Rattle.line_model.specs.basics.Octets.{octet}
 use Rattle.line_model.specs.basics.Records.{Item}
-use Rattle.line_model.specs.channels.Channels.{Channel}
-use Rattle.line_model.specs.channels.ChannelStep.{channel_step}
-use Rattle.line_model.specs.channels.RestartMachine.{LineState}
+use Rattle.line_model.specs.channels.Gaps.{GapChannel}
+use Rattle.line_model.specs.channels.GapRestart.{GapLine, routing}
 use Rattle.line_model.specs.declared.interface.Interface.{Interface}
 use Rattle.line_model.specs.declared.packet.Class.{Class}
 use Rattle.line_model.specs.declared.packet.Class.TheVariants.{Clear, Reset, Restart}
@@ -17,7 +16,7 @@ use Rattle.line_model.specs.declared.state.RState.TheVariants.{R3}
 use Rattle.line_model.specs.declared.state.Side.{Side}
 use Rattle.line_model.specs.declared.state.Side.TheVariants.{N}
 use Rattle.line_model.specs.observer.Machine.{Observer, after}
-use Rattle.line_model.specs.observer.Observer.{routing, start, x25}
+use Rattle.line_model.specs.observer.Observer.{row_step, start, x25}
 use Rattle.line_model.specs.packets.Classes.{packet_class}
 use Rattle.restart_epochs.specs.Walks.{turn_of}
 use Rattle.restart_epochs.specs.declared.walk.Turn.{Turn}
@@ -62,8 +61,8 @@ reaction_by true true is_awaited r = if is_from_dce r.side then Passes else Noth
 reaction_by false false is_awaited r = if blames r then Unexplained else Nothing
 
 -- what a row does on its logical channel
-abbrev pub channel_reaction : Interface → (channel : ℕ) → Channel → Item → Reaction
-channel_reaction i k c r = reaction_by c.owed (channel_step i k c r).after.owed (awaits c.state (packet_class r.packet)) r
+abbrev pub channel_reaction : Interface → (channel : ℕ) → GapChannel → Item → Reaction
+channel_reaction i k g r = reaction_by g.channel.owed (row_step i k g r).after.channel.owed (awaits g.channel.state (packet_class r.packet)) r
 
 -- the state in which the DCE owes a restart indication, where an error of the DTE led to it
 abbrev pub is_r3 : RState → Bool
@@ -88,7 +87,7 @@ abbrev pub restart_reaction : (before after : RState) → Item → Reaction
 restart_reaction before after r = reaction_by_r3 (is_r3 before) (is_r3 after) (is_from_dce r.side) r
 
 -- what a row does, by where it goes
-abbrev pub reaction_on : Turn → Interface → (before after : RState) → (ℕ → Channel) → Item → Reaction
+abbrev pub reaction_on : Turn → Interface → (before after : RState) → (ℕ → GapChannel) → Item → Reaction
 reaction_on (ToChannel k) i before after states r = channel_reaction i k (states k) r
 reaction_on _ i before after states r = restart_reaction before after r
 
@@ -162,12 +161,12 @@ watch_turn Stays reaction w = noted 0 reaction w
 
 -- ---- what some rows do
 
-abbrev pub watched_next : Interface → Observer LineState Channel → Item → Watched → Watched
+abbrev pub watched_next : Interface → Observer GapLine GapChannel → Item → Watched → Watched
 watched_next i o r w =
     let turn : Turn = turn_of r.packet (routing o.line r).route in
-    watch_turn turn (reaction_on turn i o.line.state (routing o.line r).after.state o.states r) w
+    watch_turn turn (reaction_on turn i o.line.line.state (routing o.line r).after.line.state o.states r) w
 
-abbrev pub watched_from : Interface → Observer LineState Channel → Watched → List Item → Watched
+abbrev pub watched_from : Interface → Observer GapLine GapChannel → Watched → List Item → Watched
 watched_from i o w [] = w
 watched_from i o w (r ∷ rs) = watched_from i (after (x25 i) o r) (watched_next i o r w) rs
 

@@ -1,12 +1,12 @@
 -- What the rows of a trace count under a header.
 use Rattle.std.specs.Prelude.{◌≡◌, ℕ, ◌≤◌, ◌+◌, not, ◌&&◌, List, [], ◌∷◌, ◌++◌, length, sum_by, Option, Some, None, if◌then◌else◌}
 use Rattle.line_model.specs.basics.Records.{Item, ReadRow}
-use Rattle.line_model.specs.channels.ChannelStep.{channel_step}
-use Rattle.line_model.specs.channels.Channels.{Channel, fresh}
+use Rattle.line_model.specs.declared.gap.EpochStart.TheVariants.{Restarted}
+use Rattle.line_model.specs.channels.Gaps.{GapChannel, fresh_at}
 use Rattle.line_model.specs.declared.event.Event.{Event}
 use Rattle.line_model.specs.declared.interface.Interface.{Interface}
 use Rattle.line_model.specs.observer.Machine.{with_state}
-use Rattle.line_model.specs.observer.Observer.{start}
+use Rattle.line_model.specs.observer.Observer.{row_step, start}
 use Rattle.line_model.specs.observer.Report.{report_of}
 use Rattle.line_model.specs.packets.Says.{item_read}
 use Rattle.channel_run.specs.Run.{row_events}
@@ -34,21 +34,21 @@ tally_of i rs = record {
 -- ---- what a trial keeps
 
 -- what lies in the lane of a logical channel represents it: where nothing does, it is fresh
-abbrev pub IsLaneOf : {A C : Type 0} → Machine C A → Interface → (epoch channel : ℕ) → Channel → Option C → Type 0
-IsLaneOf m i e k state None = state ≡ fresh i e k
+abbrev pub IsLaneOf : {A C : Type 0} → Machine C A → Interface → (epoch channel : ℕ) → GapChannel → Option C → Type 0
+IsLaneOf m i e k state None = state ≡ fresh_at i Restarted e k
 IsLaneOf m i e k state (Some c) = (m.interface_of c ≡ i) × (m.number_of c ≡ k) × m.stands_for c state
 
 -- the lanes of an epoch represent the states of its logical channels
-abbrev pub AreLanesOf : {A C : Type 0} → Machine C A → Interface → (epoch : ℕ) → (states : ℕ → Channel) → OpenLanes C → Type 0
+abbrev pub AreLanesOf : {A C : Type 0} → Machine C A → Interface → (epoch : ℕ) → (states : ℕ → GapChannel) → OpenLanes C → Type 0
 AreLanesOf m i e states lanes = (k : ℕ) → IsLaneOf m i e k (states k) (value_at lanes k)
 
 -- the states of the logical channels after a row
-abbrev pub states_after : Turn → Interface → (ℕ → Channel) → Item → ℕ → Channel
-states_after (ToChannel k) i states r = with_state states k (channel_step i k (states k) r).after
+abbrev pub states_after : Turn → Interface → (ℕ → GapChannel) → Item → ℕ → GapChannel
+states_after (ToChannel k) i states r = with_state states k (row_step i k (states k) r).after
 states_after _ i states r = states
 
 -- the events of the logical channel that takes a row
-abbrev pub events_after : Turn → Interface → (epoch : ℕ) → (ℕ → Channel) → Item → List Event
+abbrev pub events_after : Turn → Interface → (epoch : ℕ) → (ℕ → GapChannel) → Item → List Event
 events_after (ToChannel k) i e states r = row_events i e k (states k) r
 events_after _ i e states r = []
 

@@ -3,8 +3,8 @@
 ghost use Rattle.std.specs.Prelude.{◌≡◌, ◌≢◌, ℕ, ◌+◌, ◌<◌, ◌≤◌, ◌^◌, ◌++◌, ◌∷◌, [], List, Some, IfErr, IfOk, IfSome, OnOk, length, option_to_list, sum, if◌then◌else◌};
 ghost use Rattle.line_model.specs.basics.Bounds.{IsItem};
 ghost use Rattle.line_model.specs.basics.Records as records;
-ghost use Rattle.line_model.specs.channels.Channels as channels;
-ghost use Rattle.line_model.specs.channels.ChannelStep.{channel_step};
+ghost use Rattle.line_model.specs.channels.Gaps.{GapChannel};
+ghost use Rattle.line_model.specs.observer.Observer.{row_step};
 ghost use Rattle.line_model.specs.declared.fault.Fault.TheVariants.{Memory};
 ghost use Rattle.line_model.specs.declared.interface.Interface.{Interface as AnyInterface};
 ghost use Rattle.line_model.specs.observer.Machine.{with_state};
@@ -25,6 +25,7 @@ use channel_run::status_word::view_in;
 use line_model::event::Event;
 use line_model::fault::Fault;
 use line_model::finding::Finding;
+use line_model::gap::EpochStart;
 use line_model::interface::Interface;
 use line_model::items::ItemRef;
 use line_model::row::ReadRow;
@@ -142,10 +143,10 @@ fn take_out<A: Allocator + Copy, C: Channel<A>>(
     channel: u16,
     lanes: &mut ChannelTable<C, A>,
 ) -> Result<Box<C, A>, Fault>
-    ensures out { (states : ℕ → channels.Channel)
+    ensures out { (states : ℕ → GapChannel)
         → AreLanesOf C.Channel interface.now epoch states lanes.old → IfOk result (λ c.
         IsLaneOf C.Channel interface.now epoch channel (states channel) (Some c.value)) }
-    ensures others { (states : ℕ → channels.Channel)
+    ensures others { (states : ℕ → GapChannel)
         → AreLanesOf C.Channel interface.now epoch states lanes.old
         → OnOk result ((k : ℕ) → k ≢ channel
         → IsLaneOf C.Channel interface.now epoch k (states k) (value_at lanes.new k)) }
@@ -156,7 +157,10 @@ fn take_out<A: Allocator + Copy, C: Channel<A>>(
         return Ok(machine);
     }
     lanes.list(channel)?;
-    let machine = Box::new(alloc, C::fresh(alloc, interface, channel, epoch))?;
+    let machine = Box::new(
+        alloc,
+        C::fresh(alloc, interface, channel, epoch, EpochStart::Restarted),
+    )?;
     Ok(machine)
 }
 
@@ -170,18 +174,18 @@ fn step_lane<A: Allocator + Copy, C: Channel<A>>(
     lanes: &mut ChannelTable<C, A>,
 ) -> Result<Reaction, Fault>
     requires item { IsItem walk.now.interface channel item.now }
-    requires lanes { (states : ℕ → channels.Channel)
+    requires lanes { (states : ℕ → GapChannel)
         × AreLanesOf C.Channel walk.now.interface walk.now.epoch states lanes.old }
-    ensures lanes { (states : ℕ → channels.Channel)
+    ensures lanes { (states : ℕ → GapChannel)
         → AreLanesOf C.Channel walk.now.interface walk.now.epoch states lanes.old
         → OnOk result (AreLanesOf C.Channel walk.now.interface walk.now.epoch
         (with_state states channel
-        (channel_step walk.now.interface channel (states channel) item.now).after) lanes.new) }
-    ensures events { (states : ℕ → channels.Channel)
+        (row_step walk.now.interface channel (states channel) item.now).after) lanes.new) }
+    ensures events { (states : ℕ → GapChannel)
         → AreLanesOf C.Channel walk.now.interface walk.now.epoch states lanes.old
         → OnOk result (events.new.items ≡ events.old.items
         ++ row_events walk.now.interface walk.now.epoch channel (states channel) item.now) }
-    ensures reaction { (states : ℕ → channels.Channel)
+    ensures reaction { (states : ℕ → GapChannel)
         → AreLanesOf C.Channel walk.now.interface walk.now.epoch states lanes.old
         → IfOk result (λ reaction. reaction
         ≡ channel_reaction walk.now.interface channel (states channel) item.now) }
@@ -245,24 +249,24 @@ impl<A: Allocator + Copy, C: Channel<A>> Trial<A, C> {
         events: &mut Vec<Event, A>,
     ) -> Result<Reaction, Fault>
         requires item { IfSome (channel_in turn) (λ k. IsItem self.old.walk.interface k item.now) }
-        requires lanes { (states : ℕ → channels.Channel)
+        requires lanes { (states : ℕ → GapChannel)
             × AreLanesOf C.Channel self.old.walk.interface self.old.walk.epoch states
             self.old.lanes }
         ensures walk { self.new.walk ≡ self.old.walk }
         ensures tally { self.new.tally ≡ self.old.tally }
         ensures watch { self.new.watch ≡ self.old.watch }
-        ensures lanes { (states : ℕ → channels.Channel)
+        ensures lanes { (states : ℕ → GapChannel)
             → AreLanesOf C.Channel self.old.walk.interface self.old.walk.epoch states self.old.lanes
             → OnOk result (AreLanesOf C.Channel self.old.walk.interface self.old.walk.epoch
             (states_after turn self.old.walk.interface states item.now) self.new.lanes) }
-        ensures events { (states : ℕ → channels.Channel)
+        ensures events { (states : ℕ → GapChannel)
             → AreLanesOf C.Channel self.old.walk.interface self.old.walk.epoch states self.old.lanes
             → OnOk result (events.new.items ≡ events_after turn self.old.walk.interface
             self.old.walk.epoch states item.now) }
-        ensures reaction { (states : ℕ → channels.Channel)
+        ensures reaction { (states : ℕ → GapChannel)
             → AreLanesOf C.Channel self.old.walk.interface self.old.walk.epoch states self.old.lanes
             → IfOk result (λ reaction. reaction ≡ reaction_on turn self.old.walk.interface
-            self.old.walk.machine.state after states item.now) }
+            self.old.walk.machine.line.state after states item.now) }
         ensures memory { IfErr result (λ fault. fault ≡ Memory) }
     {
         events.clear();

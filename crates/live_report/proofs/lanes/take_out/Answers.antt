@@ -10,4 +10,4 @@ returns-clause-out g c rows f =
     let taken = subst (λ o. HasTaken c.args.channel o c.args.lanes.now c.take.new.self) (ap (λ o. option_map (λ b. b.value) o) c.in_default.is) c.take.ensures in
     let fresh : c.in_ok-live.live.value ≡ c.in_ok-fresh.field-0 = c.in_ok-live.ensures.ok in
     out_none g.C.Channel.interface_of g.C.Channel.number_of g.C.Channel.stands_for c.args.interface.now c.args.epoch c.args.channel rows c.args.lanes.now c.take.new.self c.list.new.self c.in_ok-live.live.value f taken c.in_ok-list.ensures.ok
-    (λ p i k e n. subst (λ live. IsLive g.C.Channel.interface_of g.C.Channel.number_of g.C.Channel.stands_for live p) (sym fresh) (c.in_ok-fresh.ensures.stands p i k e n))
+    (λ p i k e s n. subst (λ live. IsLive g.C.Channel.interface_of g.C.Channel.number_of g.C.Channel.stands_for live p) (sym fresh) (c.in_ok-fresh.ensures.stands p i k e s n))

@@ -34,7 +34,7 @@ packets_left g c =
 pub loop-row-init : goal.loop-row-init
 loop-row-init g c = record {
   stands = c.new-cutter.ensures.stands;
-  given = c.new-pieces.ensures.items ∙ sym (given_pieces c.args.interface.now [] true ends_nothing);
+  given = c.new-pieces.ensures.items ∙ sym (given_pieces c.args.interface.now [] true tt ends_nothing);
   left = subst (MayCome c.new-cutter.result) (sym (rows_left g c))
       (all_may_come c.new-cutter.result c.args.rows.items c.new-cutter.ensures.last c.new-cutter.ensures.octets c.requires.rising c.requires.numbers c.requires.octets);
   decoded = packets_left g c ∙ ap (packets c.args.interface.now) (sym (rows_left g c));

@@ -2,6 +2,7 @@ use Rattle.std.proofs.Common.{◌≡◌, ◌∙◌, sym, ap, subst, ◌+◌, ◌
 use Rattle.std.specs.Prelude.{IfErr}
 use Rattle.std.proofs.lemmas.Result.{IfOk-from_err, err_from_is_err_and}
 use Rattle.line_model.specs.basics.Records.{Item, Piece}
+use Rattle.line_model.specs.declared.gap.EpochStart.TheVariants.{Restarted}
 use Rattle.line_model.specs.declared.interface.Interface.{Interface}
 use Rattle.line_model.specs.declared.fault.Fault.TheVariants.{Memory}
 use Rattle.restart_epochs.specs.Cutting.{pieces_out}
@@ -10,10 +11,10 @@ use Rattle.restart_epochs.proofs.showing.copy_pieces.Goals as goal
 
 -- one piece more is copied
 next_piece : (i : Interface) (e : ℕ) (rows : ℕ → List Item) (id k : ℕ) (ks left : List ℕ) (pieces grown all : List Piece) (items : List Item) → left ≡ k ∷ ks → items ≡ rows k →
-    grown ≡ pieces ++ record { id = id; interface = i; epoch = e; channel = k; items = items; end = None } ∷ [] → pieces ++ pieces_out i e None rows id left ≡ all →
+    grown ≡ pieces ++ record { id = id; interface = i; epoch = e; start = Restarted; channel = k; items = items; end = None } ∷ [] → pieces ++ pieces_out i e None rows id left ≡ all →
     grown ++ pieces_out i e None rows (id + 1) ks ≡ all
 next_piece i e rows id k ks left pieces grown all items step own g h =
-    let piece : List Item → Piece = λ is. record { id = id; interface = i; epoch = e; channel = k; items = is; end = None } in
+    let piece : List Item → Piece = λ is. record { id = id; interface = i; epoch = e; start = Restarted; channel = k; items = is; end = None } in
     ap (λ l. l ++ pieces_out i e None rows (id + 1) ks) (g ∙ ap (λ is. pieces ++ piece is ∷ []) own)
     ∙ append_assoc pieces (piece (rows k) ∷ []) (pieces_out i e None rows (id + 1) ks)
     ∙ ap (λ l. pieces ++ pieces_out i e None rows id l) (sym step) ∙ h

@@ -1,6 +1,6 @@
 use Rattle.std.proofs.Common.{◌∙◌, ◌++◌, ap, sym, subst, ℕ, Some}
 use Rattle.line_model.specs.basics.Bounds.{IsItem}
-use Rattle.line_model.specs.channels.ChannelStep.{channel_step}
+use Rattle.line_model.specs.observer.Observer.{row_step}
 use Rattle.channel_run.specs.Run.{row_events}
 use Rattle.trace_scan.specs.Tried.{IsLaneOf}
 use Rattle.trace_scan.proofs.ReactionLemmas.{reaction_same}
@@ -20,8 +20,8 @@ returns-clause-lanes g c states lanes =
     let k : ℕ = c.args.channel in
     let own = subst (λ x. IsLaneOf g.C.Channel i e k (states k) (Some x)) (sym c.deref_mut.ensures.value) (c.in_ok-machine.ensures.out states lanes) in
     let step = c.in_ok-step.ensures in
-    let next = subst (g.C.Channel.stands_for c.step.new.self) (λ j. (channel_step (own.0 j) (own.1 j) (states k) c.args.item.now).after) (step.stands (states k) own.2) in
-    put_back g.C.Channel i e k states (channel_step i k (states k) c.args.item.now).after c.take_out.new.lanes c.put.new.self c.step.new.self (c.in_ok-machine.ensures.others states lanes)
+    let next = subst (g.C.Channel.stands_for c.step.new.self) (λ j. (row_step (own.0 j) (own.1 j) (states k) c.args.item.now).after) (step.stands (states k) own.2) in
+    put_back g.C.Channel i e k states (row_step i k (states k) c.args.item.now).after c.take_out.new.lanes c.put.new.self c.step.new.self (c.in_ok-machine.ensures.others states lanes)
     (step.interface (states k) own.2 ∙ own.0, step.number (states k) own.2 ∙ own.1, next) c.put.ensures
 
 pub returns-clause-events : goal.returns-clause-events
@@ -40,8 +40,8 @@ returns-clause-reaction g c states lanes =
     let out = c.in_ok-machine.ensures.out states lanes in
     let was = subst (λ x. IsLaneOf g.C.Channel i e k (states k) (Some x)) (sym c.deref.ensures) out in
     let own = subst (λ x. IsLaneOf g.C.Channel i e k (states k) (Some x)) (sym c.deref_mut.ensures.value) out in
-    let next = subst (g.C.Channel.stands_for c.step.new.self) (λ j. (channel_step (own.0 j) (own.1 j) (states k) c.args.item.now).after) (c.in_ok-step.ensures.stands (states k) own.2) in
+    let next = subst (g.C.Channel.stands_for c.step.new.self) (λ j. (row_step (own.0 j) (own.1 j) (states k) c.args.item.now).after) (c.in_ok-step.ensures.stands (states k) own.2) in
     let before = c.word.ensures (states k) was.2 in
-    let after = c.word-2.ensures _ (subst (λ x. g.C.Channel.stands_for x (channel_step i k (states k) c.args.item.now).after) (sym c.deref-2.ensures) next) in
+    let after = c.word-2.ensures _ (subst (λ x. g.C.Channel.stands_for x (row_step i k (states k) c.args.item.now).after) (sym c.deref-2.ensures) next) in
     c.channel_reaction.ensures
     ∙ reaction_same c.args.item.now _ _ _ _ _ _ (ap (λ v. v.owed) c.view_in-before.ensures ∙ before.owed) (ap (λ v. v.owed) c.view_in-after.ensures ∙ after.owed) (ap (λ v. v.state) c.view_in-before.ensures ∙ before.state)

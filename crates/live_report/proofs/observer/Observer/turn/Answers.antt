@@ -1,7 +1,7 @@
 use Rattle.std.proofs.Common.{◌∙◌, ap, sym, subst, ◌++◌, append-nil, length, map, refl}
 use Rattle.std.specs.Prelude.{IfOk}
 use Rattle.line_model.specs.basics.Bounds.{IsPiece}
-use Rattle.line_model.specs.pieces.Plans.{value}
+use Rattle.line_model.specs.pieces.Plans.{end_at, value}
 use Rattle.restart_epochs.specs.Cutting.{HasTurned, ended_by}
 use Rattle.report_merge.specs.Gathered.{gathered}
 use Rattle.live_report.specs.Turns.{FindsAt, HasEvents, JudgesBy, MayTurn, with_data}
@@ -30,7 +30,7 @@ pub returns-in-ToChannel-clause-ended : goal.returns-in-ToChannel-clause-ended
 returns-in-ToChannel-clause-ended g c rows stands reports was =
     on_any c.step_channel.result _
     (was ∙ ap gathered (sym (append-nil reports))
-    ∙ ap (λ t. gathered (reports ++ map value (ended_by t c.args.self.now.walk.interface c.args.self.now.walk.epoch c.args.item.now.number (length reports) rows))) (sym c.in-ToChannel.is))
+    ∙ ap (λ t. gathered (reports ++ map value (ended_by t c.args.self.now.walk.interface c.args.self.now.walk.epoch (end_at c.args.item.now) (length reports) rows))) (sym c.in-ToChannel.is))
 
 pub returns-in-ToChannel-clause-judge : goal.returns-in-ToChannel-clause-judge
 returns-in-ToChannel-clause-judge g c rows stands after may turned =

@@ -9,7 +9,7 @@ use Rattle.trace_scan.specs.Reactions.{reaction_on, watch_turn}
 use Rattle.trace_scan.specs.Tried.{HasWalked, events_after}
 use Rattle.trace_scan.proofs.ReactionLemmas.{roomy}
 use Rattle.trace_scan.proofs.TrialLemmas.{item_of_turn, none_found, steps}
-use Rattle.trace_scan.proofs.WalkedLemmas.{counts_under, few_next, few_octets, lanes_under, one_after, turned_under, walked_after}
+use Rattle.trace_scan.proofs.WalkedLemmas.{counts_under, few_next, few_octets, lanes_under, one_after, said_before, turned_under, walked_after}
 use Rattle.trace_scan.proofs.trial.Trial.take.Goals as goal
 
 pub step-requires : goal.step-requires
@@ -66,7 +66,8 @@ returns-clause-walked g c i rows w sound =
     let turned = c.in_ok-reaction.ensures in
     let o = observer i rows in
     let row_is : one ≡ item_read i c.args.row.now = c.item_of_row-item.ensures ∙ (λ j. item_read (w.interface j) c.args.row.now) in
-    let stepped = steps i rows one _ _ step w.line w.epoch c.in_ok-step.ensures.step in
+    let next = item_read i c.args.row.now in
+    let stepped = steps i rows one _ _ step (said_before i rows (next ∷ []) sound.said) (subst (IsSaid i) (sym row_is) (last_said i rows next sound.said)) w.line w.epoch c.in_ok-step.ensures.step in
     let one_found = one_after i rows one step (none_found one _ _ step c.in_ok-step.ensures.step) in
     let lanes = lanes_under g.C.Channel i rows c.args.self.now c.step.new.self w same.interface same.epoch in
     let walk = c.renew.ensures.walk ∙ turned.walk in
@@ -86,7 +87,7 @@ returns-clause-walked g c i rows w sound =
       same = λ e. c.renew.ensures.same (e ∙ sym (ap (λ v. v.epoch) turned.walk ∙ same.epoch));
       renewed = λ ne. c.renew.ensures.renewed (λ e. ne (e ∙ ap (λ v. v.epoch) turned.walk ∙ same.epoch));
       watch = λ k e. c.renew.ensures.watch ∙ c.in_ok-take.ensures.taken
-          ∙ (λ j. watch_turn step.turn ((turned.reaction o.states lanes ∙ (λ h. reaction_on step.turn ((same.interface ∙ e) h) (same.machine h).state (c.state.ensures h) o.states one)) j) (turned.watch j));
+          ∙ (λ j. watch_turn step.turn ((turned.reaction o.states lanes ∙ (λ h. reaction_on step.turn ((same.interface ∙ e) h) (same.machine h).line.state (c.state.ensures h) o.states one)) j) (turned.watch j));
     })
     (counts_under i c.turn.new.self.walk.interface one (option_to_list step.finding) (events_after step.turn i o.epoch o.states one) c.as_slice.result.now c.args.self.now.tally c.turn.new.self.tally c.count.new.self c.renew.new.self.tally
     (ap (λ v. v.interface) turned.walk ∙ same.interface ∙ w.interface)

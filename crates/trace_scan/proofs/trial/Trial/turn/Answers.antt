@@ -21,5 +21,5 @@ returns-in-ToChannel-clause-events g c states lanes =
 pub returns-in-ToChannel-clause-reaction : goal.returns-in-ToChannel-clause-reaction
 returns-in-ToChannel-clause-reaction g c states lanes =
     let walk = c.args.self.now.walk in
-    subst (λ t. IfOk c.step_lane.result (λ x. x ≡ reaction_on t walk.interface walk.machine.state c.args.after states c.args.item.now)) (sym c.in-ToChannel.is)
+    subst (λ t. IfOk c.step_lane.result (λ x. x ≡ reaction_on t walk.interface walk.machine.line.state c.args.after states c.args.item.now)) (sym c.in-ToChannel.is)
     (c.step_lane.ensures.reaction states lanes)
