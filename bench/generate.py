@@ -6,7 +6,9 @@ its windows, is acknowledged by RR packets, and now and then is cleared and call
 again. With --restart-every the DTE restarts the interface after so many rows.
 With --kind calls each call is cleared as soon as it is up, so four rows are a call;
 with --kind findings the DCE sends data outside the window once the calls are up, so
-each row is a finding. The same arguments always give the same bytes.
+each row is a finding; with --kind gaps the rows of the busy interface have gap rows
+among them, of a channel after 100 rows and of all after 10,000. The same arguments
+always give the same bytes.
 """
 
 import argparse
@@ -16,6 +18,7 @@ import sys
 WINDOW = 2
 SIZE = 128
 CHUNK = 1 << 16
+GAP_EVERY, GAP_OF_ALL_EVERY = 100, 10_000
 
 
 class Channel:
@@ -104,7 +107,7 @@ def unsound_rows(channel, source, lengths):
     return [("N", f"{channel.header}{5 << 1:02X}{octets.hex().upper()}")]
 
 
-KINDS = {"busy": next_rows, "calls": brief_call_rows, "findings": unsound_rows}
+KINDS = {"busy": next_rows, "calls": brief_call_rows, "findings": unsound_rows, "gaps": next_rows}
 
 
 def packets(arguments):
@@ -130,6 +133,22 @@ def packets(arguments):
             yield row
 
 
+def with_gaps(rows, channels):
+    """Rows with gap rows among them, of a channel each time and now and then of all."""
+    for count, row in enumerate(rows, 1):
+        yield row
+        if count % GAP_EVERY == 0:
+            yield "?", "*" if count % GAP_OF_ALL_EVERY == 0 else count // GAP_EVERY % channels + 1
+
+
+def header(arguments):
+    """The header of the trace."""
+    terms = f"MOD 8 WIN {WINDOW} SIZE {SIZE} PVC 0"
+    if arguments.kind == "gaps":
+        return f"X25 3 {terms} IN 0 TWO {arguments.channels} OUT {arguments.channels}\n"
+    return f"X25 1 {terms} SVC {arguments.channels}\n"
+
+
 def main():
     parser = argparse.ArgumentParser(description=__doc__)
     parser.add_argument("--rows", type=int, default=1_000_000)
@@ -141,11 +160,12 @@ def main():
     if not 1 <= arguments.channels <= 4095:
         parser.error("--channels is 1 to 4095")
     out = sys.stdout.buffer
-    out.write(
-        f"X25 1 MOD 8 WIN {WINDOW} SIZE {SIZE} PVC 0 SVC {arguments.channels}\n".encode()
-    )
+    out.write(header(arguments).encode())
+    rows = packets(arguments)
+    if arguments.kind == "gaps":
+        rows = with_gaps(rows, arguments.channels)
     lines = []
-    for number, (side, octets) in zip(range(1, arguments.rows + 1), packets(arguments)):
+    for number, (side, octets) in zip(range(1, arguments.rows + 1), rows):
         lines.append(f"{number} {side} {octets}\n")
         if len(lines) == CHUNK:
             out.write("".join(lines).encode())

@@ -114,7 +114,8 @@ static inline int x25scan_open_header(x25scan *scan, const char *header) {
 }
 
 /* Reads a packet: its number, above that of the packet before and below 10^9, its side 'T' or 'N', and its octets, 4,200
- * at most. Errors: ARGUMENT, LINE after text without its line feed, and those of x25scan_feed. */
+ * at most. A gap row is text: x25scan_feed reads its line. Errors: ARGUMENT, LINE after text without its line feed, and
+ * those of x25scan_feed. */
 static inline int x25scan_packet(x25scan *scan, uint32_t number, char side, const void *octets, size_t length) {
     return scan && (octets || !length)
         ? (int)x25scan_feed_packet(scan, number, (unsigned char)side, x25scan_bytes(octets), length) : X25SCAN_NULL;

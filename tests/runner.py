@@ -149,8 +149,9 @@ def shown(line):
 
 
 def traces():
-    """The traces of tests/traces and examples."""
-    return [*sorted((ROOT / "tests" / "traces").rglob("*.trace")), *sorted((ROOT / "examples").glob("*.trace"))]
+    """The traces of tests/traces, tests/gaps/traces and examples."""
+    folders = [ROOT / "tests" / "traces", ROOT / "tests" / "gaps" / "traces", ROOT / "examples"]
+    return [trace for folder in folders for trace in sorted(folder.rglob("*.trace"))]
 
 
 def trace_name(path):

@@ -1,9 +1,9 @@
 #!/usr/bin/env python3
 """hostile_texts.py SEED: writes a trace text that tries what a trace may hold.
 
-Each text is a header of either form and rows of an interface that mostly keeps to the protocol, with every packet type,
-every field at its limits and octets that are cut or changed mixed in, and now and then a line that is no row. The same
-seed always gives the same text.
+Each text is a header of any form and rows of an interface that mostly keeps to the protocol, with every packet type, every
+field at its limits and octets that are cut or changed mixed in, and now and then a line that is no row. Under the third
+form there are gap rows, and with some of them rows are left out. The same seed always gives the same text.
 """
 from __future__ import annotations
 
@@ -30,7 +30,8 @@ class Interface:
         self.window = source.choice([1, 2, 2, 3, self.modulus - 1])
         self.size = source.choice([16, 16, 32, 128, 4096])
         self.permanent = permanent = source.choice([0, 0, 1, 2])
-        if source.random() < 0.5:
+        self.has_gaps = False
+        if source.random() < 0.4:
             last = max(1, permanent + source.randint(0, 4))
             self.channels, self.incoming, self.two_way = last, permanent, last
             form = f"X25 1 MOD {self.modulus} WIN {self.window} SIZE {self.size} PVC {permanent} SVC {last}"
@@ -39,8 +40,9 @@ class Interface:
             two_way = incoming + source.randint(0, 2)
             outgoing = max(1, two_way + source.randint(0, 2))
             self.channels, self.incoming, self.two_way = outgoing, incoming, two_way
+            self.has_gaps = source.random() < 0.6
             form = (
-                f"X25 2 MOD {self.modulus} WIN {self.window} SIZE {self.size} PVC {permanent} "
+                f"X25 {3 if self.has_gaps else 2} MOD {self.modulus} WIN {self.window} SIZE {self.size} PVC {permanent} "
                 f"IN {incoming} TWO {two_way} OUT {outgoing}" + source.choice(["", " JOIN"])
             )
         self.header = form
@@ -86,6 +88,7 @@ class Writer:
     def __init__(self, source: random.Random) -> None:
         self.source = source
         self.interface = Interface(self.source)
+        self.gap_share = self.source.choice([0, 0.02, 0.1, 0.5])
         self.channels = [Channel() for _ in range(self.interface.channels + 1)]
         self.number = 0
         self.lines: list[bytes] = []
@@ -241,6 +244,21 @@ class Writer:
         digits = octets.hex() if self.chance(0.2) else octets.hex().upper()
         self.lines.append(f"{self.number} {side} {digits or '-'}".encode())
 
+    def gap(self) -> None:
+        """A gap row, of a channel or of all."""
+        self.number += 1
+        channel = "*" if self.chance(0.3) else self.source.randint(1, self.interface.channels)
+        self.lines.append(f"{self.number} ? {channel}".encode())
+
+    def more(self) -> None:
+        """More rows. Where gap rows are allowed, some of them come with a gap row or in its place."""
+        rows = self.strange() if self.chance(0.06) else self.usual()
+        if self.interface.has_gaps and self.chance(self.gap_share):
+            self.gap()
+            rows = rows[self.source.randint(0, len(rows)):]
+        for side, octets in rows:
+            self.row(side, octets)
+
     def broken(self) -> bytes:
         """A line that is no row, or a header where none may stand."""
         number = self.number + 1
@@ -250,6 +268,8 @@ class Writer:
             f"{number} T 1000FG".encode(), f"{number} T 1000FF\r".encode(), f"{number} T 1000FF ".encode(),
             b"1000000000 T 1000FF", f"{number} t 1000FF".encode(), f"{number} T --".encode(),
             f"{number} T {'00' * 4201}".encode(), b"#" + b"x" * 8500, self.interface.header.encode(), b"\xff\xfe\x00",
+            f"{number} ? 0".encode(), f"{number} ? {self.interface.channels + 1}".encode(), f"{number} ? 01".encode(),
+            f"{number} ? -".encode(), f"{number} ? **".encode(), f"{self.number} ? *".encode(), f"{number} ?".encode(),
         ])
 
     def broken_header(self) -> bytes:
@@ -267,8 +287,7 @@ class Writer:
         self.lines.append(self.broken_header() if self.chance(0.03) else self.interface.header.encode())
         count = source.choice(COUNTS) if count is None else count
         while len(self.lines) < count:
-            for side, octets in self.strange() if self.chance(0.06) else self.usual():
-                self.row(side, octets)
+            self.more()
             if self.chance(0.02):
                 self.lines.append(b"# " + self.octets(5).replace(b"\n", b""))
         if self.lines and self.chance(0.2):

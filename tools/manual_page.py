@@ -121,7 +121,7 @@ def python_page(words: argparse.ArgumentParser, scan: Scan, summary: str, more: 
     program = words.prog
     text = f'.\\" Written by tools/manual_page.py from the help of tools/{program}.\n'
     text += beginning(program, scan, summary, words.description or "")
-    text += ".PP\n" + troff(more) + "\n"
+    text += "".join(f".PP\n{troff(part)}\n" for part in more.split("\n\n"))
     text += examples(section(words.epilog or "", "examples"))
     text += statuses((status, capital(meaning) + ".") for status, meaning in STATUS.findall(section(words.epilog or "", "exit status")))
     return text + see_also(program, documents)
@@ -131,7 +131,7 @@ def trace_page(scan: Scan) -> str:
     """The page of x25trace."""
     words = trace_words.parser()
     documents = f"{DOCUMENTS}CAPTURES.md says which captures are read and how, and {DOCUMENTS}TRACE.md how a trace is written."
-    return python_page(words, scan, "the trace of the X.25 packets in a capture", trace_words.FOLLOWING, documents)
+    return python_page(words, scan, "the trace of the X.25 packets in a capture", f"{trace_words.GAPS}\n\n{trace_words.FOLLOWING}", documents)
 
 
 def page_page(scan: Scan) -> str:

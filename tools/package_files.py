@@ -17,7 +17,7 @@ DOCUMENTS = "share/doc/x25scan"
 READ = {f"docs/{name}.md": f"{name}.md" for name in ("GUIDE", "REPORT", "CODES", "TRACE", "RULES", "CAPTURES")}
 READ |= {"CHANGELOG.md": "CHANGELOG.md", "docs/rows.schema.json": "rows.schema.json"}
 # Folders of which the documents name files; what is installed of them keeps its place in the repository.
-EXAMPLES, CAPTURES, TRACES = "examples", "tests/captures/files", "tests/traces"
+EXAMPLES, CAPTURES, TRACES = "examples", "tests/captures/files", ("tests/traces", "tests/gaps/traces")
 LINK = re.compile(r"\[([^\]\n]*)\]\(([^)#\s]*)(#[^)\s]*)?\)")
 INSTALLED_PROGRAM = re.compile(rf"(?<![\w/])(?:bin|tools)/({'|'.join(NAMES)})(?![\w/])")
 # The other programs, their libraries and a link to x25scan stand as in the repository; links lead to the launchers.

@@ -10,7 +10,7 @@ from __future__ import annotations
 import pathlib
 import sys
 
-from worked_traces import CRATE, KINDS, ROOT, constants, content, name_of, refusal, report, write_or_check
+from worked_traces import CRATE, KINDS, ROOT, UNFOLDING, constants, content, name_of, refusal, report, write_or_check
 
 TRACES = ROOT / "tests/gaps/traces"
 WRITTEN = "-- tools/worked_gap_traces.py writes this file from tests/gaps/traces."
@@ -27,11 +27,6 @@ NAMES = [
     "restart-owed-at-the-gap",
     "settled-by-an-acknowledgement",
 ]
-UNFOLDING = (
-    "digits decode_pairs recorded_fault recorded_content recording recorded_rows recording_of is_third third_numbers "
-    "recorded_header_kind recorded_row_kind recorded_row_of last_number size_kind has_header header_numbers interface_with "
-    "interface_of row_words octets_of row_kind row_of"
-)
 
 
 def traces(names: list[str]) -> list[pathlib.Path]:
@@ -43,9 +38,9 @@ def claim(trace: pathlib.Path) -> str:
     """What is stated of a trace."""
     name, refused = name_of(trace), refusal(trace)
     if not refused:
-        return f"IsRecorded {name}-text {name}-report"
+        return f"IsReported {name}-text {name}-report"
     line, kind = refused
-    return f"recorded_fault {name}-text ≡ Some ({line}, {kind})"
+    return f"fault {name}-text ≡ Some ({line}, {kind})"
 
 
 def uses_of_kinds(worked: list[pathlib.Path]) -> str:
@@ -65,9 +60,8 @@ def statement_file(names: list[str]) -> str:
 {WRITTEN}
 use Rattle.std.specs.Prelude.{{◌≡◌, ℕ, List, [], ◌∷◌,{joined} codes, Some}}
 {uses_of_kinds(worked)}
-use Rattle.line_model.specs.text.GapText.{{recorded_fault}}
-use Rattle.line_model.specs.traces.Traces.{{text{repeated}}}
-use Rattle.line_model.specs.traces.GapTraces.{{IsRecorded}}
+use Rattle.line_model.specs.text.Text.{{fault}}
+use Rattle.line_model.specs.traces.Traces.{{IsReported, text{repeated}}}
 {texts}{reports}
 pub record WorkedGapTraces : Type 0 where
 {fields}"""
@@ -94,9 +88,8 @@ use Rattle.hex.specs.Hex.{{decode_pairs}}
 {uses_of_kinds(worked)}
 use Rattle.line_model.specs.text.Header.{{header_numbers, interface_with, interface_of}}
 use Rattle.line_model.specs.text.RowLine.{{row_words, octets_of, row_kind, row_of}}
-use Rattle.line_model.specs.text.Text.{{last_number, size_kind, has_header}}
-use Rattle.line_model.specs.text.GapText.{{recorded_fault, recorded_content, recording, recorded_rows, recording_of, is_third, third_numbers, recorded_header_kind, recorded_row_kind, recorded_row_of}}
-use Rattle.line_model.specs.traces.GapTraces.{{IsRecorded}}
+use Rattle.line_model.specs.text.Text.{{fault, head, rows, head_of, rows_in, last_number, size_kind, header_kind, contents_kind}}
+use Rattle.line_model.specs.traces.Traces.{{IsReported}}
 use Rattle.line_model.specs.traces.WorkedGapTraces.{{WorkedGapTraces, {constants_used}}}
 {proofs}
 pub worked_gaps : WorkedGapTraces

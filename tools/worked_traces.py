@@ -19,7 +19,7 @@ KINDS = ["HeaderMissing", "HeaderForm", "HeaderRange", "LineForm", "Number", "Si
 WRITTEN = "-- tools/worked_traces.py writes this file from tests/traces/worked."
 USES_OF_KINDS = "use Rattle.line_model.specs.declared.fault.Kind.TheVariants.{" + ", ".join(KINDS[:-1]) + "}"
 UNFOLDING = (
-    "digits decode_pairs fault head rows head_of rows_in last_number size_kind header_kind contents_kind has_header "
+    "digits decode_pairs fault head rows head_of rows_in last_number size_kind header_kind contents_kind "
     "header_numbers interface_with interface_of row_words octets_of row_kind row_of"
 )
 # a run of one or two characters that is written as so many of them
@@ -145,7 +145,7 @@ use Rattle.hex.specs.Hex.{{decode_pairs}}
 {USES_OF_KINDS}
 use Rattle.line_model.specs.text.Header.{{header_numbers, interface_with, interface_of}}
 use Rattle.line_model.specs.text.RowLine.{{row_words, octets_of, row_kind, row_of}}
-use Rattle.line_model.specs.text.Text.{{fault, head, rows, head_of, rows_in, last_number, size_kind, header_kind, contents_kind, has_header}}
+use Rattle.line_model.specs.text.Text.{{fault, head, rows, head_of, rows_in, last_number, size_kind, header_kind, contents_kind}}
 use Rattle.line_model.specs.traces.Traces.{{IsReported, trace_plan}}
 {uses}
 use Rattle.line_model.specs.traces.WorkedTraces.{{WorkedTraces}}

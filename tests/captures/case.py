@@ -24,3 +24,14 @@ class Case:
 def text(lines):
     """The lines of a text that is indented as it stands in a case."""
     return "".join(line.strip() + "\n" for line in lines.strip().splitlines())
+
+
+def gaps_header(window=2, size=128, last=1, join=False):
+    """The header of a trace with gaps, of two-way channels."""
+    channels = f"IN 0 TWO {last} OUT {last}{' JOIN' if join else ''}"
+    return f"X25 3 MOD 8 WIN {window} SIZE {size} PVC 0 {channels}\n"
+
+
+def with_gaps(report, many):
+    """A report without gaps, with their number."""
+    return report.replace("Z ", f"G {many}\nZ ")

@@ -1,5 +1,5 @@
 """Damaged files: each damage is reported with its offset, and what can be read is read."""
-from case import Case, text
+from case import Case, gaps_header, text, with_gaps
 from forms import *
 from link_cases import CALL, LINE_REPORT, LINE_ROWS, REPORT, ROWS, SIX, conversation, packets_of, shifted
 
@@ -21,8 +21,9 @@ def pcap_cases():
     yield Case("pcap-ends-in-a-header", file + records[0][:7], ROWS, status=1, report=REPORT, tshark=None)
     # Of the last record, the confirmation of the clear, the packet's last octet is missing.
     cut = file_header() + b"".join(records[:9])[:-1]
-    yield Case("pcap-ends-in-a-record", cut, ROWS.replace("9 N 100117\n", ""), status=1, tshark=None,
-               report=REPORT.replace("Z 6", "Z 5"))
+    rows = gaps_header(1, 16) + "".join(ROWS.splitlines(keepends=True)[1:-1]) + "9 ? 1\n"
+    yield Case("pcap-ends-in-a-record", cut, rows, status=1, tshark=None,
+               report=with_gaps(REPORT.replace("Z 6", "Z 5"), 1))
     # A record header of nonsense, and eleven octets that look like nothing.
     bad = file_header() + b"".join(records[:5]) + b"\xff" * 27 + b"".join(records[5:])
     yield Case("pcap-damaged-record", bad, ROWS, status=1, report=REPORT, tshark=None)
@@ -32,12 +33,13 @@ def pcap_cases():
     again = [record(ethernet(one), 20 + at) for at, one in enumerate(conversation_again())]
     bad = file_header() + b"".join(records[:5]) + lost + b"".join(records[6:] + again)
     yield Case("pcap-damaged-length", bad, text("""
-        X25 1 MOD 8 WIN 1 SIZE 16 PVC 0 SVC 2
+        X25 3 MOD 8 WIN 1 SIZE 16 PVC 0 IN 0 TWO 2 OUT 2
         4 T 10010B0000
         5 N 10010F
-        6 N 100121
-        7 T 1001130000
-        8 N 100117
+        6 ? 1
+        7 N 100121
+        8 T 1001130000
+        9 N 100117
         15 T 10020B0000
         16 N 10020F
         17 T 100200AA
@@ -45,12 +47,12 @@ def pcap_cases():
         19 T 1002130000
         20 N 100217
     """), status=1, report=text("""
-        F 6 N d1 2
-        C 1 1 1 out - - 4 5 7 T 0 0 0 0 0
+        C 1 1 1 out - - 4 5 8 T 0 0 0 0 0
         C 2 1 2 out - - 15 16 19 T 1 1 0 0 1
         A - 2 1
         P 1 5
-        Z 11 1 2 1 1
+        G 1
+        Z 11 0 2 1 1
     """), tshark=None)
     frames = [ethernet(one) for one in conversation()]
     cut = [(b"\2\0\0\0\0\2", 60), (frames[0][:20], 54), (frames[0][:40], 54)]
@@ -80,6 +82,13 @@ def pcapng_cases():
     differ = blocks[4][:-4] + struct.pack("<I", 100)
     yield case("pcapng-lengths-differ", start + b"".join(blocks[:4]) + differ + b"".join(blocks[5:]))
     yield case("pcapng-damaged-block", start + b"".join(blocks[:5]) + b"\xff" * 24 + b"".join(blocks[5:]))
+    # Packets without a link header have no numbers that show whether one is missing.
+    packets = [enhanced(octets, flags=2 if side == "T" else 1) for side, octets in packets_of()]
+    bad = section() + interface(147) + b"".join(packets[:4]) + b"\xff" * 24 + b"".join(packets[4:])
+    rows = LINE_ROWS.splitlines(keepends=True)[1:]
+    rows = gaps_header(1, 16) + "".join([*rows[:4], "5 ? *\n", *(f"{int(row[0]) + 1}{row[1:]}" for row in rows[4:])])
+    yield Case("pcapng-damaged-block-of-a-line", bad, rows, "--as 147=x25 --win 1 --size 16", status=1, ending="pcapng",
+               tshark=None, report="C 1 2 1 out - - 3 4 8 T 1 1 0 0 1\nA - 1 1\nP 1 4\nG 1\nZ 8 0 1 1 1\n")
     undescribed = enhanced(ethernet(conversation()[0]), 7)
     rows = "".join(shifted(row, 1) for row in ROWS.splitlines(keepends=True))
     report = "C 1 1 1 out - - 5 6 9 T 1 1 0 0 1\nA - 1 1\nP 1 6\nZ 6 0 1 1 1\n"
@@ -99,21 +108,23 @@ def dump_cases():
         return Case(name, octets.encode(), rows, "--as x25", status=1, report=report, ending="txt", tshark=None, **more)
 
     yield case("dump-line-without-a-beginning", "0010  00 11\n" + good, LINE_ROWS, LINE_REPORT)
-    # A line of the data packet is missing: the packet is left out, and the RR behind it acknowledges too much.
+    # A line of the data packet is missing: the packet is left out, and a gap row tells of it.
     broken = good.replace("0000  10 01 00 aa", "0000  10 01 00 aa\n0010  bb")
-    rows = LINE_ROWS.replace("5 T 100100AA\n", "").replace("WIN 1 SIZE 16", "WIN 2 SIZE 128")
+    rows = gaps_header() + "".join(LINE_ROWS.splitlines(keepends=True)[1:]).replace("5 T 100100AA", "5 ? 1")
     yield case("dump-line-missing", broken, rows, text("""
-        F 6 N d1 2
         C 1 2 1 out - - 3 4 7 T 0 0 0 0 0
         A - 1 0
         P 1 4
-        Z 7 1 1 0 0
+        G 1
+        Z 7 0 1 0 0
     """))
-    # Without I or O before them the second and the third packet have no side: the restart is never confirmed.
+    # Without I or O before them the second and the third packet have no side: each is a gap.
     unsaid = dump([said[0], (said[1][0], ""), (said[2][0], "T")] + said[3:])
     rows = text("""
-        X25 1 MOD 8 WIN 1 SIZE 16 PVC 0 SVC 1
+        X25 3 MOD 8 WIN 1 SIZE 16 PVC 0 IN 0 TWO 1 OUT 1
         1 T 1000FB0700
+        2 ? *
+        3 ? 1
         4 N 10010F
         5 T 100100AA
         6 N 100121
@@ -121,9 +132,9 @@ def dump_cases():
         8 N 100117
     """)
     yield case("dump-without-a-side", unsaid.decode(), rows, text("""
-        F 5 T r2 18
         P 0 -
-        Z 6 1 0 0 0
+        G 2
+        Z 6 0 0 0 0
     """))
 
 

@@ -14,9 +14,9 @@ LARGEST = 6000
 ROUNDS, EXAMPLES = 600, 100
 HEADER = re.compile(
     r"X25 (?:1 MOD (8|128) WIN (\d+) SIZE (\d+) PVC (\d+) SVC (\d+)"
-    r"|2 MOD (8|128) WIN (\d+) SIZE (\d+) PVC (\d+) IN (\d+) TWO (\d+) OUT (\d+)(?: JOIN)?)"
+    r"|[23] MOD (8|128) WIN (\d+) SIZE (\d+) PVC (\d+) IN (\d+) TWO (\d+) OUT (\d+)(?: JOIN)?)"
 )
-ROW = re.compile(r"([1-9]\d{0,8}) [TN] (-|(?:[0-9A-F]{2}){1,4200})")
+ROW = re.compile(r"([1-9]\d{0,8}) (?:[TN] (?:-|(?:[0-9A-F]{2}){1,4200})|\? (\*|[1-9]\d{0,3}))")
 
 
 def header_fault(line):
@@ -34,13 +34,17 @@ def trace_fault(trace):
     lines = [line for line in trace.split("\n")[:-1] if not line.startswith("#")]
     if not trace.endswith("\n") or not lines or any(len(line) > 8500 for line in trace.split("\n")):
         return "no line, a line too long, or one without its end"
-    last = 0
+    if fault := header_fault(lines[0]):
+        return fault
+    last, has_gaps, channels = 0, lines[0].startswith("X25 3 "), int(lines[0].removesuffix(" JOIN").split(" ")[-1])
     for line in lines[1:]:
         match = ROW.fullmatch(line)
         if not match or int(match[1]) <= last:
             return f"a row: {line[:100]}"
+        if match[2] and (not has_gaps or match[2] != "*" and int(match[2]) > channels):
+            return f"a gap row: {line}"
         last = int(match[1])
-    return header_fault(lines[0])
+    return None
 
 
 def damaged(octets, source):
@@ -97,3 +101,7 @@ class Damages(unittest.TestCase):
                ("10010F", "10010"), ("-\n", "-"), ("1 T", "01 T"), ("X25 1", "X25 3"), ("words", "w" * 8500))
         for old, new in bad:
             self.assertIsNotNone(trace_fault(good.replace(old, new)), new)
+        gap = "X25 3 MOD 8 WIN 2 SIZE 128 PVC 0 IN 0 TWO 4 OUT 4 JOIN\n1 ? 4\n2 ? *\n"
+        self.assertIsNone(trace_fault(gap))
+        for old, new in (("X25 3", "X25 2"), ("? 4", "? 5"), ("? 4", "? 0"), ("? 4", "? 04"), ("? *", "? -")):
+            self.assertIsNotNone(trace_fault(gap.replace(old, new)), new)

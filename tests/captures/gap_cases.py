@@ -1,8 +1,11 @@
-"""Segments that were not recorded: XOT is read on at the next one that begins with a header of the circuit."""
-from case import Case, text
+"""Segments that were not recorded: XOT is read on at the next one that begins with a header of the circuit.
+
+And frames of which the capture says that they were dropped.
+"""
+from case import Case, gaps_header, text
 from forms import *
-from link_cases import ACCEPTED, CALL, CLEAR, CONFIRMED
-from tcp_cases import file_of, header
+from link_cases import ACCEPTED, CALL, CLEAR, CONFIRMED, RESTART, RESTARTED, ROWS, conversation
+from tcp_cases import file_of
 
 
 def data(number, octet="A0"):
@@ -16,7 +19,7 @@ def ready(number):
 
 
 def gap(name, frames, rows, report, words="--win 7 --size 16", window=7):
-    return Case(name, file_of(frames), header(window) + rows, words, status=1, report=report, tshark=None)
+    return Case(name, file_of(frames), gaps_header(window, 16) + rows, words, status=1, report=report, tshark=None)
 
 
 def begun():
@@ -36,16 +39,17 @@ def lost_inside_of_packets():
         4 T 10010B0000
         5 N 10010F
         6 T 100100A0
+        7 ? 1
         8 T 100106A0
         9 N 100181
         10 T 1001130000
         11 N 100117
     """), text("""
-        F 8 T d1 1
-        C 1 1 1 out - - 4 5 10 T 1 1 0 0 1
-        A - 1 1
+        C 1 1 1 out - - 4 5 10 T 2 2 0 0 2
+        A - 1 2
         P 1 5
-        Z 7 1 1 1 1
+        G 1
+        Z 7 0 1 2 2
     """))
 
 
@@ -64,16 +68,17 @@ def places_that_look_like_headers():
         4 T 10010B0000
         5 N 10010F
         6 T 100100A0
+        12 ? 1
         15 T 100104A0
         16 N 100161
         17 T 1001130000
         18 N 100117
     """), text("""
-        F 15 T d1 1
-        C 1 1 1 out - - 4 5 17 T 1 1 0 0 1
-        A - 1 1
+        C 1 1 1 out - - 4 5 17 T 2 2 0 0 2
+        A - 1 2
         P 1 5
-        Z 7 1 1 1 1
+        G 1
+        Z 7 0 1 2 2
     """))
 
 
@@ -89,23 +94,23 @@ def gap_that_is_given_up():
         frames += [talk.a(data(number)), talk.b(ready(number + 1))]
     frames += [other.a(CALL), talk.a(data(6)), talk.b(ready(7)), other.b(ACCEPTED), talk.a(CLEAR), talk.b(CONFIRMED)]
     late = [("T" if at % 2 == 0 else "N", data(2 + at // 2) if at % 2 == 0 else ready(3 + at // 2)) for at in range(10)]
-    rows = "7 T 10010B0000\n8 N 10010F\n9 T 100100A0\n18 T 10020B0000\n"
-    rows += "".join(f"{number} {side} {packet}\n" for number, (side, packet) in enumerate(late, 19))
-    rows += "29 N 10020F\n30 T 1001130000\n31 N 100117\n"
+    rows = "7 T 10010B0000\n8 N 10010F\n9 T 100100A0\n18 T 10020B0000\n19 ? 1\n"
+    rows += "".join(f"{number} {side} {packet}\n" for number, (side, packet) in enumerate(late, 20))
+    rows += "30 N 10020F\n31 T 1001130000\n32 N 100117\n"
     case = gap("gap-that-is-given-up", frames, rows, text("""
-        F 19 T d1 1
-        C 1 1 1 out - - 7 8 30 T 1 1 0 0 1
-        C 2 1 2 out - - 18 29 - open 0 0 0 0 0
-        A - 2 1
-        P 2 29
-        Z 17 1 2 1 1
+        C 1 1 1 out - - 7 8 31 T 6 6 0 0 6
+        C 2 1 2 out - - 18 30 - open 0 0 0 0 0
+        A - 2 6
+        P 2 30
+        G 1
+        Z 17 0 2 6 6
     """))
-    case.rows = header(7, last=2) + rows
+    case.rows = gaps_header(7, 16, 2) + rows
     yield case
 
 
 def gap_of_an_acknowledgement():
-    """The RR that lets the window go on was not recorded: a window of three gives no finding, and no answer of the DCE decides."""
+    """The RR that lets the window go on was not recorded: no number says how far it was open."""
     talk, frames = begun()
     frames += [talk.a(data(0)), talk.a(data(1))]
     talk.b(ready(2))
@@ -115,20 +120,89 @@ def gap_of_an_acknowledgement():
         5 N 10010F
         6 T 100100A0
         7 T 100102A0
-        8 T 100104A0
-        9 N 100161
-        10 T 100106A0
-        11 T 1001130000
-        12 N 100117
+        8 ? 1
+        9 T 100104A0
+        10 N 100161
+        11 T 100106A0
+        12 T 1001130000
+        13 N 100117
     """), text("""
-        C 1 1 1 out - - 4 5 11 T 4 4 0 0 4
+        C 1 1 1 out - - 4 5 12 T 4 4 0 0 4
         A - 1 4
         P 1 5
+        G 1
         Z 9 0 1 4 4
-    """), "", 3)
+    """), "", 2)
+
+
+LINE = [("T", RESTART), ("N", RESTARTED), ("T", CALL), ("N", ACCEPTED), ("T", data(1)), ("N", ready(2)), ("T", data(2))]
+LINE_ROWS = text("""
+    1 T 1000FB0700
+    2 N 1000FF
+    3 T 10010B0000
+    4 N 10010F
+""")
+DROPPED_REPORT = text("""
+    C 1 2 1 out - - 3 4 - open 2 2 0 0 2
+    A - 1 2
+    P 1 4
+    G {0}
+    Z 7 0 1 2 2
+""")
+
+
+def statistics(by_interface, by_system, which=0):
+    """The statistics of an interface, with the frames that it and the system dropped so far."""
+    options = option(5, struct.pack("<Q", by_interface)) + option(7, struct.pack("<Q", by_system)) + option(0, b"")
+    return block(5, struct.pack("<III", which, 0, 9) + options)
+
+
+def dropped(name, blocks, rows, many, words="", ending="pcapng", link="147"):
+    """A line of which the capture says that frames were dropped."""
+    words = f"--as {link}=x25 --win 2 --size 16 {words}".strip()
+    return Case(name, blocks, gaps_header(2, 16) + LINE_ROWS + rows, words, status=1, tshark=None, ending=ending,
+                report=DROPPED_REPORT.format(many))
+
+
+def dropped_frames():
+    """Before frame 5 frames were dropped, and statistics say so after frame 6, and again at the end."""
+    frames = [enhanced(bytes.fromhex(packet), flags=2 if side == "T" else 1) for side, packet in LINE]
+    start = section() + interface(147)
+    drops = option(2, struct.pack("<I", 2)) + option(4, struct.pack("<Q", 3)) + option(0, b"")
+    counted = enhanced(bytes.fromhex(data(1)), options=drops)
+    one = start + b"".join(frames[:4]) + counted + b"".join(frames[5:])
+    yield dropped("dropped-before-a-frame", one, "5 ? *\n6 T 100102A0\n7 N 100141\n8 T 100104A0\n", 1)
+    two = start + statistics(0, 0) + b"".join(frames[:4]) + statistics(2, 1) + b"".join(frames[4:]) + statistics(2, 1)
+    rows = "5 ? *\n6 T 100102A0\n7 N 100141\n8 T 100104A0\n"
+    yield dropped("dropped-by-statistics", two, rows, 1)
+    yield dropped("dropped-at-the-end", two + statistics(4, 1), rows + "9 ? *\n", 2)
+    # The statistics of another interface than those that are read say nothing of them.
+    wires = [obsolete(bytes.fromhex(packet), "TN".index(side)) for side, packet in LINE]
+    wires[4] = wires[4][:10] + struct.pack("<H", 7) + wires[4][12:]
+    three = section() + interface(147) * 3 + b"".join(wires) + statistics(1, 1, 2)
+    yield dropped("dropped-before-an-obsolete-block", three, rows, 1,
+                  "--interface 0 --interface 1 --sender 0=dte --sender 1=dce")
+
+
+def dropped_in_snoop():
+    """From frame 7 on the records say that five frames were dropped."""
+    records = [snoop(4, [ethernet(one)])[16:] for one in conversation()]
+    late = [record[:12] + struct.pack(">I", 5) + record[16:] for record in records[6:]]
+    rows = ROWS.splitlines(keepends=True)[1:]
+    tail = ["7 ? *\n", "8 N 100121\n", "9 T 1001130000\n", "10 N 100117\n"]
+    yield Case("dropped-in-snoop", snoop(4, []) + b"".join(records[:6] + late), gaps_header(1, 16) + "".join(rows[:3] + tail),
+               "--win 1 --size 16", status=1, ending="snoop", tshark=None, report=text("""
+        C 1 1 1 out - - 4 5 9 T 1 1 0 0 1
+        A - 1 1
+        P 1 5
+        G 1
+        Z 6 0 1 1 1
+    """))
 
 
 def cases():
+    yield from dropped_frames()
+    yield from dropped_in_snoop()
     yield from lost_inside_of_packets()
     yield from places_that_look_like_headers()
     yield from gap_that_is_given_up()

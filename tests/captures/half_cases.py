@@ -1,5 +1,5 @@
 """Recordings of one side alone: the DTE or the DCE, on some connections, on a link, or on the whole line."""
-from case import Case, text
+from case import Case, gaps_header, text
 from forms import *
 from lapb_cases import data
 from link_cases import ACCEPTED, CALL, CLEAR, CONFIRMED, RESTART
@@ -30,69 +30,87 @@ def header(last):
 def one_direction():
     """Ports were mirrored in one direction alone."""
     frames = [segment for talk, _ in zip(talks(), range(3)) for segment in connection(talk, FIRST, 0)]
-    yield Case("half-dte-on-all-connections", file_of(frames), header(3) + text("""
+    yield Case("half-dte-on-all-connections", file_of(frames), gaps_header(last=3) + text("""
+        1 ? 1
         3 T 10010B0000
-        4 T 100100AA
-        5 T 1001130000
+        4 ? 1
+        5 T 100100AA
+        6 ? 1
+        7 T 1001130000
+        8 ? 2
         10 T 10020B0000
-        11 T 100200AA
-        12 T 1002130000
+        11 ? 2
+        12 T 100200AA
+        13 ? 2
+        14 T 1002130000
+        15 ? 3
         17 T 10030B0000
-        18 T 100300AA
-        19 T 1003130000
+        18 ? 3
+        19 T 100300AA
+        20 ? 3
+        21 T 1003130000
+        22 ? 1
+        23 ? 2
+        24 ? 3
     """), GIVEN, status=1, report=text("""
-        F 4 T p2 21
-        F 11 T p2 21
-        F 18 T p2 21
-        C 1 1 1 out - - 3 - 4 N 0 0 0 0 0
-        C 2 1 2 out - - 10 - 11 N 0 0 0 0 0
-        C 3 1 3 out - - 17 - 18 N 0 0 0 0 0
-        A - 3 0
-        P 0 -
-        Z 9 3 3 0 0
+        C 1 1 1 out - - 3 5 7 T 1 1 0 0 1
+        C 2 1 2 out - - 10 12 14 T 1 1 0 0 1
+        C 3 1 3 out - - 17 19 21 T 1 1 0 0 1
+        A - 3 3
+        P 1 5
+        G 12
+        Z 9 0 3 3 3
     """), tshark=None)
     frames = connection(Talk(), UNCLEARED, 1)
-    yield Case("half-dce-on-one-connection", file_of(frames), header(1) + text("""
+    yield Case("half-dce-on-one-connection", file_of(frames), gaps_header() + text("""
+        1 ? 1
         2 N 10010F
         3 N 100100AA
-        4 N 1001130501
-    """), GIVEN, status=1, report="F 2 N p1 20\nF 3 N p1 20\nP 0 -\nZ 3 2 0 0 0\n", tshark=None)
+        4 ? 1
+        5 N 1001130501
+        6 ? 1
+    """), GIVEN, status=1, report="P 0 -\nG 3\nZ 3 0 0 0 0\n", tshark=None)
 
 
 def among_others():
     """The second and the third of four connections were recorded in one direction, each in another one."""
     one, two, three, four = (talk for talk, _ in zip(talks(), range(4)))
     frames = connection(one, FIRST) + connection(two, FIRST, 0) + connection(three, FIRST, 1) + connection(four, FIRST)
-    yield Case("half-connections-among-whole-ones", file_of(frames), header(4) + text("""
+    yield Case("half-connections-among-whole-ones", file_of(frames), gaps_header(last=4) + text("""
         4 T 10010B0000
         5 N 10010F
         6 T 100100AA
         7 N 100121
         8 T 1001130000
         9 N 100117
+        13 ? 2
         15 T 10020B0000
-        16 T 100200AA
-        17 T 1002130000
+        16 ? 2
+        17 T 100200AA
+        18 ? 2
+        19 T 1002130000
         28 T 10030B0000
         29 N 10030F
         30 T 100300AA
         31 N 100321
         32 T 1003130000
         33 N 100317
-        34 N 10040F
-        35 N 100421
-        36 N 100417
+        34 ? 2
+        35 ? 4
+        36 N 10040F
+        37 ? 4
+        38 N 100421
+        39 ? 4
+        40 N 100417
+        41 ? 4
     """), GIVEN, status=1, report=text("""
-        F 16 T p2 21
-        F 34 N p1 20
-        F 35 N p1 20
-        F 36 N p1 20
         C 1 1 1 out - - 4 5 8 T 1 1 0 0 1
-        C 2 1 2 out - - 15 - 16 N 0 0 0 0 0
+        C 2 1 2 out - - 15 17 19 T 1 1 0 0 1
         C 3 1 3 out - - 28 29 32 T 1 1 0 0 1
-        A - 3 2
+        A - 3 3
         P 1 5
-        Z 18 4 3 2 2
+        G 8
+        Z 18 0 3 3 3
     """), tshark=None)
 
 
@@ -101,12 +119,14 @@ def acknowledged():
     talk = Talk()
     frames = connection(talk, FIRST, 0)
     frames.insert(1, Talk().segment(1, flags=2, acknowledged=1001))
-    yield Case("half-dce-acknowledged-and-not-recorded", file_of(frames), header(1) + text("""
+    yield Case("half-dce-acknowledged-and-not-recorded", file_of(frames), gaps_header() + text("""
         4 T 10010B0000
-        5 T 100100AA
-        6 T 1001130000
-    """), GIVEN, status=1, report="F 5 T p2 21\nC 1 1 1 out - - 4 - 5 N 0 0 0 0 0\nA - 1 0\nP 0 -\nZ 3 1 1 0 0\n",
-               tshark=None)
+        5 ? 1
+        6 T 100100AA
+        7 ? 1
+        8 T 1001130000
+        9 ? 1
+    """), GIVEN, status=1, report="C 1 1 1 out - - 4 6 8 T 1 1 0 0 1\nA - 1 1\nP 1 6\nG 3\nZ 3 0 1 1 1\n", tshark=None)
 
 
 def whole():

@@ -1,5 +1,5 @@
 """The header: each number by what was seen and by its option, the join, and rows whose numbers are no frame's."""
-from case import Case, text
+from case import Case, text, with_gaps
 from forms import *
 from link_cases import ACCEPTED, CALL, CLEAR, CONFIRMED, RESTART, RESTARTED
 
@@ -120,14 +120,17 @@ def channel_cases():
 def join_cases():
     """The capture begins with no restart: no channel is known, and none is said to be permanent."""
     packets = [("N", RESTARTED), ("T", "100144AA"), ("N", "100161"), ("N", "1002130000"), ("T", "100217")]
-    reported = "P 0 -\nZ 5 0 0 0 0\n"
-    yield on_line("header-join", "X25 2 MOD 8 WIN 2 SIZE 16 PVC 0 IN 0 TWO 2 OUT 2 JOIN", packets, report=reported)
-    permanent = "X25 2 MOD 8 WIN 2 SIZE 16 PVC 1 IN 1 TWO 2 OUT 2 JOIN"
-    yield on_line("header-join-with-permanent-channel-given", permanent, packets, "--pvc 1", report=reported)
+    # After the restart confirmation all channels are fresh.
+    reported = "F 2 T {} {}\nP 0 -\nG 0\nZ 5 1 0 0 0\n"
+    yield on_line("header-join", "X25 3 MOD 8 WIN 2 SIZE 16 PVC 0 IN 0 TWO 2 OUT 2 JOIN", packets,
+                  report=reported.format("p1", 20))
+    permanent = "X25 3 MOD 8 WIN 2 SIZE 16 PVC 1 IN 1 TWO 2 OUT 2 JOIN"
+    yield on_line("header-join-with-permanent-channel-given", permanent, packets, "--pvc 1",
+                  report=reported.format("d1", 1))
     yield on_line("header-no-join-wanted", "X25 1 MOD 8 WIN 2 SIZE 16 PVC 0 SVC 2", packets[:3], "--no-join --svc 2",
                   report="F 1 N r1 17\nF 2 T p1 20\nP 0 -\nZ 3 2 0 0 0\n")
-    yield on_line("header-join-wanted", "X25 2 MOD 8 WIN 2 SIZE 128 PVC 0 IN 0 TWO 1 OUT 1 JOIN", HEAD, "--join",
-                  report=report(0, 0, 0, 4))
+    yield on_line("header-join-wanted", "X25 3 MOD 8 WIN 2 SIZE 128 PVC 0 IN 0 TWO 1 OUT 1 JOIN", HEAD, "--join",
+                  report=with_gaps(report(0, 0, 0, 4).replace("C 1 2", "C 1 3"), 0))
 
 
 def cases():

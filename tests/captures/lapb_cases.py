@@ -1,5 +1,5 @@
 """LAPB: repeated frames, lost frames, both moduli, sides, and where a recording begins in the middle."""
-from case import Case, text
+from case import Case, gaps_header, text
 from forms import *
 from link_cases import LINE_REPORT, LINE_ROWS, RESTART, RESTARTED, line
 
@@ -67,39 +67,41 @@ def loss_cases():
     """N(S) 3 was not recorded. The N(R) 5 of the DCE's frame shows that its receiver had it."""
     sent = [information("T", 2 + at, 2, data(at)) for at in range(4)]
     frames = head() + [sent[0], sent[2], information("N", 2, 5, "100161"), sent[3]]
-    rows = first(3) + HEAD_ROWS + text("""
+    rows = gaps_header(1, 16) + HEAD_ROWS + text("""
         5 T 100100A0
+        6 ? *
         7 T 100104A2
         8 N 100161
         9 T 100106A3
-    """).replace("7 T", "6 T").replace("8 N", "7 N").replace("9 T", "8 T")
+    """)
     report = text("""
-        F 6 T d1 1
-        C 1 2 1 out - - 3 4 - open 1 1 0 0 1
-        A - 1 1
+        C 1 2 1 out - - 3 4 - open 3 3 0 0 3
+        A - 1 3
         P 1 4
-        Z 8 1 1 1 1
+        G 1
+        Z 8 0 1 3 3
     """)
     yield user("lapb-lost-frame", frames, rows, status=1, report=report, tshark=False)
     flags = [b"\x01" + one for one in head()[::2]] + [b"\0" + one for one in head()[1::2]]
     ordered = [flags[0], flags[2], flags[1], flags[3]]
     frames = ordered + [b"\x01" + sent[0], b"\x01" + sent[2], b"\0" + ready("N", 5), b"\x01" + sent[3]]
-    yield Case("lapb-lost-frame-shown-by-rr", pcap(207, frames), first(4) + HEAD_ROWS + text("""
+    yield Case("lapb-lost-frame-shown-by-rr", pcap(207, frames), gaps_header(1, 16) + HEAD_ROWS + text("""
         5 T 100100A0
-        6 T 100104A2
+        6 ? *
+        7 T 100104A2
         8 T 100106A3
     """), status=1, report=text("""
-        F 6 T d1 1
-        C 1 2 1 out - - 3 4 - open 1 1 0 0 1
-        A - 1 1
+        C 1 2 1 out - - 3 4 - open 3 3 0 0 3
+        A - 1 3
         P 1 4
-        Z 7 1 1 1 1
+        G 1
+        Z 7 0 1 3 3
     """), tshark=None)
     # One wire, and N(S) 1 is missing: with N(S) 0 again the window of 7 is full, so it must have been acknowledged.
     wire = [information("T", at % 8, 0, "100101") for at in range(10) if at != 1]
-    rows = "X25 2 MOD 8 WIN 2 SIZE 128 PVC 0 IN 0 TWO 1 OUT 1 JOIN\n"
-    rows += "".join(f"{number} T 100101\n" for number in range(1, 10))
-    yield user("lapb-lost-frame-of-one-wire", wire, rows, status=1, report="P 0 -\nZ 9 0 0 0 0\n", tshark=False)
+    rows = gaps_header(join=True) + "1 T 100101\n2 ? *\n"
+    rows += "".join(f"{number} T 100101\n" for number in range(3, 11))
+    yield user("lapb-lost-frame-of-one-wire", wire, rows, status=1, report="P 0 -\nG 1\nZ 9 0 0 0 0\n", tshark=False)
 
 
 def modulo_cases():
@@ -178,31 +180,31 @@ def middle_cases():
     frames = [information("T", 5, 3, "100146AA"), information("N", 3, 4, "100161"), information("T", 5, 3, "100146AA"),
               information("N", 4, 6, "100181"), information("T", 6, 5, "1001130000"), information("N", 5, 7, "100117")]
     yield user("lapb-from-the-middle", frames, text("""
-        X25 2 MOD 8 WIN 2 SIZE 16 PVC 0 IN 0 TWO 1 OUT 1 JOIN
+        X25 3 MOD 8 WIN 2 SIZE 16 PVC 0 IN 0 TWO 1 OUT 1 JOIN
         1 T 100146AA
         2 N 100161
         4 N 100181
         5 T 1001130000
         6 N 100117
-    """), report="P 0 -\nZ 5 0 0 0 0\n", tshark=False)
+    """), report="P 0 -\nG 0\nZ 5 0 0 0 0\n", tshark=False)
     # The recording host is the DCE. Its RR comes first, before an address has shown which side it is.
     frames = [b"\1" + ready("N", 7), b"\0" + information("T", 7, 3, "100146AA"), b"\1" + information("N", 3, 0, "100161"),
               b"\0" + ready("T", 4), b"\0" + information("T", 0, 4, "100168BB"), b"\1" + ready("N", 1)]
     yield Case("lapb-recorded-by-the-dce-from-the-middle", pcap(207, frames), text("""
-        X25 2 MOD 8 WIN 2 SIZE 16 PVC 0 IN 0 TWO 1 OUT 1 JOIN
+        X25 3 MOD 8 WIN 2 SIZE 16 PVC 0 IN 0 TWO 1 OUT 1 JOIN
         2 T 100146AA
         3 N 100161
         5 T 100168BB
-    """), report="P 0 -\nZ 3 0 0 0 0\n", tshark=None)
+    """), report="P 0 -\nG 0\nZ 3 0 0 0 0\n", tshark=None)
     plain = [frame for _, frame in line(HEAD + [("T", "100100" + "AA" * 40), ("N", "100121")])]
     cut = plain[:4] + [(plain[4][:30], len(plain[4])), plain[5]]
-    rows = first(2, 128) + HEAD_ROWS + "6 N 100121\n"
+    rows = gaps_header() + HEAD_ROWS + "5 ? 1\n6 N 100121\n"
     yield user("lapb-snap-length", cut, rows, status=1, tshark=False, report=text("""
-        F 6 N d1 2
         C 1 2 1 out - - 3 4 - open 0 0 0 0 0
         A - 1 0
         P 1 4
-        Z 5 1 1 0 0
+        G 1
+        Z 5 0 1 0 0
     """))
 
 

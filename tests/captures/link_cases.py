@@ -1,5 +1,5 @@
 """A conversation by every link type and file format; the rows are the same wherever the frames are."""
-from case import Case, text
+from case import Case, gaps_header, text
 from forms import *
 
 CALL, ACCEPTED, DATA, READY = "10010B0000", "10010F", "100100AA", "100121"
@@ -125,10 +125,10 @@ def check_that_ends_like_a_flag():
     """Interrupts whose check sequences end with the octet of a flag, with flags and without."""
     frames = [information("N", 0, 0, f"100123{octet:02X}{octet2:02X}") for octet in range(256) for octet2 in (0, 1)]
     ends = [frame + check(frame) for frame in frames if check(frame)[1:] == b"\x7e"][:2]
-    rows = "X25 2 MOD 8 WIN 2 SIZE 128 PVC 0 IN 0 TWO 1 OUT 1 JOIN\n"
+    rows = gaps_header(join=True)
     rows += f"1 N {ends[0][2:-2].hex().upper()}\n"
     return Case("hdlc-check-sequence-that-ends-like-a-flag", pcap(147, [b"\x7e" + ends[0] + b"\x7e\x7e", ends[0]]), rows,
-                "--as 147=hdlc", status=1, report="P 0 -\nZ 1 0 0 0 0\n", tshark=None)
+                "--as 147=hdlc", status=1, report="P 0 -\nG 0\nZ 1 0 0 0 0\n", tshark=None)
 
 
 def packet_cases():

@@ -33,7 +33,7 @@ HEAD = re.compile(
 )
 ENDS = "192.0.2.1 port 1025 (T) and 192.0.2.2 port 1998 (N)"
 # What is found in the followed frames as they come, and what follows at the end.
-FOLLOWED = (["F 6 T d1 1"], ["C 1 1 1 out - - 4 5 - open 0 0 0 0 0", "A - 1 0", "P 1 5", "Z 3 1 1 0 0"])
+FOLLOWED = (["F 6 T d1 1"], ["C 1 1 1 out - - 4 5 - open 0 0 0 0 0", "A - 1 0", "P 1 5", "G 0", "Z 3 1 1 0 0"])
 CHANNEL = f"# connection 1 is channel 1: {ENDS}, logical channel 1 in the capture"
 
 
@@ -65,7 +65,7 @@ class Rows(unittest.TestCase):
     def test_xot(self):
         frames = [record(ethernet(one), at) for at, one in enumerate(conversation())]
         start = ["# from standard input by x25trace, as its frames come; a row has the number of its frame",
-                 "X25 2 MOD 8 WIN 2 SIZE 128 PVC 0 IN 0 TWO 4 OUT 4 JOIN", CHANNEL, "4 T 10010B0000"]
+                 "X25 3 MOD 8 WIN 2 SIZE 128 PVC 0 IN 0 TWO 4 OUT 4", CHANNEL, "4 T 10010B0000"]
         steps = [(pcap(1, []) + b"".join(frames[:3]), []), (frames[3], start), (frames[4], ["5 N 10010F"]),
                  (frames[5], ["6 T 100100AA"]), (frames[6][:20], []), (frames[6][20:], ["7 N 100121"]),
                  (frames[7], ["8 T 1001130000"]), (frames[8], ["9 N 100117"]), (b"".join(frames[9:]), [])]
@@ -74,7 +74,7 @@ class Rows(unittest.TestCase):
     def test_pcapng_and_times(self):
         frames = [enhanced(one, flags=2 if side == "T" else 1, time=at) for at, (side, one) in enumerate(packets_of())]
         start = ["# from standard input by x25trace, as its frames come; a row has the number of its frame",
-                 "X25 1 MOD 8 WIN 2 SIZE 128 PVC 0 SVC 4", "#@ 0 1", "1 T 1000FB0700"]
+                 "X25 3 MOD 8 WIN 2 SIZE 128 PVC 0 IN 0 TWO 4 OUT 4", "#@ 0 1", "1 T 1000FB0700"]
         steps = [(section() + interface(147), []), (frames[0], start), (frames[1], ["#@ 0.000001 2", "2 N 1000FF"]),
                  (frames[2], ["#@ 0.000002 3", "3 T 10010B0000"])]
         self.assertEqual(self.follow(["--as", "147=x25"], steps), [])
@@ -91,13 +91,19 @@ class Rows(unittest.TestCase):
         self.assertIn("# left out: packets of another carrier than the first one, which --only may name: 8", lines)
 
     def test_join(self):
-        """On a line the first packet shows whether the recording began in the middle; options decide it for XOT too."""
+        """On a line the first packet shows whether the recording began in the middle, with XOT a gap row; options decide it too."""
         talk = Talk()
         line = dump([(octets, "O" if side == "T" else "I") for side, octets in packets_of()[2:4]])
         lines = self.follow(["--as", "x25"], [(line, [])])
-        self.assertEqual(lines[1], "X25 2 MOD 8 WIN 2 SIZE 128 PVC 0 IN 0 TWO 4 OUT 4 JOIN")
+        self.assertEqual(lines[1], "X25 3 MOD 8 WIN 2 SIZE 128 PVC 0 IN 0 TWO 4 OUT 4 JOIN")
         file = pcap(1, [ethernet(one) for one in [*talk.open(), talk.a(CALL)]])
-        self.assertEqual(self.follow(["--no-join"], [(file, [])])[1], "X25 1 MOD 8 WIN 2 SIZE 128 PVC 0 SVC 4")
+        header = "X25 3 MOD 8 WIN 2 SIZE 128 PVC 0 IN 0 TWO 4 OUT 4"
+        self.assertEqual(self.follow(["--no-join"], [(file, [])])[1], header)
+        self.assertEqual(self.follow(["--join"], [(file, [])])[1], f"{header} JOIN")
+        middle = pcap(1, [ethernet(Talk().a(DATA))])
+        rows = [CHANNEL, "1 ? 1", f"2 T {DATA}"]
+        self.assertEqual(self.follow(["--no-times"], [(middle, [])], 1)[1:-1], [header, *rows])
+        self.assertEqual(self.follow(["--no-times", "--no-join"], [(middle, [])], 1)[1:-1], [header, CHANNEL, f"1 T {DATA}"])
 
     def test_numbers_that_are_missing(self):
         """Without all numbers the rows wait, and the options that are missing are named."""

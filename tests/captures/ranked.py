@@ -23,7 +23,7 @@ def tried(window, size, *counts):
 
 
 def header(window=3, size=256):
-    return Header(8, window, size, 0, 0, 1, 1, False, False)
+    return Header(8, window, size, 0, 0, 1, 1, False, 1)
 
 
 def line(window, size, *counts):

@@ -7,6 +7,7 @@ from x25tools_lib.choices import Choices
 from x25tools_lib.ledger import Ledger, Reason
 from x25tools_lib.sides import Side
 from x25trace_lib.frames import Direction, Frame
+from x25trace_lib.packets import Packet
 from x25trace_lib.reading import Reading
 
 ROUNDS, EXAMPLES = 150, 50
@@ -25,7 +26,7 @@ def read(link, recorded):
     ledger = Ledger()
     reading = Reading(ledger, Choices())
     frames = (Frame(number, link, octets, len(octets), Direction.UNKNOWN) for number, octets in enumerate(recorded, 1))
-    return [packet for _, packet in reading.packets(frames)], ledger
+    return [packet for _, packet in reading.packets(frames) if isinstance(packet, Packet)], ledger
 
 
 class Connections(unittest.TestCase):
@@ -168,7 +169,7 @@ class Links(unittest.TestCase):
         reading = Reading(ledger, Choices())
         frames = (Frame(number, LAPB_WITH_DIRECTION, octets, len(octets), Direction.UNKNOWN)
                   for number, octets in enumerate(link.recorded, 1))
-        found = [packet for _, packet in reading.packets(frames)]
+        found = [packet for _, packet in reading.packets(frames) if isinstance(packet, Packet)]
         self.assertTrue(all(packet.side is Side.T for packet in found))
         return [packet.octets.hex().upper() for packet in found], ledger
 

@@ -1,5 +1,5 @@
 """Troubles of the TCP connections that carry XOT."""
-from case import Case, text
+from case import Case, gaps_header, text, with_gaps
 from forms import *
 from link_cases import ACCEPTED, CALL, CLEAR, CONFIRMED, DATA, READY, REPORT, ROWS
 
@@ -155,11 +155,12 @@ def packets_across_segments():
 READ_ON = text("""
     4 T 10010B0000
     5 N 10010F
+    6 ? 1
     7 N 100121
     8 T 1001130000
     9 N 100117
 """)
-READ_ON_REPORT = "F 7 N d1 2\n" + report(4, 5, 8, 0, 5).replace("Z 5 0", "Z 5 1")
+READ_ON_REPORT = with_gaps(report(4, 5, 8, 0, 5), 1)
 
 
 def gap_and_next_connection():
@@ -169,14 +170,15 @@ def gap_and_next_connection():
     frames += [first, third, talk.b(READY_3), talk.a(CLEAR), talk.b(CONFIRMED)] + talk.close()
     again = Talk(ports=(1026, 1998))
     frames += again.open() + call(again) + again.close()
-    yield Case("tcp-gap-and-next-connection", file_of(frames), header(last=2) + text("""
+    yield Case("tcp-gap-and-next-connection", file_of(frames), gaps_header(1, 16, 2) + text("""
         4 T 10010B0000
         5 N 10010F
         6 T 100100A0
-        7 T 100104A2
-        8 N 100161
-        9 T 1001130000
-        10 N 100117
+        7 ? 1
+        8 T 100104A2
+        9 N 100161
+        10 T 1001130000
+        11 N 100117
         17 T 10020B0000
         18 N 10020F
         19 T 100200AA
@@ -184,12 +186,12 @@ def gap_and_next_connection():
         21 T 1002130000
         22 N 100217
     """), status=1, report=text("""
-        F 7 T d1 1
-        C 1 1 1 out - - 4 5 9 T 1 1 0 0 1
+        C 1 1 1 out - - 4 5 10 T 2 2 0 0 2
         C 2 1 2 out - - 17 18 21 T 1 1 0 0 1
-        A - 2 2
+        A - 2 3
         P 1 5
-        Z 13 1 2 2 2
+        G 1
+        Z 13 0 2 3 3
     """), tshark=None)
 
 
@@ -197,13 +199,14 @@ def gap_in_the_other_direction():
     talk = Talk()
     frames = talk.open() + [talk.a(CALL), talk.b(ACCEPTED)]
     talk.a(DATA)
-    # Without the data that was not recorded, this RR is an error of the DCE.
+    # Without the gap row this RR, which acknowledges data that was not recorded, would be an error of the DCE.
     frames += [talk.b(READY), talk.segment(0, flags=4)]
-    yield Case("tcp-gap-in-the-other-direction", file_of(frames), header(2, 128) + text("""
+    yield Case("tcp-gap-in-the-other-direction", file_of(frames), gaps_header() + text("""
         4 T 10010B0000
         5 N 10010F
-        6 N 100121
-    """), status=1, report="F 6 N d1 2\n" + report(4, 5, None, 0, 3).replace("Z 3 0", "Z 3 1"), tshark=None)
+        6 ? 1
+        7 N 100121
+    """), status=1, report=with_gaps(report(4, 5, None, 0, 3), 1), tshark=None)
 
 
 def answer_recorded_before_its_data():
@@ -226,7 +229,7 @@ def snap_length():
     frames = talk.open() + [talk.a(CALL), talk.b(ACCEPTED)]
     long = ethernet(talk.a("100100" + "AA" * 60))
     frames += [(long[:96], len(long)), talk.b(READY), talk.a(CLEAR), talk.b(CONFIRMED)] + talk.close()
-    yield Case("tcp-snap-length", file_of(frames), header(2, 128) + READ_ON, status=1, report=READ_ON_REPORT,
+    yield Case("tcp-snap-length", file_of(frames), gaps_header() + READ_ON, status=1, report=READ_ON_REPORT,
                tshark=None)
 
 
@@ -267,7 +270,7 @@ def fragment_missing():
     talk = Talk()
     frames = talk.open() + [talk.a(CALL), talk.b(ACCEPTED)] + fragments(talk.a("100100" + "AA" * 40), 32, 7)[1:]
     frames += [talk.b(READY), talk.a(CLEAR), talk.b(CONFIRMED)] + talk.close()
-    yield Case("ipv4-fragment-missing", file_of(frames), header(2, 128) + READ_ON, status=1, report=READ_ON_REPORT,
+    yield Case("ipv4-fragment-missing", file_of(frames), gaps_header() + READ_ON, status=1, report=READ_ON_REPORT,
                tshark=None)
 
 

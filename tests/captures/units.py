@@ -3,6 +3,7 @@ import os
 import signal
 import unittest
 
+from x25tools_lib.choices import SideBy
 from x25tools_lib.halves import Halves
 from x25tools_lib.header import Header
 from x25tools_lib.ledger import Ledger
@@ -13,13 +14,16 @@ from x25tools_lib.waking import Waker
 from x25trace_lib.channels import assign
 from x25trace_lib.comments import comments_of
 from x25trace_lib.internet import Segment
-from x25trace_lib.lapb import kind_of
-from x25trace_lib.packets import Packet, Type
+from x25trace_lib.frames import Direction, Frame
+from x25trace_lib.lapb import Lapb, kind_of
+from x25trace_lib.packets import Missing, Packet, Type
 from x25trace_lib.spool import Spool
 from x25trace_lib.tcp import MOST_OF_ONE, PATIENCE, PATIENCE_ONE_WAY, Budget, Connection, Gap
 from x25trace_lib.xot import Circuit
 
 ENDS = (b"\1\2\3\4\4\1", b"\1\2\3\5\7\xce")
+# Frames of a DCE.
+UA, SABM, READY_4, REJECT_1 = OF_DCE = b"\1\x73", b"\3\x3f", b"\1\x81", b"\1\x29"
 
 
 def segment(sequence, payload, frame=1, acknowledged=None):
@@ -186,11 +190,72 @@ class Comments(unittest.TestCase):
         })
 
 
+    def test_gaps(self):
+        """A gap is said of the frame that shows it; a finding after it is of the channel of its own row."""
+        lines = ["X25 3 MOD 8 WIN 2 SIZE 128 PVC 0 IN 0 TWO 1 OUT 1", "#@ - 6", "6 T 10010F", "#@ - 7", "7 ? 1",
+                 "# a gap: packets on channel 1 may be missing", "#@ - 7", "8 T 10", "#! F 8 T - 38: Packet too short: words"]
+        self.assertEqual(dict(comments_of((f"{line}\n" for line in lines), Halves(Head()))), {
+            7: ["x25scan: a gap: packets on channel 1 may be missing",
+                "x25scan: frame 7 (packet 8): F 8 T - 38: Packet too short: words"],
+        })
+
+
+class Gaps(unittest.TestCase):
+    """Where packets are missing: what an end of a connection or of a link shows of the other one."""
+
+    def lost(self, *segments):
+        """The gaps that segments of both ends show, each as its direction and its octets."""
+        connection, found = Connection(Ledger(), Budget(), ENDS), []
+        for index, flags, sequence, acknowledged, payload in segments:
+            one = Segment(1, *ENDS[::1 if index == 0 else -1], sequence, acknowledged, flags, payload, 0)
+            found += [(it.index, it.octets) for it in connection.feed(index, one) if isinstance(it, Gap)]
+        return found
+
+    def test_of_an_end_of_which_nothing_was_recorded(self):
+        opened = [(0, 2, 99, None, b""), (0, 0, 100, 500, b"")]
+        self.assertEqual(self.lost(*opened), [(1, 0)])
+        self.assertEqual(self.lost(*opened, (0, 0, 100, 507, b"call")), [(1, 0), (1, 7)])
+        # Its last word has a number too.
+        self.assertEqual(self.lost(*opened, (0, 1, 100, 500, b""), (0, 0, 101, 501, b"")), [(1, 0)])
+        self.assertEqual(self.lost(*opened, (1, 0, 507, 100, b"data")), [(1, 0), (1, 7)])
+
+    def test_of_an_end_whose_opening_was_recorded(self):
+        opened = [(0, 2, 99, None, b""), (1, 2, 499, 100, b""), (0, 0, 100, 500, b"")]
+        self.assertEqual(self.lost(*opened, (0, 0, 100, 500, b"call"), (1, 0, 500, 104, b"accepted")), [])
+
+    def items(self, *frames):
+        """What the frames of a link give: the first octets of packets, and ? for a gap."""
+        lapb, found = Lapb(Ledger(), None, SideBy.ADDRESS, False), []
+        for number, octets in enumerate((b"\1\x3f", UA, *frames), 1):
+            direction = Direction.RECEIVED if octets in OF_DCE else Direction.SENT
+            found += lapb.take(Frame(number, 207, octets, len(octets), direction), octets, False)
+        return "".join("?" if isinstance(it, Missing) else it.octets.decode() for it in found)
+
+    @staticmethod
+    def sent(letters, first=0):
+        """Frames of the DTE that carry a letter each, from a number on."""
+        return [bytes((1, at % 8 << 1)) + letter.encode() for at, letter in enumerate(letters, first) if letter != " "]
+
+    def test_of_numbers_of_a_link(self):
+        self.assertEqual(self.items(*self.sent("ab d")), "ab")
+        self.assertEqual(self.items(*self.sent("ab d"), READY_4), "ab?d")
+        self.assertEqual(self.items(*self.sent("ab d"), SABM), "ab?")
+
+    def test_of_windows_of_a_link(self):
+        """A frame beyond the window shows that the next one was taken, whose number comes again with the one after."""
+        self.assertEqual(self.items(*self.sent("ab defghij")), "ab?defghij")
+
+    def test_of_a_number_that_comes_while_others_wait(self):
+        """It may have come again, or all numbers may have passed; only a reject says which."""
+        self.assertEqual(self.items(*self.sent("a c"), *self.sent("b", 1)), "a?b")
+        self.assertEqual(self.items(*self.sent("a c"), REJECT_1, *self.sent("bc", 1)), "abc")
+
+
 class Channels(unittest.TestCase):
     """Each circuit has a channel of its own while there are some."""
 
     def assigned(self, circuits, last=3):
-        header = Header(8, 2, 128, 0, 0, last, last, False, False)
+        header = Header(8, 2, 128, 0, 0, last, last, False, 1)
         made = []
         for number, (first, end, confirmed) in enumerate(circuits, 1):
             circuit = Circuit(number, ENDS, (Side.T, Side.N), 1, True, called=True, confirmed=confirmed)

@@ -1,5 +1,5 @@
 """XOT: where a recording begins in the middle, the two hosts, circuits and their channels, packets that are none."""
-from case import Case, text
+from case import Case, gaps_header, text, with_gaps
 from forms import *
 from link_cases import ACCEPTED, CALL, CLEAR, CONFIRMED, DATA, READY, REPORT, ROWS
 from tcp_cases import SENT, SIX, call, file_of, header, report
@@ -10,9 +10,9 @@ LINE_1024 = [packet[:1] + "400" + packet[4:] for packet in SIX]
 
 
 def middle(window, first, sides_and_packets):
-    """Rows of a recording that begins inside of a connection, the first one with a number."""
-    rows = f"X25 2 MOD 8 WIN {window} SIZE 16 PVC 0 IN 0 TWO 1 OUT 1 JOIN\n"
-    for number, (side, packet) in enumerate(sides_and_packets, first):
+    """Rows of a recording that begins inside of a connection: a gap row with a number, and the packets after it."""
+    rows = gaps_header(window, 16) + f"{first} ? 1\n"
+    for number, (side, packet) in enumerate(sides_and_packets, first + 1):
         rows += f"{number} {'TN'[side]} {packet}\n"
     return rows
 
@@ -20,16 +20,17 @@ def middle(window, first, sides_and_packets):
 def from_the_middle():
     talk = Talk()
     frames = [talk.segment(side, xot(packet)) for side, packet in MIDDLE]
-    yield Case("xot-from-the-middle", file_of(frames), middle(1, 1, MIDDLE), report=report(6, 7, None, 0, 7))
+    yield Case("xot-from-the-middle", file_of(frames), middle(1, 1, MIDDLE),
+               report=with_gaps(report(7, 8, None, 0, 7), 1))
     talk = Talk()
     frames = [talk.segment(0, xot(SENT[0])[6:])] + [talk.segment(side, xot(packet)) for side, packet in MIDDLE]
-    yield Case("xot-from-the-middle-of-a-packet", file_of(frames), middle(1, 2, MIDDLE), status=1,
-               report=report(7, 8, None, 0, 7), tshark=None)
+    yield Case("xot-from-the-middle-of-a-packet", file_of(frames), middle(1, 1, MIDDLE), status=1,
+               report=with_gaps(report(7, 8, None, 0, 7), 1), tshark=None)
     # The first frame is of the host with the XOT port; of the DCE's data nothing was acknowledged before.
     talk = Talk()
     frames = [talk.segment(side, xot(packet)) for side, packet in MIDDLE[1:]]
     yield Case("xot-from-the-middle-server-first", file_of(frames), middle(2, 1, MIDDLE[1:]),
-               report=report(5, 6, None, 0, 6))
+               report=with_gaps(report(6, 7, None, 0, 6), 1))
 
 
 def both_ways():
@@ -170,18 +171,19 @@ def long_packets():
     talk = Talk()
     long, longest = "100100" + "AA" * 4198, "100100" + "AA" * 4197
     frames = talk.open() + call(talk, SIX[:2]) + [talk.a(long), talk.a(longest)] + call(talk, SIX[4:])
-    yield Case("xot-long-packets", file_of(frames), header(1, 4096) + text(f"""
+    yield Case("xot-long-packets", file_of(frames), gaps_header(2, 4096) + text(f"""
         4 T 10010B0000
         5 N 10010F
+        6 ? 1
         7 T {longest}
         8 T 1001130000
         9 N 100117
     """), status=1, report=text("""
-        F 7 T d1 39
         C 1 1 1 out - - 4 5 8 T 0 0 0 0 0
         A - 1 0
         P 1 5
-        Z 5 1 1 0 0
+        G 1
+        Z 5 0 1 0 0
     """), tshark=None)
 
 

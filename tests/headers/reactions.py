@@ -17,24 +17,51 @@ class Reactions:
     # The packets of the DCE since, by channel; 0 is the restart machine.
     waits: dict = field(default_factory=dict)
     owed: dict = field(default_factory=dict)
+    # Whether a gap of all channels left open if the interface restarts.
+    adrift: bool = False
 
-    def see(self, row):
-        if row["before"].startswith("r"):
-            self.see_line(row)
+    def see(self, item, later):
+        """The next object, and the one after it, if there is one."""
+        if item["line"] == "gap":
+            self.see_gap(item["channel"])
+        elif self.adrift and item["before"] == "r1":
+            self.see_restart(item, later)
+        elif item["before"].startswith("r"):
+            self.see_line(item)
         else:
-            self.see_channel(row, row["channel"])
+            self.see_channel(item, item["channel"])
+
+    def see_gap(self, channel):
+        """What was awaited may have come in the gap."""
+        for at in [channel] if channel else [*self.waits]:
+            self.waits.pop(at, None)
+        for at in [channel] if channel else [*self.owed]:
+            self.owed.pop(at, None)
+        self.adrift = self.adrift or channel is None
+
+    def see_restart(self, row, later):
+        """A row of the interface adrift says nothing of a header; a packet of a restart without a fault of format ends the epoch."""
+        if later["epoch"] == row["epoch"] if later and "epoch" in later else restart_fault(row):
+            return
+        self.end_epoch()
+        self.adrift = row["type"] != "restart_confirmation"
+
+    def end_epoch(self):
+        self.unanswered += len(self.waits)
+        self.waits.clear()
+        self.owed.clear()
 
     def see_channel(self, row, channel):
         before, after = self.owed.get(channel, False), row["owed"]
         self.owed[channel] = after
+        if row["before"] == "adrift":
+            return
         is_awaited = row["type"] == AWAITED.get(row["before"], "clear_indication")
         self.decide(row, channel, before, after, is_awaited and row["before"] != "unknown")
 
     def see_line(self, row):
         if row["before"] == "r1" and row["after"] != "r1":
-            self.unanswered += len(self.waits)
-            self.waits.clear()
-            self.owed.clear()
+            self.end_epoch()
         was_r3, is_r3 = row["before"] == "r3", row["after"] == "r3"
         if row["side"] == "N" and not was_r3:
             self.blame(row)
@@ -74,9 +101,18 @@ class Reactions:
             self.unexplained += 1
 
 
-def reactions_of(rows):
-    """The three counts of the rows of a trace, as `--rows` prints them."""
-    reactions = Reactions()
-    for row in rows:
-        reactions.see(row)
+def restart_fault(row):
+    """Whether a row is no packet of a restart, or has a fault of format."""
+    octets = len(row["hex"]) // 2
+    if row["type"] in ("restart_request", "restart_indication"):
+        return not 4 <= octets <= 5
+    return row["type"] != "restart_confirmation" or octets > 3
+
+
+def reactions_of(objects, header):
+    """The three counts of the rows and gaps of a trace with a header, as `--rows` prints them."""
+    reactions = Reactions(adrift=header.startswith("X25 3") and header.endswith(" JOIN"))
+    items = [item for item in objects if item["line"] in ("row", "gap")]
+    for item, later in zip(items, [*items[1:], None]):
+        reactions.see(item, later)
     return reactions.answered, reactions.unanswered, reactions.unexplained

@@ -60,6 +60,9 @@ class Talk:
         calls = dict.fromkeys(range(1, CHANNELS + 1))
         while len(self.rows) < many:
             channel = self.random.randint(1, CHANNELS)
+            if self.random.random() < 0.01:
+                self.packet += 1
+                self.rows.append({"line": "gap", "packet": self.packet, "channel": self.random.choice((channel, None))})
             if calls[channel] is None and channel > 1:
                 self.calls += 1
                 calls[channel] = self.calls

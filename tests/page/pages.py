@@ -55,7 +55,7 @@ def report_of(scanner, trace):
     """The lines of a report, each in its words, by their letters."""
     with open(trace, "rb") as file:
         done = subprocess.run([scanner], stdin=file, capture_output=True, text=True, timeout=SECONDS, check=False)
-    lines = {letter: [] for letter in "FCSAPZ"}
+    lines = {letter: [] for letter in "FCSAPGZ"}
     for line in done.stdout.splitlines():
         letter, *words = line.split(" ")
         lines[letter].append(words)
@@ -87,8 +87,9 @@ def report_complaints(page, report):
 
 
 def row_complaints(page, trace):
-    """Whether the page has each row of the trace once."""
+    """Whether the page has each packet of the trace once."""
     with open(trace, "rb") as file:
         lines = [line for line in file.read().splitlines() if not line.startswith(b"#")]
-    wanted = [int(line.split(b" ")[0]) for line in lines[1:]]
-    return [] if sorted(page.rows) == wanted else ["it has other rows than the trace"]
+    words = [line.split(b" ") for line in lines[1:]]
+    wanted = [int(number) for number, side, *_ in words if side != b"?"]
+    return [] if sorted(page.rows) == wanted else ["it has other packets than the trace"]

@@ -234,14 +234,14 @@ class Waited(unittest.TestCase):
         self.assertIn("1 call, 7 segments: cleared by the DCE, cause 1 (number busy), diagnostic 0", summary)
 
     def test_one_side(self):
-        """Of what was recorded of one side alone no answer is missed, and no side is said to have ended a call."""
+        """Of what was recorded of one side alone no answer is missed, and the recorded clear requests end the calls."""
         with tempfile.TemporaryDirectory() as folder:
             page = pathlib.Path(folder, "half.html")
             done = run("--scanner", SCANNER, "-o", page, ROOT / "tests/captures/files/half-dte-on-all-connections.trace")
             self.assertEqual(done.returncode, 1, done.stderr)
             use = Page(page).facts["use"]
         self.assertEqual((use["waited"], use["waits"], use["closed"], use["acknowledged"]), ([], [], [], [None, None]))
-        self.assertEqual([it[:4] for it in use["causes"]], [["not recorded", None, None, 3]])
+        self.assertEqual([it[:4] for it in use["causes"]], [["T", [0, "DTE originated"], [0, "no additional information"], 3]])
 
     def test_parts_of_any_length(self):
         """The chart of a month has as few parts as that of an hour, with all of its packets."""

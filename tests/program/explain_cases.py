@@ -58,7 +58,10 @@ HEADINGS = (
     ("PAD", "PAD (term): packet assembly/disassembly facility"),
     ("LAPB", "LAPB (term): link access procedure, balanced"),
     ("X.25 over TCP", "XOT (term): X.25 over TCP"),
-    ("gap", "gap (term): gap"),
+    ("G", "G (line of the report): gaps"),
+    ("end gap", "gap (end of a call): hidden by a gap"),
+    ("term gap", "gap (term): gap"),
+    ("adrift", "adrift (term): state after a gap"),
     ("T21", "T21 (term): time-out of a call request"),
     ("term restart", "restart (term): restart of the interface"),
     ("out of memory", "memory (refusal): out of memory"),
@@ -79,6 +82,7 @@ LINES = (
     ("F 5 T", ("F (line of the report): finding", "packet (field of the report): number of a row", "T (side): DTE")),
     ("S 1 T 2 said 1", ("S (line of the report): PAD setting", "call (field of the report): number of a call", "T (side): DTE", "2 (PAD parameter): echo", "said (word of a setting): said", "value (field of the report): value of a parameter")),
     ("A - 1 2", ("A (line of the report): account", "address (field of the report): address that pays", "calls (field of the report): number of calls", "segments (field of the report): segments of 64 octets")),
+    ("G 1", ("G (line of the report): gaps", "gaps (field of the report): number of gap rows")),
     ("P 1 2", ("P (line of the report): peak", "count (field of the report): calls at once", "packet (field of the report): number of a row")),
     ("Z 5 1 1 2 2", ("Z (line of the report): sums", "packets (field of the report): number of rows", "findings (field of the report): number of findings", "calls (field of the report): number of calls", "octets (field of the report): octets of user data", "segments (field of the report): segments of 64 octets")),
     (
@@ -100,7 +104,7 @@ SEVERAL = (
     ("parameter", 23, "parameter of a PAD"),
     ("status", 5, "no finding"),
     ("header", 10, "beginning of the header"),
-    ("field", 28, "number of a row"),
+    ("field", 29, "number of a row"),
     ("call", 3, "call"),
     ("packet", 2, "number of a row"),
     ("PVC", 2, "permanent virtual circuits"),
@@ -108,8 +112,9 @@ SEVERAL = (
     ("cause 9", 2, "out of order"),
     ("cause 1", 3, "number busy"),
     ("local procedure error", 3, "local procedure error"),
-    ("term", 38, "window"),
+    ("term", 39, "window"),
     ("restart", 2, "restart"),
+    ("gap", 2, "hidden by a gap"),
     ("x25scan: piece 3 posted twice", 3, "piece I posted twice"),
 )
 
@@ -124,7 +129,7 @@ TWENTY_SIX = b"""26 (diagnostic code): Packet type invalid for state p7
   Example: F 3 N p7 26 in /usr/share/doc/x25scan/tests/traces/worked/dce-faults.trace
 26 (kind of faulty line): Side
   The side is neither T nor N.
-  When: On a row, after 28, 24 and 25. The trace is refused with status 2 and nothing is reported; with --follow what was found before stands.
+  When: On a row, after 28, 24 and 25. In the third form a ? in its place makes the row a gap row. The trace is refused with status 2 and nothing is reported; with --follow what was found before stands.
   Clause: profile
   See: /usr/share/doc/x25scan/TRACE.md
   Example: x25scan: line 2: kind 26 in /usr/share/doc/x25scan/tests/traces/worked/refused-side.trace
@@ -157,5 +162,5 @@ def explain_cases():
         errors = f"x25scan: no such word: {word} (x25scan --explain lists them)\n".encode()
         yield RunCase(f"{word!r} is not explained", ("--explain", word), status=64, errors=errors)
     first = rb"F \(line of the report\): finding\nC \(line of the report\): call\n"
-    listed = re.compile(first + rb"(?:[^\n]+\n){217}22 \(PAD parameter\): page wait\n")
+    listed = re.compile(first + rb"(?:[^\n]+\n){221}22 \(PAD parameter\): page wait\n")
     yield RunCase("all words are listed", ("--explain",), output=listed)

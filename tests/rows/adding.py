@@ -1,12 +1,19 @@
 """What the objects of rows add up to, worked out from these objects alone."""
 import collections
 
-REPORT = {"finding", "call", "setting", "account", "peak", "sums"}
+from row_objects import is_near, is_printed_row
+
+REPORT = {"finding", "call", "setting", "account", "peak", "gaps", "sums"}
 
 
 def is_of_call(row, call):
     """Whether a row is one of a call's: the call is open on its channel before the row or after it."""
     return row["call"] == call or (row["channel"] is not None and any(end["call"] == call for end in row["ends"]))
+
+
+def is_in_call(gap, call):
+    """Whether a gap row is in a call: the call is open, and packets on its channel may be missing."""
+    return call["opened"] < gap["packet"] and (call["ended"] is None or gap["packet"] < call["ended"]) and is_near(gap, call["channel"])
 
 
 def findings(rows):
@@ -75,13 +82,27 @@ def wrong_payers(objects):
     return [] if accounts == dict(paid) else [f"accounts {accounts}, expected {dict(paid)}"]
 
 
+def wrong_gaps(gaps, facts, report):
+    """What is wrong with the counts of gap rows, which only some traces have."""
+    wrong = []
+    for item in report:
+        if item["line"] == "gaps" and item["gaps"] != len(gaps):
+            wrong.append(f"{item['gaps']} gaps, expected {len(gaps)}")
+        inside = sum(is_in_call(gap, item) for gap in gaps) if item["line"] == "call" else 0
+        if item["line"] == "call" and facts[item["call"]].get("gaps", 0) != inside:
+            wrong.append(f"call {item['call']}: other gaps than {inside}")
+    return wrong
+
+
 def problems(objects, report):
     """What is wrong with the objects of a trace without a fault, whose report has these objects."""
-    rows = [item for item in objects if item["line"] == "row"]
-    rest = objects[len(rows):]
+    printed = [item for item in objects if is_printed_row(item)]
+    rows = [item for item in printed if item["line"] == "row"]
+    gaps = [item for item in printed if item["line"] == "gap"]
+    rest = objects[len(printed):]
     found = [item for item in rest if item["line"] in REPORT]
     wrong = []
-    if objects[:len(rows)] != rows or rest[:len(found)] != found or found != report:
+    if objects[:len(printed)] != printed or rest[:len(found)] != found or found != report:
         wrong.append("the objects after the rows are not those of --json")
     reported = [(item["packet"], item["side"], item["code"]) for item in report if item["line"] == "finding"]
     if findings(rows) != reported:
@@ -93,4 +114,4 @@ def problems(objects, report):
     for call in (item for item in report if item["line"] == "call"):
         wrong += wrong_call(rows, call)
         wrong += wrong_facts(rows, facts[call["call"]], call)
-    return wrong + wrong_reasons(rows, rest) + wrong_payers(rest)
+    return wrong + wrong_gaps(gaps, facts, report) + wrong_reasons(rows, rest) + wrong_payers(rest)

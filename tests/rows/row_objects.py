@@ -9,6 +9,23 @@ def objects(program, words, text):
     return [json.loads(line) for line in runner.run([program, "--rows", *words], text).output.splitlines()]
 
 
+def is_printed_row(item):
+    """Whether an object is one of a row: of a packet, or of a gap."""
+    return item["line"] in ("row", "gap")
+
+
+def is_near(gap, channel):
+    """Whether packets on a channel may be missing in a gap."""
+    return gap["channel"] in (None, channel)
+
+
+def words_of(item):
+    """The number, the side and the octets of a row by its object; of a gap row its words."""
+    if item["line"] == "gap":
+        return item["packet"], "?", str(item["channel"] or "*")
+    return item["packet"], item["side"], item["hex"].upper()
+
+
 def rows_of(text):
     """The number, the side and the octets of each row of a trace, as far as its lines are rows."""
     lines = [line for line in text.split(b"\n") if line and not line.startswith(b"#")]
@@ -22,7 +39,7 @@ def rows_of(text):
 
 def wrong_rows(text, found, is_refused):
     """What is wrong with the rows among objects: they are those of the trace, or the first ones where it is refused."""
-    rows = [(item["packet"], item["side"], item["hex"].upper()) for item in found if item["line"] == "row"]
+    rows = [words_of(item) for item in found if is_printed_row(item)]
     expected = list(rows_of(text))
     if is_refused:
         expected = expected[:len(rows)]

@@ -104,7 +104,7 @@ class Compared(InFolder):
         self.assertNotIn("The headers differ", done.stdout.decode(), "the last channels are estimated")
         text = self.text(FILES / "half-dte-on-all-connections.pcap", ethernet, status=1)
         self.assertIn("before: half-dte-on-all-connections.pcap: Only the DTE was recorded on connections 1 to 3: ", text)
-        self.assertIn("\n  not recorded ", text)
+        self.assertIn("\n  cleared by the DTE, ", text)
         self.assertNotIn("cleared by the DCE", text)
 
     def test_other_headers(self):

@@ -132,7 +132,9 @@ HEADERS = [
     (b"X25 1 MOD 8 WIN 2 SIZE 128 PVC 0", 1, HEADER_FORM, "The header ends where SVC belongs."),
     (b"X25 1 MOD 8 WIN 2 SIZE 128 PVC", 1, HEADER_FORM, "The header ends where the number of PVC belongs."),
     (b"X25 2 MOD 8 WIN 2 SIZE 128 PVC 0 SVC 4", 1, HEADER_FORM, 'In the header stands "SVC" where IN belongs.'),
-    (b"X25 3 MOD 8", 1, HEADER_FORM, "After X25 comes the form of the header: 1 or 2."),
+    (b"X25 3 MOD 8", 1, HEADER_FORM, "The header ends where WIN belongs."),
+    (b"X25 3 MOD 8 WIN 2 SIZE 128 PVC 0 SVC 4", 1, HEADER_FORM, 'In the header stands "SVC" where IN belongs.'),
+    (b"X25 4 MOD 8", 1, HEADER_FORM, "After X25 comes the form of the header: 1, 2 or 3."),
     (b"X25 1 MOD 8 WIN 2 SIZE 128 PVC 0 SVC 4 JOIN", 1, HEADER_FORM, '"JOIN" stands after the header\'s last number.'),
     (b"X25 2 MOD 8 WIN 2 SIZE 128 PVC 0 IN 0 TWO 4 OUT 4 join", 1, HEADER_FORM, 'The header\'s words are in capitals: "join" is written JOIN.'),
     (b"1 T 10\n", 1, HEADER_FORM, "A row stands before the header, which comes first, as X25 1 MOD 8 WIN 2 SIZE 128 PVC 0 SVC 4."),
@@ -157,6 +159,29 @@ HEADERS = [
     (b"MOD 8 WIN 2\n", 1, HEADER_FORM, 'In the header stands "MOD" where X25 belongs.'),
     (b"\xd4\xc3\xb2\xa1\x02\x00\x04\x00\n", 1, HEADER_FORM, CAPTURE),
     (b"\x0a\x0d\x0d\x0a\x1c\x00\x00\x00", 1, HEADER_FORM, CAPTURE),
+]
+
+# A header of the third form, and rows after it that are gap rows.
+THIRD_HEADER = b"X25 3 MOD 8 WIN 2 SIZE 128 PVC 0 IN 0 TWO 4 OUT 4\n"
+MANY_GAPS = THIRD_HEADER + b"".join(b"%d ? %d\n" % (number, number % 4 + 1) for number in range(1, 30000))
+NO_SIDE = 'The side is "{}": T for the DTE or N for the DCE belongs there.'
+NO_CHANNEL = 'The gap\'s logical channel is "{}": 1 to 4 without a leading zero belongs there, or * for all.'
+
+# Whole texts with gap rows, or with rows like them.
+GAPS = [
+    (HEADER + b"1 T -\n2 ? 1\n", 3, SIDE, NO_SIDE.format("?")),
+    (HEADER + b"1 ? *\n2 X -\n", 2, SIDE, NO_SIDE.format("?")),
+    (THIRD_HEADER + b"1 ? 1\n2 ? *\n3 X -\n", 4, SIDE, NO_SIDE.format("X")),
+    (THIRD_HEADER + b"1 ? 4\n2 ? 5\n", 3, HEX, NO_CHANNEL.format("5")),
+    (THIRD_HEADER + b"1 ? 0\n", 2, HEX, NO_CHANNEL.format("0")),
+    (THIRD_HEADER + b"1 ? 01\n", 2, HEX, NO_CHANNEL.format("01")),
+    (THIRD_HEADER + b"1 ? **\n", 2, HEX, NO_CHANNEL.format("**")),
+    (THIRD_HEADER + b"1 ? 1\n2 T 0z\n", 3, HEX, 'At column 6 stands "z", which is no hex digit.'),
+    (THIRD_HEADER + b"5 ? 1\n5 ? 2\n", 3, NUMBER, "The row's number is 5, and that of the row before is 5: numbers rise."),
+    (THIRD_HEADER + b"1 ? 1 2\n", 2, LINE_FORM, "The line has 4 words, and a row has three: its number, its side and its octets."),
+    (MANY_GAPS + b"30000 X -\n", 30001, SIDE, NO_SIDE.format("X")),
+    (MANY_GAPS + b"30000 ? 5\n", 30001, HEX, "The third word of a gap row is a logical channel from 1 to the header's OUT, or * for all."),
+    (HEADER + MANY + b"20000 ? 1\n", 20001, SIDE, NO_SIDE.format("?")),
 ]
 
 # Texts that are taken, with the number of their rows.
@@ -208,7 +233,7 @@ def texts():
     """All texts."""
     for rows, line, kind, said in ROWS:
         yield Text(HEADER + rows, line, kind, said)
-    for text, line, kind, said in [*HEADERS, *LONG]:
+    for text, line, kind, said in [*HEADERS, *LONG, *GAPS]:
         yield Text(text, line, kind, said)
     yield from wrong_digits()
     for text, rows in TAKEN:

@@ -10,7 +10,7 @@ from .texts import encoded
 
 MEMBERS = ("call", "epoch", "channel", "direction", "called", "calling", "opened", "up", "ended", "how",
            "data_t", "octets_t", "data_n", "octets_n", "segments")
-FACTS = ("pays", "payer", "cleared_by", "cause", "diagnostic", "findings", "start", "seconds")
+FACTS = ("pays", "payer", "cleared_by", "cause", "diagnostic", "findings", "start", "seconds", "gaps")
 COLUMNS = (*MEMBERS, *FACTS)
 PACKETS = tuple(map(MEMBERS.index, ("opened", "up", "ended")))
 # What the array of a call has at most, mostly.

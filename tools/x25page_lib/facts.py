@@ -12,7 +12,7 @@ from .calls import BYTES, Calls
 from .evenly import Evenly
 from .ladders import Flowing, Ladders
 from .lanes import Lanes
-from .rows import SECOND, SIDES, Row, RowForms, in_seconds, microseconds
+from .rows import SECOND, SIDES, Missing, Row, RowForms, in_seconds, microseconds
 from .suspicions import Debts
 from .texts import encoded
 from .use import UNRECORDED, Use
@@ -128,7 +128,7 @@ class Facts:
     """The facts of a page so far."""
 
     def __init__(self, halves: Halves) -> None:
-        self.halves, self.has_halves, self.has_gaps = halves, bool(halves), False
+        self.halves, self.has_halves = halves, bool(halves)
         # The rows of each side, and of what was recorded of one side alone its findings and those rows, and the calls
         # that ended by a packet of the side that was not recorded.
         self.rows_of, self.half_counts, self.half_rows = [0, 0], [0, 0], 0
@@ -137,7 +137,9 @@ class Facts:
         self.times, self.debts, self.use = Times(), Debts(self.forms.frames), Use()
         self.lanes = Lanes(self)
         self.broken: dict[str, Broken] = {}
-        self.marks, self.restarts = Thinned(MARKS), Thinned(MARKS // 4)
+        self.marks, self.restarts, self.gaps = Thinned(MARKS), Thinned(MARKS // 4), Thinned(MARKS // 4)
+        # The gaps of channels that have no call, up to the next row of theirs.
+        self.missing: dict[int | None, Missing] = {}
         self.accounts, self.settings = Budgeted(ACCOUNTS), Budgeted(SETTINGS)
         # Of each channel the findings of both sides and where the first is.
         self.by_channel: dict[int | None, tuple[int | None, list[int], tuple[int, str]]] = {}
@@ -156,6 +158,7 @@ class Facts:
             "sums": lambda it: setattr(self, "sums", {name: it[name] for name in it if name != "line"}),
             "not_counted": lambda it: self.not_counted.append([it["reason"], it["packets"], it["octets"]]),
             "call_facts": self.call_facts,
+            "gap": self.gap,
         }
 
     def take(self, objects: Iterable[dict[str, Any]]) -> None:
@@ -178,7 +181,7 @@ class Facts:
         for channel, counts, first in sorted(self.by_channel.values(), key=lambda it: -sum(it[1])):
             self.found_channels.add([channel, *counts, *first])
         self.frame_text = encoded(self.other_frames())
-        thinned, budgeted = (self.marks, self.restarts), (self.accounts, self.settings, self.found_channels)
+        thinned, budgeted = (self.marks, self.restarts, self.gaps), (self.accounts, self.settings, self.found_channels)
         parts = len(self.call_text) + len(self.frame_text)
         parts += sum(it.size for it in thinned) + sum(it.size for it in budgeted)
         self.ladders.limit(PAGE - WORDS - parts)
@@ -189,7 +192,7 @@ class Facts:
         yield from (first[0] for it in self.broken.values() for first in it.first if first)
         yield from (first[0] for *_, first in self.by_channel.values())
         yield from self.calls.packets()
-        yield from (*self.marks.numbers(), *self.restarts.numbers())
+        yield from (*self.marks.numbers(), *self.restarts.numbers(), *self.gaps.numbers())
         yield from self.use.packets()
 
     def other_frames(self) -> dict[str, int]:
@@ -204,7 +207,7 @@ class Facts:
     def reserve(self) -> None:
         """Leaves room for the parts of the page that are known so far."""
         calls = min(CALLS, BYTES * self.begun_calls)
-        self.ladders.budget = PAGE - WORDS - calls - self.marks.size - self.restarts.size
+        self.ladders.budget = PAGE - WORDS - calls - self.marks.size - self.restarts.size - self.gaps.size
 
     def row(self, row: Row) -> None:
         """Takes a row."""
@@ -213,6 +216,8 @@ class Facts:
         self.rows_of[row.side] += 1
         self.first = self.first or packet
         key, time = self.key(row), row.time
+        if self.missing and (missing := self.missing.pop(row.channel, None)):
+            self.ladders.miss(key, missing)
         if time is not None:
             if not self.times.seen:
                 self.forms.begin(time)
@@ -224,6 +229,26 @@ class Facts:
         else:
             self.lanes.end(row.channel)
             self.news(row, key)
+
+    def gap(self, it: dict[str, Any]) -> None:
+        """Takes a gap row: packets of a channel may be missing, or of all, where it has none."""
+        self.lanes.settle()
+        packet, channel = it["packet"], it["channel"]
+        self.first, self.last = self.first or packet, packet
+        missing = Missing(packet, channel, self.forms.frame_of(packet, it.get("frame")))
+        self.lanes.end(channel)
+        self.use.miss(channel)
+        self.debts.miss(channel)
+        if self.gaps.takes_next():
+            self.gaps.add([packet, channel])
+        call = self.last_calls.get(channel)
+        if channel is None:
+            # Each ladder has it before its next row.
+            self.ladders.gap = missing
+        elif call is not None:
+            self.ladders.miss(call.key, missing)
+        else:
+            self.missing[channel] = missing
 
     def count(self, rows: Sequence[Flowing]) -> None:
         """Takes what quiet rows used, whose lanes take the rest."""
@@ -325,6 +350,7 @@ class Facts:
         time, begun = microseconds(it["start"]), self.forms.begun
         it["start"] = None if time is None or begun is None else in_seconds(time - begun)
         it["seconds"] = in_seconds(microseconds(it["seconds"]))
+        it.setdefault("gaps", 0)
         self.calls.facts(it)
 
     def codes(self) -> list[list[Any]]:
@@ -338,7 +364,7 @@ class Facts:
         if self.halves:
             return of_halves(self.halves.all, counts, self.half_rows < self.sums["packets"])
         late = sum(it.late for it in self.use.waits.sums())
-        return verdict_of(self.sums["packets"], counts, late, self.has_gaps)
+        return verdict_of(self.sums["packets"], counts, late, self.gaps.seen)
 
     def count_of(self, side: str) -> int:
         """How many findings a side has."""

@@ -128,7 +128,6 @@ def read(job: Job, messages: Messages, watch: Watch | None = None) -> Read:
             messages.add(line)
         show_header(head, messages)
         explanations, facts = scanner.explanations(), Facts(Halves(head))
-        facts.has_gaps = messages.has_gaps
         facts.use.begin(*(int(head.numbers.get(name) or standard) for name, standard in (("WIN", 2), ("MOD", 8))))
         scanner.report(facts, trace, watch)
     words_again = again(words, job.arguments, messages)

@@ -6,7 +6,7 @@ from collections.abc import Iterator, Sequence
 from dataclasses import dataclass, field
 from typing import Any
 
-from .rows import OCTETS, SIDES, SIZE, Kept, Row, cut, is_plain
+from .rows import OCTETS, SIDES, SIZE, Kept, Missing, Row, cut, is_plain
 from .texts import encoded, plain_texts
 
 # A ladder keeps its first rows, which show how the call was set up.
@@ -52,6 +52,7 @@ class Run:
     first: int = 0
     last: int = 0
     packets: int = 0
+    gaps: int = 0
     data: list[int] = field(default_factory=lambda: [0, 0])
     octets: list[int] = field(default_factory=lambda: [0, 0])
     findings: dict[str, int] = field(default_factory=dict)
@@ -64,7 +65,8 @@ class Run:
         if not self.first:
             self.first, self.frames[0] = row.packet, row.frame
         self.last, self.frames[1] = row.packet, row.frame
-        self.packets += 1
+        self.gaps += row.is_gap
+        self.packets += not row.is_gap
         if row.is_data:
             self.data[row.side] += 1
             self.octets[row.side] += row.octets
@@ -77,6 +79,7 @@ class Run:
             self.first, self.frames[0] = other.first, other.frames[0]
         self.last, self.frames[1] = other.last, other.frames[1]
         self.packets += other.packets
+        self.gaps += other.gaps
         for side in range(len(SIDES)):
             self.data[side] += other.data[side]
             self.octets[side] += other.octets[side]
@@ -88,6 +91,8 @@ class Run:
         names = ["first", "last", "packets", "data", "octets", "findings"]
         if self.frames != [None, None]:
             names.append("frames")
+        if self.gaps:
+            names.append("gaps")
         self.text = encoded({name: getattr(self, name) for name in names})
         return self
 
@@ -96,11 +101,13 @@ class Ladder:
     """The rows of a call, of a channel outside of calls, or of the interface."""
 
     __slots__ = (
-        "items", "run", "tail", "following", "findings", "size", "widest", "unmarked", "is_closed", "is_waiting",
+        "items", "run", "tail", "following", "findings", "size", "widest", "unmarked", "is_closed", "is_waiting", "gap",
     )
 
-    def __init__(self, is_waiting: bool = False) -> None:
+    def __init__(self, is_waiting: bool = False, gap: Missing | None = None) -> None:
         self.begin()
+        # The last gap of all channels that it has, or that was before it.
+        self.gap = gap
         self.findings, self.is_closed, self.is_waiting = 0, False, is_waiting
         # The most digits of a row, and how many rows without a mark there were.
         self.widest = self.unmarked = 0
@@ -249,13 +256,30 @@ class Ladders:
         self.left_out = 0
         # Whether a ladder without a finding was left out, as all further ones are then.
         self.is_full = False
+        # The last gap of all channels.
+        self.gap: Missing | None = None
 
-    def add(self, key: str, row: Row) -> None:
-        """Takes a row of the ladder with a key."""
+    def ladder(self, key: str) -> Ladder:
+        """The ladder with a key, which begins where there is none."""
         ladder = self.ladders.get(key)
         if ladder is None:
-            ladder = self.ladders[key] = Ladder(self.is_full)
+            ladder = self.ladders[key] = Ladder(self.is_full, self.gap)
             self.size += ladder.size
+        return ladder
+
+    def miss(self, key: str, gap: Missing) -> None:
+        """Takes a gap of the ladder with a key."""
+        ladder = self.ladder(key)
+        before = ladder.size
+        ladder.place(gap, LEVELS[self.level])
+        self.size += ladder.size - before
+
+    def add(self, key: str, row: Row) -> None:
+        """Takes a row of the ladder with a key, after the gap of all channels that came before it."""
+        ladder = self.ladder(key)
+        if ladder.gap is not self.gap and self.gap is not None:
+            ladder.gap = self.gap
+            self.miss(key, self.gap)
         before = ladder.size
         # A finding keeps eight times as many digits.
         ladder.widest = max(ladder.widest, len(row.hex) // 8 if row.code else len(row.hex))

@@ -51,6 +51,7 @@ class Page:
         yield "calls", [facts.call_text]
         yield "marks", [facts.marks.text]
         yield "restarts", [facts.restarts.text]
+        yield "gaps", [facts.gaps.text]
         yield "accounts", [facts.accounts.text]
         yield "settings", [facts.settings.text]
         yield "found_channels", [facts.found_channels.text]
@@ -63,7 +64,7 @@ class Page:
         facts, head, codes = self.read.facts, self.read.head, self.read.facts.codes()
         verdict = facts.verdict()
         # Of half a recording the header can't be judged.
-        self.warnings = [] if facts.halves else warnings(head.numbers, codes, facts.debts, facts.has_gaps)
+        self.warnings = [] if facts.halves else warnings(head.numbers, codes, facts.debts)
         return {
             "name": self.read.name,
             "again": self.read.again,
@@ -113,6 +114,7 @@ class Page:
             "calls": facts.calls.left_out,
             "marks": facts.marks.left_out,
             "restarts": facts.restarts.left_out,
+            "gaps": facts.gaps.left_out,
             "accounts": facts.accounts.left_out,
             "settings": facts.settings.left_out,
             "found_channels": facts.found_channels.left_out,

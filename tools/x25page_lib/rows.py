@@ -20,6 +20,8 @@ OCTETS_TEXT, FRAME_TEXT = '"o":', '"frame":'
 EACH = ("packet", "side", "channel", "before", "after", "counted", "finding", "owed", "call", "time", "type", "hex")
 BASE, APART = itemgetter(*EACH), frozenset((*EACH, "line", "epoch", "frame"))
 SECOND = 1_000_000
+# The state of a channel of which packets may be missing.
+ADRIFT = "adrift"
 # No clock of a recorder is so late, and a number of seconds before it has whole microseconds.
 LATEST = 1 << 32
 # Many rows have the same kind and states.
@@ -49,6 +51,7 @@ class Level(Protocol):
 class Row:
     """A row that may be kept: what x25scan says of it. Its members are all that its object has."""
 
+    is_gap = False
     __slots__ = (
         "packet", "side", "channel", "before", "after", "segments", "finding", "code", "owed", "call", "time", "kind",
         "hex", "frame", "members", "octets", "receive", "is_data", "is_marked", "is_quiet", "forms",
@@ -83,8 +86,7 @@ class Row:
         )
         # Data that was counted, or an RR in d1, and nothing else: the common case.
         self.is_quiet: bool = (
-            not self.is_marked and not self.owed
-            and (counted is not None or self.kind == "rr" and self.after == "d1")
+            not self.is_marked and not self.owed and self.after == "d1" and (counted is not None or self.kind == "rr")
         )
 
     def kept(self, level: Level) -> Kept:
@@ -111,6 +113,7 @@ def is_plain(text: str) -> bool:
 class Kept:
     """A row that a page keeps: its text, and its place in sums."""
 
+    is_gap = False
     __slots__ = ("packet", "side", "octets", "code", "is_data", "is_marked", "frame", "text")
 
     def __init__(self, text: str, row: Row | None = None) -> None:
@@ -138,6 +141,22 @@ class Kept:
     def kept(self, level: Level) -> Kept:
         """The same with as many digits as a level keeps."""
         self.text = cut(self.text, level.digits * 8 if self.code else level.digits)
+        return self
+
+
+class Missing(Kept):
+    """A gap in a ladder: packets of a channel may be missing there, or of all where it has none."""
+
+    is_gap = True
+    __slots__ = ()
+
+    def __init__(self, packet: int, channel: int | None, frame: int | None) -> None:
+        self.packet, self.frame = packet, frame
+        self.side, self.octets, self.code, self.is_data, self.is_marked = 0, 0, None, False, True
+        self.text = encoded({"missing": packet, "channel": channel, **({} if frame is None else {"frame": frame})})
+
+    def kept(self, level: Level) -> Kept:
+        """The same at each level."""
         return self
 
 

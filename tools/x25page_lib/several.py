@@ -10,7 +10,6 @@ import signal
 from collections.abc import Iterable, Iterator
 from dataclasses import dataclass, replace
 
-from x25tools_lib.ledger import Reason
 from x25tools_lib.options import Status
 from x25tools_lib.refusals import PageWhy, Refusal, Why
 from x25tools_lib.streams import Waiting, is_pipe, stem_of
@@ -106,12 +105,11 @@ def job_of(job: Job, path: str) -> Job:
 def line_of(page: Page, path: str, name: str) -> Line:
     """The line of the index for a page that is written."""
     found = page.read
-    facts, counts = found.facts, found.messages.counts
-    gaps = counts[Reason.GAP] + counts[Reason.LOST_FRAME]
+    facts = found.facts
     header = [(word, value, word in found.head.sources) for word, value in found.head.numbers.items()]
     notes = [] if found.messages.whole else ["Packets may be missing: the page says which."]
     notes += ["The header may be wrong: the page says why."] if page.warnings else []
-    return Line(path, name, facts.verdict(), [facts.count_of(side) for side in SIDES], facts.sums, gaps, header, notes)
+    return Line(path, name, facts.verdict(), [facts.count_of(side) for side in SIDES], facts.sums, facts.gaps.seen, header, notes)
 
 
 def write_page(job: Job, one: Input, place: pathlib.Path) -> Outcome:

@@ -18,7 +18,7 @@ MINUTE = 60
 ENDS = {ANSWERED: "answered late", GIVEN_UP: "no answer: the sender ended it", RESTARTED: "no answer: a restart ended it",
         OPEN: "no answer to the end of the trace"}
 WAYS = {"T": "cleared by the DTE", "N": "cleared by the DCE", "collision": "clear collision", "restart": "ended by a restart",
-        "open": "open at the end of the trace", UNRECORDED: "how they ended was not recorded"}
+        "gap": "a gap hides how they ended", "open": "open at the end of the trace", UNRECORDED: "how they ended was not recorded"}
 
 
 def decimals(value: float, most: int) -> str:
@@ -74,7 +74,7 @@ class Summary:
         lines += [f"  {number(many, 'call')} at once at most, first at {self.named(packet)}"] if packet else []
         lost = sum(it[1] for it in facts.not_counted)
         lines += [f"  {number(lost, 'data packet')} not counted"] if lost else []
-        doubts = [] if facts.halves else warnings(self.head.numbers, facts.codes(), facts.debts, facts.has_gaps)
+        doubts = [] if facts.halves else warnings(self.head.numbers, facts.codes(), facts.debts)
         return lines + [f"  the header may be wrong: {sentence}" for sentence, *_ in doubts]
 
     def findings(self) -> list[str]:

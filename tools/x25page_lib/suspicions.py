@@ -7,7 +7,7 @@ from typing import Any
 
 from x25tools_lib.frames import Frames
 
-from .rows import SIDES, Row
+from .rows import ADRIFT, SIDES, Row
 
 DTE = SIDES.index("T")
 # So many packets of the DCE may be on their way while it does not know of the error yet.
@@ -61,7 +61,7 @@ class Debts:
             if row.kind.startswith("restart_") and not row.code:
                 self.open.clear()
             return
-        if row.kind in LOCAL_ERROR and row.before not in OWED:
+        if row.kind in LOCAL_ERROR and row.before not in (*OWED, ADRIFT):
             self.named(row, row.channel)
         if row.code in HIDDEN and row.side == DTE:
             self.known.add((row.channel, row.call, row.code))
@@ -77,6 +77,13 @@ class Debts:
             debt.sent += 1
             if debt.sent == ON_THEIR_WAY:
                 self.count(debt)
+
+    def miss(self, channel: int | None) -> None:
+        """Packets of a channel may be missing, or of all: an indication that was owed may have been among them."""
+        if channel is None:
+            self.open.clear()
+        else:
+            self.open.pop(channel, None)
 
     def named(self, row: Row, channel: int) -> None:
         """The DCE ends something, perhaps for an error of the DTE that no finding is of."""
@@ -142,19 +149,16 @@ def of_both_sides(header: Numbers, codes: list[list[Any]]) -> Iterator[tuple[str
             )
 
 
-def of_debts(debts: Debts, has_gaps: bool) -> Iterator[tuple[str, str]]:
-    """The sentence on errors after which the DCE went on, which what was not recorded may explain too."""
+def of_debts(debts: Debts) -> Iterator[tuple[str, str]]:
+    """The sentence on errors after which the DCE went on."""
     many = sum(debts.unpaid.values())
     if not many:
         return
     code = max(debts.unpaid, key=lambda it: debts.unpaid[it])
-    reason = "the header is not that of the interface"
-    if has_gaps:
-        reason = f"packets are missing in the gaps of the recording, or {reason}"
     yield NUMBERS[code], (
         f"After {number(many, 'finding')} of the DTE (the first is {debts.frames.name(debts.first)}) the DCE did not do what it "
-        f"had to: it went on as if nothing was wrong. Then the DTE was probably right, and {reason}. "
-        "Data after such a finding is not counted, so the sums are too low."
+        f"had to: it went on as if nothing was wrong. Then the DTE was probably right, and the header is not that of the "
+        "interface. Data after such a finding is not counted, so the sums are too low."
     )
 
 
@@ -174,9 +178,9 @@ def trial(again: Again) -> str:
     return f"{tried} {again}" if isinstance(again, str) else f"x25trace {again['all']} | {tried}"
 
 
-def warnings(header: Numbers, codes: list[list[Any]], debts: Debts, has_gaps: bool = False) -> list[list[Any]]:
+def warnings(header: Numbers, codes: list[list[Any]], debts: Debts) -> list[list[Any]]:
     """Each doubt in a sentence, with the number of the header that may be wrong and values to try."""
     debts.end()
-    found = [*of_both_sides(header, codes), *of_debts(debts, has_gaps)]
+    found = [*of_both_sides(header, codes), *of_debts(debts)]
     doubts = [[sentence, name, greater(header, name)] for name, sentence in found]
     return doubts + [[sentence, name, smaller(header, name)] for name, sentence in of_unseen(header, debts)]

@@ -16,7 +16,7 @@ STEPS = (1, 5, 15, 60, 300, 900, 3600, 14_400, 86_400, 604_800)
 MOST_PARTS = 480
 # How a call ended whose last packet was not recorded.
 UNRECORDED = "not recorded"
-WAYS = ("T", "N", "collision", "restart", "open", UNRECORDED)
+WAYS = ("T", "N", "collision", "restart", "gap", "open", UNRECORDED)
 DATA_TRANSFER = frozenset(("data", "rr", "rnr"))
 
 
@@ -182,6 +182,11 @@ class Use:
         self.waits.see(row, key)
         if time is not None:
             self.windows.signal(row, time)
+
+    def miss(self, channel: int | None) -> None:
+        """Packets of a channel may be missing, or of all: nobody knows what they answered."""
+        self.waits.miss(channel)
+        self.windows.miss(channel)
 
     def finish(self) -> None:
         """The rows end."""

@@ -45,13 +45,19 @@ def of_halves(halves: Sequence[Half], counts: Sequence[int], has_wholes: bool) -
     return Verdict(BAD if blamed else UNKNOWN, f"{sentence}. {rest}")
 
 
-def verdict_of(packets: int, counts: Sequence[int], late: int, has_gaps: bool = False) -> Verdict:
+def rests_on(sentence: str, gaps: int) -> str:
+    """A sentence with what it rests on: what was recorded, where there are gaps."""
+    counted = f"{gaps:,} gap{'' if gaps == 1 else 's'}"
+    return f"{sentence.removesuffix('.')}, in what was recorded: {counted}." if gaps else sentence
+
+
+def verdict_of(packets: int, counts: Sequence[int], late: int, gaps: int = 0) -> Verdict:
     """What is said where both sides were recorded, perhaps with gaps; late are the requests that outlasted their timers."""
     if not packets:
         return Verdict(UNKNOWN, "The trace has no packets.")
     if blamed := blame(counts):
-        return Verdict(BAD, upper(blamed) + (" The recording has gaps, which may be why." if has_gaps else ""))
+        return Verdict(BAD, rests_on(upper(blamed), gaps))
     if late:
         noun = "request stayed open longer than its timer" if late == 1 else "requests stayed open longer than their timers"
-        return Verdict(UNKNOWN, f"No packet breaks the protocol, but {late:,} {noun}.")
-    return Verdict(GOOD, "No packet breaks the protocol.")
+        return Verdict(UNKNOWN, rests_on(f"No packet breaks the protocol, but {late:,} {noun}.", gaps))
+    return Verdict(GOOD, rests_on("No packet breaks the protocol.", gaps))

@@ -101,6 +101,13 @@ class Waits:
         for channel in [it for it in self.open if it is not None]:
             self.end(self.open.pop(channel), RESTARTED, time)
 
+    def miss(self, channel: int | None) -> None:
+        """Packets of a channel may be missing, or of all: what waits may have been answered, and counts no more."""
+        if channel is None:
+            self.open.clear()
+        else:
+            self.open.pop(channel, None)
+
     def finish(self, time: int | None) -> None:
         """The trace ends, and the last time of it is known."""
         for wait in self.open.values():

@@ -9,7 +9,7 @@ from operator import itemgetter
 from typing import Any
 
 from .evenly import Evenly
-from .rows import SECOND, SIDES, Row
+from .rows import ADRIFT, SECOND, SIDES, Row
 
 # So many times of a side are kept, evenly over the trace.
 MOST_TIMES = 1 << 18
@@ -64,10 +64,11 @@ class Direction:
 
     __slots__ = ("waiting", "edge", "window", "modulus", "is_not_ready", "closed", "longest", "spread", "key")
 
-    def __init__(self, window: int, modulus: int, spread: Spread, key: str) -> None:
+    def __init__(self, window: int, modulus: int, spread: Spread, key: str, edge: int | None = 0) -> None:
         # The packets that wait, with their times.
         self.waiting: deque[Pair] = deque()
-        self.edge, self.is_not_ready = 0, False
+        # The last P(R) of the other side, None where a gap hides it.
+        self.edge, self.is_not_ready = edge, False
         # The packet that closed the window, with its time; and the longest time, with the packets that began and ended it.
         self.closed: Pair | None = None
         self.longest: tuple[int, int, int | None] | None = None
@@ -76,6 +77,9 @@ class Direction:
     def acknowledge(self, receive: int, time: int) -> None:
         """P(R) of the other side acknowledges data."""
         waiting, spread = self.waiting, self.spread
+        if self.edge is None:
+            waiting.clear()
+            self.edge = receive
         for _ in range(min((receive - self.edge) % self.modulus, len(waiting))):
             packet, sent = waiting.popleft()
             spread.add(time - sent if time > sent else 0, packet, self.key)
@@ -102,8 +106,10 @@ class Flow:
 
     __slots__ = ("directions", "key")
 
-    def __init__(self, windows: Pair, modulus: int, spreads: tuple[Spread, Spread], key: str) -> None:
-        self.directions = [Direction(*each, key) for each in zip(windows, (modulus, modulus), spreads)]
+    def __init__(
+        self, windows: Pair, modulus: int, spreads: tuple[Spread, Spread], key: str, edge: int | None = 0,
+    ) -> None:
+        self.directions = [Direction(*each, key, edge) for each in zip(windows, (modulus, modulus), spreads)]
         self.key = key
 
     def data(self, side: int, sent: Pair, receive: int | None) -> None:
@@ -135,6 +141,8 @@ class Windows:
         self.flows: dict[int | None, Flow] = {}
         # The windows that a call agreed on, by its channel: of the DTE's data and of the DCE's.
         self.agreed: dict[int | None, Pair] = {}
+        # The channels whose numbers a gap hid since they began.
+        self.unsure: set[int | None] = set()
         self.spreads = (Spread(), Spread())
         self.closed: list[tuple[int, int, list[Any]]] = []
         self.left_out = 0
@@ -152,7 +160,8 @@ class Windows:
         flow = self.flows.get(channel)
         if flow is None:
             windows = self.agreed.get(channel, self.standard)
-            flow = self.flows[channel] = Flow(windows, self.modulus, self.spreads, key)
+            edge = None if channel in self.unsure else 0
+            flow = self.flows[channel] = Flow(windows, self.modulus, self.spreads, key, edge)
         return flow
 
     def signal(self, row: Row, time: int) -> None:
@@ -162,7 +171,11 @@ class Windows:
                 for channel in list(self.flows):
                     self.end(channel, time)
                 self.agreed.clear()
+                self.unsure.clear()
             return
+        if row.before != row.after:
+            # A channel that was settled has the numbers of its data, and one that was reset begins anew.
+            (self.unsure.add if row.before == ADRIFT else self.unsure.discard)(row.channel)
         if row.before != row.after and row.channel in self.flows:
             self.end(row.channel, time)
         if row.kind in OPENING and not row.code:
@@ -178,6 +191,13 @@ class Windows:
         is_calling = row.kind in ("call_request", "call_connected")
         dte, dce = ("calling", "called") if is_calling else ("called", "calling")
         self.agreed[row.channel] = (windows[dte], windows[dce])
+
+    def miss(self, channel: int | None) -> None:
+        """Packets of a channel may be missing, or of all: a window that is closed may have been opened by one."""
+        for each in list(self.flows) if channel is None else self.flows.keys() & {channel}:
+            for direction in self.flows[each].directions:
+                direction.closed = None
+            self.end(each, 0)
 
     def end(self, channel: int | None, time: int) -> None:
         """The flow of a channel ends: what was closed stays so until now."""

@@ -50,14 +50,15 @@ class Header:
     two_way: int
     outgoing: int
     join: bool
-    second_form: bool
+    # The form of the line: 2 has one-way channels, and 3 has JOIN and gap rows too.
+    form: int
 
     def line(self) -> str:
         start = f"MOD {self.modulus} WIN {self.window} SIZE {self.size} PVC {self.permanent}"
-        if not self.second_form:
+        if self.form == 1:
             return f"X25 1 {start} SVC {self.outgoing}"
         join = " JOIN" if self.join else ""
-        return f"X25 2 {start} IN {self.incoming} TWO {self.two_way} OUT {self.outgoing}{join}"
+        return f"X25 {self.form} {start} IN {self.incoming} TWO {self.two_way} OUT {self.outgoing}{join}"
 
     def fault(self) -> str | None:
         """What x25scan would refuse, or None."""

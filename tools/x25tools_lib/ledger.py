@@ -26,6 +26,7 @@ class Reason(enum.Enum):
     PVC_SETUP = ("XOT set-ups of permanent circuits", False)
 
     BAD_FILE = ("damages of the file", True)
+    DROPPED = ("frames that were dropped, as the capture says", True)
     BAD_LINE = ("lines of the hex dump that cannot be read", True)
     UNKNOWN_LINK = ("frames of an unknown link type", True)
     BAD_HEADER = ("frames whose headers are cut or contradict themselves", True)
@@ -125,14 +126,6 @@ class Ledger:
         """Whether no packet may be missing."""
         return not self.halves and not any(reason.damage for reason in self.counts)
 
-    @property
-    def has_gaps(self) -> bool:
-        """Whether octets of a connection or frames of a link were not recorded."""
-        return bool(self.counts[Reason.GAP] or self.counts[Reason.LOST_FRAME])
-
     def lines(self) -> list[str]:
-        """The counts, a line each, in the order of the reasons, and what gaps mean."""
-        lines = [f"left out: {reason.words}: {self.counts[reason]}" for reason in Reason if self.counts[reason]]
-        if self.has_gaps:
-            lines.append("the trace has gaps: findings after one may come from packets that were not recorded")
-        return lines
+        """The counts, a line each, in the order of the reasons."""
+        return [f"left out: {reason.words}: {self.counts[reason]}" for reason in Reason if self.counts[reason]]

@@ -116,7 +116,8 @@ def header_words(group: argparse._ArgumentGroup) -> None:
     group.add_argument("--two", dest="two_way", metavar="N", type=channel, help="the last two-way channel")
     group.add_argument("--out", dest="outgoing", metavar="N", type=last, help="the last channel for outgoing calls")
     join = group.add_mutually_exclusive_group()
-    join.add_argument("--join", action="store_true", default=None, help="the recording began in the middle")
+    join.add_argument("--join", action="store_true", default=None, help="the recording began in the middle, so no channel is known; by default a "
+                      "first packet that is no restart says so of a line, and of XOT each connection without its opening")
     join.add_argument("--no-join", dest="join", action="store_false", help="all channels were fresh when it began")
 
 

@@ -10,7 +10,7 @@ from x25tools_lib.ledger import Ledger, Reason, Topic
 from x25tools_lib.refusals import Refusal, Why
 from x25tools_lib.streams import Interrupted, Waiting, is_pipe, open_input, shown_name
 
-from .frames import Frame
+from .frames import Dropped, Frame
 from .hexdump import HexDump, is_dump
 from .passing import is_next
 from .pcap import MAGICS, Pcap
@@ -122,8 +122,8 @@ class Captures:
         # The time of the last frame that was read, where the capture says it.
         self.time: int | None = None
 
-    def frames(self) -> Iterator[Frame]:
-        """The frames of all files, up to an interruption."""
+    def frames(self) -> Iterator[Frame | Dropped]:
+        """The frames of all files, up to an interruption, and where some were dropped."""
         try:
             if self.several:
                 self.check()
@@ -144,7 +144,7 @@ class Captures:
                 with open_input(name) as stream:
                     form_of(Source(stream, self.waiting, shown_name(name), False), self.kinds)
 
-    def frames_of(self, name: str) -> Iterator[Frame]:
+    def frames_of(self, name: str) -> Iterator[Frame | Dropped]:
         with self.opened(name) as form:
             frame, before = None, self.time
             for frame in form.frames():

@@ -15,8 +15,9 @@ from x25tools_lib.halves import Halves
 from x25tools_lib.refusals import Refusal, Why
 from x25tools_lib.scanner import SCANNER
 
+from . import spool
 from .captures import Captures
-from .frames import Direction
+from .frames import Direction, Dropped
 from .pcap import Pcap
 from .pcapng import CHECK_LENGTH, FLAGS, TIME_RESOLUTION, Block, Pcapng
 from .snoop import Snoop
@@ -25,6 +26,7 @@ from .snoop import Snoop
 Comments = dict[int, list[str]]
 FINDING = re.compile(r"#! (F (\d+) .*)")
 CALL = re.compile(r"# (Call \d+, \w+ on logical channel (\d+): .*\bopened by packet (\d+)\b.*)")
+GAP = re.compile(r"# (a gap: .*)")
 PACKET = re.compile(r"(?:\bpacket |(?<=\bup with )|(?<=\bended with ))(\d+)\b")
 LEFT_OUT = "what x25scan finds of it is left out"
 # A comment's length has two octets.
@@ -59,16 +61,17 @@ def named(words: str, frames: Frames) -> str:
 def comments_of(lines: Iterable[str], halves: Halves) -> Comments:
     """The comments by frame, from the lines of an annotated trace."""
     frames, comments = Frames(), defaultdict[int, list[str]](list)
-    first, channel, frame = 0, 0, None
+    first, row, channel, frame = 0, 0, 0, None
 
     def add(packet: int, words: str) -> None:
         comments[frames.of(packet) or packet].append(f"x25scan: {words}")
 
     for line in lines:
         if line[0].isdigit():
-            number, _, octets = line.split(" ")
-            first, channel = first or int(number), int(octets[1:4], 16) if len(octets) > 4 else 0
-            frames.add(int(number), frame)
+            number, side, octets = line.split(" ")
+            row = int(number)
+            first, channel = first or row, int(octets[1:4], 16) if len(octets) > 4 and side != spool.GAP else 0
+            frames.add(row, frame)
         elif match := FINDING.match(line):
             packet = int(match[2])
             if not halves.side(channel, packet):
@@ -77,6 +80,8 @@ def comments_of(lines: Iterable[str], halves: Halves) -> Comments:
         elif match := CALL.match(line):
             if not halves.side(int(match[2]), int(match[3])):
                 add(int(match[3]), named(match[1], frames))
+        elif match := GAP.match(line):
+            add(row, match[1])
         elif line.startswith(notes.RECORDED_AT):
             frame = notes.frame_of(line)
     for row, words in halves.sentences(first):
@@ -174,6 +179,8 @@ def of_records(form: Pcap | Snoop, comments: Comments) -> Generator[bytes, None,
     yield section("<")
     yield block("<", Block.INTERFACE, struct.pack("<HHI", form.link, 0, form.snap) + options + END)
     for frame in form.frames():
+        if isinstance(frame, Dropped):
+            continue
         octets, length = form.recorded
         units = frame.time // 10 ** (9 - decimals)
         head = struct.pack("<IIIII", 0, units >> 32, units & 0xFFFFFFFF, len(octets), length)

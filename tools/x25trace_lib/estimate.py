@@ -9,7 +9,7 @@ from x25tools_lib.refusals import Refusal, Why
 from x25tools_lib.sides import Side
 
 from .evidence import Evidence
-from .packets import MODULI, PACKET_SIZES, SET_UP, WINDOWS, Type, channel_of, facilities_of
+from .packets import MODULI, PACKET_SIZES, SET_UP, WINDOWS, Missing, Type, channel_of, facilities_of
 from .xot import Circuit
 
 STANDARD_SIZE = 128
@@ -44,6 +44,8 @@ class Estimator:
         # Channels of a line with calls, and with data where no call is known of.
         self.with_calls: set[int] = set()
         self.with_data: set[int] = set()
+        # Those of which packets are missing, perhaps calls.
+        self.with_gaps: set[int] = set()
 
     def see(self, key: int, known: bool, side: Side, octets: bytes, line: bool) -> None:
         """A packet of a channel; known says that its state was known from its beginning."""
@@ -77,10 +79,16 @@ class Estimator:
         """A circuit has no more packets."""
         self.seen.pop(circuit.number, None)
 
-    def miss(self, key: int) -> None:
-        """Packets of the channel are missing: what they acknowledged is not known, and data may flow."""
-        seen = self.seen.get(key)
-        if seen:
+    def miss(self, missing: Missing) -> None:
+        """Packets are missing: what they acknowledged is not known, and data may flow."""
+        key = missing.circuit.number if missing.circuit else missing.channel
+        if key is None:
+            # A restart may be among them.
+            self.restarted = False
+        elif not missing.circuit:
+            self.highest = max(self.highest, key)
+            self.with_gaps.add(key)
+        for seen in self.seen.values() if key is None else filter(None, (self.seen.get(key),)):
             seen.flows = True
             seen.edges = dict.fromkeys(Side)
 
@@ -88,12 +96,13 @@ class Estimator:
         if kind == Type.RESTART:
             self.restarted = True
             self.seen.clear()
+            self.with_gaps.clear()
 
     def line_channel(self, channel: int, kind: int) -> None:
         self.highest = max(self.highest, channel)
         if kind in SET_UP:
             self.with_calls.add(channel)
-        elif self.restarted:
+        elif self.restarted and channel not in self.with_gaps:
             self.with_data.add(channel)
 
     def data(self, seen: Seen, side: Side, octets: bytes, modulus: int) -> None:
@@ -146,7 +155,7 @@ class Estimator:
         return max((channel for channel in self.with_data if channel < first_call), default=0)
 
 
-def header_of(wishes: Wishes, estimator: Estimator, permanent: int, highest: int, join: bool) -> Header:
+def header_of(wishes: Wishes, estimator: Estimator, permanent: int, highest: int, join: bool, has_gaps: bool) -> Header:
     """The header: options first, then what was seen."""
     join = wishes.join if wishes.join is not None else join
     permanent = wishes.permanent if wishes.permanent is not None else permanent
@@ -162,7 +171,7 @@ def header_of(wishes: Wishes, estimator: Estimator, permanent: int, highest: int
         two_way=two_way,
         outgoing=last,
         join=join,
-        second_form=join or wishes.one_way,
+        form=3 if join or has_gaps else 2 if wishes.one_way else 1,
     )
     if wishes.window is None:
         header.window = min(header.window, header.modulus - 1)
@@ -189,6 +198,6 @@ def estimates(wishes: Wishes, header: Header, evidence: Evidence) -> list[Estima
         "WIN": (wishes.window, header.window, evidence.source("WIN")),
         "SIZE": (wishes.size, header.size, evidence.source("SIZE")),
         "PVC": (wishes.permanent, header.permanent, "channels with data and no call"),
-        "OUT" if header.second_form else "SVC": (last, header.outgoing, "the channels used"),
+        "SVC" if header.form == 1 else "OUT": (last, header.outgoing, "the channels used"),
     }
     return [Estimate(name, value, why) for name, (wish, value, why) in words.items() if wish is None]

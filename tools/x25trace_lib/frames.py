@@ -23,6 +23,19 @@ KINDS_OF_PACKET = {
 
 
 @dataclass(slots=True)
+class Dropped:
+    """A place where the capture says that so many frames were dropped: before a frame, or after the last one so far.
+
+    There are 0 where the file is damaged, and some may be missing.
+    """
+
+    number: int
+    time: int | None
+    many: int
+    interface: int = 0
+
+
+@dataclass(slots=True)
 class Frame:
     """One frame: its number as Wireshark counts, its link type, what was kept of it and how long it was."""
 

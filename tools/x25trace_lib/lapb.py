@@ -6,7 +6,8 @@ What the recorder knows of one direction, on the circle of the sequence numbers:
     .....|#################|.......
            repeats           held: either the receiver refuses them, or frames before them were not recorded
 
-An N(R) of the other side beyond next shows that the receiver took frames that were not recorded.
+An N(R) of the other side beyond next shows that the receiver took frames that were not recorded: packets of any channel
+may be missing there.
 """
 from __future__ import annotations
 
@@ -19,7 +20,7 @@ from x25tools_lib.ledger import Ledger, Reason, Topic
 from x25tools_lib.sides import Side
 
 from .frames import Direction, Frame
-from .packets import Packet
+from .packets import Item, Missing, Packet, left_out
 
 COMMAND_SIDES = {0x01: Side.T, 0x03: Side.N}
 RESPONSE_SIDES = {0x03: Side.T, 0x01: Side.N}
@@ -98,12 +99,15 @@ def kind_of(octets: bytes) -> str | None:
 
 @dataclass(slots=True)
 class Held:
-    """What an I frame carries: the octets of its packet, None where the recorder cut them."""
+    """What an I frame carries: the octets of its packet, and whether the recorder cut them."""
 
     frame: int
     side: Side
-    octets: bytes | None
+    octets: bytes
+    is_cut: bool
     time: int | None
+    # How many gaps of the link were told before it came.
+    gaps: int
 
 
 @dataclass(slots=True)
@@ -116,6 +120,19 @@ class Way:
     # Whether a frame of its sender was recorded, and whether some of its I frames surely were not.
     is_seen: bool = False
     is_missed: bool = False
+    # Whether it isn't sure where the frames held belong.
+    is_doubtful: bool = False
+    # The last frame of each number, and whether all since the link was set up are there.
+    sent: dict[int, Held] = field(default_factory=dict)
+    is_set_up: bool = False
+
+    def is_same(self, send: int, packet: Held) -> bool:
+        """Whether a frame that comes again with a number may be the last one that had it: it carries the same packet."""
+        last = self.sent.get(send)
+        if last is None:
+            return not self.is_set_up
+        length = min(len(last.octets), len(packet.octets)) if last.is_cut or packet.is_cut else None
+        return last.octets[:length] == packet.octets[:length]
 
     @property
     def following(self) -> int:
@@ -138,6 +155,7 @@ class Lapb:
         self.swapped = swapped and not by_direction
         self.host_known = by_direction
         self.contradictions = 0
+        self.gaps = 0
         self.ways = {side: Way() for side in Side}
 
     def directed(self, direction: Direction) -> Side | None:
@@ -160,8 +178,8 @@ class Lapb:
     def named(self, side: Side) -> Side:
         return side.other if self.swapped else side
 
-    def take(self, frame: Frame, octets: bytes, cut: bool) -> Sequence[Packet]:
-        """The packets that a frame of address, control and information gives."""
+    def take(self, frame: Frame, octets: bytes, cut: bool) -> Sequence[Item]:
+        """The packets that a frame of address, control and information gives, and the gaps between them."""
         wide = self.modulus == 128
         if len(octets) < 2 or wide and octets[1] & 3 != 3 and len(octets) < 3:
             self.ledger.damaged(Reason.BAD_HEADER, f"frame {frame.number}: its LAPB header is cut")
@@ -172,8 +190,7 @@ class Lapb:
         control = octets[1]
         if control & 3 == 3:
             self.ledger.left_out(Reason.LINK_FRAME)
-            self.unnumbered(frame, octets[0], control & ~POLL)
-            return ()
+            return self.unnumbered(frame, octets[0], control & ~POLL)
         receive = octets[2] >> 1 if wide else control >> 5
         if control & 1:
             self.ledger.left_out(Reason.LINK_FRAME)
@@ -181,28 +198,36 @@ class Lapb:
             return self.supervisory(frame, octets, receive, final)
         send = control >> 1 if wide else control >> 1 & 7
         side = self.side(COMMAND_SIDES, octets[0], frame.direction)
-        before: Sequence[Packet] = ()
+        before: Sequence[Item] = ()
         if receive != self.ways[side.other].acknowledged:
-            before = self.acknowledge(frame.number, side.other, receive, True)
-        packet = Held(frame.number, self.named(side), None if cut else octets[3 if wide else 2:], frame.time)
-        packets = self.information(side, send, packet)
+            before = self.acknowledge(frame, side.other, receive, True)
+        packet = Held(frame.number, self.named(side), octets[3 if wide else 2:], cut, frame.time, self.gaps)
+        packets = self.information(frame, side, send, packet)
         return [*before, *packets] if before else packets
 
-    def unnumbered(self, frame: Frame, address: int, kind: int) -> None:
-        """A frame that sets up the link begins its numbers anew; each such frame is reported."""
+    def unnumbered(self, frame: Frame, address: int, kind: int) -> Sequence[Item]:
+        """A frame that sets up the link begins its numbers anew; each such frame is reported.
+
+        Frames that were held may have been taken, with those before them.
+        """
         if kind not in NAMES:
-            return
+            return ()
         side = self.side(COMMAND_SIDES if kind in COMMANDS else RESPONSE_SIDES, address, frame.direction)
         self.ways[side].is_seen = True
         self.ledger.report(Topic.LINK_FRAME, f"frame {frame.number}: {NAMES[kind]} of {self.named(side).name}")
         if kind in (Unnumbered.SABM, Unnumbered.SABME) and self.given is None:
             self.modulus = self.circle = 8 if kind == Unnumbered.SABM else 128
-        if kind in (Unnumbered.SABM, Unnumbered.SABME, Unnumbered.UA):
-            for way in self.ways.values():
-                self.drop_held(way)
-                way.next = way.acknowledged = 0
+        if kind not in (Unnumbered.SABM, Unnumbered.SABME, Unnumbered.UA):
+            return ()
+        is_held = any(way.held for way in self.ways.values())
+        for way in self.ways.values():
+            self.drop_held(way)
+            way.next = way.acknowledged = 0
+            way.sent.clear()
+            way.is_set_up = True
+        return [self.gap(frame.number, frame.time)] if is_held else ()
 
-    def supervisory(self, frame: Frame, octets: bytes, receive: int, final: int) -> Sequence[Packet]:
+    def supervisory(self, frame: Frame, octets: bytes, receive: int, final: int) -> Sequence[Item]:
         """An RR, RNR or REJ. Without a direction it may be a command or a response; then it proves no loss."""
         side = self.directed(frame.direction)
         proves = side is not None
@@ -216,15 +241,20 @@ class Lapb:
             # What is rejected was sent before, so this N(R) is for frames before the next one.
             way.acknowledged = receive
             return ()
-        return self.acknowledge(frame.number, side.other, receive, proves)
+        if octets[1] & 0x0F == REJECT and way.next == receive:
+            # All that is held was refused, and comes again.
+            self.drop_held(way)
+        return self.acknowledge(frame, side.other, receive, proves)
 
-    def acknowledge(self, number: int, side: Side, receive: int, proves: bool) -> Sequence[Packet]:
+    def acknowledge(self, frame: Frame, side: Side, receive: int, proves: bool) -> Sequence[Item]:
         """Takes an N(R) for the frames of a side; beyond the next one it proves that frames were not recorded."""
         way = self.ways[side]
         if way.next is None:
-            way.is_missed |= way.acknowledged not in (None, receive)
-            way.acknowledged = receive
-            return ()
+            before, way.acknowledged = way.acknowledged, receive
+            if before in (None, receive):
+                return ()
+            self.lose(frame, side, receive, (receive - before) % self.circle)
+            return [self.gap(frame.number, frame.time)]
         if way.acknowledged is None:
             # Where recording began in the middle a first N(R) may be for frames before; not for one that is held.
             beyond = (receive - 1) % self.circle in way.held
@@ -235,46 +265,87 @@ class Lapb:
         if inside:
             way.acknowledged = receive
         elif proves:
-            return self.catch_up(number, side, way, receive)
+            return self.catch_up(frame, side, way, receive)
         return ()
 
-    def catch_up(self, number: int, side: Side, way: Way, receive: int) -> Sequence[Packet]:
+    def catch_up(self, frame: Frame, side: Side, way: Way, receive: int) -> Sequence[Item]:
         """Goes on to the frame that the receiver waits for: those held are given out, the others are lost."""
-        lost, packets = 0, list[Packet]()
+        lost, items, before = 0, list[Item](), self.gaps
+        is_missing = is_doubtful = way.is_doubtful
         while way.next != receive:
             packet = way.held.pop(way.following, None)
             if packet is None:
-                lost += 1
+                lost, is_missing = lost + 1, True
             else:
-                packets += self.given_out(packet)
+                # A gap of the other side that came between two held ones is between them here too.
+                if is_missing or packet.gaps > before:
+                    items.append(self.gap(packet.frame, packet.time))
+                items += self.given_out(packet)
+                is_missing, before = False, packet.gaps
             way.next = (way.following + 1) % self.circle
         way.acknowledged = receive
         if lost:
-            way.is_missed = True
-            words = f"{lost} I frames of {self.named(side).name} before N(S) {receive} were not recorded"
-            self.ledger.damaged(Reason.LOST_FRAME, f"frame {number}: {words}, but acknowledged", lost)
-        return packets
+            self.lose(frame, side, receive, lost)
+        way.is_doubtful &= bool(way.held)
+        if is_missing or is_doubtful:
+            items.append(self.gap(frame.number, frame.time))
+        return items
 
-    def information(self, side: Side, send: int, packet: Held) -> Sequence[Packet]:
+    def gap(self, frame: int, time: int | None) -> Missing:
+        """A gap of all channels."""
+        self.gaps += 1
+        return Missing(frame, time)
+
+    def lose(self, frame: Frame, side: Side, receive: int, lost: int) -> None:
+        """Reports frames of a side that were not recorded."""
+        self.ways[side].is_missed = True
+        words = f"{lost} I frames of {self.named(side).name} before N(S) {receive} were not recorded"
+        self.ledger.damaged(Reason.LOST_FRAME, f"frame {frame.number}: {words}, but acknowledged", lost)
+
+    def information(self, frame: Frame, side: Side, send: int, packet: Held) -> Sequence[Item]:
         """An I frame: the next one, one that repeats, or one to hold."""
-        way, packets = self.ways[side], tuple[Packet, ...]()
+        way, packets = self.ways[side], tuple[Item, ...]()
         way.is_seen = True
-        if way.held and len(way.held) == self.circle - 2 and (send + 1 - way.following) % self.circle == 0:
-            # No window reaches so far: the receiver must have acknowledged the frame that is next.
-            packets = tuple(self.catch_up(packet.frame, side, way, send))
-        if way.next is None or send == way.next:
-            # A held one with this number was not taken, so it came again; those behind it may have been.
-            if way.held:
-                self.ledger.left_out(Reason.UNTAKEN_FRAME, way.held.pop(send, None) is not None)
-            way.next = (send + 1) % self.circle
-            return [*packets, *self.given_out(packet)] if packets else self.given_out(packet)
-        if self.repeats(way, send):
-            self.ledger.left_out(Reason.REPEATED_FRAME)
-        elif send not in way.held:
+        if way.next not in (None, send):
+            is_held = send in way.held
+            if is_held or self.repeats(way, send):
+                if way.is_same(send, packet):
+                    self.ledger.left_out(Reason.UNTAKEN_FRAME if is_held else Reason.REPEATED_FRAME)
+                    return ()
+                # All numbers passed since that one: those held were taken, and the others are missing.
+                packets = (*self.catch_up(frame, side, way, (send + is_held) % self.circle),)
+                packets += (*self.catch_up(frame, side, way, send),)
+        way.sent[send] = packet
+        if way.next is not None and (send != way.next or send != way.acknowledged) and self.reaches(way, send):
+            packets += (*self.catch_up(frame, side, way, self.taken(way, send)),)
+        if way.next not in (None, send):
             way.held[send] = packet
-        else:
-            self.ledger.left_out(Reason.UNTAKEN_FRAME)
-        return packets
+            return packets
+        if way.held:
+            # They were refused, or taken, or a whole modulus of frames passed since they came.
+            packets = (*packets, self.gap(packet.frame, packet.time))
+            way.is_doubtful = True
+        way.next = (send + 1) % self.circle
+        return [*packets, *self.given_out(packet)] if packets else self.given_out(packet)
+
+    def reaches(self, way: Way, send: int) -> bool:
+        """Whether a new frame shows that the one that is next was taken.
+
+        No window reaches to all numbers: the sender had an N(R) that lets it go so far, which may not have been recorded.
+        """
+        least, after = (send + 2) % self.circle, (send - way.following) % self.circle + 2
+        if after > self.circle:
+            return True
+        if way.acknowledged is not None and after + (way.following - way.acknowledged) % self.circle > self.circle:
+            way.acknowledged = least
+        return False
+
+    def taken(self, way: Way, send: int) -> int:
+        """Up to which number frames were taken before such a frame: those that follow, and were recorded, too."""
+        number = (send + 2) % self.circle
+        while number in way.held:
+            number = (number + 1) % self.circle
+        return number
 
     def repeats(self, way: Way, send: int) -> bool:
         """Whether N(S) is one that was taken: not acknowledged yet, or just before those, where no window reaches."""
@@ -295,13 +366,15 @@ class Lapb:
         if way.held:
             self.ledger.left_out(Reason.UNTAKEN_FRAME, len(way.held))
             way.held.clear()
+            way.is_doubtful = False
 
-    def given_out(self, packet: Held) -> Sequence[Packet]:
-        """A packet as the receiver took it, none where the recorder cut it."""
-        if packet.octets is None:
+    def given_out(self, packet: Held) -> Sequence[Item]:
+        """A packet as the receiver took it, a gap where the recorder cut it."""
+        if packet.is_cut:
             words = f"frame {packet.frame}: an I frame of {packet.side.name} that was cut off"
             self.ledger.damaged(Reason.CUT_PACKET, words)
-            return ()
+            self.gaps += 1
+            return (left_out(packet.frame, packet.time, packet.octets),)
         return (Packet(packet.frame, packet.side, packet.octets, None, packet.time),)
 
     def end(self) -> None:

@@ -13,40 +13,45 @@ from x25tools_lib.sides import Side
 from .channels import Channels
 from .estimate import Estimator, header_of
 from .halves import halves_of
-from .frames import Frame
-from .packets import LONGEST, Packet, Type, channel_of
+from .frames import Dropped, Frame
+from .packets import LONGEST, Missing, Packet, Type, channel_of, without
 from .reading import Reading
-from .spool import LAST_NUMBER, Rows, on_channel
+from .spool import LAST_NUMBER, Rows, gap_words, on_channel
 from .trace import LARGEST_TEXT
 from .xot import Circuit
 
 
 class Live:
-    """A trace on its way out. Comments before the first packet wait for it: without one there is no trace."""
+    """A trace on its way out. Comments and gaps before the first packet wait for it: without one there is no trace."""
 
     def __init__(self, ledger: Ledger, reading: Reading, wishes: Wishes, has_comments: bool) -> None:
         self.ledger, self.reading, self.wishes = ledger, reading, wishes
-        self.header = header_of(wishes, Estimator(), 0, 0, False)
+        # Gaps may come.
+        self.header = header_of(wishes, Estimator(), 0, 0, False, True)
         self.channels = Channels(self.header)
         self.rows = Rows(True, has_comments)
         self.carrier: Carrier | None = None
         self.out: TextIO | None = None
-        self.waiting: list[str] = []
+        self.waiting: list[str | tuple[Carrier | None, Missing]] = []
         self.sides: set[Side] = set()
         self.size = 0
         reading.xot.on_end = self.release
         ledger.keep = self.note
 
-    def write(self, frames: Iterable[Frame], name: str, out: TextIO) -> None:
+    def write(self, frames: Iterable[Frame | Dropped], name: str, out: TextIO) -> None:
         """Writes the whole trace, as its frames come."""
-        self.waiting.append(comment(f"from {name} by x25trace, as its frames come; a row has the number of its frame"))
+        start = comment(f"from {name} by x25trace, as its frames come; a row has the number of its frame")
         for carrier, packet in self.reading.packets(frames):
+            if isinstance(packet, Missing):
+                self.miss(carrier, packet)
+                continue
             if len(packet.octets) > LONGEST:
                 words = f"frame {packet.frame}: a packet of {len(packet.octets)} octets"
                 self.ledger.damaged(Reason.LONG_PACKET, words)
+                self.miss(carrier, without(packet))
                 continue
             if self.carrier is None:
-                self.begin(carrier, packet, out)
+                self.begin(carrier, packet, out, start)
             if carrier is not self.carrier:
                 self.ledger.left_out(Reason.SECOND_CARRIER)
             else:
@@ -59,20 +64,22 @@ class Live:
         for words in self.ledger.lines():
             self.put(comment(words))
 
-    def begin(self, carrier: Carrier, packet: Packet, out: TextIO) -> None:
-        """Writes the header. On a line a restart shows the beginning; with XOT other connections may be open."""
+    def begin(self, carrier: Carrier | None, packet: Packet, out: TextIO, start: str) -> None:
+        """Writes the header, after a comment. On a line a restart shows the beginning, with XOT each connection does."""
         self.carrier, self.out = carrier, out
         if self.wishes.join is None:
             octets = packet.octets
             restarts = len(octets) >= 3 and octets[2] == Type.RESTART and not channel_of(octets)
-            self.header.join = carrier is Carrier.XOT or not restarts
+            self.header.join = carrier is not Carrier.XOT and not restarts
         else:
             self.header.join = self.wishes.join
-        self.header.second_form = self.header.join or self.wishes.one_way
-        self.put(self.waiting[0])
+        self.put(start)
         self.put(self.header.line() + "\n")
-        for line in self.waiting[1:]:
-            self.put(line)
+        for line in self.waiting:
+            if isinstance(line, str):
+                self.put(line)
+            else:
+                self.write_gap(*line)
 
     def put(self, line: str) -> None:
         """Writes a line."""
@@ -90,6 +97,37 @@ class Live:
         else:
             self.put(comment(words))
 
+    def miss(self, carrier: Carrier | None, missing: Missing) -> None:
+        """Writes a gap row, or keeps it until there is a packet. Options say whether there is one before the beginning."""
+        if missing.is_beginning and self.wishes.join is not None:
+            return
+        if self.out is None:
+            self.waiting.append((carrier, missing))
+        else:
+            self.write_gap(carrier, missing)
+
+    def write_gap(self, carrier: Carrier | None, missing: Missing) -> None:
+        """Writes a gap row, of a circuit after the comment on it where that has no row yet."""
+        circuit, channel = missing.circuit, missing.channel
+        if carrier not in (None, self.carrier):
+            return
+        if circuit is not None:
+            self.begin_circuit(circuit)
+            channel = circuit.channel
+            if channel is None:
+                return
+        elif channel is not None and channel > self.header.outgoing:
+            channel = None
+        self.put_row(missing.frame, gap_words(channel), missing.time)
+
+    def put_row(self, frame: int, words: str, time: int | None) -> bool:
+        """Writes a row; whether a number was left for it."""
+        if self.rows.number >= LAST_NUMBER:
+            return False
+        self.rows.by_frames = frame <= LAST_NUMBER
+        self.put(self.rows.row(frame, words, time_text(time)))
+        return True
+
     def write_row(self, packet: Packet) -> None:
         """Writes the row of a packet."""
         circuit, side = packet.circuit, packet.side
@@ -98,21 +136,20 @@ class Live:
         if circuit is not None:
             if not circuit.both and side is not circuit.side:
                 circuit.see(side)
-            if circuit.rows == 0:
-                self.give_channel(circuit)
+            self.begin_circuit(circuit)
             circuit.rows += 1
             if circuit.channel is None:
                 self.ledger.left_out(Reason.NO_CHANNEL)
                 return
             words = on_channel(words, circuit.channel)
-        if self.rows.number >= LAST_NUMBER:
+        if not self.put_row(packet.frame, words, packet.time):
             self.ledger.left_out(Reason.LATE_ROW)
-            return
-        self.rows.by_frames = packet.frame <= LAST_NUMBER
-        self.put(self.rows.row(packet.frame, words, time_text(packet.time)))
 
-    def give_channel(self, circuit: Circuit) -> None:
+    def begin_circuit(self, circuit: Circuit) -> None:
         """Gives a circuit its channel before its first row, and says which."""
+        if circuit.begun:
+            return
+        circuit.begun = True
         if self.channels.give(circuit):
             self.put(comment(circuit.shown_words()))
         else:

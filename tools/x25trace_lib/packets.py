@@ -48,12 +48,41 @@ class Packet:
     octets: bytes
     circuit: Circuit | None = None
     time: int | None = None
-    # Whether packets of the circuit before it are missing.
-    misses: bool = False
+
+
+@dataclass(slots=True)
+class Missing:
+    """A place where packets may be missing: of an XOT circuit, of a channel of a line, or, where both are None, of all.
+
+    The frame is the one that shows it, or the last one before.
+    """
+
+    frame: int
+    time: int | None
+    circuit: Circuit | None = None
+    channel: int | None = None
+    # Whether it is what a circuit had before the recording began.
+    is_beginning: bool = False
+
+
+# What comes out of a capture, in its order.
+Item = Packet | Missing
 
 
 def channel_of(octets: bytes) -> int:
     return (octets[0] & 15) << 8 | octets[1]
+
+
+def left_out(frame: int, time: int | None, octets: bytes) -> Missing:
+    """The place of a packet of a line that is left out: on the channel that its octets show, else on any."""
+    return Missing(frame, time, None, channel_of(octets) or None if len(octets) >= 2 else None)
+
+
+def without(packet: Packet) -> Missing:
+    """The place of a packet that is left out."""
+    if packet.circuit:
+        return Missing(packet.frame, packet.time, packet.circuit)
+    return left_out(packet.frame, packet.time, packet.octets)
 
 
 # What the general format identifier says of the modulus.

@@ -12,7 +12,7 @@ from x25tools_lib.ledger import Ledger, Reason
 from x25tools_lib.notes import SECOND
 from x25tools_lib.refusals import Refusal, Why
 
-from .frames import KINDS_OF_PACKET, Direction, Frame
+from .frames import KINDS_OF_PACKET, Direction, Dropped, Frame
 from .source import Source
 
 FILE_HEADER = 24
@@ -68,7 +68,7 @@ class Pcap:
                 return self.header_size
         return sizes[0]
 
-    def frames(self) -> Iterator[Frame]:
+    def frames(self) -> Iterator[Frame | Dropped]:
         read, unpack, largest = self.source.read, self.record.unpack_from, self.largest
         size, nanoseconds = self.header_size, SECOND // self.parts
         while True:
@@ -80,6 +80,7 @@ class Pcap:
             if kept > largest:
                 self.source.unread(header)
                 self.seek(f"a record of {kept} octets")
+                yield Dropped(self.number + 1, None, 0)
                 continue
             octets = read(kept)
             self.number += 1

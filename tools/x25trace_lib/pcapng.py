@@ -10,7 +10,7 @@ from x25tools_lib.ledger import Ledger, Reason
 from x25tools_lib.notes import SECOND
 from x25tools_lib.refusals import Refusal, Why
 
-from .frames import Direction, Frame
+from .frames import Direction, Dropped, Frame
 from .source import Source
 
 MAGIC = b"\x0a\x0d\x0d\x0a"
@@ -18,8 +18,10 @@ ORDERS = {b"\x1a\x2b\x3c\x4d": ">", b"\x4d\x3c\x2b\x1a": "<"}
 SMALLEST = 12
 LARGEST = 1 << 24
 WINDOW = 1 << 20
-# Options of an enhanced block, and of an interface's description.
+# Options of an enhanced block, of an interface's statistics, and of its description.
 FLAGS = 2
+DROP_COUNT = 4
+DROPPED_BY_INTERFACE, DROPPED_BY_SYSTEM = 5, 7
 TIME_RESOLUTION = 9
 CHECK_LENGTH = 13
 TIME_OFFSET = 14
@@ -42,6 +44,8 @@ class Block(enum.IntEnum):
 
 
 KNOWN = frozenset(Block)
+# What an obsolete block has where it doesn't know how many frames were dropped.
+UNKNOWN_DROPS = 0xFFFF
 DIRECTIONS = {0: Direction.UNKNOWN, 1: Direction.RECEIVED, 2: Direction.SENT, 3: Direction.UNKNOWN}
 
 
@@ -55,6 +59,8 @@ class Interface:
     # How many units of its timestamps a second has, and the seconds to add to them.
     units: int = 1_000_000
     offset: int = 0
+    # How many frames its last statistics say were dropped.
+    dropped: int = 0
 
     def time(self, high: int, low: int) -> int:
         """The nanoseconds of a timestamp."""
@@ -71,11 +77,20 @@ class Pcapng:
         self.order = "<"
         self.interfaces: list[Interface] = []
         self.first_interface = 0
+        # Whether the file is damaged before the next frame.
+        self.is_damaged = False
 
-    def frames(self) -> Iterator[Frame]:
+    def frames(self) -> Iterator[Frame | Dropped]:
         for start, kind, octets in self.blocks():
-            frame = self.frame_of(kind, start, self.body(octets))
+            body = self.body(octets)
+            frame = self.frame_of(kind, start, body)
+            if kind == Block.STATISTICS and (dropped := self.dropped_in(body)):
+                yield dropped
             if frame:
+                many = self.dropped_before(kind, body)
+                if many or self.is_damaged:
+                    yield Dropped(frame.number, frame.time, many, frame.interface)
+                self.is_damaged = False
                 yield frame
 
     def body(self, octets: bytes) -> bytes:
@@ -106,6 +121,7 @@ class Pcapng:
         return int(struct.unpack_from(self.order + "I", octets, at)[0])
 
     def damage(self, start: int, words: str) -> None:
+        self.is_damaged = True
         self.ledger.damaged(Reason.BAD_FILE, f"{self.source.place(start)}: {words}")
 
     def measure(self, head: bytes) -> tuple[int, int]:
@@ -187,6 +203,35 @@ class Pcapng:
                 return
             yield code, body[at + 4:at + 4 + length]
             at += 4 + length + -length % 4
+
+    def dropped_in(self, body: bytes) -> Dropped | None:
+        """The frames that were dropped since the last statistics of an interface, by it or by the system."""
+        if len(body) < SMALLEST:
+            return None
+        which, high, low = struct.unpack_from(self.order + "III", body)
+        if which >= len(self.interfaces):
+            return None
+        interface = self.interfaces[which]
+        values = dict(self.options(body, SMALLEST))
+        many = sum(self.count(values.get(code, b"")) for code in (DROPPED_BY_INTERFACE, DROPPED_BY_SYSTEM))
+        many, interface.dropped = many - interface.dropped, many
+        if many <= 0:
+            return None
+        return Dropped(self.number, interface.time(high, low), many, self.first_interface + which)
+
+    def dropped_before(self, kind: int, body: bytes) -> int:
+        """How many frames were dropped between that of a block and the one before of its interface."""
+        if kind == Block.PACKET:
+            many = int(struct.unpack_from(self.order + "H", body, 2)[0])
+            return many if many != UNKNOWN_DROPS else 0
+        if kind != Block.ENHANCED:
+            return 0
+        kept = self.word(body, 12)
+        return sum(self.count(value) for code, value in self.options(body, 20 + kept + -kept % 4) if code == DROP_COUNT)
+
+    def count(self, value: bytes) -> int:
+        """The number in an option of eight octets."""
+        return int(struct.unpack(self.order + "Q", value)[0]) if len(value) == 8 else 0
 
     def framed(self, read: Reader, start: int, body: bytes) -> Frame | None:
         try:

@@ -8,11 +8,11 @@ from x25tools_lib.ledger import Ledger, Reason, Topic
 from x25tools_lib.refusals import Refusal, Why
 from x25tools_lib.sides import Side
 
-from .frames import Direction, Frame
+from .frames import Direction, Dropped, Frame
 from .internet import Internet
 from .lapb import Lapb, kind_of, unframe
 from .links import LINKS, OPENERS, USER_LINKS, Carried, Found, Opener
-from .packets import Packet
+from .packets import Item, Missing, Packet, left_out
 from .xot import Xot
 
 CARRIERS = {
@@ -33,6 +33,8 @@ class Reading:
         self.xot = Xot(ledger, choices.ports, choices.dte, choices.swapped)
         self.lapb = Lapb(ledger, choices.link_modulus, choices.side_by, choices.swapped)
         self.frames = 0
+        # Whether frames may be missing before the next one, of which only numbers of their own would tell.
+        self.is_damaged = False
         self.openers: dict[int | str | None, Opener] = dict(LINKS)
         self.openers.update({link: OPENERS[kind] for link, kind in choices.kinds.items() if link is not None})
         self.other = OPENERS.get(choices.kinds.get(None, ""))
@@ -40,11 +42,16 @@ class Reading:
         # The kinds of link types that --as does not name, as their first frames look.
         self.tried: set[str] = set()
 
-    def packets(self, frames: Iterable[Frame]) -> Iterator[tuple[Carrier, Packet]]:
-        """Pairs of a carrier and a packet."""
+    def packets(self, frames: Iterable[Frame | Dropped]) -> Iterator[tuple[Carrier | None, Item]]:
+        """Pairs of a carrier and a packet, and between them gaps; frames that were dropped have no carrier."""
         wanted, only, openers = self.choices.interfaces, self.choices.only, self.openers
         segment_of, take = self.internet.segment, self.xot.take
         for frame in frames:
+            if isinstance(frame, Dropped):
+                self.is_damaged |= not frame.many
+                if frame.many and (not wanted or frame.interface in wanted):
+                    yield None, self.dropped(frame)
+                continue
             self.frames += 1
             if wanted and frame.interface not in wanted:
                 self.ledger.left_out(Reason.OTHER_INTERFACE)
@@ -71,6 +78,12 @@ class Reading:
         for packet in self.xot.end():
             yield Carrier.XOT, packet
         self.lapb.end()
+
+    def dropped(self, dropped: Dropped) -> Missing:
+        """The gap where frames were dropped."""
+        words = f"frame {dropped.number}: the capture says that {dropped.many} frames were dropped"
+        self.ledger.damaged(Reason.DROPPED, words, dropped.many)
+        return Missing(dropped.number, dropped.time)
 
     def no_packet(self) -> Refusal:
         """The refusal of a capture that has no packet."""
@@ -104,11 +117,12 @@ class Reading:
 
     def not_carried(self, frame: Frame, carried: Carried) -> None:
         if carried is Carried.BROKEN:
+            self.is_damaged = True
             self.ledger.damaged(Reason.BAD_HEADER, f"frame {frame.number}: its link header is cut")
         else:
             self.ledger.left_out(Reason.UNKNOWN_LINK if carried is Carried.UNKNOWN else Reason.OTHER_PROTOCOL)
 
-    def from_link(self, frame: Frame, carried: Carried, at: int) -> Sequence[Packet]:
+    def from_link(self, frame: Frame, carried: Carried, at: int) -> Sequence[Item]:
         octets, cut = frame.octets[at:], len(frame.octets) < frame.length
         if carried is Carried.HDLC:
             unframed = None if cut else unframe(octets)
@@ -118,8 +132,12 @@ class Reading:
             octets = unframed
         return self.lapb.take(frame, octets, cut)
 
-    def from_packet(self, frame: Frame, carried: Carried, at: int) -> Sequence[Packet]:
-        """A packet without a link header; before one of a Linux device an octet says what it is."""
+    def from_packet(self, frame: Frame, carried: Carried, at: int) -> Sequence[Item]:
+        """A packet without a link header, or its gap; before one of a Linux device an octet says what it is."""
+        if self.is_damaged:
+            # Such packets have no numbers of their own that show whether one is missing.
+            self.is_damaged = False
+            return [Missing(frame.number, frame.time), *self.from_packet(frame, carried, at)]
         octets = frame.octets
         if carried is Carried.DEVICE and len(octets) > at and octets[at] < 4:
             if octets[at]:
@@ -129,10 +147,10 @@ class Reading:
         side = self.side(frame)
         if side is None:
             self.ledger.left_out(Reason.NO_SIDE)
-            return ()
+            return (left_out(frame.number, frame.time, octets[at:]),)
         if len(octets) < frame.length:
             self.ledger.damaged(Reason.CUT_PACKET, f"frame {frame.number}: a packet that was cut off")
-            return ()
+            return (left_out(frame.number, frame.time, octets[at:]),)
         return (Packet(frame.number, side, octets[at:], None, frame.time),)
 
     def side(self, frame: Frame) -> Side | None:

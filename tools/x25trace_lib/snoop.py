@@ -8,12 +8,12 @@ from x25tools_lib.ledger import Ledger, Reason
 from x25tools_lib.notes import SECOND
 from x25tools_lib.refusals import Refusal, Why
 
-from .frames import Direction, Frame
+from .frames import Direction, Dropped, Frame
 from .source import Source
 
 MAGIC = b"snoop\0\0\0"
 FILE_HEADER = struct.Struct(">8xII")
-# The length on the line, what was kept of it, the length of the record, the frames dropped before, and the time.
+# The length on the line, what was kept of it, the length of the record, the frames dropped so far, and the time.
 RECORD = struct.Struct(">IIIIII")
 LARGEST = 262_144
 # The link types of pcap files for those of snoop.
@@ -35,8 +35,9 @@ class Snoop:
         self.snap, self.check, self.parts = LARGEST, 0, 1_000_000
         # The octets of the last frame and its length on the line.
         self.recorded = b"", 0
+        self.dropped = 0
 
-    def frames(self) -> Iterator[Frame]:
+    def frames(self) -> Iterator[Frame | Dropped]:
         while True:
             start = self.source.offset
             header = self.source.read(RECORD.size)
@@ -44,7 +45,7 @@ class Snoop:
                 if header:
                     self.damage(start, "the file ends inside of a record's header")
                 return
-            length, kept, size, _, seconds, part = RECORD.unpack(header)
+            length, kept, size, dropped, seconds, part = RECORD.unpack(header)
             if not RECORD.size + kept <= size <= LARGEST:
                 self.damage(start, f"a record of {size} octets that keeps {kept} cannot be: the rest is left out")
                 return
@@ -56,6 +57,9 @@ class Snoop:
             self.recorded = octets, max(length, kept)
             time = seconds * SECOND + part * (SECOND // self.parts)
             octets, length = self.recorded
+            if dropped > self.dropped:
+                yield Dropped(self.number, time, dropped - self.dropped)
+            self.dropped = dropped
             yield Frame(self.number, self.link, octets, length, Direction.UNKNOWN, 0, time)
 
     def damage(self, start: int, words: str) -> None:

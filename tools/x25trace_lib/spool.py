@@ -4,16 +4,22 @@ from __future__ import annotations
 import tempfile
 from collections.abc import Iterator, Sequence
 
+from x25tools_lib.header import LAST_CHANNEL
 from x25tools_lib.notes import MOST_CIRCUITS, Circuit, comment, recorded_line, time_text
 
 from . import xot
-from .packets import Packet
+from .packets import Missing, Packet
 
 LAST_NUMBER = 999_999_999
+# What stands in a gap row in place of a side.
+GAP = "?"
 
 
 class Rows:
-    """Numbers rows: by their frames, or on from the row before where that number is taken, or frames are too many."""
+    """Numbers rows: by their frames, or on from the row before where that number is taken, or frames are too many.
+
+    A gap row takes the number before that of its frame, whose own row may follow.
+    """
 
     def __init__(self, by_frames: bool, has_comments: bool) -> None:
         self.by_frames, self.has_comments = by_frames, has_comments
@@ -21,7 +27,8 @@ class Rows:
 
     def row(self, frame: int, words: str, time: str) -> str:
         """The line of a row, after a comment with its time and its frame. The words are those after the number."""
-        self.number = number = frame if self.by_frames and frame > self.number else self.number + 1
+        wanted = frame - (words[0] == GAP) if self.by_frames else 0
+        self.number = number = wanted if wanted > self.number else self.number + 1
         line = f"{number} {words}"
         return recorded_line(time, frame) + line if self.has_comments else line
 
@@ -34,7 +41,7 @@ class Spool:
     def __init__(self, has_comments: bool, last_number: int = LAST_NUMBER) -> None:
         self.file = tempfile.TemporaryFile("w+", encoding="ascii", newline="\n", buffering=1 << 16)
         self.lines: list[str] = []
-        self.rows = 0
+        self.rows = self.gaps = 0
         self.has_comments, self.last_number = has_comments, last_number
         self.number = 0
         # How many rows were written again, and the first circuits of these.
@@ -55,6 +62,15 @@ class Spool:
         if len(lines) > self.MOST_LINES:
             self.write()
 
+    def add_gap(self, missing: Missing) -> None:
+        """Keeps a gap row in the same way."""
+        self.rows += 1
+        self.gaps += 1
+        self.number = max(missing.frame - 1, self.number + 1)
+        circuit = missing.circuit.number if missing.circuit else 0
+        time = time_text(missing.time) if self.has_comments else "-"
+        self.lines.append(f"{circuit} {time} {missing.frame} {gap_words(missing.channel)}")
+
     def write(self) -> None:
         self.file.write("".join(self.lines))
         self.lines.clear()
@@ -64,8 +80,13 @@ class Spool:
         """Whether frame numbers can number the rows, or there are too many."""
         return self.number <= self.last_number
 
-    def replay(self, circuits: Sequence[xot.Circuit], first: int = 0) -> Iterator[str]:
-        """The text of the trace after its header, in parts, of which one ends with the last of the first rows."""
+    def replay(
+        self, circuits: Sequence[xot.Circuit], first: int = 0, last_channel: int = LAST_CHANNEL,
+    ) -> Iterator[str]:
+        """The text of the trace after its header, in parts, of which one ends with the last of the first rows.
+
+        A gap on a channel past the last one is told as one of all channels.
+        """
         self.write()
         self.file.seek(0)
         rows, lines = Rows(self.by_frames, self.has_comments), list[str]()
@@ -86,6 +107,8 @@ class Spool:
                 if channel is None:
                     continue
                 words = on_channel(words, channel)
+            elif words[0] == GAP:
+                words = within(words, last_channel)
             lines.append(row(int(frame), words, time))
             if circuit:
                 self.keep(circuit, rows.number)
@@ -106,4 +129,17 @@ class Spool:
 
 def on_channel(words: str, channel: int) -> str:
     """The side and the octets of a row with another logical channel; the general format identifier stays."""
+    if words[0] == GAP:
+        return gap_words(channel)
     return f"{words[:3]}{channel:03X}{words[6:]}" if len(words) > 6 else words
+
+
+def gap_words(channel: int | None) -> str:
+    """What stands after the number of a gap row: its channel, or that it is of all."""
+    return f"{GAP} {channel or '*'}\n"
+
+
+def within(words: str, last_channel: int) -> str:
+    """The words of a gap row, of all channels where its own is past the last one."""
+    channel = words[2:-1]
+    return words if channel == "*" or int(channel) <= last_channel else gap_words(None)

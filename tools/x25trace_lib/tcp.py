@@ -30,6 +30,8 @@ MOST_OF_ALL = 1 << 26
 # which nothing is known.
 PATIENCE = 8
 PATIENCE_ONE_WAY = 64
+# How octets are missing; nothing is said of each gap in a direction of which nothing was recorded.
+NOT_RECORDED, CUT_OFF, UNSAID = "before it were not recorded", "were cut off", ""
 # An acknowledgement further ahead than this is a damage.
 FARTHEST = 1 << 24
 
@@ -57,6 +59,7 @@ class Gap:
     frame: int
     octets: int
     how: str
+    time: int | None = None
 
 
 Event = Chunk | Gap
@@ -132,8 +135,7 @@ class Connection:
         stream, events, payload = self.streams[index], list[Event](), segment.payload
         if segment.flags & SYN:
             self.begin(index, segment)
-        if segment.acknowledged is not None:
-            self.streams[1 - index].acknowledged = segment.acknowledged
+        self.acknowledge(1 - index, segment, events)
         fin = segment.flags & FIN
         if fin:
             self.leaving[index] = True
@@ -143,6 +145,10 @@ class Connection:
                 self.judge(events)
             return events
         if stream.next is None:
+            if stream.acknowledged is None:
+                self.miss_opening(index, segment, events)
+            elif (many := ahead(segment.sequence, stream.acknowledged)) > 0:
+                events.append(Gap(index, segment.frame, many, NOT_RECORDED, segment.time))
             stream.next = segment.sequence
         if not self.cost and segment.sequence == stream.next and self.answers(index, segment):
             self.deliver(index, segment, events)
@@ -154,6 +160,25 @@ class Connection:
             if self.cost:
                 self.judge(events)
         return events
+
+    def acknowledge(self, index: int, segment: Segment, events: list[Event]) -> None:
+        """Takes what a segment acknowledges. What it names of a direction of which nothing was recorded is a gap at once."""
+        if segment.acknowledged is None:
+            return
+        stream = self.streams[index]
+        if stream.next is None and stream.acknowledged is not None:
+            many = ahead(segment.acknowledged, stream.acknowledged)
+            # One side's last word has a number of its own, which the other side may acknowledge after its own one.
+            if many > self.leaving[1 - index]:
+                events.append(Gap(index, segment.frame, many, UNSAID, segment.time))
+        elif stream.next is None:
+            self.miss_opening(index, segment, events)
+        stream.acknowledged = segment.acknowledged
+
+    def miss_opening(self, index: int, segment: Segment, events: list[Event]) -> None:
+        """The answer to the opening is missing where the opening was recorded, and octets after it may be missing too."""
+        if self.streams[1 - index].first is not None:
+            events.append(Gap(index, segment.frame, 0, UNSAID, segment.time))
 
     def keep(self, stream: Stream, segment: Segment) -> None:
         """Has a segment wait."""
@@ -205,7 +230,7 @@ class Connection:
         if past > old:
             stream.next = (segment.sequence + past) % CIRCLE
         if segment.missing and past > old:
-            events.append(Gap(index, segment.frame, past - max(old, len(payload)), "were cut off"))
+            events.append(Gap(index, segment.frame, past - max(old, len(payload)), CUT_OFF, segment.time))
         if fin and not stream.ended:
             stream.next = (stream.following + 1) % CIRCLE
             stream.ended = True
@@ -246,24 +271,24 @@ class Connection:
             return many > PATIENCE_ONE_WAY
         return many > PATIENCE and ahead(stream.acknowledged, stream.following) > 0
 
-    def missing(self) -> tuple[int, int, int]:
-        """The first octets that something waits for: their direction, how many they are, and the frame that waits."""
+    def missing(self) -> tuple[int, int, Segment]:
+        """The first octets that something waits for: their direction, how many they are, and the segment that waits."""
         _, index = min((stream.held[0].frame, index) for index, stream in enumerate(self.streams) if stream.held)
         head, other = self.streams[index].held[0], self.streams[1 - index]
         many = ahead(head.sequence, self.streams[index].following)
         if many > 0:
-            return index, many, head.frame
+            return index, many, head
         many = ahead(head.acknowledged or 0, other.following)
         if other.held:
             many = min(many, ahead(other.held[0].sequence, other.following))
-        return 1 - index, many, head.frame
+        return 1 - index, many, head
 
     def lose(self, events: list[Event]) -> None:
         """Gives up the first octets that something waits for."""
-        index, many, frame = self.missing()
+        index, many, head = self.missing()
         stream = self.streams[index]
         if many > 0:
-            events.append(Gap(index, frame, many, "before it were not recorded"))
+            events.append(Gap(index, head.frame, many, NOT_RECORDED, head.time))
             stream.next = (stream.following + many) % CIRCLE
         else:
             # Each direction acknowledges what comes next in the other one.

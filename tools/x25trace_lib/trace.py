@@ -20,9 +20,9 @@ from x25tools_lib.streams import CHUNK
 from .channels import assign
 from .estimate import Estimator, estimates, header_of, seen_of
 from .evidence import Evidence, largest, ranked_first
-from .frames import Frame
+from .frames import Dropped, Frame
 from .halves import halves_of
-from .packets import LONGEST, channel_of
+from .packets import LONGEST, Missing, channel_of, without
 from .ranking import MOST_ROWS, NO_SCANNER, Ranker
 from .reading import Reading
 from .spool import Spool
@@ -44,14 +44,18 @@ class Trace:
         self.sides: set[Side] = set()
         ledger.keep = self.spool.note
 
-    def gather(self, frames: Iterable[Frame]) -> None:
-        """Takes all packets of the frames."""
+    def gather(self, frames: Iterable[Frame | Dropped]) -> None:
+        """Takes all packets of the frames, and the gaps between them."""
         see, add, carriers, sides = self.estimator.see, self.spool.add, self.carriers, self.sides
         for carrier, packet in self.reading.packets(frames):
+            if isinstance(packet, Missing):
+                self.miss(packet)
+                continue
             octets, circuit = packet.octets, packet.circuit
             if len(octets) > LONGEST:
                 words = f"frame {packet.frame}: a packet of {len(octets)} octets"
                 self.ledger.damaged(Reason.LONG_PACKET, words)
+                self.miss(without(packet))
                 continue
             carriers[carrier] += 1
             if circuit is None:
@@ -62,14 +66,18 @@ class Trace:
                 continue
             if not circuit.both and packet.side is not circuit.side:
                 circuit.see(packet.side)
-            if packet.misses:
-                self.estimator.miss(circuit.number)
             see(circuit.number, circuit.from_opening, packet.side, octets, False)
             add(packet, circuit.number)
             circuit.rows += 1
             circuit.last_row = self.spool.rows
             if circuit.rows == 1:
                 circuit.first_row = circuit.last_row
+
+    def miss(self, missing: Missing) -> None:
+        """Takes a gap. Options say whether there is one before the beginning."""
+        if not missing.is_beginning or self.wishes.join is None:
+            self.estimator.miss(missing)
+            self.spool.add_gap(missing)
 
     def header(self) -> Header:
         """The header; XOT circuits get their channels by it."""
@@ -78,16 +86,16 @@ class Trace:
         if len(self.carriers) > 1:
             words = " and ".join(f"{many} packets in {carrier.value}" for carrier, many in self.carriers.items())
             raise Refusal(Why.MIXED, f"{words}; a trace is of one interface: --only says which")
+        has_gaps = self.spool.gaps > 0
         if Carrier.XOT not in self.carriers:
             estimator = self.estimator
             join = not estimator.first_is_restart
-            return header_of(self.wishes, estimator, estimator.permanent, estimator.highest, join)
+            return header_of(self.wishes, estimator, estimator.permanent, estimator.highest, join, has_gaps)
         used = [circuit for circuit in self.reading.xot.circuits if circuit.rows]
         permanent = sum(circuit.permanent for circuit in used)
         first = permanent if self.wishes.permanent is None else self.wishes.permanent
         highest = min(first + len(used) - permanent, LAST_CHANNEL)
-        join = not all(circuit.from_opening for circuit in used)
-        header = header_of(self.wishes, self.estimator, permanent, highest, join)
+        header = header_of(self.wishes, self.estimator, permanent, highest, False, has_gaps)
         assign(used, header, self.ledger)
         return header
 
@@ -147,7 +155,7 @@ class Trace:
     def write(self, name: str, out: IO[str]) -> Head:
         """Writes the trace; returns what it says besides its rows."""
         header, size = self.header(), 0
-        rows = self.spool.replay(self.reading.xot.circuits, MOST_ROWS)
+        rows = self.spool.replay(self.reading.xot.circuits, MOST_ROWS, header.outgoing)
         with tempfile.TemporaryFile("w+", encoding="ascii", newline="\n") as beginning:
             head = self.head(name, header, self.evidence(header, rows, beginning))
             for part in self.parts(head, chain(iter(partial(beginning.read, CHUNK), ""), rows)):

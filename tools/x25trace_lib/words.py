@@ -8,6 +8,10 @@ from x25tools_lib.options import Words, check, option_among, header_words, readi
 from x25tools_lib.refusals import Why
 from x25tools_lib.streams import is_pipe, is_same, shown_name
 
+GAPS = """\
+Where packets may not have been recorded, the trace has gap rows: NUMBER ? CHANNEL, or NUMBER ? * where they may be of any
+channel. x25scan takes what a missing packet could explain for no finding. Such a trace, and one that begins in the middle or
+is written while frames come, has the third form of the header."""
 FOLLOWING = """\
 With --follow, x25scan prints each finding as soon as its row is written, and the rest of the report at the end. Ctrl-C
 (SIGINT) and SIGTERM end the reading, and the report of what was read follows. A second one ends all at once. Findings of
@@ -23,6 +27,8 @@ examples:
   tail -n +1 -F line.trace | x25trace --follow -
   tail -n +1 -F line.trace | x25trace --follow --json - | jq .
   x25trace day.pcap0 day.pcap1          the files of a rotated capture, in their order
+
+{GAPS}
 
 {FOLLOWING}
 

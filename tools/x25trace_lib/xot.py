@@ -12,7 +12,7 @@ from x25tools_lib.notes import circuit_text
 from x25tools_lib.sides import Side
 
 from .internet import RST, SYN, Segment, port_of
-from .packets import LONGEST, Packet, Type, address_text, channel_of, modulus_of
+from .packets import LONGEST, Item, Missing, Packet, Type, address_text, channel_of, modulus_of
 from .tcp import Budget, Chunk, Connection, Event, Gap, ahead
 
 HEAD = struct.Struct(">HH")
@@ -40,6 +40,8 @@ class Circuit:
     cleared_by: Side | None = None
     confirmed: bool = False
     spoiled: bool = False
+    # Whether a channel was asked for while frames came.
+    begun: bool = False
     rows: int = 0
     first_row: int = 0
     last_row: int = 0
@@ -52,8 +54,8 @@ class Circuit:
     side: Side | None = None
     both: bool = False
     lacks: list[bool] = field(default_factory=lambda: [False, False])
-    # Whether a gap comes before the next packet.
-    misses: bool = False
+    # The gap before its next packet, or None.
+    missing: Missing | None = None
     # Whether its packets are left out from here on: where it broke, and where its connection ended.
     left: bool = False
     broken: bool = False
@@ -79,6 +81,17 @@ class Circuit:
         """Takes a packet of another side than the last one."""
         self.both = self.side is not None
         self.side = side
+
+    def miss(self, frame: int, time: int | None) -> None:
+        """Packets may be missing here; one after the clear was confirmed may have left p1."""
+        self.missing = Missing(frame, time, self)
+        self.spoiled |= self.confirmed
+
+    def taken_missing(self) -> Iterator[Missing]:
+        """The gap before its next packet, which is there once."""
+        if self.missing:
+            yield self.missing
+            self.missing = None
 
     @property
     def is_half(self) -> bool:
@@ -151,7 +164,7 @@ class Xot:
         self.ending: list[Circuit] = []
         self.on_end: Callable[[Circuit], object] | None = None
 
-    def take(self, segment: Segment) -> Iterable[Packet]:
+    def take(self, segment: Segment) -> Iterable[Item]:
         """The packets that a segment completes; they are to be taken before the next segment."""
         while self.ending:
             circuit = self.ending.pop()
@@ -173,7 +186,7 @@ class Xot:
             return self.packets(circuit, Chunk(index, segment.frame, segment.payload, segment.time))
         return self.feed(connection, index, circuit, segment)
 
-    def begin(self, before: Entry | None, segment: Segment) -> Iterator[Packet]:
+    def begin(self, before: Entry | None, segment: Segment) -> Iterator[Item]:
         """A new connection, after what waits in the one before it on the same ports."""
         if before:
             yield from self.finish(before[0], before[2], segment.frame)
@@ -194,6 +207,8 @@ class Xot:
         ends = (segment.target, segment.source) if index else (segment.source, segment.target)
         connection = Connection(self.ledger, self.budget, ends)
         circuit = self.circuit(ends, segment.frame, syn)
+        if not syn:
+            circuit.missing = Missing(segment.frame, segment.time, circuit, is_beginning=True)
         self.table[ends] = (connection, 0, circuit)
         self.table[ends[::-1]] = (connection, 1, circuit)
         return connection, index, circuit
@@ -207,7 +222,7 @@ class Xot:
         self.circuits.append(circuit)
         return circuit
 
-    def feed(self, connection: Connection, index: int, circuit: Circuit, segment: Segment) -> Iterator[Packet]:
+    def feed(self, connection: Connection, index: int, circuit: Circuit, segment: Segment) -> Iterator[Item]:
         """The packets of what a segment completes."""
         events: Iterable[Event] = ()
         if circuit.left:
@@ -218,7 +233,7 @@ class Xot:
             return self.read_to_the_end(connection, circuit, events, segment.frame)
         return self.read(connection, circuit, events)
 
-    def read(self, connection: Connection, circuit: Circuit, events: Iterable[Event]) -> Iterator[Packet]:
+    def read(self, connection: Connection, circuit: Circuit, events: Iterable[Event]) -> Iterator[Item]:
         """The packets of chunks, up to a break of the circuit; what is said of a gap comes before those after it."""
         for event in events:
             if isinstance(event, Chunk):
@@ -229,7 +244,7 @@ class Xot:
                 connection.give_up()
                 return
 
-    def read_to_the_end(self, connection: Connection, circuit: Circuit, events: Iterable[Event], frame: int) -> Iterator[Packet]:
+    def read_to_the_end(self, connection: Connection, circuit: Circuit, events: Iterable[Event], frame: int) -> Iterator[Item]:
         yield from self.read(connection, circuit, events)
         yield from self.finish(connection, circuit, frame)
 
@@ -249,13 +264,18 @@ class Xot:
         rest = circuit.rests[gap.index]
         circuit.rests[gap.index] = b""
         circuit.synchronised[gap.index] = False
-        circuit.has_gaps = circuit.misses = circuit.lacks[gap.index] = True
+        circuit.has_gaps = True
+        circuit.lacks[gap.index] |= gap.octets > 0
+        circuit.miss(gap.frame, gap.time)
         self.ledger.left_out(Reason.LOST_OCTETS, gap.octets)
         self.ledger.left_out(Reason.PASSED_OCTETS, len(rest))
-        words = f"frame {gap.frame}: connection {circuit.number}: {gap.octets} octets"
-        self.ledger.damaged(Reason.GAP, f"{words} of {circuit.sides[gap.index].name} {gap.how}")
+        if gap.how:
+            words = f"frame {gap.frame}: connection {circuit.number}: {gap.octets} octets"
+            self.ledger.damaged(Reason.GAP, f"{words} of {circuit.sides[gap.index].name} {gap.how}")
+        else:
+            self.ledger.left_out(Reason.GAP)
 
-    def finish(self, connection: Connection, circuit: Circuit, frame: int) -> Iterator[Packet]:
+    def finish(self, connection: Connection, circuit: Circuit, frame: int) -> Iterator[Item]:
         """Tells how a connection ended, after the packets that waited."""
         if circuit.ended:
             return
@@ -277,9 +297,11 @@ class Xot:
             if (entry := self.table.get(ends)) and entry[0] is connection:
                 del self.table[ends]
 
-    def close(self, connection: Connection, circuit: Circuit) -> Iterator[Packet]:
-        """The packets that still waited."""
+    def close(self, connection: Connection, circuit: Circuit) -> Iterator[Item]:
+        """The packets that still waited, and the gap after the last one."""
         yield from self.read(connection, circuit, connection.flush())
+        if circuit.side:
+            yield from circuit.taken_missing()
         for index in range(len(circuit.lacks)):
             circuit.lacks[index] |= not connection.was_seen(index)
         for index, rest in enumerate(circuit.rests):
@@ -288,7 +310,7 @@ class Xot:
                 words = f"connection {circuit.number} ends after {len(rest)} octets of a packet of {side}"
                 self.ledger.damaged(Reason.CUT_XOT, words)
 
-    def end(self) -> Iterable[Packet]:
+    def end(self) -> Iterable[Item]:
         """The packets that waited when the recording ended, as their frames come."""
         left = [
             self.close(connection, circuit)
@@ -297,13 +319,15 @@ class Xot:
         ]
         return heapq.merge(*left, key=lambda packet: packet.frame)
 
-    def packets(self, circuit: Circuit, chunk: Chunk) -> list[Packet]:
-        """The packets that end in a chunk."""
-        index, octets, packets = chunk.index, chunk.octets, list[Packet]()
+    def packets(self, circuit: Circuit, chunk: Chunk) -> list[Item]:
+        """The packets that end in a chunk, and the gap before them."""
+        index, octets, packets = chunk.index, chunk.octets, list[Item]()
         if circuit.rests[index]:
             octets = circuit.rests[index] + octets
-        if not circuit.synchronised[index] and not self.is_found(circuit, chunk, octets):
-            return packets
+        if not circuit.synchronised[index]:
+            octets = self.found(circuit, chunk, octets)
+            if not octets:
+                return packets
         at, side, size = 0, circuit.sides[index], len(octets)
         while size - at >= 4:
             version, length = HEAD.unpack_from(octets, at)
@@ -316,15 +340,18 @@ class Xot:
             at = begin + length
             packet = self.packet(circuit, chunk, side, octets[begin:at])
             if packet:
+                if circuit.missing:
+                    packets += circuit.taken_missing()
                 packets.append(packet)
         circuit.rests[index] = octets[at:] if at < size else b""
         return packets
 
-    def is_found(self, circuit: Circuit, chunk: Chunk, octets: bytes) -> bool | None:
-        """Seeks a packet where a segment begins; one that says too little waits for the next."""
+    def found(self, circuit: Circuit, chunk: Chunk, octets: bytes) -> bytes:
+        """The octets from where a segment begins with a packet on, or none. One that says too little waits for the next."""
         found = begins(octets, circuit)
         if found is False and octets is not chunk.octets:
             self.ledger.left_out(Reason.PASSED_OCTETS, len(octets) - len(chunk.octets))
+            circuit.miss(chunk.frame, chunk.time)
             circuit.rests[chunk.index] = b""
             octets = chunk.octets
             found = begins(octets, circuit)
@@ -332,10 +359,12 @@ class Xot:
             circuit.rests[chunk.index] = octets
         elif found:
             circuit.synchronised[chunk.index] = True
+            return octets
         else:
             self.ledger.left_out(Reason.UNSYNCHRONISED)
             self.ledger.left_out(Reason.PASSED_OCTETS, len(octets))
-        return found
+            circuit.miss(chunk.frame, chunk.time)
+        return b""
 
     def leave(self, circuit: Circuit, chunk: Chunk, version: int, many: int) -> None:
         """A header of another version: a wrong place, where that was sought, else no XOT."""
@@ -343,6 +372,7 @@ class Xot:
         words = f"frame {chunk.frame}: connection {circuit.number}: an XOT header of version {version}"
         if circuit.has_gaps or not circuit.from_opening:
             circuit.synchronised[chunk.index] = False
+            circuit.miss(chunk.frame, chunk.time)
             self.ledger.left_out(Reason.UNSYNCHRONISED)
             self.ledger.damaged(Reason.PASSED_OCTETS, f"{words}; {many} octets are passed over", many)
             return
@@ -357,8 +387,7 @@ class Xot:
             known = flows and line_channel == circuit.last_line_channel and not circuit.confirmed
             if not known and not self.follow(circuit, chunk.frame, side, octets):
                 return None
-        misses, circuit.misses = circuit.misses, False
-        return Packet(chunk.frame, side, octets, circuit, chunk.time, misses)
+        return Packet(chunk.frame, side, octets, circuit, chunk.time)
 
     def follow(self, circuit: Circuit, frame: int, side: Side, octets: bytes) -> bool:
         """Follows the circuit by a packet other than data and RR in their place; whether it is one of the circuit."""

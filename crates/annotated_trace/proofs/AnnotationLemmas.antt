@@ -62,16 +62,6 @@ print_is_annotated choice before (l ∷ ls) bytes h =
       marked = (own.marked, rest.marked);
     }
 
-annotated_is_print : (choice : Rows) (before : List Line) (xs : List Annotated) → AllByRecursion (λ a. AreComments a.comments) xs → AreMarked choice before xs → IsPrintOf (IsAnnotatedLine choice) before (bare_lines xs) (text (all_lines xs))
-annotated_is_print choice before [] h k = refl
-annotated_is_print choice before (a ∷ xs) h k = (
-  text (with_comments a),
-  text (all_lines xs),
-  text_append (with_comments a) (all_lines xs),
-  record { comments = a.comments; written = refl; are_comments = h.0; marked = k.0 },
-  annotated_is_print choice (before ++ a.line ∷ []) xs h.1 k.1,
-)
-
 pub annotation_of : (choice : Rows) (ls : List Line) (bytes : List ℕ) → IsPrintOf (IsAnnotatedLine choice) [] ls bytes → IsAnnotationOf choice ls bytes
 annotation_of choice ls bytes h =
     let a = print_is_annotated choice [] ls bytes h in

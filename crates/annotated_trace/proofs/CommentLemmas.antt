@@ -1,5 +1,5 @@
 -- The comments behind a line.
-use Rattle.std.proofs.Common.{◌≡◌, ◌∙◌, sym, ap, subst, refl, ℕ, ◌<◌, true, false, List, [], ◌++◌, length, length-append, arith, Option, Result, Ok, Err, OnOk, OnErr, IfErr, append_assoc, append-nil}
+use Rattle.std.proofs.Common.{◌≡◌, ◌∙◌, sym, ap, subst, ℕ, ◌<◌, true, List, ◌++◌, length, length-append, arith, Result, Ok, Err, OnOk, OnErr, IfErr, append_assoc}
 use Rattle.line_model.specs.text.Text.{Line}
 use Rattle.line_model.specs.traces.Traces.{text}
 use Rattle.line_model.specs.declared.finding.Finding.{Finding}
@@ -30,12 +30,6 @@ notes_and_marks choice findings before mid after notes e n some h =
       comments = both_comments notes h.marks (notes_are_comments notes n) h.comments;
       marks = behind_of choice findings (notes ++ h.marks) (subst (AreMarksOf findings) (sym all) h.marks_are) (omega (arith, length-append notes h.marks));
     }
-
-pub marks_alone : (findings : List Finding) (before after : List ℕ) → HasMarksOf findings before after → HasCommentsOf All false findings before after
-marks_alone findings before after h = record { behind = h.marks; written = h.written; comments = h.comments; marks = (subst (AreMarksOf findings) (sym h.all) h.marks_are, λ told. cc) }
-
-pub left_out : (channel call : Option ℕ) (findings : List Finding) (out : List ℕ) → HasCommentsOf (Chosen channel call) false findings out out
-left_out channel call findings out = record { behind = []; written = sym (append-nil out); comments = tt; marks = refl }
 
 pub part_err : {T E : Type 0} (r : Result T E) (P Q : Type 0) → OnErr r P → (P → Q) → IfErr r (λ e. Q)
 part_err (Ok x) P Q h k = tt

@@ -10,7 +10,7 @@ use Rattle.trace_text.specs.Sources.{HasFailed, IsFedAll, IsFedUpTo}
 use Rattle.trace_text.proofs.DecidedLemmas.{all_sound, decided_before, none_sound}
 use Rattle.trace_text.proofs.SourceLemmas.{all_sound as sound_at_end, sound_before}
 use Rattle.annotated_trace.specs.Printers.{HasFirstPrint, HasPrintBefore, HasPrinted, IsEndRefusal, IsPrinterFault, IsRefusalOf, WasFed}
-use Rattle.annotated_trace.specs.Printing.{HasPassed, HasWritten, IsPrintingFault, IsReadRefusal, IsRefusedAfter, StopsPrinting, StopsReading}
+use Rattle.annotated_trace.specs.Printing.{HasPassed, HasWritten, IsReadRefusal, IsRefusedAfter, StopsPrinting, StopsReading}
 use Rattle.annotated_trace.specs.declared.printing.TracePrinter.{TracePrinter}
 use Rattle.annotated_trace.proofs.PassedLemmas.{all_first}
 
@@ -90,20 +90,6 @@ reading_stops S size F has_first left after asked before taken x z t f u = recor
   order = λ text told. sound_before 0 left after asked (λ y. HasWritten S size F before taken x z y t) (IsRefusedAfter F before taken x z) f text u told;
   why = inl (stop_is S size F before taken x z t u.fed u.last f (none_sound u.fed u.sound) u.few u.why);
 }
-
-printing_fault : (f : Fault) → IsPrinterFault f → IsPrintingFault f
-printing_fault Memory h = tt
-printing_fault (Trace line kind) h = tt
-printing_fault Write h = tt
-printing_fault _ h = absurd h
-
-pub stop_kinds : {A O P : Type 0} (S : O → P → List ℕ → Type 0) (size : O → ℕ) (F : List Line → List ℕ → Type 0) (before taken : Option (List ℕ)) (x z : ℕ) (t : TracePrinter A O P) (fed last : List ℕ) (f : Fault) → IsPrinterStop S size F before taken x z t fed last f → IsPrintingFault f
-stop_kinds S size F before taken x z t fed last f (inl why) = subst IsPrintingFault (sym why.failure) tt
-stop_kinds S size F before taken x z t fed last f (inr why) = printing_fault f why.kinds
-
-pub stop_write : {A O P : Type 0} (S : O → P → List ℕ → Type 0) (size : O → ℕ) (F : List Line → List ℕ → Type 0) (before taken : Option (List ℕ)) (x z : ℕ) (t : TracePrinter A O P) (fed last : List ℕ) (f : Fault) → IsPrinterStop S size F before taken x z t fed last f → f ≡ Write → x < z
-stop_write S size F before taken x z t fed last f (inl why) w = absurd (let same : Read ≡ Write = sym why.failure ∙ w in cc)
-stop_write S size F before taken x z t fed last f (inr why) w = why.failed w
 
 -- ---- at the end
 

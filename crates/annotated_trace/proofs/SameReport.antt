@@ -4,7 +4,7 @@ use Rattle.std.specs.List.{AllByRecursion, filter_map}
 use Rattle.std.specs.Option.{option_or}
 use Rattle.std.proofs.lemmas.Bool.Decides.{nat_tests}
 use Rattle.line_model.specs.observer.Report.{report}
-use Rattle.line_model.specs.text.Text.{Line, begun_kind, begun_line, content_of, contents_kind, end_kind, ended_lines, fault, first_fault, form_kind, has_header, head, head_in, head_of, is_comment, is_some_line, last_number, last_or, line_kind, line_or_none, lines_of, row_number, rows, rows_in, size_kind, size_of}
+use Rattle.line_model.specs.text.Text.{Line, begun_kind, begun_line, content_of, contents_kind, end_kind, ended_lines, fault, first_fault, form_kind, head, head_in, head_of, is_comment, is_some_line, last_number, last_or, line_kind, line_or_none, lines_of, row_number, rows, rows_in, size_kind, size_of}
 use Rattle.line_model.specs.text.RowLine.{row_of}
 use Rattle.line_model.specs.traces.Traces.{text}
 use Rattle.line_model.specs.declared.fault.Kind.{Kind}
@@ -27,8 +27,8 @@ AreSound before (l ∷ ls) = (form_kind before l ≡ None) × (length l ≤ 8500
 
 -- what a line may say depends on the contents before it
 same_form : (a b : List Line) (l : Line) → content_of a ≡ content_of b → form_kind a l ≡ form_kind b l
-unfolding has_header last_number
-same_form a b l h = ap (λ c. contents_kind (is_some_line c) (last_or 0 (filter_map row_number (drop 1 c))) l) h
+unfolding head_of last_number
+same_form a b l h = ap (λ c. contents_kind (head_in c) (last_or 0 (filter_map row_number (drop 1 c))) l) h
 
 comment_form : (before : List Line) (l : Line) → is_comment l ≡ true → form_kind before l ≡ None
 unfolding contents_kind
@@ -144,10 +144,6 @@ sound_annotated before shown (a ∷ annotated) e h s =
     )
 
 -- ---- an annotation
-
--- all its lines
-pub lines_in : List Annotated → (closing : List Line) → List Line
-lines_in annotated closing = all_lines annotated ++ closing
 
 -- what is known of the lines of an annotation of a text
 pub record AreLinesOf (source bytes : List ℕ) (ls : List Line) : Type 0 where

@@ -4,7 +4,7 @@ use Rattle.std.specs.Prelude.{◌==◌, is_ok}
 use Rattle.std.specs.List.{list_any}
 use Rattle.std.proofs.lemmas.List.{length-map, length-take, map-append, take_min, take-map}
 use Rattle.std.proofs.lemmas.List.Folds.{list_any-append}
-use Rattle.std.proofs.Math.Seq.{take-append-add, take-append_seam}
+use Rattle.std.proofs.Math.Seq.{take-append-add}
 use Rattle.std.proofs.lemmas.Bool.{eqb-true}
 use Rattle.line_model.specs.text.Text.{Line, begun_line, ended_lines, is_lf, onto_begun, onto_first_line}
 use Rattle.line_model.specs.traces.Traces.{text}
@@ -63,10 +63,6 @@ more_added before bytes more now h e = (h.0 ++ more, e ∙ ap (λ xs. xs ++ more
 pub may_be_added : (v : Bool) (before bytes more now : List ℕ) → BeginsWith before bytes → now ≡ cond v (bytes ++ more) bytes → BeginsWith before now
 may_be_added true before bytes more now h e = more_added before bytes more now h e
 may_be_added false before bytes more now h e = (h.0, e ∙ h.1)
-
--- what was appended is cut off
-pub cut_off : (before mid now : List ℕ) (n : ℕ) → BeginsWith before mid → n ≡ length before → now ≡ take n mid → now ≡ before
-cut_off before mid now n h en e = e ∙ ap (λ m. take m mid) en ∙ ap (λ xs. take (length before) xs) h.1 ∙ take-append_seam before h.0
 
 -- ---- words
 

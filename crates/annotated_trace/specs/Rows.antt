@@ -4,9 +4,11 @@ use Rattle.std.specs.List.{enumerate_from, list_any}
 use Rattle.line_model.specs.basics.Records.{CallRecord, Item, Row}
 use Rattle.line_model.specs.declared.interface.Interface.{Interface}
 use Rattle.line_model.specs.declared.packet.Packet.{Packet}
-use Rattle.line_model.specs.declared.packet.Packet.TheVariants.{Channel}
+use Rattle.line_model.specs.declared.packet.Packet.TheVariants.{Channel, GapOfAll}
+use Rattle.line_model.specs.channels.Gaps.{GapChannel}
+use Rattle.line_model.specs.channels.GapRestart.{GapLine}
 use Rattle.line_model.specs.observer.Calls.{calls_of}
-use Rattle.line_model.specs.observer.Machine.{routed, walk}
+use Rattle.line_model.specs.observer.Machine.{Observer, routed, steps_all, walk}
 use Rattle.line_model.specs.observer.Observer.{events, start, x25}
 use Rattle.line_model.specs.packets.Says.{item_of, items_of}
 use Rattle.line_model.specs.text.RowLine.{row_of}
@@ -22,19 +24,34 @@ is_open_on e k c = (c.epoch == e) && ((c.channel == k) && is_none c.ended)
 abbrev pub has_open : (number epoch channel : ℕ) → List CallRecord → Bool
 has_open n e k cs = list_any (λ (q : ℕ × CallRecord). (q.0 == n) && is_open_on e k q.1) (enumerate_from 1 cs)
 
+-- whether a call is open in an epoch, on whatever logical channel
+abbrev pub is_open_in : (epoch : ℕ) → CallRecord → Bool
+is_open_in e c = (c.epoch == e) && is_none c.ended
+
+-- whether the call of a number is
+abbrev pub has_open_in : (number epoch : ℕ) → List CallRecord → Bool
+has_open_in n e cs = list_any (λ (q : ℕ × CallRecord). (q.0 == n) && is_open_in e q.1) (enumerate_from 1 cs)
+
 -- whether a row is one of a call's, by the logical channel that took it: the call was open there before the row, or is after it
 abbrev pub is_of_call_on : Option ℕ → (number epoch : ℕ) → (before after : List CallRecord) → Bool
 is_of_call_on None n e before after = false
 is_of_call_on (Some k) n e before after = has_open n e k before || has_open n e k after
 
+-- the same of any row: a gap of all channels is one of each call's that is open
+abbrev pub is_of_call_by : (all : Bool) → (taker : Option ℕ) → (number epoch : ℕ) → (before after : List CallRecord) → Bool
+is_of_call_by true taker n e before after = has_open_in n e before
+is_of_call_by false taker n e before after = is_of_call_on taker n e before after
+
 -- whether a row, after others, is one of the rows of the call of a number in the report
 abbrev pub is_of_call : Interface → (before : List Item) → Item → (number : ℕ) → Bool
 is_of_call i before r n =
-    is_of_call_on (routed (x25 i) (walk (x25 i) (start i) before).line r) n (walk (x25 i) (start i) before).epoch (calls_of (events i before)) (calls_of (events i (before ++ r ∷ [])))
+    let o : Observer GapLine GapChannel = walk (x25 i) (start i) before in
+    is_of_call_by (steps_all (x25 i) o.line r) (routed (x25 i) o.line r) n o.epoch (calls_of (events i before)) (calls_of (events i (before ++ r ∷ [])))
 
--- whether a packet names a logical channel
+-- whether a packet names a logical channel; a gap of all channels stands for packets of any
 abbrev pub names : (channel : ℕ) → Packet → Bool
 names n (Channel k kind) = k == n
+names n GapOfAll = true
 names n _ = false
 
 -- whether a packet names the logical channel that is asked for, where one is

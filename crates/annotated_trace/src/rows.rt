@@ -49,13 +49,14 @@ impl Rows {
     }
 }
 
-/// Whether a packet names the logical channel that is asked for, where one is.
+/// Whether a packet names the logical channel that is asked for, where one is. A gap of all channels names each.
 fn names_asked(asked: Option<u16>, packet: &Packet) -> bool
     ensures { result ≡ names_asked asked packet.now }
 {
     match (asked, packet) {
         (None, _) => true,
         (Some(asked), Packet::Channel { channel, .. }) => *channel == asked,
+        (Some(_), Packet::GapOfAll) => true,
         (Some(_), _) => false,
     }
 }

@@ -186,6 +186,8 @@ impl<A: Allocator + Clone> CallsSoFar<A> {
     }
 
     /// A call that is open is open no more, and has no end.
+    #[cold]
+    #[inline(never)]
     fn close(&mut self) -> Result<(), AllocError>
         ensures none { OnOk result (self.new.call ≡ None) }
         ensures closed { OnOk result (AreCallsOf self.old self.new.closed.items) }
@@ -203,6 +205,8 @@ impl<A: Allocator + Clone> CallsSoFar<A> {
     }
 
     /// The call that is open ends, and with it those that have no end.
+    #[cold]
+    #[inline(never)]
     fn end(&mut self, packet: u32, how: How) -> Result<(), AllocError>
         ensures { (epoch channel : ℕ) (es : List Event) (e : Event)
             → StandsFor self.old epoch channel es

@@ -1,15 +1,12 @@
 -- Calls behind which another may be hidden.
-use Rattle.std.proofs.Common.{◌≡◌, ℕ, Bool, true, false, refl, sym, ◌∙◌, arith, Some, None}
-use Rattle.std.specs.Prelude.{◌-◌, not, ◌&&◌, ◌||◌}
+use Rattle.std.proofs.Common.{◌≡◌, ℕ, Bool, true, false, refl, sym, ◌∙◌, arith, Some}
+use Rattle.std.specs.Prelude.{◌-◌}
 use Rattle.line_model.specs.declared.interface.Interface.{Interface}
 use Rattle.line_model.specs.declared.state.Side.{Side}
 use Rattle.line_model.specs.declared.state.Side.TheVariants.{T, N}
-use Rattle.line_model.specs.channels.Channels.{Channel, channel_in, fresh_state, is_permanent, is_transfer}
-use Rattle.line_model.specs.channels.ChannelStep.{entering}
-use Rattle.line_model.specs.declared.gap.Owed.TheVariants.{NoIndication}
-use Rattle.line_model.specs.declared.gap.EpochStart.TheVariants.{Restarted, Drifting}
+use Rattle.line_model.specs.channels.Channels.{Channel}
 use Rattle.line_model.specs.packets.Formats.{for_side, is_out}
-use Rattle.line_model.specs.channels.Gaps.{GapChannel, drifting, fresh_by, gap_step, idle_name, largest_terms, with_largest_terms}
+use Rattle.line_model.specs.channels.Gaps.{largest_terms}
 use Rattle.channel_machine.specs.Largest.{largest_values}
 use Rattle.channel_machine.specs.Terms.{AreUsable, IsBelow}
 use Rattle.channel_machine.specs.TermsStand.{Agreed, TermsStand, values_in_force}
@@ -47,18 +44,3 @@ largest_usable i = record {
   window_t = below i.modulus i.window (usable_of i).window_t;
   window_n = below i.modulus i.window (usable_of i).window_n;
 }
-
-gap_of_fresh_at : (i : Interface) (p : Bool) →
-    (let before : GapChannel = record {
-      channel = with_largest_terms (not p && false) i (entering (idle_name (p || is_transfer (fresh_state false p)) None) false (channel_in (fresh_state false p)));
-      restarting = true;
-      certainty = drifting NoIndication (not p && false);
-    } in
-    let after : GapChannel = record { channel = channel_in (fresh_state false p); restarting = true; certainty = drifting NoIndication false } in
-    before ≡ after)
-gap_of_fresh_at i true = refl
-gap_of_fresh_at i false = refl
-
--- a gap of all channels before a channel's first row is an epoch that begins adrift
-pub gap_of_fresh : (i : Interface) (n : ℕ) → gap_step i n true (fresh_by Restarted i n) ≡ fresh_by (Drifting false) i n
-gap_of_fresh i n = gap_of_fresh_at i (is_permanent i n)

@@ -1,11 +1,13 @@
 -- A row on a channel of a recording with gaps, by what is certain of it.
-use Rattle.std.proofs.Common.{◌≡◌, ℕ, Bool, true, false, true≢false, sym, ◌∙◌, ap, subst, append-nil, List, Option, Result, Ok, Err}
-use Rattle.std.specs.Prelude.{IfOk, ◌||◌}
+use Rattle.std.proofs.Common.{◌≡◌, ℕ, Bool, true, false, true≢false, refl, sym, ◌∙◌, ap, subst, append-nil, List, Option, Some, None, Result, Ok, Err}
+use Rattle.std.specs.Prelude.{IfOk, ◌||◌, is_none, option_map, unwrap_or}
 use Rattle.line_model.specs.declared.event.Event.{Event}
 use Rattle.line_model.specs.declared.fault.Fault.{Fault}
 use Rattle.line_model.specs.declared.interface.Interface.{Interface}
 use Rattle.line_model.specs.declared.state.Side.{Side}
 use Rattle.line_model.specs.basics.Records.{Item}
+use Rattle.line_model.specs.packets.Says.{gap_of}
+use Rattle.line_model.specs.observer.Observer.{row_step, step_by}
 use Rattle.line_model.specs.channels.Channels.{Channel, is_open}
 use Rattle.line_model.specs.channels.ChannelStep.{Outcome, channel_step}
 use Rattle.line_model.specs.channels.Gaps as gaps
@@ -21,17 +23,43 @@ use Rattle.channel_machine.specs.Reached.{IsReached}
 use Rattle.channel_machine.specs.SettledSteps.{SettledDoes, settled_row}
 use Rattle.channel_machine.proofs.Reached.{reached_step}
 
+-- a row that is no gap
+pub packet_row : (i : Interface) (n : ℕ) (g : gaps.GapChannel) (r : Item) → gap_of r.packet ≡ None → gap_channel_step i n g r ≡ row_step i n g r
+packet_row i n g r none = ap (λ o. step_by o i n g r) (sym none)
+
+-- a gap
+pub gap_row : (s : EventOrigin) (x : Side) (old new : GapKnown) (events : List Event) (all_channels : Bool) (r : Item) (g : gaps.GapChannel) → Some all_channels ≡ option_map (λ c. is_none c) (gap_of r.packet) →
+    interface_of new ≡ interface_of old → number_of new ≡ number_of old → Represents new (gaps.gap_step (interface_of old) (number_of old) all_channels g) →
+    GapDoesApart s x old new events events None (row_step (interface_of old) (number_of old) g r)
+gap_row s x old new events all_channels r g is interface number represents = at (gap_of r.packet) is
+  where
+    at : (gap : Option (Option ℕ)) → Some all_channels ≡ option_map (λ c. is_none c) gap → GapDoesApart s x old new events events None (step_by gap (interface_of old) (number_of old) g r)
+    at None e = cc
+    at (Some c) e = record {
+      interface = interface;
+      number = number;
+      represents = subst (λ b. Represents new (gaps.gap_step (interface_of old) (number_of old) b g)) (ap (λ o. unwrap_or o all_channels) e) represents;
+      reports = refl;
+    }
+
+-- a packet of which nothing says that it is a gap
+pub no_gap : (gap : Option (Option ℕ)) → None ≡ option_map (λ c. is_none c) gap → gap ≡ None
+no_gap None e = refl
+no_gap (Some c) e = cc
+
 -- a row whose events are all listed
 listed_apart : {U : Type 0} (q : Result U Fault) (s : EventOrigin) (x : Side) (old new : GapKnown) (before after : List Event) (o : GapOutcome) → IfOk q (λ _. GapDoes s old new before after o) →
     IfOk (listed q) (λ k. GapDoesApart s x old new before after k o)
 listed_apart (Ok u) s x old new before after o d = record { interface = d.interface; number = d.number; represents = d.represents; reports = append-nil after ∙ d.reports }
 listed_apart (Err e) s x old new before after o d = tt
 
-pub row_listed : {U : Type 0} (q : Result U Fault) (l : Result (Option ℕ) Fault) (s t : EventOrigin) (x : Side) (old new : GapKnown) (before after : List Event) (o : GapOutcome) → s ≡ t → l ≡ listed q → IfOk q (λ _. GapDoes s old new before after o) →
-    IfOk l (λ k. GapDoesApart t x old new before after k o)
-row_listed q l s t x old new before after o origin is d =
+pub row_listed : {U : Type 0} (q : Result U Fault) (l : Result (Option ℕ) Fault) (s t : EventOrigin) (x : Side) (old new : GapKnown) (before after : List Event) (r : Item) (g : gaps.GapChannel) → gap_of r.packet ≡ None → s ≡ t → l ≡ listed q →
+    IfOk q (λ _. GapDoes s old new before after (gap_channel_step (interface_of old) (number_of old) g r)) → IfOk l (λ k. GapDoesApart t x old new before after k (row_step (interface_of old) (number_of old) g r))
+row_listed q l s t x old new before after r g none origin is d =
+    let o : GapOutcome = row_step (interface_of old) (number_of old) g r in
+    let does : IfOk q (λ _. GapDoes s old new before after o) = subst (λ v. IfOk q (λ _. GapDoes s old new before after v)) (packet_row (interface_of old) (number_of old) g r none) d in
     subst (λ v. IfOk v (λ k. GapDoesApart t x old new before after k o)) (sym is)
-    (listed_apart q t x old new before after o (subst (λ v. IfOk q (λ _. GapDoes v old new before after o)) origin d))
+    (listed_apart q t x old new before after o (subst (λ v. IfOk q (λ _. GapDoes v old new before after o)) origin does))
 
 -- a channel of which all is certain
 certain_after : (q : Result (Option ℕ) Fault) (s : EventOrigin) (x : Side) (old new : GapKnown) (before after : List Event) (o : Outcome) (g : gaps.GapChannel) → old.restarting ≡ g.restarting → new.certainty ≡ Certain → new.restarting ≡ old.restarting → IsReached o.after →
@@ -63,12 +91,13 @@ certain_at q s old new before after r g rep is kept same does =
     subst (λ o. IfOk q (λ k. GapDoesApart s r.side old new before after k o)) (certainty_same i n r g gaps.Certain here)
     (certain_after q s r.side old new before after (channel_step i n g.channel r) g rep.restarting (kept ∙ is) same (reached_step i n g.channel r st.reached) (does g.channel st.reached st.stands))
 
-pub certain_row : (q : Result (Option ℕ) Fault) (e : ℕ) (p old new : GapKnown) (before after : List Event) (r : Item) (g : gaps.GapChannel) → p ≡ old → Represents old g → p.certainty ≡ Certain → new.certainty ≡ p.certainty → new.restarting ≡ p.restarting →
+pub certain_row : (q : Result (Option ℕ) Fault) (e : ℕ) (p old new : GapKnown) (before after : List Event) (r : Item) (g : gaps.GapChannel) → gap_of r.packet ≡ None → p ≡ old → Represents old g → p.certainty ≡ Certain → new.certainty ≡ p.certainty → new.restarting ≡ p.restarting →
     ((c : Channel) → IsReached c → Stands p.channel c → IfOk q (λ k. DoesApart (origin_at e (number_of p) r) r.side p.channel new.channel before after k (channel_step (interface_of p) (number_of p) c r))) →
-    IfOk q (λ k. GapDoesApart (origin_at e (number_of old) r) r.side old new before after k (gap_channel_step (interface_of old) (number_of old) g r))
-certain_row q e p old new before after r g same rep is kept restarting does =
-    subst (λ (v : GapKnown). IfOk q (λ k. GapDoesApart (origin_at e (number_of v) r) r.side v new before after k (gap_channel_step (interface_of v) (number_of v) g r))) same
-    (certain_at q (origin_at e (number_of p) r) p new before after r g (subst (λ (v : GapKnown). Represents v g) (sym same) rep) is kept restarting does)
+    IfOk q (λ k. GapDoesApart (origin_at e (number_of old) r) r.side old new before after k (row_step (interface_of old) (number_of old) g r))
+certain_row q e p old new before after r g none same rep is kept restarting does =
+    subst (λ o. IfOk q (λ k. GapDoesApart (origin_at e (number_of old) r) r.side old new before after k o)) (packet_row (interface_of old) (number_of old) g r none)
+    (subst (λ (v : GapKnown). IfOk q (λ k. GapDoesApart (origin_at e (number_of v) r) r.side v new before after k (gap_channel_step (interface_of v) (number_of v) g r))) same
+    (certain_at q (origin_at e (number_of p) r) p new before after r g (subst (λ (v : GapKnown). Represents v g) (sym same) rep) is kept restarting does))
 
 -- a channel adrift
 pub adrift_row : {U : Type 0} (q : Result U Fault) (s : EventOrigin) (old new : GapKnown) (before after : List Event) (a : WhileAdrift) (r : Item) (g : gaps.GapChannel) → Represents old g → old.certainty ≡ Adrift a →

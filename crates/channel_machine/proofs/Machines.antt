@@ -1,22 +1,31 @@
--- A row of a piece on a channel.
-use Rattle.std.proofs.Common.{◌≡◌, ℕ, refl, sym, ◌∙◌, ap, Option, None, List, [], ◌∷◌, ◌++◌, Some, map, Result, Ok, Err}
-use Rattle.std.specs.Prelude.{IfOk}
+-- A row of a piece on a channel, and what is known of the channel at a moment.
+use Rattle.std.proofs.Common.{◌≡◌, ℕ, Bool, false, true≢false, refl, sym, ◌∙◌, ap, subst, Option, None, List, [], ◌∷◌, ◌++◌, Some, map, Result, Ok, Err}
+use Rattle.std.specs.Prelude.{IfOk, is_some, option_map}
 use Rattle.line_model.specs.declared.event.Event.{Event}
 use Rattle.line_model.specs.declared.event.What.{What}
 use Rattle.line_model.specs.declared.fault.Fault.{Fault}
-use Rattle.line_model.specs.basics.Records.{Item}
-use Rattle.line_model.specs.observer.MachineEvents.{stamp}
-use Rattle.line_model.specs.observer.Observer.{event_of}
-use Rattle.channel_machine.specs.declared.events.EventOrigin.{EventOrigin}
-use Rattle.line_model.specs.channels.Channels.{Channel}
-use Rattle.line_model.specs.channels.ChannelStep.{channel_step, Outcome}
 use Rattle.line_model.specs.declared.interface.Interface.{Interface}
-use Rattle.channel_machine.specs.Events.{data_of, event_at}
-use Rattle.channel_machine.specs.Reached.{IsReached}
-use Rattle.channel_machine.specs.Channels.{Known, StandsForReached, DoesApart}
-use Rattle.line_model.specs.declared.event.What.TheVariants as what
 use Rattle.line_model.specs.declared.state.Side.{Side}
+use Rattle.line_model.specs.basics.Records.{Item}
+use Rattle.line_model.specs.channels.Channels.{Channel, Opening, is_open}
+use Rattle.line_model.specs.channels.ChannelStep.{counts_of}
+use Rattle.line_model.specs.channels.Gaps as gaps
+use Rattle.line_model.specs.channels.GapStep.{GapOutcome}
+use Rattle.line_model.specs.observer.MachineEvents.{stamp}
+use Rattle.line_model.specs.observer.Observer.{event_of, row_step}
+use Rattle.data_transfer.specs.FlowResidues as windows
+use Rattle.channel_run.specs.declared.run.View.{View}
 use Rattle.channel_run.specs.Run.{data_events, row_events}
+use Rattle.channel_run.specs.Views.{IsViewOf, is_adrift, is_settled}
+use Rattle.channel_machine.specs.declared.events.EventOrigin.{EventOrigin}
+use Rattle.channel_machine.specs.Channels.{Known}
+use Rattle.channel_machine.specs.Events.{data_of, event_at}
+use Rattle.channel_machine.specs.GapChannels.{GapDoesApart, GapKnown, IsKnownBy, Represents, certainty_of, interface_of}
+use Rattle.channel_machine.specs.GapView.{KnownCertainty}
+use Rattle.channel_machine.specs.GapView.KnownCertainty.{Certain, Adrift, Settled}
+use Rattle.channel_machine.specs.TermsStand.{TermsStand, is_fast, is_pad, opened_of}
+use Rattle.line_model.specs.declared.event.What.TheVariants as what
+use Rattle.channel_machine.proofs.InForce.{fast_stands, pad_stands}
 
 -- contents with the stamp of a row are events of the row
 events_are : (s : EventOrigin) (r : Item) (ws : List What) → s.packet ≡ r.number → map (event_at s) ws ≡ map event_of (stamp s.epoch (Some s.channel) r ws)
@@ -26,18 +35,71 @@ events_are s r (w ∷ ws) e =
     (λ j. record { epoch = s.epoch; channel = s.channel; packet = e j; what = w }) in
     λ j. first j ∷ events_are s r ws e j
 
-pub stands_after : (q : Result (Option ℕ) Fault) (s : EventOrigin) (x : Side) (old new : Known) (before after : List Event) (o : Outcome) → IsReached o.after →
-    IfOk q (λ k. DoesApart s x old new before after k o) → IfOk q (λ _. StandsForReached new o.after)
-stands_after (Ok k) s x old new before after o reached d = record { stands = d.stands; reached = reached }
-stands_after (Err e) s x old new before after o reached d = tt
+pub stands_after : (q : Result (Option ℕ) Fault) (s : EventOrigin) (x : Side) (old new : GapKnown) (before after : List Event) (o : GapOutcome) →
+    IfOk q (λ k. GapDoesApart s x old new before after k o) → IfOk q (λ _. Represents new o.after)
+stands_after (Ok k) s x old new before after o d = d.represents
+stands_after (Err e) s x old new before after o d = tt
 
 -- the event that is kept apart is one of the row
 data_are : (s : EventOrigin) (r : Item) (k : Option ℕ) → s.packet ≡ r.number → map (event_at s) (data_of r.side k) ≡ data_events s.epoch s.channel r k
 data_are s r (Some n) e = λ j. record { epoch = s.epoch; channel = s.channel; packet = e j; what = what.Data r.side n } ∷ []
 data_are s r None e = refl
 
-pub adds_events : (q : Result (Option ℕ) Fault) (s : EventOrigin) (old new : Known) (before after : List Event) (i : Interface) (c : Channel) (r : Item) → s.packet ≡ r.number →
-    IfOk q (λ k. DoesApart s r.side old new before after k (channel_step i s.channel c r)) → IfOk q (λ k. after ++ data_events s.epoch s.channel r k ≡ before ++ row_events i s.epoch s.channel c r)
-adds_events (Ok k) s old new before after i c r e d =
-    ap (λ l. after ++ l) (sym (data_are s r k e)) ∙ d.reports ∙ ap (λ es. before ++ es) (events_are s r (channel_step i s.channel c r).reported e)
-adds_events (Err f) s old new before after i c r e d = tt
+pub adds_events : (q : Result (Option ℕ) Fault) (s : EventOrigin) (old new : GapKnown) (before after : List Event) (i : Interface) (g : gaps.GapChannel) (r : Item) → s.packet ≡ r.number →
+    IfOk q (λ k. GapDoesApart s r.side old new before after k (row_step i s.channel g r)) → IfOk q (λ k. after ++ data_events s.epoch s.channel r k ≡ before ++ row_events i s.epoch s.channel g r)
+adds_events (Ok k) s old new before after i g r e d =
+    ap (λ l. after ++ l) (sym (data_are s r k e)) ∙ d.reports ∙ ap (λ es. before ++ es) (events_are s r (row_step i s.channel g r).reported e)
+adds_events (Err f) s old new before after i g r e d = tt
+
+-- what is known of a channel beside its numbers, whatever is certain of it
+record Seen (p : Known) (c : Channel) : Type 0 where
+  state : p.state ≡ c.state
+  owed : p.owed ≡ c.owed
+  terms : TermsStand p.terms c
+
+seen : (t : KnownCertainty) (p : Known) (c : Channel) → IsKnownBy t p c → Seen p c
+seen Certain p c s = record { state = s.stands.state; owed = s.stands.owed; terms = s.stands.terms }
+seen (Adrift a) p c s = record { state = s.stands.state; owed = s.stands.owed; terms = s.stands.terms }
+seen (Settled b) p c s = record { state = s.rest.state; owed = s.rest.owed; terms = record { call = s.rest.terms.call; values = s.rest.terms.values } }
+
+counts_known : (t : KnownCertainty) (p : Known) (c : Channel) → IsKnownBy t p c → is_settled (certainty_of t) ≡ false → windows.Stands p.transfer.flow (counts_of c)
+counts_known Certain p c s h = s.stands.transfer.flow
+counts_known (Adrift a) p c s h = s.stands.transfer.flow
+counts_known (Settled b) p c s h = absurd (true≢false h)
+
+pub state_seen : (p : GapKnown) (g : gaps.GapChannel) → Represents p g → p.channel.state ≡ g.channel.state
+state_seen p g r = (seen p.certainty p.channel g.channel r.channel).state
+
+some_mapped : (o : Option Opening) → is_some (option_map opened_of o) ≡ is_some o
+some_mapped None = refl
+some_mapped (Some o) = refl
+
+pub open_seen : (p : GapKnown) (g : gaps.GapChannel) → Represents p g → is_some p.channel.terms.call ≡ is_open g.channel
+open_seen p g r = ap (λ o. is_some o) (seen p.certainty p.channel g.channel r.channel).terms.call ∙ some_mapped g.channel.opening
+
+-- the view of what is kept of a channel
+abbrev pub view_known : Known → (adrift : Bool) → View
+view_known p b = record {
+  state = p.state;
+  adrift = b;
+  owed = p.owed;
+  pad_call = is_pad p.terms.call;
+  fast = is_fast p.terms.call;
+  size_t = p.terms.values.size_t;
+  size_n = p.terms.values.size_n;
+  flow = p.transfer.flow;
+}
+
+pub viewed : (p : GapKnown) (g : gaps.GapChannel) (b : Bool) (v : View) → Represents p g → b ≡ is_adrift (certainty_of p.certainty) → v ≡ view_known p.channel b → IsViewOf (interface_of p) g v
+viewed p g b v r adrift is =
+    let s : Seen p.channel g.channel = seen p.certainty p.channel g.channel r.channel in
+    subst (IsViewOf (interface_of p) g) (sym is) (record {
+      state = s.state;
+      adrift = adrift ∙ ap is_adrift r.certainty;
+      owed = s.owed;
+      pad_call = pad_stands p.channel.terms g.channel s.terms;
+      fast = fast_stands p.channel.terms g.channel s.terms;
+      size_t = ap (λ v. v.size_t) s.terms.values;
+      size_n = ap (λ v. v.size_n) s.terms.values;
+      flow = λ h. counts_known p.certainty p.channel g.channel r.channel (ap is_settled r.certainty ∙ h);
+    })

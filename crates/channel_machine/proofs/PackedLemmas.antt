@@ -158,9 +158,10 @@ pub fast_of_call : (a : ℕ) → is_fast (call_in a) ≡ fast_in a
 fast_of_call a = fast_if (a / 64 % 16 / 8 == 1) (opened_by (a / 64 % 16)) ∙ (λ j. (open_bit a j == 1) && (fast_bit a j == 1))
 
 -- what is known of a channel by its word
-pub view_of_word : (i : Interface) (w : Packed) → view_in w ≡ view_of (status_in i w)
+pub view_of_word : (i : Interface) (w : Packed) → record (view_in w) { adrift = false } ≡ view_of (status_in i w)
 view_of_word i w = λ j. record {
   state = state_in w.owner_bits;
+  adrift = false;
   owed = owed_in w.owner_bits;
   pad_call = sym (pad_of_call w.owner_bits) j;
   fast = sym (fast_of_call w.owner_bits) j;
@@ -171,11 +172,12 @@ view_of_word i w = λ j. record {
 
 -- and by one that was made of a status
 pub view_new : (w : Packed) (a : ℕ) (s : Status) → w.owner_bits ≡ a → w.flow ≡ s.flow → state_in a ≡ s.state → owed_in a ≡ s.owed → call_in a ≡ s.terms.call
-    → 2 ^ (a / 1024 % 16) ≡ s.terms.values.size_t → 2 ^ (a / 16384 % 16) ≡ s.terms.values.size_n → view_in w ≡ view_of s
+    → 2 ^ (a / 1024 % 16) ≡ s.terms.values.size_t → 2 ^ (a / 16384 % 16) ≡ s.terms.values.size_n → record (view_in w) { adrift = false } ≡ view_of s
 view_new w a s owner_bits flow state owed call size_t size_n =
-    (λ j. view_in (record { flow = flow j; owner_bits = owner_bits j }))
+    (λ j. record (view_in (record { flow = flow j; owner_bits = owner_bits j })) { adrift = false })
     ∙ (λ j. record {
       state = state j;
+      adrift = false;
       owed = owed j;
       pad_call = (sym (pad_of_call a) ∙ ap (λ o. is_pad o) call) j;
       fast = (sym (fast_of_call a) ∙ ap (λ o. is_fast o) call) j;

@@ -1,6 +1,5 @@
 -- A channel, and what it stands for (X.25 Annexes B and C).
 use Rattle.std.specs.Prelude.{ℕ, Bool, false, ◌≡◌, List, ◌++◌, map, Option, None, Result, Ok, Err, IfOk, IfErr, OnErr}
-use Rattle.line_model.specs.declared.interface.Interface.{Interface}
 use Rattle.line_model.specs.declared.state.ChannelState.{ChannelState}
 use Rattle.line_model.specs.declared.state.ChannelState.TheVariants.{Transfer}
 use Rattle.line_model.specs.declared.state.DState.TheVariants.{D1}
@@ -39,13 +38,6 @@ known n s a b = record {
   terms = s.terms;
   transfer = record { flow = s.flow; assembler = a; settings = b };
 }
-
--- the interface and the logical channel of a channel
-abbrev pub interface_of : Known → Interface
-interface_of p = p.terms.interface
-
-abbrev pub number_of : Known → ℕ
-number_of p = p.channel
 
 -- what the code keeps of a channel stands for what the observer heard of it
 pub record Stands (p : Known) (c : Channel) : Type 0 where

@@ -1,5 +1,5 @@
 -- What is known of a channel beside its sequences and its settings.
-use Rattle.std.specs.Prelude.{Bool, ◌≡◌, ℕ}
+use Rattle.std.specs.Prelude.{Bool, false, ◌≡◌, ℕ}
 use Rattle.line_model.specs.declared.state.ChannelState.{ChannelState}
 use Rattle.line_model.specs.channels.Channels.{Sides}
 use Rattle.line_model.specs.channels.FlowControl.{no_counts}
@@ -33,10 +33,11 @@ pub record CountsAlone (old new : Status) : Type 0 where
   pub modulus : new.flow.modulus ≡ old.flow.modulus
   pub windows : new.flow.windows ≡ old.flow.windows
 
--- what is known of a channel of a status
+-- what is known of a channel of a status that is not adrift
 abbrev pub view_of : Status → View
 view_of s = record {
   state = s.state;
+  adrift = false;
   owed = s.owed;
   pad_call = is_pad s.terms.call;
   fast = is_fast s.terms.call;

@@ -10,6 +10,7 @@ ghost use Rattle.channel_machine.specs.Channels.{Stands, Does, Comes, IsUnchange
 ghost use Rattle.channel_machine.specs.Events.{origin_at};
 
 use crate::events::{EventOrigin, Judgement};
+use crate::gaps::channel::GapChannel;
 use crate::messages::BothSettings;
 use crate::packed::PackedStatus;
 use crate::plain::PlainStatus;
@@ -25,7 +26,8 @@ use line_model::state::{ChannelState, Side, StateName};
 use std::alloc::{Allocator, Global};
 use std::marker::Model;
 
-/// A channel by a way to keep its status; the sequences begun and the settings of both PADs stand beside it.
+/// A channel of which all is certain, by a way to keep its status; the sequences begun and the settings of both PADs stand
+/// beside it.
 #[derive(Drop)]
 pub struct StatusChannel<A: Allocator, S: StatusStore> {
     pub(crate) channel: u16,
@@ -35,10 +37,10 @@ pub struct StatusChannel<A: Allocator, S: StatusStore> {
 }
 
 /// The channel that keeps each part of its status by itself.
-pub type PlainChannel<A = Global> = StatusChannel<A, PlainStatus>;
+pub type PlainChannel<A = Global> = GapChannel<A, PlainStatus>;
 
 /// The channel that keeps its status in one word.
-pub type PackedChannel<A = Global> = StatusChannel<A, PackedStatus>;
+pub type PackedChannel<A = Global> = GapChannel<A, PackedStatus>;
 
 impl<A: Allocator, S: StatusStore> Model for StatusChannel<A, S> {
     ghost use Rattle.channel_machine.specs.Channels.{Known, known};

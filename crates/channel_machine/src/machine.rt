@@ -1,41 +1,48 @@
-//! A channel with its status kept in some way, as a machine of a logical channel.
+//! A channel as a machine of a logical channel.
 
-ghost use Rattle.channel_machine.specs.Channels.{StandsForReached, interface_of, number_of};
+ghost use Rattle.channel_machine.specs.GapChannels.{Represents, interface_of, number_of};
 
-use crate::channel::StatusChannel;
+use crate::gaps::channel::GapChannel;
 use crate::messages::data_packet;
 use crate::status::StatusStore;
 use channel_run::run::Channel;
+use channel_run::status_word::set_adrift;
 use data_transfer::packed::FlowWord;
 use line_model::event::Event;
 use line_model::fault::Fault;
+use line_model::gap::EpochStart;
 use line_model::interface::Interface;
 use line_model::items::ItemRef;
 use line_model::state::ChannelState;
 use std::alloc::Allocator;
 
-impl<A: Allocator + Clone, S: StatusStore + Drop> Channel<A> for StatusChannel<A, S> {
+impl<A: Allocator + Clone, S: StatusStore + Drop> Channel<A> for GapChannel<A, S> {
     ghost interface_of = { interface_of };
 
     ghost number_of = { number_of };
 
-    ghost stands_for = { StandsForReached };
+    ghost stands_for = { Represents };
 
-    fn fresh(alloc: A, interface: &Interface, channel: u16, epoch: u32) -> Self {
-        let state = interface.fresh_state(epoch, channel);
-        StatusChannel::in_state(alloc, interface, channel, state)
+    fn fresh(alloc: A, interface: &Interface, channel: u16, epoch: u32, start: EpochStart) -> Self {
+        GapChannel::begun(alloc, interface, channel, epoch, start)
     }
 
     fn state(&self) -> ChannelState {
-        self.status.state()
+        self.channel.status.state()
     }
 
     fn word(&self) -> FlowWord {
-        self.status.word()
+        let mut word = self.channel.status.word();
+        set_adrift(&mut word, self.is_adrift());
+        word
     }
 
     fn is_open(&self) -> bool {
-        self.status.call().is_some()
+        self.channel.status.call().is_some()
+    }
+
+    fn is_restarting(&self) -> bool {
+        self.restarting
     }
 
     fn step(
@@ -49,7 +56,7 @@ impl<A: Allocator + Clone, S: StatusStore + Drop> Channel<A> for StatusChannel<A
             Ok(Some(octets)) => {
                 events.push_reserved(Event {
                     epoch,
-                    channel: self.channel,
+                    channel: self.channel.channel,
                     packet: item.number,
                     what: data_packet(item.side, octets),
                 });

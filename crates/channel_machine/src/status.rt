@@ -48,9 +48,9 @@ pub trait StatusStore: Copy {
     fn call(&self) -> Option<Opened>
         ensures { result ≡ (status self.now).terms.call };
 
-    /// What is known of the channel, in one word.
+    /// What is known of the channel, in one word, except whether it is adrift.
     fn word(&self) -> FlowWord
-        ensures { view_in result ≡ view_of (status self.now) };
+        ensures { record (view_in result) { adrift = false } ≡ view_of (status self.now) };
 
     /// The packet size in force for data from a side.
     fn size(&self, side: Side) -> u16

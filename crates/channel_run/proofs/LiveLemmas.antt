@@ -1,5 +1,5 @@
 -- A piece with one more row, and at its end.
-use Rattle.std.proofs.Common.{◌≡◌, ℕ, zero, suc, ◌+◌, ◌-◌, ◌/◌, ◌<◌, ◌≤◌, ◌^◌, min, Bool, true, false, List, [], ◌∷◌, ◌++◌, length, map, sum, take, drop, get_or, Option, Some, None, refl, sym, ap, ◌∙◌, subst, arith, append_assoc}
+use Rattle.std.proofs.Common.{◌≡◌, ℕ, zero, suc, ◌+◌, ◌-◌, ◌/◌, ◌<◌, ◌≤◌, ◌^◌, min, Bool, true, false, ◌&&◌, List, [], ◌∷◌, ◌++◌, length, map, sum, take, drop, get_or, Option, Some, None, refl, sym, ap, ◌∙◌, subst, arith, append_assoc}
 use Rattle.std.specs.Prelude.{option_map, option_to_list, slice_get}
 use Rattle.std.specs.List.{AllByRecursion}
 use Rattle.std.specs.Option.{option_copied}
@@ -18,19 +18,22 @@ use Rattle.line_model.specs.declared.finding.Finding.{Finding}
 use Rattle.line_model.specs.declared.state.Side.{Side}
 use Rattle.line_model.specs.basics.Records.{Item, Piece}
 use Rattle.line_model.specs.basics.Bounds.{IsPiece, IsItem, all_octets}
-use Rattle.line_model.specs.channels.Channels.{Channel, fresh, is_open}
-use Rattle.line_model.specs.channels.ChannelStep.{channel_step}
-use Rattle.line_model.specs.observer.MachineEvents.{stamp}
+use Rattle.line_model.specs.channels.Channels.{is_open}
+use Rattle.line_model.specs.channels.Gaps.{GapChannel, fresh_at}
+use Rattle.line_model.specs.observer.MachineEvents.{RowEvent, stamp}
 use Rattle.line_model.specs.pieces.Pieces.{piece_value}
-use Rattle.line_model.specs.observer.Observer.{x25, event_of}
+use Rattle.line_model.specs.observer.Observer.{x25, end_of_epoch, epoch_end, epoch_end_if, event_of, row_step}
 use Rattle.line_model.specs.observer.Calls.{all_lengths, segments_of}
 use Rattle.line_model.specs.observer.Report.{findings_of}
-use Rattle.line_model.specs.pieces.Plans.{row_numbered, piece_events}
-use Rattle.line_model.specs.declared.event.How.TheVariants.{Restart}
+use Rattle.line_model.specs.pieces.Plans.{row_of_end, piece_events}
+use Rattle.line_model.specs.declared.piece.PieceEnd.{PieceEnd}
 use Rattle.line_model.specs.declared.event.What.TheVariants.{End}
 use Rattle.line_model.proofs.EventWeights.{octets_weight, segments_weight, fewer_segments, findings_weight, packets_weight}
 use Rattle.line_model.proofs.ValueBounds.{value_bounds}
-use Rattle.line_model.proofs.RowWeights.{piece_few, row_few, stamp_weight, total-ones}
+use Rattle.line_model.proofs.Findings.{end_confirms}
+use Rattle.line_model.proofs.GapMachines.{row_events_are}
+use Rattle.line_model.proofs.GapWeights.{piece_few, row_few}
+use Rattle.line_model.proofs.RowWeights.{stamp_weight, total-ones}
 use Rattle.call_accounts.specs.Counted.{IsCountable}
 use Rattle.call_accounts.specs.SoFar.{IsOf}
 use Rattle.channel_run.specs.Run.{data_events, row_events, end_events}
@@ -39,41 +42,46 @@ use Rattle.channel_run.specs.Live.{channel_after, channel_so_far, so_far, with_i
 use Rattle.call_accounts.proofs.CountedLemmas.{sum-more}
 use Rattle.call_accounts.proofs.PlaceLemmas.{countable_before}
 
--- the events of rows, and of a row behind them
-rows_more : (i : Interface) (e k : ℕ) (c : Channel) (items : List Item) (item : Item)
-    → map event_of (piece_value (x25 i) e k c (items ++ item ∷ []) None) ≡ map event_of (piece_value (x25 i) e k c items None) ++ row_events i e k (channel_after i k c items) item
-rows_more i e k c [] item = ap (map event_of) (append-nil (stamp e (Some k) item (channel_step i k c item).reported))
-rows_more i e k c (x ∷ items) item =
-    let d : Channel = (channel_step i k c x).after in
-    let told : List Event = row_events i e k c x in
-    map-append event_of (stamp e (Some k) x (channel_step i k c x).reported) (piece_value (x25 i) e k d (items ++ item ∷ []) None)
-    ∙ ap (λ l. told ++ l) (rows_more i e k d items item)
-    ∙ sym (append_assoc told (map event_of (piece_value (x25 i) e k d items None)) (row_events i e k (channel_after i k d items) item))
-    ∙ ap (λ l. l ++ row_events i e k (channel_after i k d items) item)
-    (sym (map-append event_of (stamp e (Some k) x (channel_step i k c x).reported) (piece_value (x25 i) e k d items None)))
+-- the events of a row, and of those behind it
+rows_first : (i : Interface) (e k : ℕ) (g : GapChannel) (x : Item) (items : List Item) (end : Option Item)
+    → map event_of (piece_value (x25 i) e k g (x ∷ items) end) ≡ row_events i e k g x ++ map event_of (piece_value (x25 i) e k (row_step i k g x).after items end)
+rows_first i e k g x items end =
+    let more : List (RowEvent Item What) = piece_value (x25 i) e k (row_step i k g x).after items end in
+    ap (λ vs. map event_of (vs ++ more)) (row_events_are i e k g x) ∙ map-append event_of (stamp e (Some k) x (row_step i k g x).reported) more
 
-rows_end : (i : Interface) (e k : ℕ) (c : Channel) (items : List Item) (end : Option ℕ)
-    → map event_of (piece_value (x25 i) e k c items (option_map row_numbered end)) ≡ map event_of (piece_value (x25 i) e k c items None) ++ end_events e k end (is_open (channel_after i k c items))
-rows_end i e k c [] None = refl
-rows_end i e k c [] (Some n) = refl
-rows_end i e k c (x ∷ items) end =
-    let d : Channel = (channel_step i k c x).after in
-    let told : List Event = row_events i e k c x in
-    map-append event_of (stamp e (Some k) x (channel_step i k c x).reported) (piece_value (x25 i) e k d items (option_map row_numbered end))
-    ∙ ap (λ l. told ++ l) (rows_end i e k d items end)
-    ∙ sym (append_assoc told (map event_of (piece_value (x25 i) e k d items None)) (end_events e k end (is_open (channel_after i k d items))))
-    ∙ ap (λ l. l ++ end_events e k end (is_open (channel_after i k d items)))
-    (sym (map-append event_of (stamp e (Some k) x (channel_step i k c x).reported) (piece_value (x25 i) e k d items None)))
+-- the events of rows, and of a row behind them
+rows_more : (i : Interface) (e k : ℕ) (g : GapChannel) (items : List Item) (item : Item)
+    → map event_of (piece_value (x25 i) e k g (items ++ item ∷ []) None) ≡ map event_of (piece_value (x25 i) e k g items None) ++ row_events i e k (channel_after i k g items) item
+rows_more i e k g [] item = rows_first i e k g item [] None ∙ append-nil (row_events i e k g item)
+rows_more i e k g (x ∷ items) item =
+    let h : GapChannel = (row_step i k g x).after in
+    let told : List Event = row_events i e k g x in
+    rows_first i e k g x (items ++ item ∷ []) None
+    ∙ ap (λ l. told ++ l) (rows_more i e k h items item)
+    ∙ sym (append_assoc told (map event_of (piece_value (x25 i) e k h items None)) (row_events i e k (channel_after i k h items) item))
+    ∙ ap (λ l. l ++ row_events i e k (channel_after i k h items) item) (sym (rows_first i e k g x items None))
+
+rows_end : (i : Interface) (e k : ℕ) (g : GapChannel) (items : List Item) (end : Option PieceEnd)
+    → map event_of (piece_value (x25 i) e k g items (option_map row_of_end end)) ≡ map event_of (piece_value (x25 i) e k g items None) ++ end_events e k end (channel_after i k g items)
+rows_end i e k g [] None = refl
+rows_end i e k g [] (Some n) = refl
+rows_end i e k g (x ∷ items) end =
+    let h : GapChannel = (row_step i k g x).after in
+    let told : List Event = row_events i e k g x in
+    rows_first i e k g x items (option_map row_of_end end)
+    ∙ ap (λ l. told ++ l) (rows_end i e k h items end)
+    ∙ sym (append_assoc told (map event_of (piece_value (x25 i) e k h items None)) (end_events e k end (channel_after i k h items)))
+    ∙ ap (λ l. l ++ end_events e k end (channel_after i k h items)) (sym (rows_first i e k g x items None))
 
 pub piece_more : (p : Piece) (item : Item) → piece_events (so_far (with_item p item)) ≡ piece_events (so_far p) ++ row_events p.interface p.epoch p.channel (channel_so_far p) item
-piece_more p item = rows_more p.interface p.epoch p.channel (fresh p.interface p.epoch p.channel) p.items item
+piece_more p item = rows_more p.interface p.epoch p.channel (fresh_at p.interface p.start p.epoch p.channel) p.items item
 
-pub piece_ended : (p : Piece) (end : Option ℕ) → piece_events (record p { end = end }) ≡ piece_events (so_far p) ++ end_events p.epoch p.channel end (is_open (channel_so_far p))
-piece_ended p end = rows_end p.interface p.epoch p.channel (fresh p.interface p.epoch p.channel) p.items end
+pub piece_ended : (p : Piece) (end : Option PieceEnd) → piece_events (record p { end = end }) ≡ piece_events (so_far p) ++ end_events p.epoch p.channel end (channel_so_far p)
+piece_ended p end = rows_end p.interface p.epoch p.channel (fresh_at p.interface p.start p.epoch p.channel) p.items end
 
-pub channel_more : (i : Interface) (k : ℕ) (c : Channel) (items : List Item) (item : Item) → channel_after i k c (items ++ item ∷ []) ≡ (channel_step i k (channel_after i k c items) item).after
-channel_more i k c [] item = refl
-channel_more i k c (x ∷ items) item = channel_more i k (channel_step i k c x).after items item
+pub channel_more : (i : Interface) (k : ℕ) (g : GapChannel) (items : List Item) (item : Item) → channel_after i k g (items ++ item ∷ []) ≡ (row_step i k (channel_after i k g items) item).after
+channel_more i k g [] item = refl
+channel_more i k g (x ∷ items) item = channel_more i k (row_step i k g x).after items item
 
 -- ---- events of one channel in one epoch
 
@@ -81,8 +89,8 @@ stamp_of : (e k : ℕ) (r : Item) (ws : List What) → AllByRecursion (IsOf e k)
 stamp_of e k r [] = tt
 stamp_of e k r (w ∷ ws) = ((refl, refl), stamp_of e k r ws)
 
-pub row_of_channel : (i : Interface) (e k : ℕ) (c : Channel) (r : Item) → AllByRecursion (IsOf e k) (row_events i e k c r)
-row_of_channel i e k c r = stamp_of e k r (channel_step i k c r).reported
+pub row_of_channel : (i : Interface) (e k : ℕ) (g : GapChannel) (r : Item) → AllByRecursion (IsOf e k) (row_events i e k g r)
+row_of_channel i e k g r = stamp_of e k r (row_step i k g r).reported
 
 -- ---- at most one finding
 
@@ -91,17 +99,17 @@ first_alone [] h = refl
 first_alone (f ∷ []) h = refl
 first_alone (f ∷ g ∷ fs) h = absurd (omega arith)
 
-pub one_finding : (i : Interface) (e k : ℕ) (c : Channel) (r : Item) (es : List Event) (found : Option Finding) → es ≡ row_events i e k c r → found ≡ slice_get (findings_of es) 0 → option_to_list found ≡ findings_of (row_events i e k c r)
-one_finding i e k c r es found is first =
-    let one = row_few 1 (λ n. 0) 1 i k c r (λ n few. omega arith) in
-    let same = findings_weight (map event_of (stamp e (Some k) r (channel_step i k c r).reported)) in
-    let own = stamp_weight 1 (λ n. 0) e (Some k) r (channel_step i k c r).reported in
-    ap option_to_list (first ∙ ap (λ l. slice_get (findings_of l) 0) is) ∙ first_alone (findings_of (row_events i e k c r)) (omega arith)
+pub one_finding : (i : Interface) (e k : ℕ) (g : GapChannel) (r : Item) (es : List Event) (found : Option Finding) → es ≡ row_events i e k g r → found ≡ slice_get (findings_of es) 0 → option_to_list found ≡ findings_of (row_events i e k g r)
+one_finding i e k g r es found is first =
+    let one = row_few 1 (λ n. 0) 1 i k g r (λ n few. omega arith) in
+    let same = findings_weight (map event_of (stamp e (Some k) r (row_step i k g r).reported)) in
+    let own = stamp_weight 1 (λ n. 0) e (Some k) r (row_step i k g r).reported in
+    ap option_to_list (first ∙ ap (λ l. slice_get (findings_of l) 0) is) ∙ first_alone (findings_of (row_events i e k g r)) (omega arith)
 
 -- ---- the events of a row, under the channel's own names
 
 -- It takes the equalities one by one, so that a wrong one is refused before any event is computed.
-pub events_are : {i i' : Interface} {e e' k k' : ℕ} (none es : List Event) (c : Channel) (r : Item) (n : Option ℕ)
+pub events_are : {i i' : Interface} {e e' k k' : ℕ} (none es : List Event) (c : GapChannel) (r : Item) (n : Option ℕ)
     → es ++ data_events e k r n ≡ none ++ row_events i e k c r → none ≡ [] → i ≡ i' → e ≡ e' → k ≡ k' → es ++ data_events e' k' r n ≡ row_events i' e' k' c r
 events_are none es c r n is is_none interface epoch number =
     sym (λ j. es ++ data_events (epoch j) (number j) r n) ∙ is ∙ (λ j. is_none j ++ row_events (interface j) (epoch j) (number j) c r)
@@ -112,7 +120,7 @@ events_are none es c r n is is_none interface epoch number =
 piece_packets : (p : Piece) → length (all_lengths (piece_events p)) ≤ length p.items
 piece_packets p =
     let same = packets_weight (piece_events p) in
-    let few = piece_few 0 (λ n. 1) (λ r. 1) (λ r n few. omega arith) p.interface p.epoch p.channel (fresh p.interface p.epoch p.channel) p.items (option_map row_numbered p.end) in
+    let few = piece_few 0 (λ n. 1) (λ r. 1) (λ r n few. omega arith) p.interface p.epoch p.channel (fresh_at p.interface p.start p.epoch p.channel) p.items (option_map row_of_end p.end) in
     let each = total-ones p.items in
     omega arith
 
@@ -233,11 +241,24 @@ last_item i k items item h = subst (IsItem i k) (last_at items item) (h.packets 
 
 -- ---- the end of a piece
 
-pub end_heard : (p : Piece) (n : ℕ) (b : Bool) → b ≡ is_open (channel_so_far p) → b ≡ true → piece_events (so_far p) ++ record { epoch = p.epoch; channel = p.channel; packet = n; what = End Restart } ∷ [] ≡ piece_events (record p { end = Some n })
-end_heard p n b is opened = sym (piece_ended p (Some n) ∙ ap (λ x. piece_events (so_far p) ++ end_events p.epoch p.channel (Some n) x) (sym is ∙ opened))
+-- the end of a call that is open or not, on a channel that may be restarting or not
+ends : (g : GapChannel) (n : PieceEnd) (b q : Bool) → b ≡ is_open g.channel → q ≡ g.restarting → epoch_end_if b (end_of_epoch (q && n.missed)) ≡ epoch_end g (row_of_end n)
+ends g n b q is restarting = λ j. epoch_end_if (is j) (end_of_epoch (restarting j && sym (end_confirms n.missed) j))
 
-pub none_heard : (p : Piece) (n : ℕ) (b : Bool) → b ≡ is_open (channel_so_far p) → b ≡ false → piece_events (so_far p) ≡ piece_events (record p { end = Some n })
-none_heard p n b is closed = sym (piece_ended p (Some n) ∙ ap (λ x. piece_events (so_far p) ++ end_events p.epoch p.channel (Some n) x) (sym is ∙ closed) ∙ append-nil (piece_events (so_far p)))
+pub end_heard : (p : Piece) (n : PieceEnd) (b q : Bool) → b ≡ is_open (channel_so_far p).channel → b ≡ true → q ≡ (channel_so_far p).restarting
+    → piece_events (so_far p) ++ record { epoch = p.epoch; channel = p.channel; packet = n.row; what = End (end_of_epoch (q && n.missed)) } ∷ [] ≡ piece_events (record p { end = Some n })
+end_heard p n b q is opened restarting =
+    ap (λ ws. piece_events (so_far p) ++ map event_of (stamp p.epoch (Some p.channel) (row_of_end n) ws))
+    (ap (λ o. epoch_end_if o (end_of_epoch (q && n.missed))) (sym opened) ∙ ends (channel_so_far p) n b q is restarting)
+    ∙ sym (piece_ended p (Some n))
+
+pub none_heard : (p : Piece) (n : PieceEnd) (b : Bool) → b ≡ is_open (channel_so_far p).channel → b ≡ false → piece_events (so_far p) ≡ piece_events (record p { end = Some n })
+none_heard p n b is closed =
+    let g : GapChannel = channel_so_far p in
+    sym (append-nil (piece_events (so_far p)))
+    ∙ ap (λ ws. piece_events (so_far p) ++ map event_of (stamp p.epoch (Some p.channel) (row_of_end n) ws))
+    (ap (λ o. epoch_end_if o (end_of_epoch (g.restarting && n.missed))) (sym closed) ∙ ends g n b g.restarting is refl)
+    ∙ sym (piece_ended p (Some n))
 
 -- ---- the first rows of a piece
 

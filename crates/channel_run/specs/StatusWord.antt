@@ -24,6 +24,10 @@ state_in a = state_by (a % 8) (a / 8 % 4)
 abbrev pub owed_in : ℕ → Bool
 owed_in a = a / 32 % 2 == 1
 
+-- bit 18 is 1 where the channel is adrift
+abbrev pub adrift_in : ℕ → Bool
+adrift_in a = a / 2 ^ 18 % 2 == 1
+
 -- bit 9 is 1 where a call is open, and then bit 6 for a PAD call and bit 7 for one that asked fast select
 abbrev pub pad_call_in : ℕ → Bool
 pad_call_in a = (a / 2 ^ 9 % 2 == 1) && (a / 2 ^ 6 % 2 == 1)
@@ -35,6 +39,7 @@ fast_in a = (a / 2 ^ 9 % 2 == 1) && (a / 2 ^ 7 % 2 == 1)
 abbrev pub view_in : Packed → View
 view_in w = record {
   state = state_in w.owner_bits;
+  adrift = adrift_in w.owner_bits;
   owed = owed_in w.owner_bits;
   pad_call = pad_call_in w.owner_bits;
   fast = fast_in w.owner_bits;

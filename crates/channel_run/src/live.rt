@@ -1,6 +1,6 @@
 //! A channel that takes its rows as they come, and tells at any time what its piece is worth so far.
 
-ghost use Rattle.std.specs.Prelude.{◌≡◌, ℕ, List, [], ◌∷◌, ◌++◌, None, option_to_list, IfOk, IfErr, OnOk, OnSome};
+ghost use Rattle.std.specs.Prelude.{◌≡◌, ◌&&◌, ℕ, List, [], ◌∷◌, ◌++◌, None, option_to_list, IfOk, IfErr, OnOk, OnSome};
 ghost use Rattle.line_model.specs.declared.fault.Fault.TheVariants.{Memory};
 ghost use Rattle.line_model.specs.basics.Records.{Piece};
 ghost use Rattle.line_model.specs.basics.Bounds.{IsPiece};
@@ -8,6 +8,7 @@ ghost use Rattle.line_model.specs.pieces.Plans.{piece_events, value};
 ghost use Rattle.line_model.specs.observer.Report.{findings_of};
 ghost use Rattle.channel_run.specs.Tally.{Counts};
 ghost use Rattle.channel_run.specs.Live.{StandsFor, channel_so_far, so_far, with_item};
+ghost use Rattle.line_model.specs.observer.Observer.{end_of_epoch};
 ghost use Rattle.channel_run.specs.Run.{data_events, row_events};
 ghost use Rattle.channel_run.specs.StatusWord.{view_in};
 ghost use Rattle.channel_run.specs.Views.{IsViewOf};
@@ -19,9 +20,10 @@ use data_transfer::packed::FlowWord;
 use line_model::event::{Event, How, What};
 use line_model::fault::Fault;
 use line_model::finding::Finding;
+use line_model::gap::EpochStart;
 use line_model::interface::Interface;
 use line_model::items::ItemRef;
-use line_model::piece::PieceReport;
+use line_model::piece::{PieceEnd, PieceReport};
 use std::alloc::Allocator;
 
 /// What a row did to its channel.
@@ -44,18 +46,24 @@ pub struct LiveChannel<A: Allocator, C: Channel<A>> {
 }
 
 impl<A: Allocator + Clone, C: Channel<A>> LiveChannel<A, C> {
-    /// A fresh channel of an epoch, of which no row was taken. It takes no memory, but for that of clones of the
+    /// A channel of an epoch as it begins, of which no row was taken. It takes no memory, but for that of clones of the
     /// allocator.
-    pub fn fresh(alloc: A, interface: &Interface, channel: u16, epoch: u32) -> Result<Self, Fault>
+    pub fn fresh(
+        alloc: A,
+        interface: &Interface,
+        channel: u16,
+        epoch: u32,
+        start: EpochStart,
+    ) -> Result<Self, Fault>
         ensures stands { IfOk result (λ live. (p : Piece) → p.interface ≡ interface.now
-            → p.channel ≡ channel → p.epoch ≡ epoch → p.items ≡ []
+            → p.channel ≡ channel → p.epoch ≡ epoch → p.start ≡ start → p.items ≡ []
             → StandsFor C.interface_of C.number_of C.stands_for live p) }
         ensures memory { IfErr result (λ fault. fault ≡ Memory) }
     {
         Ok(LiveChannel {
             channel,
             epoch,
-            machine: C::fresh(alloc.clone()?, interface, channel, epoch),
+            machine: C::fresh(alloc.clone()?, interface, channel, epoch, start),
             tally: Tally::new(alloc)?,
         })
     }
@@ -135,9 +143,9 @@ impl<A: Allocator + Clone, C: Channel<A>> LiveChannel<A, C> {
         self.tally.report(alloc, id, self.epoch, self.channel)
     }
 
-    /// What the piece is worth. Where a restart ended the epoch, `end` is the number of its row, and an open call ends
-    /// with it. It answers `Memory` alone.
-    pub fn end(mut self, id: u32, end: Option<u32>) -> Result<PieceReport<A>, Fault>
+    /// What the piece is worth. An open call ends with the row that ended the epoch, if one did. It answers `Memory`
+    /// alone.
+    pub fn end(mut self, id: u32, end: Option<PieceEnd>) -> Result<PieceReport<A>, Fault>
         requires stands { (p : Piece) × StandsFor C.interface_of C.number_of C.stands_for self p }
         ensures value { IfOk result (λ report. (p : Piece)
             → StandsFor C.interface_of C.number_of C.stands_for self p
@@ -148,8 +156,8 @@ impl<A: Allocator + Clone, C: Channel<A>> LiveChannel<A, C> {
         self.tally.finish(id, self.epoch, self.channel)
     }
 
-    /// The call that is open ends with the row of a restart, where one ended the epoch.
-    fn close(&mut self, end: Option<u32>) -> Result<(), Fault>
+    /// The call that is open ends with the row that ended the epoch, if one did.
+    fn close(&mut self, end: Option<PieceEnd>) -> Result<(), Fault>
         ensures place { OnOk result ((self.new.epoch ≡ self.old.epoch)
             × (self.new.channel ≡ self.old.channel)) }
         ensures counted { (p : Piece) → StandsFor C.interface_of C.number_of C.stands_for self.old p
@@ -157,7 +165,7 @@ impl<A: Allocator + Clone, C: Channel<A>> LiveChannel<A, C> {
             (piece_events (record p { end = end }))) }
         ensures memory { IfErr result (λ fault. fault ≡ Memory) }
     {
-        let Some(packet) = end else {
+        let Some(end) = end else {
             return Ok(());
         };
         if !self.machine.is_open() {
@@ -166,9 +174,20 @@ impl<A: Allocator + Clone, C: Channel<A>> LiveChannel<A, C> {
         self.tally.record(&Event {
             epoch: self.epoch,
             channel: self.channel,
-            packet,
-            what: What::End(How::Restart),
+            packet: end.row,
+            what: What::End(end_of_epoch(self.machine.is_restarting(), end.missed)),
         })?;
         Ok(())
+    }
+}
+
+/// How a call ends with its epoch: a restart that was missed ends it in a gap.
+fn end_of_epoch(restarting: bool, missed: bool) -> How
+    ensures { result ≡ end_of_epoch (restarting && missed) }
+{
+    if restarting && missed {
+        How::Gap
+    } else {
+        How::Restart
     }
 }

@@ -2,9 +2,9 @@
 
 ghost use Rattle.std.specs.Prelude.{◌≡◌, ◌++◌, ℕ, IfOk, IfErr, OnErr, OnSome};
 ghost use Rattle.line_model.specs.declared.fault.Fault.TheVariants.{Memory};
-ghost use Rattle.line_model.specs.channels.Channels as channels;
-ghost use Rattle.line_model.specs.channels.Channels.{fresh, is_open};
-ghost use Rattle.line_model.specs.channels.ChannelStep.{channel_step};
+ghost use Rattle.line_model.specs.channels.Channels.{is_open};
+ghost use Rattle.line_model.specs.channels.Gaps.{GapChannel, fresh_at};
+ghost use Rattle.line_model.specs.observer.Observer.{row_step};
 ghost use Rattle.line_model.specs.basics.Bounds.{IsItem};
 ghost use Rattle.line_model.specs.pieces.Plans as plans;
 ghost use Rattle.channel_run.specs.Run.{data_events, row_events};
@@ -16,6 +16,7 @@ use data_transfer::flow::Flow;
 use data_transfer::packed::FlowWord;
 use line_model::event::Event;
 use line_model::fault::Fault;
+use line_model::gap::EpochStart;
 use line_model::interface::Interface;
 use line_model::items::ItemRef;
 use line_model::piece::{Piece, PieceReport};
@@ -25,8 +26,10 @@ use std::alloc::Allocator;
 /// What is known of a logical channel at one moment.
 #[derive(Clone, Copy)]
 pub struct View {
-    /// Its state.
+    /// Its state. Of a channel adrift it says only whether a call is open, whether that came up, and who resets.
     pub state: ChannelState,
+    /// Whether a gap left open in which state it is (profile).
+    pub adrift: bool,
     /// Whether an indication of the DCE is owed (profile).
     pub owed: bool,
     /// Whether a PAD call is open (X.29; profile).
@@ -37,7 +40,7 @@ pub struct View {
     pub size_t: u16,
     /// The packet size in force for data from N, in octets.
     pub size_n: u16,
-    /// Its windows and interrupts.
+    /// Its windows and interrupts. They do not hold where an acknowledgement settled the channel after a gap.
     pub flow: Flow,
 }
 
@@ -53,27 +56,31 @@ pub trait Channel<A: Allocator>: Drop {
     ghost number_of: { Self → ℕ };
 
     /// What the machine keeps stands for this channel.
-    ghost stands_for: { Self → channels.Channel → Type 0 };
+    ghost stands_for: { Self → GapChannel → Type 0 };
 
-    /// A fresh channel of an epoch: p1, or d1 where it is a permanent virtual circuit, and unknown in epoch 1 where the
-    /// trace begins in the middle. It takes no memory.
-    fn fresh(alloc: A, interface: &Interface, channel: u16, epoch: u32) -> Self
+    /// A channel of an epoch as it begins: p1, or d1 where it is a permanent virtual circuit, and unknown in epoch 1 where
+    /// the trace begins in the middle; adrift where the epoch begins so. It takes no memory.
+    fn fresh(alloc: A, interface: &Interface, channel: u16, epoch: u32, start: EpochStart) -> Self
         ensures interface { interface_of result ≡ interface.now }
         ensures number { number_of result ≡ channel }
-        ensures stands { stands_for result (fresh interface.now epoch channel) };
+        ensures stands { stands_for result (fresh_at interface.now start epoch channel) };
 
     /// The state of the channel.
     fn state(&self) -> ChannelState
-        ensures { (c : channels.Channel) → stands_for self.now c → result ≡ c.state };
+        ensures { (g : GapChannel) → stands_for self.now g → result ≡ g.channel.state };
 
     /// What is known of the channel, in one word, which `status_word::view_in` reads.
     fn word(&self) -> FlowWord
-        ensures { (c : channels.Channel) → stands_for self.now c
-            → IsViewOf (interface_of self.now) c (view_in result) };
+        ensures { (g : GapChannel) → stands_for self.now g
+            → IsViewOf (interface_of self.now) g (view_in result) };
 
     /// Whether a call is open.
     fn is_open(&self) -> bool
-        ensures { (c : channels.Channel) → stands_for self.now c → result ≡ is_open c };
+        ensures { (g : GapChannel) → stands_for self.now g → result ≡ is_open g.channel };
+
+    /// Whether the channel may lie in an interface that restarts, after a gap of all channels in the epoch.
+    fn is_restarting(&self) -> bool
+        ensures { (g : GapChannel) → stands_for self.now g → result ≡ g.restarting };
 
     /// Steps the channel by what a row says, and appends the events of the row in an epoch. Fails only when memory is
     /// refused, and nothing has changed then.
@@ -84,16 +91,16 @@ pub trait Channel<A: Allocator>: Drop {
         events: &mut Vec<Event, A>,
     ) -> Result<(), Fault>
         requires item { IsItem (interface_of self.old) (number_of self.old) item.now }
-        ensures interface { (c : channels.Channel) → stands_for self.old c
+        ensures interface { (g : GapChannel) → stands_for self.old g
             → IfOk result (λ _. interface_of self.new ≡ interface_of self.old) }
-        ensures number { (c : channels.Channel) → stands_for self.old c
+        ensures number { (g : GapChannel) → stands_for self.old g
             → IfOk result (λ _. number_of self.new ≡ number_of self.old) }
-        ensures stands { (c : channels.Channel) → stands_for self.old c
+        ensures stands { (g : GapChannel) → stands_for self.old g
             → IfOk result (λ _. stands_for self.new
-            (channel_step (interface_of self.old) (number_of self.old) c item.now).after) }
-        ensures events { (c : channels.Channel) → stands_for self.old c
+            (row_step (interface_of self.old) (number_of self.old) g item.now).after) }
+        ensures events { (g : GapChannel) → stands_for self.old g
             → IfOk result (λ _. events.new.items ≡ events.old.items
-            ++ row_events (interface_of self.old) epoch (number_of self.old) c item.now) }
+            ++ row_events (interface_of self.old) epoch (number_of self.old) g item.now) }
         ensures unchanged { OnErr result ((self.new ≡ self.old)
             × (events.new.items ≡ events.old.items)) }
         ensures memory { IfErr result (λ fault. fault ≡ Memory) };
@@ -108,24 +115,25 @@ pub trait Channel<A: Allocator>: Drop {
         events: &mut Vec<Event, A>,
     ) -> Result<Option<u32>, Fault>
         requires item { IsItem (interface_of self.old) (number_of self.old) item.now }
-        ensures interface { (c : channels.Channel) → stands_for self.old c
+        ensures interface { (g : GapChannel) → stands_for self.old g
             → IfOk result (λ _. interface_of self.new ≡ interface_of self.old) }
-        ensures number { (c : channels.Channel) → stands_for self.old c
+        ensures number { (g : GapChannel) → stands_for self.old g
             → IfOk result (λ _. number_of self.new ≡ number_of self.old) }
-        ensures stands { (c : channels.Channel) → stands_for self.old c
+        ensures stands { (g : GapChannel) → stands_for self.old g
             → IfOk result (λ _. stands_for self.new
-            (channel_step (interface_of self.old) (number_of self.old) c item.now).after) }
-        ensures events { (c : channels.Channel) → stands_for self.old c
+            (row_step (interface_of self.old) (number_of self.old) g item.now).after) }
+        ensures events { (g : GapChannel) → stands_for self.old g
             → IfOk result (λ accepted. events.new.items ++ data_events epoch (number_of self.old) item.now accepted
-            ≡ events.old.items ++ row_events (interface_of self.old) epoch (number_of self.old) c item.now) }
+            ≡ events.old.items ++ row_events (interface_of self.old) epoch (number_of self.old) g item.now) }
         ensures apart { IfOk result (λ accepted. OnSome accepted (events.new ≡ events.old)) }
         ensures unchanged { OnErr result ((self.new ≡ self.old)
             × (events.new.items ≡ events.old.items)) }
         ensures memory { IfErr result (λ fault. fault ≡ Memory) };
 }
 
-/// Returns the result of a piece: the findings and calls of its rows on a fresh channel, and the octets and segments of
-/// its data packets. A call that is open where a restart ends the epoch ends with it. Fails only when memory is refused.
+/// Returns the result of a piece: the findings and calls of its rows on its channel as the epoch begins, and the octets and
+/// segments of its data packets. A call that is open where a row ends the epoch ends with it. Fails only when memory is
+/// refused.
 pub fn run_piece<A: Allocator + Clone, C: Channel<A>>(
     alloc: A,
     piece: &Piece<A>,
@@ -138,9 +146,10 @@ pub fn run_piece<A: Allocator + Clone, C: Channel<A>>(
         &piece.interface,
         piece.channel,
         piece.epoch,
+        piece.start,
     )?;
     let mut events = Vec::new(alloc);
-    for item in piece.items.iter() {
+    for item in piece.rows() {
         live.take(&item, &mut events)?;
     }
     let report = live.end(piece.id, piece.end)?;

@@ -11,16 +11,17 @@ use line_model::state::{ChannelState, DState, PState};
 /// makes it; above them stand
 ///
 /// ```text
-///   63  62      59 58      55   54   53    52    51     50   49 48 47  45
-/// +----+----------+----------+------+-----+------+-----+------+-----+-----+
-/// | 0  |  size N  |  size T  | open | out | fast | PAD | owed |  d  |  p  |
-/// +----+----------+----------+------+-----+------+-----+------+-----+-----+
+///    63   62    59 58    55   54   53    52    51     50   49 48 47  45
+/// +--------+--------+--------+------+-----+------+-----+------+-----+-----+
+/// | adrift | size N | size T | open | out | fast | PAD | owed |  d  |  p  |
+/// +--------+--------+--------+------+-----+------+-----+------+-----+-----+
 /// ```
 ///
 /// p is 1 to 7 for p1 to p7, and 0 on a permanent circuit and on an unknown virtual channel; d is 1 to 3 for d1 to d3,
 /// and 0 outside them and on an unknown permanent circuit. `owed` is 1 where an indication of the DCE is owed. `open`
 /// is 1 while a call is open, and then `out`, `fast` and `PAD` say whether it goes out, asked fast select, and names a
-/// PAD. The packet sizes in force for data from T and from N stand by their logarithms.
+/// PAD. The packet sizes in force for data from T and from N stand by their logarithms. `adrift` is 1 where a gap left
+/// open in which state the channel is.
 pub fn view_in(word: &FlowWord) -> View
     ensures { result ≡ view_in word.now }
 {
@@ -28,6 +29,7 @@ pub fn view_in(word: &FlowWord) -> View
     let is_open = bit(owner_bits, 9);
     View {
         state: state_in(owner_bits),
+        adrift: bit(owner_bits, 18),
         owed: bit(owner_bits, 5),
         pad_call: is_open && bit(owner_bits, 6),
         fast: is_open && bit(owner_bits, 7),
@@ -35,6 +37,14 @@ pub fn view_in(word: &FlowWord) -> View
         size_n: power((owner_bits >> 14) % 16),
         flow: word.flow(),
     }
+}
+
+/// Says in a word whether its channel is adrift.
+pub fn set_adrift(word: &mut FlowWord, adrift: bool)
+    ensures { view_in word.new ≡ record (view_in word.old) { adrift = adrift } }
+{
+    let rest = word.owner_bits() % (1 << 18);
+    word.set_owner_bits(rest + u32::from(adrift) * (1 << 18));
 }
 
 /// The state of the owner's number.

@@ -22,6 +22,7 @@ pub fn last_channel(alloc: Global, bytes: &[u8], are_all: bool) -> Result<Option
         side: Side::T,
         length: 0,
         octets: Vec::new(alloc),
+        gap: None,
     };
     lines.next_row(bytes, &mut row)?;
     if let Some(interface) = lines.interface() {

@@ -56,11 +56,6 @@ not_both : (b : Bool) → ((b && not b) || false) ≡ false
 not_both true = refl
 not_both false = refl
 
-none_left : (a b : Bool) → (a && (b && false)) ≡ false
-none_left true true = refl
-none_left true false = refl
-none_left false b = refl
-
 elsewhere : (p : Option Place) (e k j : ℕ) → is_at e k p ≡ false → ((is_at e j p && not (eqb e e && eqb k j)) || false) ≡ is_at e j p
 elsewhere p e k j h = by (eqb k j) refl
   where

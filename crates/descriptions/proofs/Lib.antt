@@ -6,3 +6,4 @@ pub mod ObjectLemmas
 pub mod LineLemmas
 pub mod FactLemmas
 pub mod SentLemmas
+mod Anywhere

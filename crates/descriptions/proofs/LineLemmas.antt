@@ -1,5 +1,5 @@
 -- Lines that are written from their end, and the objects of the rows that are as most are.
-use Rattle.std.proofs.Common.{◌≡◌, ◌∙◌, sym, ap, subst, refl, ℕ, ◌<◌, ◌≤◌, ◌==◌, ◌^◌, Bool, true, false, ◌&&◌, ◌||◌, cond, List, [], ◌∷◌, ◌++◌, Option, Some, None, IfSome, Result, Ok, Err, OnOk, is_ok, arith, append_assoc}
+use Rattle.std.proofs.Common.{◌≡◌, ◌∙◌, sym, ap, subst, refl, ℕ, ◌<◌, ◌≤◌, ◌==◌, ◌^◌, Bool, true, false, not, ◌&&◌, ◌||◌, cond, List, [], ◌∷◌, ◌++◌, Option, Some, None, IfSome, Result, Ok, Err, OnOk, is_ok, arith, append_assoc}
 use Rattle.std.specs.Prelude.{codes, decimal}
 use Rattle.std.specs.List.{list_any}
 use Rattle.std.specs.Option.{is_none, option_map, option_to_list}
@@ -14,12 +14,13 @@ use Rattle.line_model.specs.declared.interface.Interface.{Interface}
 use Rattle.line_model.specs.declared.state.ChannelState.{ChannelState}
 use Rattle.line_model.specs.declared.state.ChannelState.TheVariants.{Setup, Transfer, Unknown}
 use Rattle.line_model.specs.declared.state.DState.TheVariants.{D1, D2, D3}
-use Rattle.line_model.specs.channels.Channels.{Channel}
-use Rattle.line_model.specs.channels.RestartMachine.{LineState}
+use Rattle.line_model.specs.channels.Gaps.{GapChannel}
+use Rattle.line_model.specs.channels.GapRestart.{GapLine}
 use Rattle.line_model.specs.observer.Calls.{all_lengths}
 use Rattle.line_model.specs.observer.Machine.{Observer, routed}
 use Rattle.line_model.specs.observer.Observer.{x25}
 use Rattle.line_model.specs.observer.Report.{report_of}
+use Rattle.line_model.specs.packets.Says.{gap_of}
 use Rattle.line_model.specs.text.Text.{Line, ended_lines, is_lf}
 use Rattle.restart_epochs.specs.Cutting.{observer}
 use Rattle.data_transfer.specs.Packed.{Packed}
@@ -34,7 +35,7 @@ use Rattle.annotated_trace.proofs.LinesOfText.{AreLines, ended_are_lines}
 use Rattle.annotated_trace.specs.Printed.{HasAppended}
 use Rattle.descriptions.specs.Facts.{IsFateOf}
 use Rattle.descriptions.specs.Lines.{Puts, PutsPlain}
-use Rattle.descriptions.specs.RowObjects.{IsObjectWhere, IsRowObject, channel_word, counted_word, events_at, finding_word, named_channel, row_head, state_at, state_members, word_after, word_before}
+use Rattle.descriptions.specs.RowObjects.{IsObjectWhere, IsRowObject, channel_word, counted_word, events_at, finding_word, head_by, known_word, named_channel, row_head, state_at, state_members, word_after, word_before}
 use Rattle.descriptions.specs.UsualObjects.{IsUsualObject, amount_word, is_d1, is_quiet, is_settled, leaves_settled, usual_head}
 use Rattle.descriptions.specs.declared.facts.Fate.TheVariants.{Counted}
 use Rattle.descriptions.proofs.ObjectLemmas.{words_are}
@@ -43,9 +44,6 @@ use Rattle.descriptions.proofs.ObjectLemmas.{words_are}
 
 same_line : (a b : List ℕ) → Some a ≡ Some b → a ≡ b
 same_line a b h = cc
-
-no_line : (a : List ℕ) → None ≡ Some a → ⊥
-no_line a h = cc
 
 pub puts_then : (v w : List ℕ) (a b c : Option (List ℕ)) → Puts w a b → Puts v b c → Puts (v ++ w) a c
 puts_then v w a b c first later = record {
@@ -105,15 +103,16 @@ headed a n b s c k d x =
 
 -- ---- a whole line
 
-pub usual_line : (row : JudgedRow) (events : List Event) (a b c d : Option (List ℕ)) (bytes : List ℕ) → is_quiet row ≡ true → a ≡ Some [] → Puts (codes "}\n") a b → PutsPlain b c → Puts (usual_head row (all_lengths events)) c d
+pub usual_line : (row : JudgedRow) (events : List Event) (a b c d : Option (List ℕ)) (bytes : List ℕ) → is_quiet row ≡ true → gap_of row.packet ≡ None → a ≡ Some [] → Puts (codes "}\n") a b → PutsPlain b c → Puts (usual_head row (all_lengths events)) c d
     → d ≡ Some bytes → IsUsualObject row events bytes
-usual_line row events a b c d bytes quiet empty end plain head is =
+usual_line row events a b c d bytes quiet gap empty end plain head is =
     let h = head.whole bytes is in
     let p = plain.whole h.0 h.1 in
     let e = end.whole p.0 p.2 in
     let none : e.0 ≡ [] = same_line e.0 [] (sym e.1 ∙ empty) in
     record {
       quiet = quiet;
+      packet = gap;
       rest = p.1;
       one = p.4;
       written = h.2 ∙ ap (λ xs. usual_head row (all_lengths events) ++ xs) (p.3 ∙ ap (λ xs. p.1 ++ xs) (e.2 ∙ ap (λ xs. codes "}\n" ++ xs) none));
@@ -145,23 +144,30 @@ d1_word (Transfer D2) h = cc
 d1_word (Transfer D3) h = cc
 d1_word Unknown h = cc
 
-settled_word : (word : Packed) → is_settled word ≡ true → channel_word (view_in word).state ≡ codes "d1"
-settled_word word h = d1_word (view_in word).state (both_left (is_d1 (view_in word).state) _ h)
+not_set : (b : Bool) → not b ≡ true → b ≡ false
+not_set true h = cc
+not_set false h = refl
+
+settled_word : (word : Packed) → is_settled word ≡ true → known_word (view_in word).adrift (view_in word).state ≡ codes "d1"
+settled_word word h =
+    let v = view_in word in
+    let certain = not_set v.adrift (both_right (not v.owed) (not v.adrift) (both_right (is_d1 v.state) (not v.owed && not v.adrift) h)) in
+    ap (λ b. known_word b v.state) certain ∙ d1_word v.state (both_left (is_d1 v.state) (not v.owed && not v.adrift) h)
 
 settled_words : (j : Judge) → leaves_settled j ≡ true → (word_before j ≡ codes "d1") × (word_after j ≡ codes "d1")
 settled_words (judge.Restart before after) h = absurd (let bad : false ≡ true = h in cc)
 settled_words (judge.Channel k before after accepted) h =
     (settled_word before (both_left (is_settled before) (is_settled after) h), settled_word after (both_right (is_settled before) (is_settled after) h))
 
-taker_of : (i : Interface) (taker : Option ℕ) (o more : Observer LineState Channel) (j : Judge) → IsJudge i taker o more j → leaves_settled j ≡ true → (n : ℕ) × (taker ≡ Some n)
+taker_of : (i : Interface) (taker : Option ℕ) (o more : Observer GapLine GapChannel) (j : Judge) → IsJudge i taker o more j → leaves_settled j ≡ true → (n : ℕ) × (taker ≡ Some n)
 taker_of i None o more (judge.Restart before after) h settled = absurd (let bad : false ≡ true = settled in cc)
 taker_of i None o more (judge.Channel k before after accepted) h settled = absurd h
 taker_of i (Some n) o more j h settled = (n, refl)
 
 usual_object : (i : Interface) (earlier : List Item) (r : Item) (row : JudgedRow) (events : List Event) (bytes : List ℕ) → IsJudgedRow i earlier r row events → IsUsualObject row events bytes → IsRowObject i earlier r bytes
 usual_object i earlier r row events bytes l line =
-    let o : Observer LineState Channel = observer i earlier in
-    let more : Observer LineState Channel = observer i (earlier ++ r ∷ []) in
+    let o : Observer GapLine GapChannel = observer i earlier in
+    let more : Observer GapLine GapChannel = observer i (earlier ++ r ∷ []) in
     let taker : Option ℕ = routed (x25 i) o.line r in
     let none : row.finding ≡ None = no_finding row.finding (both_left (is_none row.finding) (leaves_settled row.judge) line.quiet) in
     let settled = both_right (is_none row.finding) (leaves_settled row.judge) line.quiet in
@@ -176,7 +182,8 @@ usual_object i earlier r row events bytes l line =
     ≡ state_members r.number r.side (named_channel r.packet) (state_at taker o) (state_at taker more) =
     (λ t. state_members (l.number t) (l.side t) (channel t) (before t) (after t)) in
     let head : usual_head row (all_lengths events) ≡ row_head i earlier r None =
-    (λ t. members t ++ (counted_word (all_lengths (came t)) ++ (codes ",\"finding\":" ++ finding_word None))) in
+    (λ t. members t ++ (counted_word (all_lengths (came t)) ++ (codes ",\"finding\":" ++ finding_word None)))
+    ∙ sym (ap (λ g. head_by g i earlier r None) (sym (ap gap_of l.packet) ∙ line.packet)) in
     record {
       found = None;
       came = subst (λ f. (report_of i (earlier ++ r ∷ [])).findings ≡ (report_of i earlier).findings ++ option_to_list f) none l.finding;

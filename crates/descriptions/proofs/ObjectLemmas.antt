@@ -5,13 +5,14 @@ use Rattle.std.proofs.lemmas.Grind.{flat_map-append}
 use Rattle.std.proofs.lemmas.List.{map-append, take_more}
 use Rattle.line_model.specs.basics.Records.{Item, Row}
 use Rattle.line_model.specs.declared.interface.Interface.{Interface}
-use Rattle.line_model.specs.channels.Channels.{Channel}
-use Rattle.line_model.specs.channels.RestartMachine.{LineState, restart_name}
+use Rattle.line_model.specs.channels.Gaps.{GapChannel}
+use Rattle.line_model.specs.channels.RestartMachine.{restart_name}
+use Rattle.line_model.specs.channels.GapRestart.{GapLine}
 use Rattle.line_model.specs.observer.Machine.{Observer, routed}
 use Rattle.line_model.specs.observer.Observer.{x25}
 use Rattle.line_model.specs.observer.Calls.{all_lengths}
 use Rattle.line_model.specs.observer.Report.{state_word}
-use Rattle.line_model.specs.packets.Says.{item_of, items_of}
+use Rattle.line_model.specs.packets.Says.{gap_of, item_of, items_of}
 use Rattle.restart_epochs.specs.Cutting.{observer}
 use Rattle.live_report.specs.JudgedRows.{IsJudge}
 use Rattle.live_report.specs.declared.judged_row.Judge.{Judge}
@@ -23,7 +24,7 @@ use Rattle.annotated_trace.specs.declared.rows.Rows.{Rows}
 use Rattle.annotated_trace.proofs.WordingLemmas.{plain_one}
 use Rattle.descriptions.specs.Choosing.{told_where}
 use Rattle.descriptions.specs.Facts.{AreFactsOf}
-use Rattle.descriptions.specs.RowObjects.{IsObjectOf, IsObjectWhere, IsRowObject, channel_word, counted_word, events_at, finding_word, joined, named_channel, row_head, state_at, state_members, word_after, word_before}
+use Rattle.descriptions.specs.RowObjects.{IsObjectOf, IsObjectWhere, IsRowObject, counted_word, events_at, finding_word, gap_head, head_by, joined, known_word, named_channel, packet_head, row_head, state_at, state_members, word_after, word_before}
 use Rattle.descriptions.specs.declared.facts.RowFacts.{RowFacts}
 
 -- ---- words, one after the other
@@ -37,11 +38,11 @@ joined_next f xs i x out o1 o2 lt e1 e2 =
 
 -- ---- the states before and after a row
 
-pub words_are : (i : Interface) (taker : Option ℕ) (o more : Observer LineState Channel) (j : Judge) → IsJudge i taker o more j → (word_before j ≡ state_at taker o) × (word_after j ≡ state_at taker more)
+pub words_are : (i : Interface) (taker : Option ℕ) (o more : Observer GapLine GapChannel) (j : Judge) → IsJudge i taker o more j → (word_before j ≡ state_at taker o) × (word_after j ≡ state_at taker more)
 words_are i None o more (judge.Restart before after) h = (ap (λ x. state_word (restart_name x)) h.0, ap (λ x. state_word (restart_name x)) h.1)
 words_are i None o more (judge.Channel k before after accepted) h = absurd h
 words_are i (Some n) o more (judge.Restart before after) h = absurd h
-words_are i (Some n) o more (judge.Channel k before after accepted) h = (ap channel_word h.1.state, ap channel_word h.2.state)
+words_are i (Some n) o more (judge.Channel k before after accepted) h = ((λ t. known_word (h.1.adrift t) (h.1.state t)), (λ t. known_word (h.2.adrift t) (h.2.state t)))
 
 -- ---- the beginning of an object
 
@@ -52,7 +53,7 @@ four_parts out a b c d =
 pub head_put : (i : Interface) (earlier : List Item) (r : Item) (facts : RowFacts) (out o1 o2 o3 o4 : List ℕ) → AreFactsOf i earlier r facts
     → o1 ≡ out ++ state_members r.number r.side (named_channel facts.last.now.packet) (word_before facts.last.now.judge) (word_after facts.last.now.judge)
     → o2 ≡ o1 ++ counted_word (all_lengths (events_at i (routed (x25 i) (observer i earlier).line r) (observer i earlier) r))
-    → o3 ≡ o2 ++ codes ",\"finding\":" → o4 ≡ o3 ++ finding_word facts.last.now.finding → o4 ≡ out ++ row_head i earlier r facts.last.now.finding
+    → o3 ≡ o2 ++ codes ",\"finding\":" → o4 ≡ o3 ++ finding_word facts.last.now.finding → o4 ≡ out ++ packet_head i earlier r facts.last.now.finding
 head_put i earlier r facts out o1 o2 o3 o4 h e1 e2 e3 e4 =
     let taker : Option ℕ = routed (x25 i) (observer i earlier).line r in
     let counted : List ℕ = counted_word (all_lengths (events_at i taker (observer i earlier) r)) in
@@ -62,6 +63,16 @@ head_put i earlier r facts out o1 o2 o3 o4 h e1 e2 e3 e4 =
     (λ t. state_members r.number r.side (named_channel (h.packet t)) (words.0 t) (words.1 t)) in
     e4 ∙ ap (λ xs. xs ++ finding_word facts.last.now.finding) (e3 ∙ ap (λ xs. xs ++ codes ",\"finding\":") (e2 ∙ ap (λ xs. xs ++ counted) (e1 ∙ ap (λ xs. out ++ xs) members)))
     ∙ four_parts out (state_members r.number r.side (named_channel r.packet) (state_at taker (observer i earlier)) (state_at taker (observer i (earlier ++ r ∷ [])))) counted (codes ",\"finding\":") (finding_word facts.last.now.finding)
+
+-- the beginning of a gap's, or of a packet's
+pub gap_is : (i : Interface) (earlier : List Item) (r : Item) (facts : RowFacts) (channel : Option ℕ) → AreFactsOf i earlier r facts → gap_of facts.last.now.packet ≡ Some channel
+    → gap_head facts.last.now.number channel ≡ row_head i earlier r facts.last.now.finding
+gap_is i earlier r facts channel h gap =
+    (λ t. gap_head (h.number t) channel) ∙ sym (ap (λ g. head_by g i earlier r facts.last.now.finding) (sym (ap gap_of h.packet) ∙ gap))
+
+pub packet_is : (i : Interface) (earlier : List Item) (r : Item) (facts : RowFacts) → AreFactsOf i earlier r facts → gap_of facts.last.now.packet ≡ None
+    → packet_head i earlier r facts.last.now.finding ≡ row_head i earlier r facts.last.now.finding
+packet_is i earlier r facts h none = sym (ap (λ g. head_by g i earlier r facts.last.now.finding) (sym (ap gap_of h.packet) ∙ none))
 
 -- ---- an object
 

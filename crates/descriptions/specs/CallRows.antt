@@ -2,9 +2,12 @@
 use Rattle.std.specs.Prelude.{◌≡◌, ℕ, ◌-◌, ◌≤◌, ◌==◌, ◌&&◌, Bool, true, false, List, Option, None, Some, IfSome, length}
 use Rattle.line_model.specs.declared.event.Event.{Event}
 use Rattle.line_model.specs.declared.interface.Interface.{Interface}
+use Rattle.line_model.specs.declared.state.RState.{RState}
+use Rattle.line_model.specs.declared.state.RState.TheVariants.{R1}
 use Rattle.line_model.specs.basics.Records.{Item}
 use Rattle.line_model.specs.observer.Calls.{calls_of, is_end, is_opening}
-use Rattle.line_model.specs.observer.Observer.{events, is_ready}
+use Rattle.line_model.specs.channels.GapRestart.{is_ready}
+use Rattle.line_model.specs.observer.Observer.{events}
 use Rattle.restart_epochs.specs.Cutting.{observer}
 use Rattle.annotated_trace.specs.Rows.{has_open}
 use Rattle.descriptions.specs.declared.call_rows.CallRows.{CallRows}
@@ -14,6 +17,16 @@ use Rattle.descriptions.specs.declared.call_rows.Place.{Place}
 abbrev pub is_at : (epoch channel : ℕ) → Option Place → Bool
 is_at e k None = false
 is_at e k (Some p) = (p.epoch == e) && (p.channel == k)
+
+-- whether a place is in an epoch
+abbrev pub is_in : (epoch : ℕ) → Option Place → Bool
+is_in e None = false
+is_in e (Some p) = p.epoch == e
+
+-- whether a gap, where there is one, in a state of the restart machine steps each channel
+abbrev pub steps_each : (gap : Option (Option ℕ)) → RState → Bool
+steps_each (Some None) R1 = true
+steps_each _ _ = false
 
 -- it stands for these events, as far as they are of an epoch
 pub record Hears (e : ℕ) (es : List Event) (w : CallRows) : Type 0 where

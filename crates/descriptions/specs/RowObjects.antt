@@ -2,9 +2,10 @@
 use Rattle.std.specs.Prelude.{◌≡◌, ℕ, Bool, true, false, List, [], ◌∷◌, ◌++◌, Option, None, Some, option_to_list, codes, decimal, flat_map}
 use Rattle.json_lines.specs.Json.{json_text}
 use Rattle.line_model.specs.basics.Records.{Item, Report, Row}
-use Rattle.line_model.specs.channels.Channels.{Channel}
+use Rattle.line_model.specs.channels.Gaps.{GapChannel}
 use Rattle.line_model.specs.channels.ChannelStep.{setup_name, transfer_name}
-use Rattle.line_model.specs.channels.RestartMachine.{LineState, restart_name}
+use Rattle.line_model.specs.channels.RestartMachine.{restart_name}
+use Rattle.line_model.specs.channels.GapRestart.{GapLine}
 use Rattle.line_model.specs.declared.event.Event.{Event}
 use Rattle.line_model.specs.declared.finding.Finding.{Finding}
 use Rattle.line_model.specs.declared.interface.Interface.{Interface}
@@ -17,11 +18,12 @@ use Rattle.line_model.specs.observer.Calls.{all_lengths, segments_of}
 use Rattle.line_model.specs.observer.Machine.{Observer, routed}
 use Rattle.line_model.specs.observer.Observer.{x25}
 use Rattle.line_model.specs.observer.Report.{code_word, report_of, side_word, state_word, text_of}
-use Rattle.line_model.specs.packets.Says.{item_of, items_of}
+use Rattle.line_model.specs.packets.Says.{gap_of, item_of, items_of}
 use Rattle.line_model.specs.text.Text.{Line, head_of, rows_in}
 use Rattle.channel_run.specs.Run.{row_events}
 use Rattle.restart_epochs.specs.Cutting.{observer}
 use Rattle.channel_run.specs.StatusWord.{view_in}
+use Rattle.channel_run.specs.Views.{is_adrift}
 use Rattle.live_report.specs.declared.judged_row.Judge.{Judge}
 use Rattle.live_report.specs.declared.judged_row.Judge.TheVariants as judge
 use Rattle.annotated_trace.specs.Annotation.{IsOneLine}
@@ -38,23 +40,28 @@ channel_word (Setup s) = state_word (setup_name s)
 channel_word (Transfer s) = state_word (transfer_name s)
 channel_word Unknown = codes "unknown"
 
+-- the same of one that a gap may have left adrift
+abbrev pub known_word : (adrift : Bool) → ChannelState → List ℕ
+known_word true s = codes "adrift"
+known_word false s = channel_word s
+
 -- the state before a row of the machine that judged it
 abbrev pub word_before : Judge → List ℕ
 word_before (judge.Restart before after) = state_word (restart_name before)
-word_before (judge.Channel k before after accepted) = channel_word (view_in before).state
+word_before (judge.Channel k before after accepted) = known_word (view_in before).adrift (view_in before).state
 
 -- the state after it
 abbrev pub word_after : Judge → List ℕ
 word_after (judge.Restart before after) = state_word (restart_name after)
-word_after (judge.Channel k before after accepted) = channel_word (view_in after).state
+word_after (judge.Channel k before after accepted) = known_word (view_in after).adrift (view_in after).state
 
 -- the state of the logical channel that takes a row; of the restart machine where none does
-abbrev pub state_at : (taker : Option ℕ) → Observer LineState Channel → List ℕ
-state_at None o = state_word (restart_name o.line.state)
-state_at (Some k) o = channel_word (o.states k).state
+abbrev pub state_at : (taker : Option ℕ) → Observer GapLine GapChannel → List ℕ
+state_at None o = state_word (restart_name o.line.line.state)
+state_at (Some k) o = known_word (is_adrift (o.states k).certainty) (o.states k).channel.state
 
 -- the events of a row on the logical channel that takes it
-abbrev pub events_at : Interface → (taker : Option ℕ) → Observer LineState Channel → Item → List Event
+abbrev pub events_at : Interface → (taker : Option ℕ) → Observer GapLine GapChannel → Item → List Event
 events_at i None o r = []
 events_at i (Some k) o r = row_events i o.epoch k (o.states k) r
 
@@ -84,13 +91,25 @@ state_members number side channel before after =
     joined (codes "{\"line\":\"row\",\"packet\":" ∷ decimal number ∷ codes ",\"side\":\"" ∷ side_word side ∷ codes "\",\"channel\":" ∷ number_word channel
     ∷ codes ",\"before\":\"" ∷ before ∷ codes "\",\"after\":\"" ∷ after ∷ codes "\",\"counted\":" ∷ [])
 
--- the beginning of the object of a row after others: the packet, its side and logical channel, the state before and after it, what it
+-- the beginning of the object of a packet after others: its number, its side and logical channel, the state before and after it, what it
 -- counted, and the code of what it found
-abbrev pub row_head : Interface → (earlier : List Item) → Item → Option Finding → List ℕ
-row_head i earlier r found =
+abbrev pub packet_head : Interface → (earlier : List Item) → Item → Option Finding → List ℕ
+packet_head i earlier r found =
     let taker : Option ℕ = routed (x25 i) (observer i earlier).line r in
     state_members r.number r.side (named_channel r.packet) (state_at taker (observer i earlier)) (state_at taker (observer i (earlier ++ r ∷ [])))
     ++ (counted_word (all_lengths (events_at i taker (observer i earlier) r)) ++ (codes ",\"finding\":" ++ finding_word found))
+
+-- that of a gap: its number, and its logical channel, null where packets of any may be missing
+abbrev pub gap_head : (number : ℕ) → (channel : Option ℕ) → List ℕ
+gap_head number channel = joined (codes "{\"line\":\"gap\",\"packet\":" ∷ decimal number ∷ codes ",\"channel\":" ∷ number_word channel ∷ [])
+
+-- that of a row, which is a gap or a packet
+abbrev pub head_by : (gap : Option (Option ℕ)) → Interface → (earlier : List Item) → Item → Option Finding → List ℕ
+head_by None i earlier r found = packet_head i earlier r found
+head_by (Some channel) i earlier r found = gap_head r.number channel
+
+abbrev pub row_head : Interface → (earlier : List Item) → Item → Option Finding → List ℕ
+row_head i earlier r found = head_by (gap_of r.packet) i earlier r found
 
 -- the object of a row after others on a line of its own: that beginning, with what the row found, and further members
 pub record IsRowObject (i : Interface) (earlier : List Item) (r : Item) (bytes : List ℕ) : Type 0 where

@@ -7,6 +7,7 @@ use Rattle.line_model.specs.declared.state.ChannelState.TheVariants.{Transfer}
 use Rattle.line_model.specs.declared.state.DState.{DState}
 use Rattle.line_model.specs.declared.state.DState.TheVariants.{D1}
 use Rattle.line_model.specs.observer.Calls.{all_lengths}
+use Rattle.line_model.specs.packets.Says.{gap_of}
 use Rattle.data_transfer.specs.Packed.{Packed}
 use Rattle.channel_run.specs.StatusWord.{view_in}
 use Rattle.annotated_trace.specs.Annotation.{IsOneLine}
@@ -25,9 +26,9 @@ abbrev pub is_d1 : ChannelState → Bool
 is_d1 (Transfer s) = is_first s
 is_d1 _ = false
 
--- whether a channel is in d1, where the DCE owes no indication, by its word
+-- whether a channel is in d1, where the DCE owes no indication and no gap left its state open, by its word
 abbrev pub is_settled : Packed → Bool
-is_settled word = is_d1 (view_in word).state && not (view_in word).owed
+is_settled word = is_d1 (view_in word).state && (not (view_in word).owed && not (view_in word).adrift)
 
 -- whether a row left its channel settled, as it was before
 abbrev pub leaves_settled : Judge → Bool
@@ -51,6 +52,7 @@ usual_head row lengths =
 -- its object on a line of its own: that beginning, and further members
 pub record IsUsualObject (row : JudgedRow) (events : List Event) (bytes : List ℕ) : Type 0 where
   pub quiet : is_quiet row ≡ true
+  pub packet : gap_of row.packet ≡ None
   pub rest : List ℕ
   pub one : IsOneLine rest
   pub written : bytes ≡ usual_head row (all_lengths events) ++ (rest ++ codes "}\n")

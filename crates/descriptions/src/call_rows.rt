@@ -6,7 +6,7 @@ ghost use Rattle.line_model.specs.declared.event.Event.{Event as AnyEvent};
 ghost use Rattle.line_model.specs.declared.interface.Interface.{Interface};
 ghost use Rattle.line_model.specs.observer.Calls.{calls_of};
 ghost use Rattle.annotated_trace.specs.Rows.{has_open};
-ghost use Rattle.descriptions.specs.CallRows.{EndsAt, Follows, Hears, OpensAt, is_at};
+ghost use Rattle.descriptions.specs.CallRows.{EndsAt, Follows, Hears, OpensAt, is_at, is_in};
 
 use line_model::event::{Event, What};
 
@@ -46,6 +46,16 @@ impl CallRows {
     {
         match self.place {
             Some(place) => place.epoch == epoch && place.channel == channel,
+            None => false,
+        }
+    }
+
+    /// Whether it is open in an epoch.
+    pub(crate) fn is_open_in(&self, epoch: u32) -> bool
+        ensures { result ≡ is_in epoch self.now.place }
+    {
+        match self.place {
+            Some(place) => place.epoch == epoch,
             None => false,
         }
     }

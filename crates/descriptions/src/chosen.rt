@@ -1,23 +1,54 @@
 //! Which rows are told of.
 
-ghost use Rattle.std.specs.Prelude.{◌≡◌, ℕ, ◌++◌, ◌∷◌, [], List};
+ghost use Rattle.std.specs.Prelude.{◌≡◌, ℕ, ◌++◌, ◌∷◌, [], List, None};
+ghost use Rattle.line_model.specs.declared.event.Event.{Event};
 ghost use Rattle.line_model.specs.declared.interface.Interface.{Interface};
 ghost use Rattle.line_model.specs.basics.Records.{Item};
+ghost use Rattle.line_model.specs.observer.Machine.{steps_all};
+ghost use Rattle.line_model.specs.observer.Observer.{x25};
 ghost use Rattle.line_model.specs.text.Text.{Line, ended_lines};
-ghost use Rattle.live_report.specs.JudgedRows.{IsJudgedRow};
+ghost use Rattle.restart_epochs.specs.Cutting.{observer};
+ghost use Rattle.live_report.specs.JudgedRows.{IsJudgedRow, taker};
 ghost use Rattle.live_report.specs.Lives.{KeepsRowsOf};
 ghost use Rattle.live_report.specs.Observing.{HasKept, HasWalked};
 ghost use Rattle.annotated_trace.specs.Rows.{asked_call, is_of_call, is_chosen};
-ghost use Rattle.descriptions.specs.CallRows.{Follows};
+ghost use Rattle.line_model.specs.packets.Says.{gap_of};
+ghost use Rattle.descriptions.specs.CallRows.{Follows, steps_each};
 ghost use Rattle.descriptions.specs.Choosing.{HasChosen, told_of_line};
 
 use crate::call_rows::CallRows;
+use crate::facts::is_gap_of_all;
 use annotated_trace::rows::Rows;
 use channel_run::run::Channel;
-use live_report::judged_row::JudgedRow;
+use line_model::packet::Packet;
+use line_model::state::RState;
+use live_report::judged_row::{Judge, JudgedRow};
 use live_report::live::Live;
 use live_report::observer::Observer;
 use std::alloc::Allocator;
+
+/// Whether a packet is a gap of all channels that reaches each, by the state of the restart machine before it.
+fn steps_each(before: RState, packet: &Packet) -> bool
+    ensures { result ≡ steps_each (gap_of packet.now) before }
+{
+    match before {
+        RState::R1 => is_gap_of_all(packet),
+        RState::R2 => false,
+        RState::R3 => false,
+    }
+}
+
+/// Whether a row that no logical channel took is a gap of all channels that reached each.
+fn reaches_each(last: &JudgedRow) -> bool
+    ensures { (i : Interface) (before : List Item) (r : Item) (events : List Event)
+        → taker last.now.judge ≡ None → IsJudgedRow i before r last.now events
+        → result ≡ steps_all (x25 i) (observer i before).line r }
+{
+    match &last.judge {
+        Judge::Restart { before, .. } => steps_each(*before, &last.packet),
+        Judge::Channel { .. } => false,
+    }
+}
 
 /// Whether the observer's last row is one of a call's.
 #[inline(always)]
@@ -38,7 +69,7 @@ fn judge_call<A: Allocator + Copy, C: Channel<A>>(
 {
     match last.channel() {
         Some(channel) => call.apply_row(observer.epoch(), channel, observer.events()),
-        None => false,
+        None => reaches_each(last) && call.is_open_in(observer.epoch()),
     }
 }
 

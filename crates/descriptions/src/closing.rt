@@ -15,12 +15,15 @@ pub fn report<A: Allocator, P: Page>(notes: &mut P, report: &Report<A>, uncounte
     calls(notes, &report.calls);
     accounts(notes, &report.accounts);
     peak(notes, &report.peak);
-    say_uncounted(notes, uncounted);
+    say_uncounted(notes, uncounted, report.gaps.is_some());
 }
 
 fn sums<A: Allocator, P: Page>(notes: &mut P, report: &Report<A>) {
     let summary = &report.summary;
     count(notes, "Report: ", summary.packets, " packet");
+    if let Some(gaps) = report.gaps {
+        count(notes, ", ", u64::from(gaps), " gap");
+    }
     count(notes, ", ", summary.findings, " finding");
     count(notes, ", ", summary.calls, " call");
     count(notes, "; counted: ", summary.octets, " octet");
@@ -65,14 +68,18 @@ fn ended<P: Page>(notes: &mut P, ended: Option<u32>, how: Option<How>) {
         notes.say(", open at the end");
         return;
     };
+    if how == Some(How::Gap) {
+        say_number(notes, ", ended before ", u64::from(packet));
+        notes.say(": its end was not recorded");
+        return;
+    }
     say_number(notes, ", ended with ", u64::from(packet));
     notes.say(match how {
         Some(How::T) => " by the DTE",
         Some(How::N) => " by the DCE",
         Some(How::Collision) => " by a call collision",
         Some(How::Restart) => " by a restart",
-        Some(How::Gap) => ", after an end in a gap",
-        None => "",
+        _ => "",
     })
 }
 

@@ -29,6 +29,8 @@ pub struct Rest<A: Allocator> {
     pub calls: Calls<A>,
     /// What was not counted.
     pub uncounted: Uncounted,
+    /// Whether the trace may have gap rows.
+    pub has_gaps: bool,
 }
 
 /// The objects after those of the report.
@@ -41,7 +43,7 @@ fn rest_objects<O: Out, A: Allocator + Copy>(
     let mut number: u32 = 0;
     for record in records {
         number = number.saturating_add(1);
-        call_object(json, number, record, &rest.calls);
+        call_object(json, number, record, rest);
     }
 }
 
@@ -102,7 +104,7 @@ fn call_object<O: Out, A: Allocator + Copy>(
     json: &mut Json<O>,
     number: u32,
     record: &CallRecord<A>,
-    calls: &Calls<A>,
+    rest: &Rest<A>,
 ) {
     json.first("{\"line\":");
     json.word("call_facts");
@@ -120,16 +122,21 @@ fn call_object<O: Out, A: Allocator + Copy>(
         Some(How::N) => json.word("N"),
         _ => json.null(),
     }
-    match calls.get(number) {
-        Some(call) => {
-            cause_members(json, &call.causes, CauseTable::Clearing);
-            codes_member(json, call);
-            time_member(json, ",\"start\":", call.start);
-            time_member(json, ",\"seconds\":", length(call));
+    if let Some(call) = rest.calls.get(number) {
+        memory_members(json, call);
+        if rest.has_gaps {
+            json.number_member(",\"gaps\":", u64::from(rest.calls.gaps_of(call)));
         }
-        None => {}
     }
     json.raw(b"}\n");
+}
+
+/// What is remembered of a call's rows.
+fn memory_members<O: Out, A: Allocator>(json: &mut Json<O>, call: &CallMemory<A>) {
+    cause_members(json, &call.causes, CauseTable::Clearing);
+    codes_member(json, call);
+    time_member(json, ",\"start\":", call.start);
+    time_member(json, ",\"seconds\":", length(call));
 }
 
 /// How long a call lasted, where both its rows have times.

@@ -10,7 +10,7 @@ ghost use Rattle.live_report.specs.Uncounted.{reason_at};
 ghost use Rattle.descriptions.specs.Facts.{AreFactsOf, IsFateOf, reason_told};
 
 use crate::facts::{
-    CallMove, EndedCall, Fate, RowFacts, counted_in, data_header, is_clear, user_data,
+    CallMove, EndedCall, Fate, RowFacts, counted_in, data_header, is_adrift, is_clear, user_data,
 };
 use channel_run::run::Channel;
 use channel_run::status_word::{state_in, view_in};
@@ -19,6 +19,7 @@ use data_transfer::packed::FlowWord;
 use data_transfer::sequence::{DataField, Put, UserData};
 use line_model::event::{Event, How, What};
 use line_model::interface::Interface;
+use line_model::packet::Packet;
 use line_model::row::ReadRow;
 use line_model::state::{ChannelState, DState, RState, Side};
 use live_report::judged_row::{Judge, JudgedRow};
@@ -35,6 +36,8 @@ struct Lane<A: Allocator> {
     call: u32,
     /// The number of its last call, where the clear indication of the DCE is still to come, or 0.
     uncleared: u32,
+    /// It was adrift since its call was opened.
+    had_gap: bool,
     /// The sequences of data packets that its PAD call has begun.
     sequences: Assembler<A>,
 }
@@ -45,6 +48,7 @@ impl<A: Allocator + Copy> Lane<A> {
         Lane {
             call: 0,
             uncleared: 0,
+            had_gap: false,
             sequences: Assembler::new(alloc, size, size),
         }
     }
@@ -71,6 +75,14 @@ impl<A: Allocator + Copy> Lane<A> {
         }
     }
 
+    /// Notes whether its call had a gap, after a row that opened the call or not.
+    fn note_gap(&mut self, last: &JudgedRow, opens: bool) {
+        if let Judge::Channel { before, after, .. } = &last.judge {
+            let had_gap = self.had_gap && !opens;
+            self.had_gap = had_gap || is_adrift(before) || is_adrift(after);
+        }
+    }
+
     /// Forgets the sequences that were begun where a row didn't leave the channel in d1.
     fn settle(&mut self, last: &JudgedRow) {
         let Judge::Channel { before, after, .. } = &last.judge else {
@@ -83,9 +95,9 @@ impl<A: Allocator + Copy> Lane<A> {
     }
 }
 
-/// Whether a channel is in d1, by its word.
+/// Whether a channel is known to be in d1, by its word.
 fn is_d1(word: &FlowWord) -> bool {
-    state_in(word.owner_bits()) == ChannelState::Transfer(DState::D1)
+    state_in(word.owner_bits()) == ChannelState::Transfer(DState::D1) && !is_adrift(word)
 }
 
 /// How many calls were opened, and which of them the last row ended.
@@ -142,6 +154,8 @@ pub struct Course<A: Allocator> {
     calls: CallCount<A>,
     /// What the last row did to the calls of its channel.
     moved: CallMove,
+    /// The channel of the last row had a gap in its call.
+    had_gap: bool,
     /// The PAD message that the last row completed.
     message: Option<Vec<u8, A>>,
     /// The epoch that the last row stands in.
@@ -161,6 +175,7 @@ impl<A: Allocator + Copy> Course<A> {
                 ended: Vec::new(alloc),
             },
             moved: CallMove::none(),
+            had_gap: false,
             message: None,
             epoch: 1,
             next_epoch: 1,
@@ -180,14 +195,19 @@ impl<A: Allocator + Copy> Course<A> {
         self.next_epoch = observer.epoch();
         self.calls.ended.clear();
         self.moved = CallMove::none();
+        self.had_gap = false;
         self.message = None;
         match last.channel() {
             Some(channel) => {
                 let mut lane = self.lane(channel, interface.size)?;
                 let events = observer.events();
                 self.moved = self.calls.take(&mut lane, last, events)?;
+                lane.note_gap(last, self.moved.opened != 0);
+                self.had_gap = lane.had_gap;
                 if let Some(data) = pad_data(interface, octets, last, events) {
-                    self.message = lane.completed(self.alloc, last.side, &data)?;
+                    if !lane.had_gap {
+                        self.message = lane.completed(self.alloc, last.side, &data)?;
+                    }
                 }
                 lane.settle(last);
                 self.lanes.put(channel, lane);
@@ -220,6 +240,8 @@ impl<A: Allocator + Copy> Course<A> {
             calls: self.moved,
             fate: fate(last, events),
             message: self.message(),
+            renews: self.renews(last),
+            had_gap: self.had_gap,
         }
     }
 
@@ -244,12 +266,20 @@ impl<A: Allocator + Copy> Course<A> {
         }
     }
 
-    /// Takes a row that the restart machine judged.
+    /// Whether the last row ended an epoch and began the next one at once.
+    fn renews(&self, last: &JudgedRow) -> bool {
+        self.epoch != self.next_epoch && is_in_r1(last)
+    }
+
+    /// Takes a row that the restart machine judged. A confirmation that renews the epoch shows a restart that was missed.
     fn on_interface(&mut self, last: &JudgedRow) -> Result<(), AllocError> {
-        if leaves_ready(last) {
-            self.end_all()?;
+        if self.renews(last) && last.packet == Packet::RestartConfirm {
+            self.end_all(How::Gap)
+        } else if self.renews(last) || leaves_ready(last) {
+            self.end_all(How::Restart)
+        } else {
+            Ok(())
         }
-        Ok(())
     }
 
     /// Takes out what is remembered of a channel, with this packet size in force where it has no row.
@@ -265,14 +295,14 @@ impl<A: Allocator + Copy> Course<A> {
         }
     }
 
-    /// All calls end, and all channels are fresh again.
-    fn end_all(&mut self) -> Result<(), AllocError> {
+    /// All calls end, and all channels begin again.
+    fn end_all(&mut self, how: How) -> Result<(), AllocError> {
         while let Some((_, lane)) = self.lanes.pop_first() {
             match lane {
                 Some(lane) if lane.call != 0 => {
                     self.calls.ended.push(EndedCall {
                         call: lane.call,
-                        how: How::Restart,
+                        how,
                     })?;
                 }
                 _ => {}
@@ -326,6 +356,14 @@ fn passed_over(last: &JudgedRow, events: &[Event]) -> Fate
 fn leaves_ready(last: &JudgedRow) -> bool {
     match last.judge {
         Judge::Restart { before, after } => before == RState::R1 && after != RState::R1,
+        Judge::Channel { .. } => false,
+    }
+}
+
+/// Whether the restart machine was in r1 before a row and after it.
+fn is_in_r1(last: &JudgedRow) -> bool {
+    match last.judge {
+        Judge::Restart { before, after } => before == RState::R1 && after == RState::R1,
         Judge::Channel { .. } => false,
     }
 }

@@ -1,11 +1,15 @@
 //! What a row did, in words.
 
+use crate::facts::{RowFacts, is_adrift, is_gap_of_all};
 use crate::names;
 use crate::parameters::setting;
 use crate::prose::{Prose, count, say_number};
 use call_accounts::so_far::segments_in;
+use channel_run::status_word::state_in;
+use data_transfer::packed::FlowWord;
 use line_model::event::{Event, How, What};
-use line_model::state::{ChannelState, RState};
+use line_model::packet::Packet;
+use line_model::state::RState;
 use live_report::uncounted::Reason;
 
 /// A change of state, or the state where none changed.
@@ -19,28 +23,56 @@ fn moved<P: Prose>(out: &mut P, before: &str, after: &str) {
     out.say(after);
 }
 
-/// What a packet of the restart machine did.
-pub fn restart_move<P: Prose>(out: &mut P, before: RState, after: RState) {
+/// What a packet of the restart machine did, or a gap that no channel took.
+pub fn restart_move<P: Prose>(out: &mut P, facts: &RowFacts<'_>, before: RState, after: RState) {
     moved(
         out,
         names::restart_state(before),
         names::restart_state(after),
     );
+    if facts.renews {
+        out.say(renewal(&facts.last.packet));
+    } else if after == RState::R1 && is_gap_of_all(&facts.last.packet) {
+        out.say("; all channels are adrift");
+    } else {
+        out.say(change(before, after));
+    }
+}
+
+/// What a change of the restart machine means for the channels.
+fn change(before: RState, after: RState) -> &'static str {
     match (before, after) {
-        (RState::R1, RState::R1) => {}
-        (RState::R1, _) => out.say("; all channels and their calls end"),
-        (_, RState::R1) => out.say("; all channels are fresh"),
-        _ => {}
+        (RState::R1, RState::R1) => "",
+        (RState::R1, _) => "; all channels and their calls end",
+        (_, RState::R1) => "; all channels are fresh",
+        _ => "",
+    }
+}
+
+/// What a packet means for the channels that ends an epoch after a gap of all channels, and begins the next one at once.
+fn renewal(packet: &Packet) -> &'static str {
+    if *packet == Packet::RestartConfirm {
+        "; a restart was missed: all channels and their calls end, and all channels are fresh"
+    } else {
+        "; all channels and their calls end, and all channels are adrift"
+    }
+}
+
+/// The state of a channel, by its word.
+fn known_state(word: &FlowWord) -> &'static str {
+    if is_adrift(word) {
+        "adrift"
+    } else {
+        names::channel_state(state_in(word.owner_bits()))
     }
 }
 
 /// How the state of a channel changed.
-pub fn channel_move<P: Prose>(out: &mut P, before: ChannelState, after: ChannelState) {
-    moved(
-        out,
-        names::channel_state(before),
-        names::channel_state(after),
-    )
+pub fn channel_move<P: Prose>(out: &mut P, before: &FlowWord, after: &FlowWord) {
+    moved(out, known_state(before), known_state(after));
+    if is_adrift(before) && !is_adrift(after) {
+        out.say(", settled by this packet");
+    }
 }
 
 /// The call that a row belongs to, by its number in the report; nothing for 0.
@@ -85,17 +117,18 @@ fn ending(how: How) -> &'static str {
         How::N => " ends, cleared by the DCE",
         How::Collision => " ends, cancelled by a call request",
         How::Restart => " ends with a restart",
-        How::Gap => " has ended in a gap",
+        How::Gap => " has ended, its end was not recorded",
     }
 }
 
-/// Why data was not counted, in words.
-pub fn reason_words(reason: Reason) -> &'static str {
+/// Why data was not counted, in words; a trace may have gaps.
+pub fn reason_words(reason: Reason, has_gaps: bool) -> &'static str {
     match reason {
         Reason::Finding => "a finding",
         Reason::Owed => "the DCE owes its indication",
         Reason::NotInTransfer => "the channel is not in data transfer",
         Reason::Discarded => "the state discards data",
+        Reason::Unknown if has_gaps => "nothing is known of the channel after a gap",
         Reason::Unknown =>
             "the recording began in the middle, and nothing is known of the channel yet",
         Reason::Restart => "a restart goes on",

@@ -1,13 +1,17 @@
 //! What a row is and did, as the observer judged it.
 
 ghost use Rattle.std.specs.Prelude.{◌≡◌, [], IfSome, MatchOption, None, true};
+ghost use Rattle.channel_run.specs.StatusWord.{view_in};
 ghost use Rattle.line_model.specs.observer.Calls.{all_lengths};
+ghost use Rattle.line_model.specs.channels.GapRestart.{is_of_all};
+ghost use Rattle.line_model.specs.packets.Says.{gap_of};
 ghost use Rattle.live_report.specs.Uncounted.{counts_data};
 ghost use Rattle.descriptions.specs.Facts.{IsFateOf, reason_told};
 
 use call_accounts::so_far::segments_in;
 use channel_run::run::View;
-use channel_run::status_word::view_in;
+use channel_run::status_word::{bit, view_in};
+use data_transfer::packed::FlowWord;
 use line_model::event::{Event, How, What};
 use line_model::interface::Interface;
 use line_model::packet::{Class, DataHeader, Packet, PacketKind};
@@ -15,6 +19,19 @@ use live_report::judged_row::{Judge, JudgedRow};
 use live_report::uncounted::Reason;
 use packet_decode::decode::{class_of, header_length};
 use packet_decode::fields::{CallFields, call_fields};
+
+/// Whether a packet stands for a gap of all logical channels.
+pub fn is_gap_of_all(packet: &Packet) -> bool
+    ensures { result ≡ is_of_all (gap_of packet.now) }
+{
+    match gap_of(packet) {
+        None => false,
+        Some(channel) => match channel {
+            None => true,
+            Some(_) => false,
+        },
+    }
+}
 
 /// What became of the data of a row.
 #[derive(Clone, Copy)]
@@ -93,6 +110,35 @@ pub struct RowFacts<'a> {
     pub fate: Fate,
     /// The octets of the PAD message that it completes, the first 1,025.
     pub message: Option<&'a [u8]>,
+    /// It ended an epoch and began the next one at once.
+    pub renews: bool,
+    /// The channel that took it had a gap in its call.
+    pub had_gap: bool,
+}
+
+/// The bit of a channel's word that is set where it is adrift.
+const ADRIFT: u32 = 18;
+
+/// Whether a channel is adrift, by its word.
+#[inline(always)]
+pub fn is_adrift(word: &FlowWord) -> bool
+    ensures { result ≡ (view_in word.now).adrift }
+{
+    bit(word.owner_bits(), ADRIFT)
+}
+
+/// The gap that a packet stands for: of a logical channel, or of all, where it names none.
+pub fn gap_of(packet: &Packet) -> Option<Option<u16>>
+    ensures { result ≡ gap_of packet.now }
+{
+    match packet {
+        Packet::Channel {
+            channel,
+            kind: PacketKind::Gap,
+        } => Some(Some(*channel)),
+        Packet::GapOfAll => Some(None),
+        _ => None,
+    }
 }
 
 impl<'a> RowFacts<'a> {

@@ -28,6 +28,8 @@ pub struct Before {
     pub packet: Packet,
     /// How many octets the packet has.
     pub length: usize,
+    /// The channel had a gap in its call: its numbers may be others than the view has.
+    pub had_gap: bool,
 }
 
 impl Before {
@@ -38,6 +40,7 @@ impl Before {
             view: facts.view_before(),
             packet: facts.last.packet,
             length: facts.length,
+            had_gap: facts.had_gap,
         }
     }
 }
@@ -99,6 +102,7 @@ fn reaction(state: StateName, code: u8) -> &'static str {
 /// What is wrong with the values of a row, where its values tell it.
 fn values<P: Prose>(out: &mut P, before: &Before, octets: &[u8], finding: &Finding) -> bool {
     match finding.code {
+        Code::Number(INVALID_P_S | INVALID_P_R) if before.had_gap => false,
         Code::Number(INVALID_P_S) => send_number(out, before, finding.side),
         Code::Number(INVALID_P_R) => receive_number(out, before, finding.side),
         Code::Number(CALL_ON_ONE_WAY_LOGICAL_CHANNEL) => direction(out, before, finding.side),

@@ -1,14 +1,16 @@
 //! The beginning of the object of a row.
 
 ghost use Rattle.std.specs.Prelude.{◌≡◌, ℕ, ◌++◌, List, OnOk, map};
+ghost use Rattle.channel_run.specs.StatusWord.{view_in};
 ghost use Rattle.line_model.specs.basics.Records.{Item};
 ghost use Rattle.line_model.specs.declared.interface.Interface.{Interface};
 ghost use Rattle.line_model.specs.observer.Report.{code_word};
 ghost use Rattle.descriptions.specs.Facts.{AreFactsOf, IsFateOf};
-ghost use Rattle.descriptions.specs.RowObjects.{channel_word, counted_word, finding_word, joined, named_channel, number_word, row_head, state_members, word_after, word_before};
+ghost use Rattle.descriptions.specs.RowObjects.{channel_word, counted_word, finding_word, gap_head, joined, known_word, named_channel, number_word, packet_head, row_head, state_members, word_after, word_before};
 
-use crate::facts::{Fate, RowFacts};
+use crate::facts::{Fate, RowFacts, gap_of, is_adrift};
 use channel_run::status_word::state_in;
+use data_transfer::packed::FlowWord;
 use itoa::Buffer;
 use line_model::finding::{Code, Finding};
 use line_model::packet::Packet;
@@ -39,6 +41,17 @@ fn channel_word(state: ChannelState) -> &'static [u8]
     }
 }
 
+/// The name of the state of a logical channel, by its word.
+fn known_word(word: &FlowWord) -> &'static [u8]
+    ensures { result.now ≡ known_word (view_in word.now).adrift (view_in word.now).state }
+{
+    if is_adrift(word) {
+        b"adrift"
+    } else {
+        channel_word(state_in(word.owner_bits()))
+    }
+}
+
 /// The names of the states before and after a row.
 fn state_words(judge: &Judge) -> (&'static [u8], &'static [u8])
     ensures before { result.0.now ≡ word_before judge.now }
@@ -46,10 +59,7 @@ fn state_words(judge: &Judge) -> (&'static [u8], &'static [u8])
 {
     match judge {
         Judge::Restart { before, after } => (state_word(before.name()), state_word(after.name())),
-        Judge::Channel { before, after, .. } => (
-            channel_word(state_in(before.owner_bits())),
-            channel_word(state_in(after.owner_bits())),
-        ),
+        Judge::Channel { before, after, .. } => (known_word(before), known_word(after)),
     }
 }
 
@@ -140,7 +150,38 @@ fn append_finding<A: Allocator>(
     )
 }
 
-/// Appends the beginning of the object of a row.
+/// A logical channel, or null.
+fn gap_digits<'a>(channel: Option<u16>, buffer: &'a mut Buffer) -> &'a [u8]
+    ensures { result.now ≡ number_word channel }
+{
+    match channel {
+        Some(channel) => buffer.format(channel).as_bytes(),
+        None => b"null",
+    }
+}
+
+/// Appends the beginning of the object of a gap.
+fn append_gap<A: Allocator>(
+    number: u32,
+    channel: Option<u16>,
+    out: &mut Vec<u8, A>,
+) -> Result<(), AllocError>
+    ensures { OnOk result (out.new.items ≡ out.old.items ++ gap_head number channel) }
+{
+    let mut digits = Buffer::new();
+    let mut channel_buffer = Buffer::new();
+    append_words(
+        &[
+            b"{\"line\":\"gap\",\"packet\":",
+            digits.format(number).as_bytes(),
+            b",\"channel\":",
+            gap_digits(channel, &mut channel_buffer),
+        ],
+        out,
+    )
+}
+
+/// Appends the beginning of the object of a row, which is a gap or a packet.
 pub fn append_head<A: Allocator>(
     facts: &RowFacts<'_>,
     out: &mut Vec<u8, A>,
@@ -148,6 +189,18 @@ pub fn append_head<A: Allocator>(
     ensures { (i : Interface) (earlier : List Item) (r : Item) → AreFactsOf i earlier r facts.now
         → OnOk result (out.new.items ≡ out.old.items
         ++ row_head i earlier r facts.now.last.now.finding) }
+{
+    match gap_of(&facts.last.packet) {
+        Some(channel) => append_gap(facts.last.number, channel, out),
+        None => append_packet(facts, out),
+    }
+}
+
+/// Appends the beginning of the object of a packet.
+fn append_packet<A: Allocator>(facts: &RowFacts<'_>, out: &mut Vec<u8, A>) -> Result<(), AllocError>
+    ensures { (i : Interface) (earlier : List Item) (r : Item) → AreFactsOf i earlier r facts.now
+        → OnOk result (out.new.items ≡ out.old.items
+        ++ packet_head i earlier r facts.now.last.now.finding) }
 {
     append_states(facts, out)?;
     append_counted(facts.fate, out)?;

@@ -1,6 +1,6 @@
 //! What a row did, as members of an object.
 
-use crate::facts::{EndedCall, Fate, RowFacts};
+use crate::facts::{EndedCall, Fate, RowFacts, gap_of};
 use crate::faults::{Before, consequence, wrong};
 use crate::json::{Json, Out};
 use crate::packet_members::{packet_members, settings_member};
@@ -11,11 +11,35 @@ use channel_run::status_word::view_in;
 use explanations::lookup::code_row;
 use line_model::event::{Event, How, What};
 use line_model::finding::Finding;
+use line_model::state::StateName;
 use live_report::judged_row::Judge;
 use live_report::uncounted::Reason;
+use report_merge::words::state_word;
 
-/// The members of a row's object after its finding's code.
+/// The members of a row's object after its finding's code, or of a gap's after its channel.
 pub fn row_members<O: Out>(
+    json: &mut Json<O>,
+    facts: &RowFacts<'_>,
+    ended: &[EndedCall],
+    recorded: Recorded,
+    digits: Option<&[u8]>,
+) {
+    match gap_of(&facts.last.packet) {
+        Some(_) => gap_members(json, recorded),
+        None => members_of_packet(json, facts, ended, recorded, digits),
+    }
+}
+
+/// When a gap shows, and the frame that shows it, where these are known.
+fn gap_members<O: Out>(json: &mut Json<O>, recorded: Recorded) {
+    if recorded.time.is_some() {
+        time_member(json, ",\"time\":", recorded.time);
+    }
+    frame_member(json, recorded);
+}
+
+/// The members of a packet's object after its finding's code.
+fn members_of_packet<O: Out>(
     json: &mut Json<O>,
     facts: &RowFacts<'_>,
     ended: &[EndedCall],
@@ -54,7 +78,22 @@ fn finding_members<O: Out>(json: &mut Json<O>, facts: &RowFacts<'_>, finding: &F
         json.raw(b".\"");
         json.text_member(",\"clause\":", row.clause);
     }
+    if facts.interface.gaps {
+        state_member(json, finding.state);
+    }
     json.raw(b"}");
+}
+
+/// The state of a finding, as its line of the report has it.
+fn state_member<O: Out>(json: &mut Json<O>, state: StateName) {
+    json.member(",\"state\":");
+    if state == StateName::Dash {
+        json.null();
+        return;
+    }
+    json.raw(b"\"");
+    json.raw(state_word(state));
+    json.raw(b"\"");
 }
 
 /// Whether the DCE owes an indication on the channel after the row.
@@ -148,6 +187,11 @@ fn recorded_members<O: Out>(json: &mut Json<O>, recorded: Recorded) {
         Some(_) => time_member(json, ",\"time\":", recorded.time),
         None => json.member(",\"time\":null"),
     }
+    frame_member(json, recorded);
+}
+
+/// The frame of a row, where it is known.
+fn frame_member<O: Out>(json: &mut Json<O>, recorded: Recorded) {
     if let Some(frame) = recorded.frame {
         json.number_member(",\"frame\":", frame);
     }

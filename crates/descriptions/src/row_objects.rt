@@ -69,6 +69,7 @@ impl<A: Allocator + Copy> Past<A> {
             rest: Rest {
                 calls: Calls::new(alloc),
                 uncounted: Uncounted::none(),
+                has_gaps: false,
             },
             recorded: None,
             members: Vec::new(alloc),
@@ -152,6 +153,7 @@ impl<A: Allocator + Copy> Past<A> {
             .calls
             .take(&facts, self.course.ended(), recorded.time)?;
         self.rest.uncounted = observer.uncounted();
+        self.rest.has_gaps = interface.gaps;
         if !told {
             return Ok(());
         }

@@ -1,18 +1,20 @@
 //! What a row is and did, in words.
 
 use crate::effects::{channel_move, event, of_call, reason_words, restart_move};
-use crate::facts::{Fate, RowFacts};
+use crate::facts::{Fate, RowFacts, gap_of};
 use crate::messages::message;
 use crate::packets::packet;
-use crate::prose::Page;
-use channel_run::status_word::state_in;
+use crate::prose::{Page, say_number};
 use line_model::event::What;
 use live_report::judged_row::Judge;
 use live_report::uncounted::Reason;
 
 /// Says what a row is, and on a further line what it did.
 pub fn row<P: Page>(facts: &RowFacts<'_>, notes: &mut P) {
-    packet(notes, facts);
+    match gap_of(&facts.last.packet) {
+        Some(channel) => gap(channel, notes),
+        None => packet(notes, facts),
+    }
     if let Some(octets) = facts.message {
         message(notes, octets);
     }
@@ -22,15 +24,21 @@ pub fn row<P: Page>(facts: &RowFacts<'_>, notes: &mut P) {
     left_out(facts, notes);
 }
 
+/// Says that packets of a logical channel may not have been recorded, or of any, where none is named.
+fn gap<P: Page>(channel: Option<u16>, notes: &mut P) {
+    notes.say("a gap: packets on ");
+    match channel {
+        Some(channel) => say_number(notes, "channel ", u64::from(channel)),
+        None => notes.say("any channel"),
+    }
+    notes.say(" may be missing");
+}
+
 /// Says how the state changed.
 fn moved<P: Page>(facts: &RowFacts<'_>, notes: &mut P) {
     match &facts.last.judge {
-        Judge::Restart { before, after } => restart_move(notes, *before, *after),
-        Judge::Channel { before, after, .. } => channel_move(
-            notes,
-            state_in(before.owner_bits()),
-            state_in(after.owner_bits()),
-        ),
+        Judge::Restart { before, after } => restart_move(notes, facts, *before, *after),
+        Judge::Channel { before, after, .. } => channel_move(notes, before, after),
     }
 }
 
@@ -60,7 +68,7 @@ fn left_out<P: Page>(facts: &RowFacts<'_>, notes: &mut P) {
         Fate::NotCounted(Reason::Finding | Reason::Restart) => {}
         Fate::NotCounted(reason) => {
             notes.say("; not counted: ");
-            notes.say(reason_words(reason));
+            notes.say(reason_words(reason, facts.interface.gaps));
         }
         _ => {}
     }

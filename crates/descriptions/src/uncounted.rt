@@ -16,9 +16,13 @@ fn say_amount<P: Page>(notes: &mut P, amount: &Amount, reason: &str) {
     count(notes, " with ", amount.octets, " octet");
 }
 
-/// A line for each reason.
-pub fn say_uncounted<P: Page>(notes: &mut P, uncounted: &Uncounted) {
+/// A line for each reason, of a trace that may have gaps.
+pub fn say_uncounted<P: Page>(notes: &mut P, uncounted: &Uncounted, has_gaps: bool) {
     for reason in &REASONS {
-        say_amount(notes, &uncounted.amount(*reason), reason_words(*reason));
+        say_amount(
+            notes,
+            &uncounted.amount(*reason),
+            reason_words(*reason, has_gaps),
+        );
     }
 }

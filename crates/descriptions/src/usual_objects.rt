@@ -1,16 +1,18 @@
 //! The objects of the rows that are as most are: data with Q 0 and receive ready in d1, with which nothing is wrong.
 
-ghost use Rattle.std.specs.Prelude.{◌≡◌, ℕ, ◌++◌, List, IfSome, Some, codes};
+ghost use Rattle.std.specs.Prelude.{◌≡◌, ℕ, ◌++◌, List, IfSome, None, Some, codes};
 ghost use Rattle.std.specs.Bool.{OnTrue};
 ghost use Rattle.line_model.specs.observer.Calls.{all_lengths};
 ghost use Rattle.line_model.specs.observer.Report.{side_word};
+ghost use Rattle.line_model.specs.declared.packet.Packet.TheVariants.{Channel as OfChannel};
+ghost use Rattle.line_model.specs.packets.Says.{gap_of};
 ghost use Rattle.annotated_trace.specs.Annotation.{IsOneLine};
 ghost use Rattle.descriptions.specs.Facts.{IsFateOf};
 ghost use Rattle.descriptions.specs.Lines.{Puts, PutsPlain};
 ghost use Rattle.descriptions.specs.RowObjects.{counted_word, named_channel};
 ghost use Rattle.descriptions.specs.UsualObjects.{IsUsualObject, amount_word, is_quiet, is_settled, usual_head};
 
-use crate::facts::{Fate, counted_in};
+use crate::facts::{Fate, counted_in, is_adrift};
 use crate::line_room::LineRoom;
 use channel_run::status_word::{bit, state_in};
 use data_transfer::packed::FlowWord;
@@ -37,13 +39,15 @@ pub struct UsualRow<'a> {
 /// The bit of a channel's word that is set where the DCE owes an indication.
 const OWED: u32 = 5;
 
-/// Whether a channel is in d1, and the DCE owes no indication, by its word.
+/// Whether a channel is in d1, the DCE owes no indication, and no gap left its state open, by its word.
 #[inline(always)]
 fn is_settled(word: &FlowWord) -> bool
     ensures { result ≡ is_settled word.now }
 {
     let owner_bits = word.owner_bits();
-    state_in(owner_bits) == ChannelState::Transfer(DState::D1) && !bit(owner_bits, OWED)
+    state_in(owner_bits) == ChannelState::Transfer(DState::D1)
+        && !bit(owner_bits, OWED)
+        && !is_adrift(word)
 }
 
 /// Whether a row found nothing and left its channel in d1, where the DCE owed no indication before and after it.
@@ -106,7 +110,8 @@ fn put_ready(line: &mut LineRoom, receive: u8, digits: &[u8])
 /// Puts the members after the call of a row, if it is data with Q 0 that was counted, or a receive ready.
 #[inline(always)]
 fn put_packet(line: &mut LineRoom, kind: &PacketKind, fate: Fate, digits: &[u8]) -> bool
-    ensures { OnTrue result (IsOneLine digits.now → PutsPlain line.old line.new) }
+    ensures plain { OnTrue result (IsOneLine digits.now → PutsPlain line.old line.new) }
+    ensures packet { OnTrue result ((k : ℕ) → gap_of (OfChannel k kind.now) ≡ None) }
 {
     match (kind, fate) {
         (PacketKind::Data(Some(header)), Fate::Counted { octets, .. }) if !header.qualified => {

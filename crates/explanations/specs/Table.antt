@@ -33,7 +33,7 @@ all_of t ws = map (λ w. record { topic = t; word = w }) ws
 
 -- the letters of the report's lines, in their order
 abbrev pub letters : List (List ℕ)
-letters = codes "F" ∷ codes "C" ∷ codes "S" ∷ codes "A" ∷ codes "P" ∷ codes "Z" ∷ []
+letters = codes "F" ∷ codes "C" ∷ codes "S" ∷ codes "A" ∷ codes "P" ∷ codes "G" ∷ codes "Z" ∷ []
 
 -- the letters of the report's lines, and the words of its fields
 abbrev pub field_keys : List Key
@@ -42,7 +42,7 @@ field_keys =
     ++ all_of topic.TheVariants.Side (map side_word (T ∷ N ∷ []))
     ++ all_of topic.TheVariants.Direction (map direction_word (true ∷ false ∷ []))
     ++ all_of topic.TheVariants.Ending
-    (map how_word (Some how.TheVariants.T ∷ Some how.TheVariants.N ∷ Some how.TheVariants.Collision ∷ Some how.TheVariants.Restart ∷ None ∷ []))
+    (map how_word (Some how.TheVariants.T ∷ Some how.TheVariants.N ∷ Some how.TheVariants.Collision ∷ Some how.TheVariants.Restart ∷ Some how.TheVariants.Gap ∷ None ∷ []))
     ++ all_of topic.TheVariants.Setting (codes "asked" ∷ codes "said" ∷ codes "refused" ∷ [])
     ++ all_of topic.TheVariants.Absent (dash ∷ [])
 
@@ -53,7 +53,7 @@ report_field_keys = all_of topic.TheVariants.Field
     ∷ codes "call" ∷ codes "epoch" ∷ codes "channel" ∷ codes "direction" ∷ codes "called" ∷ codes "calling"
     ∷ codes "opened" ∷ codes "up" ∷ codes "ended" ∷ codes "how" ∷ codes "data_t" ∷ codes "octets_t" ∷ codes "data_n" ∷ codes "octets_n"
     ∷ codes "segments" ∷ codes "parameter" ∷ codes "word" ∷ codes "value" ∷ codes "address" ∷ codes "calls" ∷ codes "count"
-    ∷ codes "packets" ∷ codes "findings" ∷ codes "octets" ∷ [])
+    ∷ codes "gaps" ∷ codes "packets" ∷ codes "findings" ∷ codes "octets" ∷ [])
 
 -- the states
 abbrev pub state_keys : List Key
@@ -140,7 +140,7 @@ restarting_cause_keys = all_of topic.TheVariants.RestartingCause (map decimal (0
 -- the terms of recordings and of what is counted
 abbrev pub term_keys : List Key
 term_keys = all_of topic.TheVariants.Term
-    (codes "window" ∷ codes "frame" ∷ codes "trace" ∷ codes "row" ∷ codes "octet" ∷ codes "segment" ∷ codes "interface" ∷ codes "gap" ∷ codes "LAPB" ∷ codes "XOT" ∷ [])
+    (codes "window" ∷ codes "frame" ∷ codes "trace" ∷ codes "row" ∷ codes "octet" ∷ codes "segment" ∷ codes "interface" ∷ codes "gap" ∷ codes "adrift" ∷ codes "LAPB" ∷ codes "XOT" ∷ [])
 
 -- the terms of packets
 abbrev pub packet_term_keys : List Key

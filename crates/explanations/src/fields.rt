@@ -5,7 +5,7 @@ ghost use Rattle.explanations.specs.Table.{key, field_keys};
 
 use crate::explanation::{Explanation, Topic};
 
-const FIELDS: [Explanation; 19] = [
+const FIELDS: [Explanation; 21] = [
     Explanation {
         topic: Topic::Line,
         word: "F",
@@ -60,6 +60,17 @@ const FIELDS: [Explanation; 19] = [
         definition: "crates/line_model/specs/observer/Report.antt",
         example: "P 1 2",
         trace: "tests/traces/worked/full-window.trace",
+    },
+    Explanation {
+        topic: Topic::Line,
+        word: "G",
+        name: "gaps",
+        meaning: "G gaps: how many gap rows the trace has, each where packets may not have been recorded.",
+        when: "Before the Z line, once, where the header has the third form.",
+        clause: "profile",
+        definition: "crates/line_model/specs/observer/Report.antt",
+        example: "G 1",
+        trace: "tests/gaps/traces/call-after-a-gap.trace",
     },
     Explanation {
         topic: Topic::Line,
@@ -159,6 +170,17 @@ const FIELDS: [Explanation; 19] = [
         definition: "crates/line_model/specs/observer/Report.antt",
         example: "C 1 1 1 out - - 1 2 3 restart 0 0 0 0 0",
         trace: "tests/traces/worked/restart-ends-call.trace",
+    },
+    Explanation {
+        topic: Topic::Ending,
+        word: "gap",
+        name: "hidden by a gap",
+        meaning: "The end of the call was not recorded: a packet after a gap shows that the call is over.",
+        when: "In C lines, as how the call ended; ended is the row of that packet.",
+        clause: "profile",
+        definition: "crates/line_model/specs/channels/GapStep.antt",
+        example: "C 1 1 1 out - - 1 2 5 gap 1 1 0 0 1",
+        trace: "tests/gaps/traces/call-after-a-gap.trace",
     },
     Explanation {
         topic: Topic::Ending,

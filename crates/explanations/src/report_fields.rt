@@ -5,7 +5,7 @@ ghost use Rattle.explanations.specs.Table.{key, report_field_keys};
 
 use crate::explanation::{Explanation, Topic};
 
-const REPORT_FIELDS: [Explanation; 28] = [
+const REPORT_FIELDS: [Explanation; 29] = [
     Explanation {
         topic: Topic::Field,
         word: "packet",
@@ -142,7 +142,7 @@ const REPORT_FIELDS: [Explanation; 28] = [
         topic: Topic::Field,
         word: "ended",
         name: "row that ended the call",
-        meaning: "The number of the row that cleared the call or restarted the interface, - where the trace ended first.",
+        meaning: "The number of the row that cleared the call, restarted the interface or shows that a gap hides the end, - where the trace ended first.",
         when: "In C lines.",
         clause: "X.25 4.1.7, 4.1.8",
         definition: "crates/line_model/specs/observer/Report.antt",
@@ -153,7 +153,7 @@ const REPORT_FIELDS: [Explanation; 28] = [
         topic: Topic::Field,
         word: "how",
         name: "how the call ended",
-        meaning: "T or N, the side that cleared the call, or collision, restart or open.",
+        meaning: "T or N, the side that cleared the call, or collision, restart, gap or open.",
         when: "In C lines.",
         clause: "profile",
         definition: "crates/line_model/specs/observer/Report.antt",
@@ -280,6 +280,17 @@ const REPORT_FIELDS: [Explanation; 28] = [
         definition: "crates/line_model/specs/observer/Report.antt",
         example: "P 1 2",
         trace: "tests/traces/worked/full-window.trace",
+    },
+    Explanation {
+        topic: Topic::Field,
+        word: "gaps",
+        name: "number of gap rows",
+        meaning: "How many gap rows the trace has. They are no packets.",
+        when: "In the G line.",
+        clause: "profile",
+        definition: "crates/line_model/specs/observer/Report.antt",
+        example: "G 1",
+        trace: "tests/gaps/traces/call-after-a-gap.trace",
     },
     Explanation {
         topic: Topic::Field,

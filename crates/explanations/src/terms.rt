@@ -5,7 +5,7 @@ ghost use Rattle.explanations.specs.Table.{key, term_keys};
 
 use crate::explanation::{Explanation, Topic};
 
-const TERMS: [Explanation; 10] = [
+const TERMS: [Explanation; 11] = [
     Explanation {
         topic: Topic::Term,
         word: "window",
@@ -87,11 +87,22 @@ const TERMS: [Explanation; 10] = [
         topic: Topic::Term,
         word: "gap",
         name: "gap",
-        meaning: "Octets or frames that a capture lacks, though the numbers of TCP or LAPB show that they were sent.",
-        when: "x25trace writes a comment where one is, and has status 1. Findings after it may come from the packets that are missing.",
+        meaning: "Packets that may not have been recorded. A gap row, NUMBER ? CHANNEL, says so of a logical channel, and NUMBER ? * of all. What a missing packet could explain is no finding, and what was recorded counts.",
+        when: "A trace whose header has the third form may have gap rows. After one the logical channel is adrift. x25trace writes them where octets or frames of a capture are missing.",
         clause: "profile",
-        definition: "tools/x25trace_lib/xot.py",
-        example: "x25trace: the trace has gaps: findings after one may come from packets that were not recorded",
+        definition: "crates/line_model/specs/channels/Gaps.antt",
+        example: "4 ? 1",
+        trace: "",
+    },
+    Explanation {
+        topic: Topic::Term,
+        word: "adrift",
+        name: "state after a gap",
+        meaning: "Of the logical channel it is known only which call is open, and whether the call came up. Nothing on it is a finding until a P(R) that acknowledges data, a clear confirmation or a restart shows its state again.",
+        when: "--rows prints it as before and after, and --annotate after such rows. RULES.md has what each packet does.",
+        clause: "profile",
+        definition: "crates/line_model/specs/channels/GapStep.antt",
+        example: "# d1 to adrift; call 1",
         trace: "",
     },
     Explanation {

@@ -22,12 +22,12 @@ use Rattle.line_model.specs.declared.state.Side.TheVariants.{T, N}
 use Rattle.line_model.specs.declared.state.StateName.{StateName}
 use Rattle.line_model.specs.declared.state.StateName.TheVariants.{Dash, R1, R2, R3, P1, P2, P3, P4, P5, P6, P7, D1, D2, D3}
 use Rattle.line_model.specs.declared.totals.Summary.{Summary}
-use Rattle.line_model.specs.observer.Report.{account_line, address_word, call_line, code_word, direction_word, entry_words, finding_line, how_word, line, number_word, peak_line, setting_lines, side_word, state_word, summary_line, text_of}
+use Rattle.line_model.specs.observer.Report.{account_line, address_word, call_line, code_word, direction_word, entry_words, finding_line, gap_lines, how_word, line, number_word, peak_line, setting_lines, side_word, state_word, summary_line, text_of}
 use Rattle.trace_text.specs.Cuts.{Lacks}
 use Rattle.json_lines.specs.Cuts.{IsLine, IsPlain}
 use Rattle.json_lines.specs.Json.{json_text, object_of}
 use Rattle.json_lines.proofs.ObjectLemmas.{lines_objects}
-use Rattle.json_lines.specs.Reports.{IsAccount, IsAddress, IsCall, IsCode, IsDigit, IsEntry, IsFinding, IsHeld, IsKnown, IsNumber, IsPeak, IsSetting, IsSmall, IsSummary, account_words, all_setting_words, call_words, finding_words, peak_words, report_words, setting_words, summary_words}
+use Rattle.json_lines.specs.Reports.{IsAccount, IsAddress, IsCall, IsCode, IsDigit, IsEntry, IsFinding, IsHeld, IsKnown, IsNumber, IsPeak, IsSetting, IsSmall, IsSummary, account_words, all_setting_words, call_words, finding_words, gap_words, peak_words, report_words, setting_words, summary_words}
 
 -- ---- the text by its words
 
@@ -57,12 +57,19 @@ and_accounts r =
     flat_map-append line (map finding_words r.findings ++ map call_words (enumerate_from 1 r.calls) ++ flat_map all_setting_words (enumerate_from 1 r.calls)) (map account_words r.accounts)
     ∙ λ t. and_settings r t ++ sym (lines_of account_words r.accounts) t
 
+-- the lines of the gaps and the sums
+and_sums : (gaps : Option ℕ) (s : Summary) → gap_lines gaps ++ summary_line s ≡ flat_map line (gap_words gaps ++ summary_words s ∷ [])
+and_sums None s = sym (append-nil (summary_line s))
+and_sums (Some n) s = ap (λ l. line (codes "G" ∷ decimal n ∷ []) ++ l) (sym (append-nil (summary_line s)))
+
 pub text_words : (r : Report) → text_of r ≡ flat_map line (report_words r)
 text_words r =
     let before : List ℕ = flat_map finding_line r.findings ++ flat_map call_line (enumerate_from 1 r.calls) ++ flat_map setting_lines (enumerate_from 1 r.calls) ++ flat_map account_line r.accounts in
     let words : List (List (List ℕ)) = map finding_words r.findings ++ map call_words (enumerate_from 1 r.calls) ++ flat_map all_setting_words (enumerate_from 1 r.calls) ++ map account_words r.accounts in
-    append_assoc before (peak_line r.peak) (summary_line r.summary) ∙ (λ t. sym (and_accounts r) t ++ (peak_line r.peak ++ sym (append-nil (summary_line r.summary)) t))
-    ∙ sym (flat_map-append line words (peak_words r.peak ∷ summary_words r.summary ∷ []))
+    append_assoc (before ++ peak_line r.peak) (gap_lines r.gaps) (summary_line r.summary)
+    ∙ append_assoc before (peak_line r.peak) (gap_lines r.gaps ++ summary_line r.summary)
+    ∙ (λ t. sym (and_accounts r) t ++ (peak_line r.peak ++ and_sums r.gaps r.summary t))
+    ∙ sym (flat_map-append line words (peak_words r.peak ∷ (gap_words r.gaps ++ summary_words r.summary ∷ [])))
 
 -- ---- words
 
@@ -200,6 +207,10 @@ account a h =
 peak : (p : Peak) → IsPeak p → IsLine (peak_words p)
 peak p h = lettered 32 (codes "P") _ _ (refl, refl) (omega arith) (omega arith) (then 20 _ _ _ _ (number p.count h.count) (last 10 _ (maybe p.packet h.packet)))
 
+gaps : (n : Option ℕ) → IfSome n IsNumber → AllByRecursion IsLine (gap_words n)
+gaps None h = tt
+gaps (Some n) h = (lettered 21 (codes "G") _ _ (refl, refl) (omega arith) (omega arith) (last 20 _ (number n h)), tt)
+
 summary : (s : Summary) → IsSummary s → IsLine (summary_words s)
 summary s h =
     lettered 105 (codes "Z") _ _ (refl, refl) (omega arith) (omega arith)
@@ -227,17 +238,21 @@ settings (p ∷ ps) h =
 
 pub are_lines : (r : Report) → IsHeld r → AllByRecursion IsLine (report_words r)
 are_lines r h =
-    both IsLine _ (peak_words r.peak ∷ summary_words r.summary ∷ [])
+    both IsLine _ (peak_words r.peak ∷ (gap_words r.gaps ++ summary_words r.summary ∷ []))
     (both IsLine _ (map account_words r.accounts)
     (both IsLine _ (flat_map all_setting_words (enumerate_from 1 r.calls))
     (both IsLine (map finding_words r.findings) (map call_words (enumerate_from 1 r.calls)) (each IsFinding IsLine finding_words finding r.findings h.findings) (each IsCall IsLine call_words call (enumerate_from 1 r.calls) h.calls))
     (settings (enumerate_from 1 r.calls) h.calls))
     (each IsAccount IsLine account_words account r.accounts h.accounts))
-    (peak r.peak h.peak, (summary r.summary h.summary, tt))
+    (peak r.peak h.peak, both IsLine (gap_words r.gaps) (summary_words r.summary ∷ []) (gaps r.gaps h.gaps) (summary r.summary h.summary, tt))
 
 -- the report has the objects of its words
 pub report_objects : (r : Report) → IsHeld r → json_text (text_of r) ≡ flat_map object_of (report_words r)
 report_objects r h = ap json_text (text_words r) ∙ lines_objects (report_words r) (are_lines r h)
+
+known_gaps : (n : Option ℕ) → AllByRecursion IsKnown (gap_words n)
+known_gaps None = tt
+known_gaps (Some n) = ((λ none. cc), tt)
 
 known_settings : (ps : List (ℕ × CallRecord)) → AllByRecursion IsKnown (flat_map all_setting_words ps)
 known_settings [] = tt
@@ -245,10 +260,10 @@ known_settings (p ∷ ps) = both IsKnown (all_setting_words p) (flat_map all_set
 
 pub are_known : (r : Report) → AllByRecursion IsKnown (report_words r)
 are_known r =
-    both IsKnown _ (peak_words r.peak ∷ summary_words r.summary ∷ [])
+    both IsKnown _ (peak_words r.peak ∷ (gap_words r.gaps ++ summary_words r.summary ∷ []))
     (both IsKnown _ (map account_words r.accounts)
     (both IsKnown _ (flat_map all_setting_words (enumerate_from 1 r.calls))
     (both IsKnown (map finding_words r.findings) (map call_words (enumerate_from 1 r.calls)) (any IsKnown finding_words (λ f none. cc) r.findings) (any IsKnown call_words (λ p none. cc) (enumerate_from 1 r.calls)))
     (known_settings (enumerate_from 1 r.calls)))
     (any IsKnown account_words (λ a none. cc) r.accounts))
-    ((λ none. cc), ((λ none. cc), tt))
+    ((λ none. cc), both IsKnown (gap_words r.gaps) (summary_words r.summary ∷ []) (known_gaps r.gaps) ((λ none. cc), tt))

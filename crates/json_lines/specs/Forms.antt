@@ -67,6 +67,10 @@ peak = record {
       ∷ [];
 }
 
+-- G gaps
+abbrev pub gaps : Form
+gaps = record { title = codes "gaps"; fields = number (codes "gaps") ∷ [] }
+
 -- Z packets findings calls octets segments
 abbrev pub sums : Form
 sums = record {
@@ -88,5 +92,6 @@ form_of letter =
     else if bytes_eq letter (codes "S") then setting
     else if bytes_eq letter (codes "A") then account
     else if bytes_eq letter (codes "P") then peak
+    else if bytes_eq letter (codes "G") then gaps
     else if bytes_eq letter (codes "Z") then sums
     else unknown

@@ -1,5 +1,5 @@
 -- The lines of a report by their words, and what a report in memory holds.
-use Rattle.std.specs.Prelude.{◌≡◌, ℕ, ◌<◌, ◌≤◌, ◌^◌, List, [], ◌∷◌, ◌++◌, IfSome, codes, decimal, flat_map, length, map}
+use Rattle.std.specs.Prelude.{◌≡◌, ℕ, ◌<◌, ◌≤◌, ◌^◌, List, [], ◌∷◌, ◌++◌, Option, None, Some, IfSome, codes, decimal, flat_map, length, map}
 use Rattle.std.specs.List.{AllByRecursion, enumerate_from}
 use Rattle.line_model.specs.basics.Records.{CallRecord, Report}
 use Rattle.line_model.specs.declared.call.Account.{Account}
@@ -41,6 +41,11 @@ account_words a = codes "A" ∷ address_word a.address ∷ decimal a.calls ∷ d
 abbrev pub peak_words : Peak → List (List ℕ)
 peak_words p = codes "P" ∷ decimal p.count ∷ number_word p.packet ∷ []
 
+-- those of the line of the gaps, where they are rows
+abbrev pub gap_words : Option ℕ → List (List (List ℕ))
+gap_words (Some n) = (codes "G" ∷ decimal n ∷ []) ∷ []
+gap_words None = []
+
 abbrev pub summary_words : Summary → List (List ℕ)
 summary_words s = codes "Z" ∷ decimal s.packets ∷ decimal s.findings ∷ decimal s.calls ∷ decimal s.octets ∷ decimal s.segments ∷ []
 
@@ -51,7 +56,7 @@ report_words r =
     ++ map call_words (enumerate_from 1 r.calls)
     ++ flat_map all_setting_words (enumerate_from 1 r.calls)
     ++ map account_words r.accounts
-    ++ peak_words r.peak ∷ summary_words r.summary ∷ []
+    ++ peak_words r.peak ∷ (gap_words r.gaps ++ summary_words r.summary ∷ [])
 
 -- words that begin with the letter of a line of a report
 abbrev pub IsKnown : List (List ℕ) → Type 0
@@ -132,4 +137,5 @@ pub record IsHeld (r : Report) : Type 0 where
   pub calls : AllByRecursion IsCall (enumerate_from 1 r.calls)
   pub accounts : AllByRecursion IsAccount r.accounts
   pub peak : IsPeak r.peak
+  pub gaps : IfSome r.gaps IsNumber
   pub summary : IsSummary r.summary

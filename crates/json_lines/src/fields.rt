@@ -1,7 +1,7 @@
 //! The fields of the report's lines, by name.
 
 ghost use Rattle.std.specs.Prelude.{◌≡◌};
-ghost use Rattle.json_lines.specs.Forms.{account, call, finding, form_of, peak, setting, sums};
+ghost use Rattle.json_lines.specs.Forms.{account, call, finding, form_of, gaps, peak, setting, sums};
 ghost use Rattle.json_lines.specs.Shown.{form_shown};
 
 /// How the value of a field is written. What is absent is `null` in both.
@@ -162,6 +162,11 @@ const PEAK: [Field; 2] = [
     },
 ];
 
+const GAPS: [Field; 1] = [Field {
+    name: "gaps",
+    kind: Kind::Number,
+}];
+
 const SUMS: [Field; 5] = [
     Field {
         name: "packets",
@@ -230,6 +235,15 @@ fn peak() -> Form
     }
 }
 
+fn gaps() -> Form
+    ensures { form_shown result ≡ gaps }
+{
+    Form {
+        title: "gaps",
+        fields: &GAPS,
+    }
+}
+
 fn sums() -> Form
     ensures { form_shown result ≡ sums }
 {
@@ -249,6 +263,7 @@ pub fn form_of(letter: &[u8]) -> Form
         [b'S'] => setting(),
         [b'A'] => account(),
         [b'P'] => peak(),
+        [b'G'] => gaps(),
         [b'Z'] => sums(),
         _ => Form {
             title: "unknown",

@@ -23,7 +23,7 @@ both_none (Some x) b h = absurd (cc)
 
 -- ---- the rule on contents without gaps
 
-first_is : (before ls : List Line) → first_by form_kind before ls ≡ first_fault before ls
+pub first_is : (before ls : List Line) → first_by form_kind before ls ≡ first_fault before ls
 first_is before [] = refl
 first_is before (l ∷ ls) =
     ap (λ (o : Option (ℕ × Kind)). elim (line_kind before 1 l) as (λ _. Option (ℕ × Kind)) [ Some kind ↦ Some (length before + 1, kind) | None ↦ o ]) (first_is (before ++ l ∷ []) ls)
@@ -32,12 +32,12 @@ end_is : (ended : List Line) (b : Line) → end_by form_kind ended b ≡ end_kin
 end_is ended [] = refl
 end_is ended (b ∷ bs) = refl
 
-early_is : (text : List ℕ) → early_by form_kind text ≡ early text
+pub early_is : (text : List ℕ) → early_by form_kind text ≡ early text
 unfolding early
 early_is text =
     ap (λ o. option_or o (option_map (λ kind. (length (ended_lines text) + 1, kind)) (size_kind (size_of (ended_lines text)) 0 (length (begun_line text))))) (first_is [] (ended_lines text))
 
-fault_is : (text : List ℕ) → fault_by form_kind text ≡ fault text
+pub fault_is : (text : List ℕ) → fault_by form_kind text ≡ fault text
 unfolding fault
 fault_is text =
     ap (λ o. option_or o (end_by form_kind (ended_lines text) (begun_line text))) (first_is [] (ended_lines text))

@@ -1,5 +1,5 @@
 -- The findings of a walk, as they are drawn from its events and from those of its pieces.
-use Rattle.std.proofs.Common.{◌≡◌, ℕ, ◌+◌, Option, Some, None, List, [], ◌∷◌, ◌++◌, map, refl, sym, ◌∙◌, ap, subst}
+use Rattle.std.proofs.Common.{◌≡◌, ℕ, ◌+◌, Bool, true, false, ◌&&◌, Option, Some, None, List, [], ◌∷◌, ◌++◌, map, refl, sym, ◌∙◌, ap, subst}
 use Rattle.std.specs.Prelude.{option_map}
 use Rattle.std.specs.List.{filter, flat_map, enumerate_from}
 use Rattle.std.specs.List.Sorted.{IsPermutation, IsStrictlyIncreasing}
@@ -13,18 +13,21 @@ use Rattle.line_model.specs.declared.event.What.{What}
 use Rattle.line_model.specs.declared.event.What.TheVariants.{Found}
 use Rattle.line_model.specs.declared.event.Event.{Event}
 use Rattle.line_model.specs.basics.Records.{Item}
+use Rattle.line_model.specs.packets.Classes.{packet_class}
 use Rattle.line_model.specs.observer.Machine.{Machine, Observer}
 use Rattle.line_model.specs.observer.MachineEvents.{RowEvent, stamp, walk_events}
-use Rattle.line_model.specs.pieces.Pieces.{Placed, placed, piece_rows, piece_end, piece_value, value_of}
+use Rattle.line_model.specs.pieces.Pieces.{Placed, placed, piece_start, piece_end, piece_value, step_events, step_rows, value_of}
 use Rattle.line_model.specs.pieces.Merge.{is_line, drawn, drawn_apart, OnePerRow}
 use Rattle.line_model.specs.pieces.Plan.{plan_of}
-use Rattle.line_model.specs.channels.Channels.{Channel, fresh}
-use Rattle.line_model.specs.channels.ChannelStep.{channel_step}
-use Rattle.line_model.specs.observer.Observer.{x25, start, event_by, event_of, restart_end}
+use Rattle.line_model.specs.channels.RestartMachine.{is_confirm}
+use Rattle.line_model.specs.channels.Channels.{is_open}
+use Rattle.line_model.specs.channels.Gaps.{GapChannel, fresh_at}
+use Rattle.line_model.specs.observer.Observer.{x25, start, event_by, event_of, end_of_epoch, epoch_end, epoch_end_if, is_confirmation, row_step}
 use Rattle.line_model.specs.observer.Report.{findings_of}
-use Rattle.line_model.specs.pieces.Plans.{piece_events, piece_of, row_numbered, line_findings}
+use Rattle.line_model.specs.pieces.Plans.{end_at, end_packet, line_findings, piece_events, piece_of, row_of_end, single_gaps}
 use Rattle.line_model.specs.Laws.{FindingsLaw}
 use Rattle.line_model.proofs.Merged.{merge_law}
+use Rattle.line_model.proofs.SingleGaps.{value_of_single}
 use Rattle.line_model.proofs.Planned.{plan_law}
 use Rattle.line_model.proofs.OneFinding.{tells_finding, one_finding}
 use Rattle.line_model.proofs.WalkedRows.{IsWalk, interface_walk}
@@ -89,29 +92,44 @@ findings_merged number m one start rs is_walk up merged same rising =
 
 -- ---- the events of a piece, by its record and in the walk
 
-stamp_same : (e : ℕ) (k : Option ℕ) (r : Item) (ws : List What) → map event_of (stamp e k (row_numbered r.number) ws) ≡ map event_of (stamp e k r ws)
+stamp_same : (e : ℕ) (k : Option ℕ) (r : Item) (ws : List What) → map event_of (stamp e k (row_of_end (end_at r)) ws) ≡ map event_of (stamp e k r ws)
 stamp_same e k r [] = refl
 stamp_same e k r (w ∷ ws) = ap (λ (l : List Event). event_of (record { epoch = e; channel = k; row = r; what = w }) ∷ l) (stamp_same e k r ws)
 
-pub piece_same : (i : Interface) (e k : ℕ) (s : Channel) (rs : List Item) (end : Option Item)
-    → map event_of (piece_value (x25 i) e k s rs (option_map row_numbered (option_map (λ r. r.number) end)))
-    ≡ map event_of (piece_value (x25 i) e k s rs end)
-piece_same i e k s [] None = refl
-piece_same i e k s [] (Some r) = stamp_same e (Some k) r (restart_end s)
-piece_same i e k s (r ∷ rs) end =
-    let ws : List (RowEvent Item What) = stamp e (Some k) r (channel_step i k s r).reported in
-    let t : Channel = (channel_step i k s r).after in
-    let more = piece_same i e k t rs end in
-    map-append event_of ws (piece_value (x25 i) e k t rs (option_map row_numbered (option_map (λ r. r.number) end)))
+-- the row of an end confirms a restart where the end says so
+pub end_confirms : (missed : Bool) → is_confirm (packet_class (end_packet missed)) ≡ missed
+end_confirms true = refl
+end_confirms false = refl
+
+piece_same : (i : Interface) (e k : ℕ) (g : GapChannel) (rs : List Item) (end : Option Item)
+    → map event_of (piece_value (x25 i) e k g rs (option_map row_of_end (option_map end_at end)))
+    ≡ map event_of (piece_value (x25 i) e k g rs end)
+piece_same i e k g [] None = refl
+piece_same i e k g [] (Some r) =
+    ap (λ b. map event_of (stamp e (Some k) (row_of_end (end_at r)) (epoch_end_if (is_open g.channel) (end_of_epoch (g.restarting && b))))) (end_confirms (is_confirmation r))
+    ∙ stamp_same e (Some k) r (epoch_end g r)
+piece_same i e k g (r ∷ rs) end =
+    let ws : List (RowEvent Item What) = step_events (x25 i) e k g r ((x25 i).for_all r) in
+    let h : GapChannel = (row_step i k g r).after in
+    let more = piece_same i e k h rs end in
+    map-append event_of ws (piece_value (x25 i) e k h rs (option_map row_of_end (option_map end_at end)))
     ∙ ap (λ l. map event_of ws ++ l) more
-    ∙ sym (map-append event_of ws (piece_value (x25 i) e k t rs end))
+    ∙ sym (map-append event_of ws (piece_value (x25 i) e k h rs end))
+
+-- the events of a piece by its record are those that its channel has in the walk
+pub piece_events_are : (i : Interface) (ps : List (Placed Item)) (n : ℕ) (q : ℕ × ℕ) → piece_events (piece_of i ps (n, q)) ≡ map event_of (value_of (x25 i) q.0 q.1 ps)
+piece_events_are i ps n q =
+    let rows : List Item = step_rows (x25 i) q.0 q.1 ps in
+    let g : GapChannel = fresh_at i (piece_start q.0 ps) q.0 q.1 in
+    piece_same i q.0 q.1 g (single_gaps rows) (piece_end q.0 ps)
+    ∙ ap (map event_of) (value_of_single i q.0 q.1 (piece_end q.0 ps) g rows)
 
 -- what is listed of the plan's pieces is listed of the pieces in the walk
 pub plan_lists : {Y : Type 0} → (f : List Event → List Y) (i : Interface) (ps : List (Placed Item)) (n : ℕ) (qs : List (ℕ × ℕ))
     → flat_map (λ p. f (piece_events p)) (map (piece_of i ps) (enumerate_from n qs)) ≡ flat_map (λ p. f (map event_of (value_of (x25 i) p.0 p.1 ps))) qs
 plan_lists f i ps n [] = refl
 plan_lists f i ps n (q ∷ qs) =
-    ap (λ l. f l ++ flat_map (λ p. f (piece_events p)) (map (piece_of i ps) (enumerate_from (n + 1) qs))) (piece_same i q.0 q.1 (fresh i q.0 q.1) (piece_rows q.0 q.1 ps) (piece_end q.0 ps))
+    ap (λ l. f l ++ flat_map (λ p. f (piece_events p)) (map (piece_of i ps) (enumerate_from (n + 1) qs))) (piece_events_are i ps n q)
     ∙ ap (λ l. f (map event_of (value_of (x25 i) q.0 q.1 ps)) ++ l) (plan_lists f i ps (n + 1) qs)
 
 pub findings_law : FindingsLaw

@@ -131,7 +131,7 @@ module _ (form : Rule) where
   -- ---- the lines before the fault
 
   -- a fault stands behind the lines before it
-  above : (before ls : List Line) (at : ℕ × Kind) → first_by form before ls ≡ Some at → length before < at.0
+  pub above : (before ls : List Line) (at : ℕ × Kind) → first_by form before ls ≡ Some at → length before < at.0
   above before [] at h = absurd (cc)
   above before (l ∷ ls) at h = here (kind_by form before 1 l) h (above (before ++ l ∷ []) ls at)
     where
@@ -165,7 +165,7 @@ take_none : {A : Type 0} (n : ℕ) → take {A = A} n [] ≡ []
 take_none zero = refl
 take_none (suc n) = refl
 
-take_zero : {A : Type 0} (ys : List A) → take 0 ys ≡ []
+pub take_zero : {A : Type 0} (ys : List A) → take 0 ys ≡ []
 take_zero [] = refl
 take_zero (y ∷ ys) = refl
 

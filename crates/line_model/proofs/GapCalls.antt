@@ -1,32 +1,26 @@
--- The laws of calls, totals and the peak of a recording with gaps.
-use Rattle.std.proofs.Common.{◌≡◌, ℕ, Bool, true, false, ◌&&◌, [], refl, arith}
+-- The steps of an interface's channels make turns of their calls.
+use Rattle.std.proofs.Common.{◌≡◌, ℕ, Bool, true, false, ◌&&◌, Option, Some, None, refl, arith}
 use Rattle.std.specs.Prelude.{is_none}
-use Rattle.std.proofs.lemmas.Bool.{and_from, and_parts, false≢true}
+use Rattle.std.proofs.lemmas.Bool.{and_from, and_parts}
 use Rattle.line_model.specs.declared.interface.Interface.{Interface}
 use Rattle.line_model.specs.declared.event.How.{How}
 use Rattle.line_model.specs.declared.gap.EpochStart.{EpochStart}
 use Rattle.line_model.specs.declared.gap.EpochStart.TheVariants.{Restarted, Drifting}
+use Rattle.line_model.specs.basics.Records.{Item}
+use Rattle.line_model.specs.packets.Says.{gap_of}
 use Rattle.line_model.specs.channels.Channels.{channel_in, fresh_state, is_open, is_permanent}
-use Rattle.line_model.specs.channels.Gaps.{GapChannel}
-use Rattle.line_model.specs.channels.GapRows.{RecordedRow, number_of_row}
-use Rattle.line_model.specs.channels.GapRows.RecordedRow.{OfPacket, OfGap}
-use Rattle.line_model.specs.channels.GapRestart.{GapLine, GapRoute, recorded_routing}
-use Rattle.line_model.specs.channels.GapRestart.GapRoute.{Takes, Renews}
-use Rattle.line_model.specs.observer.GapObserver.{x25_recorded, epoch_end_if, is_recorded_up, recorded_fresh, recorded_start, recorded_step, route_shown}
-use Rattle.line_model.specs.GapLaws.{RecordedCallsLaw, RecordedCallsOrderLaw, RecordedCallsPeakLaw, RecordedPeakLaw, RecordedTotalsLaw}
-use Rattle.line_model.proofs.BookTotals.{values_add_up}
-use Rattle.line_model.proofs.CallPeaks.{peak_of_times, peak_of_ups}
-use Rattle.line_model.proofs.CallRecords.{calls_merged}
+use Rattle.line_model.specs.channels.Gaps.{GapChannel, fresh_at}
+use Rattle.line_model.specs.channels.GapRestart.{routing}
+use Rattle.line_model.specs.observer.Observer.{x25, epoch_end_if, is_up, row_step, step_by}
 use Rattle.line_model.proofs.CallSteps.{marks}
+use Rattle.line_model.proofs.GapMachines.{silent}
 use Rattle.line_model.proofs.GapTurns.{GapTurns, gap_turns, is_known, packet_once, packet_turns, suits_certainty}
 use Rattle.line_model.proofs.Handed.{once_above}
-use Rattle.line_model.proofs.InOrder.{calls_ordered}
 use Rattle.line_model.proofs.Marks.{fresh_closed, fresh_sound, is_sound, is_sound_if, sound_is, up_is}
 use Rattle.line_model.proofs.MovesCalls.{MovesCalls}
 use Rattle.line_model.proofs.Phases.{Closed, phase_of}
 use Rattle.line_model.proofs.RowOpenings.{IsOnce, route_unmarked}
 use Rattle.line_model.proofs.Turns.{end_marks, IsSound}
-use Rattle.line_model.proofs.WalkedRows.{recording_walk}
 
 -- a channel whose state says whether its call is open, and suits what is certain
 abbrev is_sound_gap : Bool → GapChannel → Bool
@@ -58,37 +52,34 @@ drifting_closed : (p : Bool) → phase_of p (fresh_state false p) ≡ Closed
 drifting_closed true = refl
 drifting_closed false = refl
 
-fresh_valid : (i : Interface) (b : EpochStart) (e k : ℕ) → is_sound_gap (is_permanent i k) (recorded_fresh i b e k) ≡ true
-fresh_valid i Restarted e k = is_sound_gap_if (is_permanent i k) (recorded_fresh i Restarted e k) (fresh_sound i e k) refl
-fresh_valid i (Drifting w) e k = is_sound_gap_if (is_permanent i k) (recorded_fresh i (Drifting w) e k) (drifting_sound (is_permanent i k)) (drifting_known (is_permanent i k))
+fresh_valid : (i : Interface) (b : EpochStart) (e k : ℕ) → is_sound_gap (is_permanent i k) (fresh_at i b e k) ≡ true
+fresh_valid i Restarted e k = is_sound_gap_if (is_permanent i k) (fresh_at i Restarted e k) (fresh_sound i e k) refl
+fresh_valid i (Drifting w) e k = is_sound_gap_if (is_permanent i k) (fresh_at i (Drifting w) e k) (drifting_sound (is_permanent i k)) (drifting_known (is_permanent i k))
 
-fresh_without : (i : Interface) (b : EpochStart) (e k : ℕ) → phase_of (is_permanent i k) (recorded_fresh i b e k).channel.state ≡ Closed
+fresh_without : (i : Interface) (b : EpochStart) (e k : ℕ) → phase_of (is_permanent i k) (fresh_at i b e k).channel.state ≡ Closed
 fresh_without i Restarted e k = fresh_closed i e k
 fresh_without i (Drifting w) e k = drifting_closed (is_permanent i k)
 
-step_of : (i : Interface) (k : ℕ) (g : GapChannel) (x : RecordedRow) → is_sound_gap (is_permanent i k) g ≡ true → GapTurns (is_permanent i k) g (recorded_step i k g x)
-step_of i k g (OfPacket r) h = let w = sound_gap_is (is_permanent i k) g h in packet_turns g.certainty i k r g refl w.sound w.suited
-step_of i k g (OfGap n c) h = gap_turns i k (is_none c) g (sound_gap_is (is_permanent i k) g h).sound
+step_of : (i : Interface) (k : ℕ) (g : GapChannel) (r : Item) → is_sound_gap (is_permanent i k) g ≡ true → GapTurns (is_permanent i k) g (row_step i k g r)
+step_of i k g r h = at (gap_of r.packet)
+  where
+    both : SoundGap (is_permanent i k) g
+    both = sound_gap_is (is_permanent i k) g h
 
-opens_once : (i : Interface) (k : ℕ) (g : GapChannel) (x : RecordedRow) → IsOnce (recorded_step i k g x).reported
-opens_once i k g (OfPacket r) = packet_once g.certainty i k r g
-opens_once i k g (OfGap n c) = omega arith
+    at : (gap : Option (Option ℕ)) → GapTurns (is_permanent i k) g (step_by gap i k g r)
+    at None = packet_turns g.certainty i k r g refl both.sound both.suited
+    at (Some c) = gap_turns i k (is_none c) g both.sound
 
-silent : (i : Interface) (k : ℕ) (g : GapChannel) (x : RecordedRow) → (x25_recorded i).for_all x ≡ true → (recorded_step i k g x).reported ≡ []
-silent i k g (OfPacket r) h = absurd (false≢true h)
-silent i k g (OfGap n c) h = refl
+row_once : (i : Interface) (k : ℕ) (g : GapChannel) (r : Item) (gap : Option (Option ℕ)) → IsOnce (step_by gap i k g r).reported
+row_once i k g r None = packet_once g.certainty i k r g
+row_once i k g r (Some c) = omega arith
 
 end_closes : (b : Bool) (h : How) → marks (epoch_end_if b h) ≡ end_marks b
 end_closes true h = refl
 end_closes false h = refl
 
-shown_unmarked : (x : RecordedRow) (t : GapRoute) → marks (route_shown x t) ≡ []
-shown_unmarked (OfPacket r) (Takes t) = route_unmarked r t
-shown_unmarked (OfPacket r) Renews = refl
-shown_unmarked (OfGap n c) t = refl
-
-moves_recorded : (i : Interface) → MovesCalls (x25_recorded i) (is_recorded_up i)
-moves_recorded i = record {
+pub moves_calls : (i : Interface) → MovesCalls (x25 i) (is_up i)
+moves_calls i = record {
   valid = λ k g. is_sound_gap (is_permanent i k) g;
   phase = λ k g. phase_of (is_permanent i k) g.channel.state;
   is_open = λ g. is_open g.channel;
@@ -96,33 +87,11 @@ moves_recorded i = record {
   held = λ k g h. (sound_gap_is (is_permanent i k) g h).sound.held;
   fresh_valid = fresh_valid i;
   fresh_closed = fresh_without i;
-  stays_valid = λ e k g x h. is_sound_gap_if (is_permanent i k) (recorded_step i k g x).after (step_of i k g x h).turns.sound (step_of i k g x h).suited;
-  turned = λ e k g x h. (step_of i k g x h).turns.turned;
-  opens_once = λ e k g x. opens_once i k g x;
-  silent = λ e k g x h. silent i k g x h;
-  closes = λ e k g x. end_closes (is_open g.channel) _;
-  unmarked_line = λ e l x. shown_unmarked x (recorded_routing l x).route;
+  stays_valid = λ e k g r h. is_sound_gap_if (is_permanent i k) (row_step i k g r).after (step_of i k g r h).turns.sound (step_of i k g r h).suited;
+  turned = λ e k g r h. (step_of i k g r h).turns.turned;
+  opens_once = λ e k g r. row_once i k g r (gap_of r.packet);
+  silent = silent i;
+  closes = λ e k g r. end_closes (is_open g.channel) _;
+  unmarked_line = λ e l r. route_unmarked r (routing l r).route;
   positive = λ k h. once_above 1 i.svc k h;
 }
-
--- ---- the laws
-
-pub recorded_calls_law : RecordedCallsLaw
-recorded_calls_law t rs said up =
-    calls_merged RecordedRow GapLine GapChannel number_of_row (x25_recorded t.interface) (is_recorded_up t.interface) (moves_recorded t.interface) (recorded_start t) rs (recording_walk t rs said) up
-
-pub recorded_calls_order : RecordedCallsOrderLaw
-recorded_calls_order t rs said up =
-    let w = calls_ordered number_of_row (x25_recorded t.interface) (is_recorded_up t.interface) (moves_recorded t.interface) (recorded_start t) rs (recording_walk t rs said) up in
-    record { same_calls = w.0; in_order = w.1 }
-
-pub recorded_totals_law : RecordedTotalsLaw
-recorded_totals_law t rs said = values_add_up number_of_row (x25_recorded t.interface) (recorded_start t) rs (recording_walk t rs said)
-
-pub recorded_peak_law : RecordedPeakLaw
-recorded_peak_law t rs said up =
-    peak_of_ups RecordedRow GapLine GapChannel number_of_row (x25_recorded t.interface) (is_recorded_up t.interface) (moves_recorded t.interface) (recorded_start t) rs (recording_walk t rs said) up
-
-pub recorded_calls_peak : RecordedCallsPeakLaw
-recorded_calls_peak t rs said up =
-    peak_of_times RecordedRow GapLine GapChannel number_of_row (x25_recorded t.interface) (is_recorded_up t.interface) (moves_recorded t.interface) (recorded_start t) rs (recording_walk t rs said) up

@@ -1,24 +1,26 @@
--- The machine of a recording with gaps keeps the premises of the laws.
-use Rattle.std.proofs.Common.{◌≡◌, ◌∙◌, subst, ℕ, Bool, true, false, ◌&&◌, ◌||◌, Some, None, List, [], ◌∷◌, refl, ap, inl, inr}
-use Rattle.std.specs.List.{AllByRecursion, range_with_len}
+-- The machine of an interface keeps the premises of the laws.
+use Rattle.std.proofs.Common.{◌≡◌, ◌∙◌, ℕ, Bool, true, false, ◌&&◌, ◌||◌, Option, Some, None, List, [], refl, ap, inl, inr}
+use Rattle.std.specs.Prelude.{is_none}
+use Rattle.std.specs.List.{range_with_len}
 use Rattle.std.proofs.lemmas.Bool.{false≢true}
 use Rattle.line_model.specs.declared.interface.Interface.{Interface}
 use Rattle.line_model.specs.declared.event.How.{How}
 use Rattle.line_model.specs.declared.gap.EpochStart.{EpochStart}
 use Rattle.line_model.specs.declared.gap.EpochStart.TheVariants.{Restarted, Drifting}
+use Rattle.line_model.specs.basics.Records.{Item}
+use Rattle.line_model.specs.basics.Bounds.{AreSaid}
+use Rattle.line_model.specs.packets.Says.{gap_of}
 use Rattle.line_model.specs.channels.Channels.{Channel, is_in_transfer, is_open, is_permanent}
-use Rattle.line_model.specs.channels.Gaps.{GapChannel, gap_step, idle_name, left_by_gap, with_largest_terms, is_hidden_by_gap}
+use Rattle.line_model.specs.channels.Gaps.{GapChannel, fresh_at, gap_step, idle_name, left_by_gap, with_largest_terms, is_hidden_by_gap}
 use Rattle.line_model.specs.channels.ChannelStep.{entering}
-use Rattle.line_model.specs.channels.GapRows.{RecordedRow}
-use Rattle.line_model.specs.channels.GapRows.RecordedRow.{OfPacket, OfGap}
-use Rattle.line_model.specs.channels.GapRestart.{GapLine}
-use Rattle.line_model.specs.observer.Machine.{own_channel}
-use Rattle.line_model.specs.observer.GapObserver.{x25_recorded, recorded_fresh, epoch_end_if, end_of_epoch, is_confirmation}
-use Rattle.line_model.specs.pieces.Pieces.{StandsOnce}
+use Rattle.line_model.specs.channels.GapRestart.{GapLine, is_of_all}
+use Rattle.line_model.specs.observer.MachineEvents.{stamp}
+use Rattle.line_model.specs.observer.Observer.{x25, end_of_epoch, epoch_end, epoch_end_if, is_confirmation, row_step, step_by}
+use Rattle.line_model.specs.pieces.Pieces.{StandsOnce, step_events}
 use Rattle.line_model.specs.pieces.Merge.{HasChannels, IsClosed}
-use Rattle.line_model.specs.GapLaws.{IsRecordedRow, AreRecorded}
 use Rattle.line_model.proofs.Walks.{Decides}
-use Rattle.line_model.proofs.Handed.{all_range, flags, handed_in_range, lines, once_channel, once_range}
+use Rattle.line_model.proofs.Handed.{all_range, flags, lines, of_said, once_range}
+use Rattle.line_model.proofs.MovesCalls.{steps_are}
 
 -- two states of the restart machine can be told apart
 pub gap_lines : Decides GapLine
@@ -46,31 +48,38 @@ closed_if : (b : Bool) (h : How) → epoch_end_if b h ≡ [] → b ≡ false
 closed_if true h e = cc
 closed_if false h e = refl
 
-closed_fresh : (i : Interface) (b : EpochStart) (e k : ℕ) → IsClosed (x25_recorded i) e k (recorded_fresh i b e k)
+closed_fresh : (i : Interface) (b : EpochStart) (e k : ℕ) → IsClosed (x25 i) e k (fresh_at i b e k)
 closed_fresh i Restarted e k x = refl
 closed_fresh i (Drifting w) e k x = refl
 
-closed_gap : (i : Interface) (e k : ℕ) (s : GapChannel) (x : RecordedRow) → (x25_recorded i).for_all x ≡ true → IsClosed (x25_recorded i) e k s → IsClosed (x25_recorded i) e k ((x25_recorded i).channel_after e k s x)
-closed_gap i e k s (OfPacket r) h closed y = absurd (false≢true h)
-closed_gap i e k s (OfGap n (Some c)) h closed y = absurd (false≢true h)
-closed_gap i e k s (OfGap n None) h closed y =
-    let none : is_open s.channel ≡ false = closed_if (is_open s.channel) (end_of_epoch (s.restarting && is_confirmation y)) (closed y) in
-    let g : GapChannel = gap_step i k true s in
-    ap (λ b. epoch_end_if b (end_of_epoch (g.restarting && is_confirmation y))) (left_open i k s.channel ∙ none)
+closed_gap : (i : Interface) (e k : ℕ) (g : GapChannel) (x : Item) → (x25 i).for_all x ≡ true → IsClosed (x25 i) e k g → IsClosed (x25 i) e k ((x25 i).channel_after e k g x)
+closed_gap i e k g x h closed y = at (gap_of x.packet) h
+  where
+    none : is_open g.channel ≡ false
+    none = closed_if (is_open g.channel) (end_of_epoch (g.restarting && is_confirmation y)) (closed y)
 
-served : (i : Interface) (x : RecordedRow) → IsRecordedRow i x → (k : ℕ) → own_channel (x25_recorded i) x ≡ Some k → StandsOnce k (range_with_len 1 i.svc)
-served i (OfPacket r) said k e = let w = handed_in_range i r k said e in once_channel i k w.0 w.1
-served i (OfGap n None) said k e = cc
-served i (OfGap n (Some c)) said k e = let same : c ≡ k = cc in subst (λ j. StandsOnce j (range_with_len 1 i.svc)) same (once_channel i c said.0 said.1)
+    at : (gap : Option (Option ℕ)) → is_of_all gap ≡ true → epoch_end (step_by gap i k g x).after y ≡ []
+    at None h = absurd (false≢true h)
+    at (Some c) h =
+        let d : GapChannel = gap_step i k (is_none c) g in
+        ap (λ b. epoch_end_if b (end_of_epoch (d.restarting && is_confirmation y))) (left_open i k g.channel ∙ none)
 
-of_recorded : (i : Interface) (rs : List RecordedRow) → AreRecorded i rs → AllByRecursion (λ x. (k : ℕ) → own_channel (x25_recorded i) x ≡ Some k → StandsOnce k (range_with_len 1 i.svc)) rs
-of_recorded i [] said = tt
-of_recorded i (x ∷ rs) said = (served i x said.0, of_recorded i rs said.1)
-
-pub recorded_channels : (i : Interface) (rs : List RecordedRow) → AreRecorded i rs → HasChannels (x25_recorded i) rs
-recorded_channels i rs said = record {
+pub has_channels : (i : Interface) (rs : List Item) → AreSaid i rs → HasChannels (x25 i) rs
+has_channels i rs said = record {
   once = all_range (λ k. StandsOnce k (range_with_len 1 i.svc)) 1 i.svc (λ k ge lt. once_range 1 i.svc k ge lt);
-  of_rows = of_recorded i rs said;
+  of_rows = of_said i rs said;
   nothing_to_close = closed_fresh i;
   stays_closed = closed_gap i;
 }
+
+-- a gap has no events
+pub silent : (i : Interface) (e k : ℕ) (g : GapChannel) (x : Item) → (x25 i).for_all x ≡ true → (row_step i k g x).reported ≡ []
+silent i e k g x h = at (gap_of x.packet) h
+  where
+    at : (gap : Option (Option ℕ)) → is_of_all gap ≡ true → (step_by gap i k g x).reported ≡ []
+    at None h = absurd (false≢true h)
+    at (Some c) h = refl
+
+-- the events of a row in a piece are those of its step
+pub row_events_are : (i : Interface) (e k : ℕ) (g : GapChannel) (r : Item) → step_events (x25 i) e k g r ((x25 i).for_all r) ≡ stamp e (Some k) r (row_step i k g r).reported
+row_events_are i e k g r = steps_are (x25 i) (silent i) e k g r

@@ -36,7 +36,7 @@ use Rattle.line_model.specs.channels.Gaps.Certainty.{Adrift, Certain, Settled}
 use Rattle.line_model.specs.channels.GapStep.{GapOutcome, accepting_in_doubt, acknowledged_data, adrift_acceptance, adrift_carried, adrift_entry, adrift_fault, adrift_received, adrift_reset, adrift_step, adrift_step_by, adrift_transfer, brought_up, calling_state, certainty_with, cleared_by, coming_up, completed_for_data, completed_for_receive, completed_to, counted_in_doubt, counting_in_doubt, data_in_doubt, data_reported, doubts_in, failing_in_doubt, hidden_when_up, is_in_d1, is_in_use, is_mixed, is_own_acceptance, is_resetting, may_be_begun, message_in_doubt, of_call, owed_after, packet_step, passing, receive_in_doubt, receive_of, resetting_state, settings_by_form, settings_in_doubt, settled_verdict, terms_of_acceptance, transferring_in_doubt, window_in_doubt, with_certainty, with_interrupt}
 use Rattle.line_model.specs.observer.Peak.{how_many}
 use Rattle.line_model.proofs.CallSteps.{Risen, Transferred, marks, marks_append, settings_unmarked}
-use Rattle.line_model.proofs.GapFindings.{either}
+use Rattle.line_model.proofs.GapWeights.{either}
 use Rattle.line_model.proofs.Marks.{up_is}
 use Rattle.line_model.proofs.MovesCalls.{stands_up}
 use Rattle.line_model.proofs.Phases.{Phase, Closed, Opened, IsUp, phase_of, suits}

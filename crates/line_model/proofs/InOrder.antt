@@ -5,8 +5,8 @@ use Rattle.std.specs.List.Sorted.{IsPermutation, IsStrictlyIncreasing}
 use Rattle.std.proofs.lemmas.List.Sorted.{IsPermutation-sym}
 use Rattle.line_model.specs.declared.event.What.{What}
 use Rattle.line_model.specs.basics.Records.{Item}
-use Rattle.line_model.specs.channels.Channels.{Channel}
-use Rattle.line_model.specs.channels.RestartMachine.{LineState}
+use Rattle.line_model.specs.channels.Gaps.{GapChannel}
+use Rattle.line_model.specs.channels.GapRestart.{GapLine}
 use Rattle.line_model.specs.observer.Machine.{Machine, Observer}
 use Rattle.line_model.specs.observer.MachineEvents.{RowEvent, walk_events}
 use Rattle.line_model.specs.pieces.Merge.{drawn, drawn_apart, OnePerRow}
@@ -24,7 +24,7 @@ use Rattle.line_model.proofs.Rising.{Rises, rises-from_RisesFrom, rises-from_ind
 use Rattle.line_model.proofs.Merged.{drawn_is_rearranged, keys_are, rises-all}
 use Rattle.line_model.proofs.Planned.{plan_law}
 use Rattle.line_model.proofs.CallRecords.{opens, call_of, call_opened, calls_apart, calls_drawn, calls_in, calls_merged, walk_fit}
-use Rattle.line_model.proofs.Marks.{moves_calls}
+use Rattle.line_model.proofs.GapCalls.{moves_calls}
 use Rattle.line_model.proofs.MovesCalls.{MovesCalls, one_opening}
 use Rattle.line_model.proofs.WalkedRows.{IsWalk, interface_walk}
 
@@ -94,7 +94,7 @@ findings_order i rs said up =
 pub calls_law : CallsLaw
 calls_law i rs said up merged same rising =
     let listed = plan_lists calls_of i (placed (x25 i) (start i) rs) 0 (plan_of (x25 i) (start i) rs) in
-    calls_merged Item LineState Channel (λ r. r.number) (x25 i) (is_up i) (moves_calls i) (start i) rs (interface_walk i rs said) up merged
+    calls_merged Item GapLine GapChannel (λ r. r.number) (x25 i) (is_up i) (moves_calls i) (start i) rs (interface_walk i rs said) up merged
     (subst (λ l. IsPermutation l merged) listed same) rising
 
 pub calls_order : CallsOrderLaw

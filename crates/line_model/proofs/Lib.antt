@@ -48,11 +48,10 @@ pub mod ItemLemmas
 pub mod DeviceLemmas
 pub mod WrittenLemmas
 pub mod Saying
+pub mod SingleGaps
 pub mod GapMachines
-pub mod GapFindings
+pub mod GapWeights
 pub mod GapTurns
 pub mod GapCalls
-pub mod WithoutGaps
-pub mod OtherForms
-pub mod EarlyRecordings
+pub mod TextRows
 pub mod WorkedGapTraces

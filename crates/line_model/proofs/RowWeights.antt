@@ -1,7 +1,6 @@
 -- What the events of rows weigh: those of a row no more than a finding with a data packet of the row.
 use Rattle.std.proofs.Common.{◌≡◌, ℕ, ◌+◌, ◌≤◌, Bool, true, false, eqb, Option, Some, None, List, [], ◌∷◌, length, map, refl, ◌∙◌, ap, arith}
 use Rattle.std.specs.Prelude.{Result, Ok, Err, option_to_list}
-use Rattle.std.proofs.lemmas.List.{map-append}
 use Rattle.line_model.specs.declared.diagnostic.TheConstants.{INCONSISTENT_Q_BIT_SETTING}
 use Rattle.line_model.specs.declared.interface.Interface.{Interface}
 use Rattle.line_model.specs.declared.packet.Class.{Class}
@@ -22,12 +21,11 @@ use Rattle.line_model.specs.declared.finding.Xcode.TheVariants.{X3}
 use Rattle.line_model.specs.basics.Records.{Item}
 use Rattle.line_model.specs.basics.Octets.{bits}
 use Rattle.line_model.specs.channels.Pad.{Pair, is_indication, is_set, indicated_by, indicated, asked, set_told, settings_told, settings_after, message_fault}
-use Rattle.line_model.specs.channels.Channels.{Channel, AcceptedData, Opening, Told, is_open, is_permanent, other}
+use Rattle.line_model.specs.channels.Channels.{Channel, AcceptedData, Opening, Told, is_permanent, other}
 use Rattle.line_model.specs.channels.FlowControl.{Counts, count_data}
 use Rattle.line_model.specs.channels.Sequences.{begun, is_alike}
 use Rattle.line_model.specs.observer.MachineEvents.{stamp}
-use Rattle.line_model.specs.observer.Observer.{x25, event_of, restart_end_if}
-use Rattle.line_model.specs.pieces.Pieces.{piece_value}
+use Rattle.line_model.specs.observer.Observer.{event_of}
 use Rattle.line_model.specs.packets.Formats.{packet_fault, size_in_force, window_in_force}
 use Rattle.line_model.specs.packets.Classes.{packet_class}
 use Rattle.line_model.specs.packets.Says.{header_in}
@@ -127,8 +125,8 @@ verdict_few a f b i s r Transfers c most = transferring_few a f b i s (packet_cl
 verdict_few a f b i s r EndsOwed c most = omega arith
 verdict_few a f b i s r Nothing c most = omega arith
 
-pub row_few : (a : ℕ) (f : ℕ → ℕ) (b : ℕ) (i : Interface) (k : ℕ) (c : Channel) (r : Item) → IsMost a f b r → total (weighing a f) (channel_step i k c r).reported ≤ b
-row_few a f b i k c r most =
+pub packet_few : (a : ℕ) (f : ℕ → ℕ) (b : ℕ) (i : Interface) (k : ℕ) (c : Channel) (r : Item) → IsMost a f b r → total (weighing a f) (channel_step i k c r).reported ≤ b
+packet_few a f b i k c r most =
     let j = judged (is_permanent i k) r.side c.state c.owed (packet_class r.packet) in
     verdict_few a f b i j.state r (verdict j (packet_fault i k c r)) c most
 
@@ -137,27 +135,6 @@ row_few a f b i k c r most =
 pub stamp_weight : (a : ℕ) (f : ℕ → ℕ) (e : ℕ) (k : Option ℕ) (r : Item) (ws : List What) → weight (weighing a f) (map event_of (stamp e k r ws)) ≡ total (weighing a f) ws
 stamp_weight a f e k r [] = refl
 stamp_weight a f e k r (w ∷ ws) = ap (λ n. weighing a f w + n) (stamp_weight a f e k r ws)
-
-end_weight : (a : ℕ) (f : ℕ → ℕ) (e : ℕ) (k : Option ℕ) (r : Item) (b : Bool) → weight (weighing a f) (map event_of (stamp e k r (restart_end_if b))) ≡ 0
-end_weight a f e k r true = refl
-end_weight a f e k r false = refl
-
--- the events of a piece weigh no more than the most that its rows may
-pub piece_few : (a : ℕ) (f : ℕ → ℕ) (most : Item → ℕ) → ((r : Item) → IsMost a f (most r) r)
-    → (i : Interface) (e k : ℕ) (c : Channel) (items : List Item) (end : Option Item)
-    → weight (weighing a f) (map event_of (piece_value (x25 i) e k c items end)) ≤ total most items
-piece_few a f most h i e k c [] None = omega arith
-piece_few a f most h i e k c [] (Some r) = let none = end_weight a f e (Some k) r (is_open c) in omega arith
-piece_few a f most h i e k c (r ∷ items) end =
-    let ws : List What = (channel_step i k c r).reported in
-    let d : Channel = (channel_step i k c r).after in
-    let parts =
-    ap (weight (weighing a f)) (map-append event_of (stamp e (Some k) r ws) (piece_value (x25 i) e k d items end))
-    ∙ total-append (λ v. weighing a f v.what) (map event_of (stamp e (Some k) r ws)) (map event_of (piece_value (x25 i) e k d items end)) in
-    let own = stamp_weight a f e (Some k) r ws in
-    let few = row_few a f (most r) i k c r (h r) in
-    let more = piece_few a f most h i e k d items end in
-    omega arith
 
 pub total-ones : {X : Type 0} (xs : List X) → total (λ x. 1) xs ≡ length xs
 total-ones [] = refl

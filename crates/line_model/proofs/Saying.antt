@@ -14,8 +14,8 @@ use Rattle.line_model.specs.basics.Choice.{first_that}
 use Rattle.line_model.specs.packets.Classes.{class_of, data_header, format_of, line_type, packet_of, packet_with, receive_number, type_class}
 use Rattle.std.specs.Prelude.{sum_by}
 use Rattle.std.proofs.lemmas.List.Sums.{sum_by-cons}
-use Rattle.line_model.specs.basics.Bounds.{IsSaid, AreSaid}
-use Rattle.line_model.specs.packets.Says.{items_of, is_unqualified, said_octets, item_of, read_octets, read_row, item_read}
+use Rattle.line_model.specs.basics.Bounds.{AreRows, IsSaid, AreSaid}
+use Rattle.line_model.specs.packets.Says.{items_of, is_unqualified, packet_or_gap, said_octets, item_of, read_octets, read_row, item_read}
 
 -- the lists have the same first four octets, and both end before each of them or after it
 record SameFront (xs ys : List ℕ) : Type 0 where
@@ -142,13 +142,13 @@ said_read xs = ap (λ b. cond b [] (read_octets xs)) (unqualified_same xs (read_
 pub read_says : (i : Interface) (r : Row) → item_read i (read_row r) ≡ item_of i r
 read_says i r =
     ap₂ (λ p os. record { number = r.number; side = r.side; packet = p; length = length r.octets; octets = os })
-    (packet_same i r.octets (read_octets r.octets) (front_read r.octets)) (said_read r.octets)
+    (ap (packet_or_gap r.gap) (packet_same i r.octets (read_octets r.octets) (front_read r.octets))) (said_read r.octets)
 
 -- ---- what several rows say
 
-pub all_said : (i : Interface) (rs : List Row) → AreSaid i (items_of i rs)
-all_said i [] = tt
-all_said i (r ∷ rs) = (record { row = r; says = refl }, all_said i rs)
+pub all_said : (i : Interface) (rs : List Row) → AreRows i rs → AreSaid i (items_of i rs)
+all_said i [] lawful = tt
+all_said i (r ∷ rs) lawful = (record { row = r; lawful = lawful.0; says = refl }, all_said i rs lawful.1)
 
 -- of all items the last
 pub last_said : (i : Interface) (items : List Item) (item : Item) → AreSaid i (items ++ item ∷ []) → IsSaid i item

@@ -7,16 +7,17 @@ use Rattle.line_model.specs.declared.event.What.{What}
 use Rattle.line_model.specs.declared.event.What.TheVariants.{Open, End, Data}
 use Rattle.line_model.specs.declared.event.Event.{Event}
 use Rattle.line_model.specs.basics.Records.{Item, Piece, CallRecord}
-use Rattle.line_model.specs.channels.Channels.{Channel, fresh}
+use Rattle.line_model.specs.channels.Gaps.{GapChannel, fresh_at}
 use Rattle.line_model.specs.pieces.Pieces.{piece_value}
 use Rattle.line_model.specs.observer.MachineEvents.{RowEvent}
 use Rattle.line_model.specs.observer.Observer.{x25, event_of}
 use Rattle.line_model.specs.observer.Calls.{is_end, is_opening, members, record_of, calls_of}
-use Rattle.line_model.specs.pieces.Plans.{row_numbered, piece_events, value}
+use Rattle.line_model.specs.pieces.Plans.{row_of_end, piece_events, value}
 use Rattle.line_model.specs.basics.Bounds.{IsPiece, IsPieceReport}
 use Rattle.line_model.proofs.EventWeights.{total, total-sum_by, heard_by, octets_by, segments_by, weight, findings_weight, octets_weight, segments_weight, sides_weight, fewer_segments}
 use Rattle.line_model.proofs.PieceCalls.{IsOf, piece_of_one, alongside_all}
-use Rattle.line_model.proofs.RowWeights.{piece_few, total-ones}
+use Rattle.line_model.proofs.GapWeights.{piece_few}
+use Rattle.line_model.proofs.RowWeights.{total-ones}
 
 -- ---- the calls of a piece
 
@@ -58,8 +59,8 @@ segments_in_call e o a b r later = segments_weight (members e later)
 
 pub value_bounds : (p : Piece) → IsPiece p.interface p.channel p.items → IsPieceReport (value p).findings (value p).calls (value p).octets (value p).segments
 value_bounds p h =
-    let c : Channel = fresh p.interface p.epoch p.channel in
-    let end : Option Item = option_map row_numbered p.end in
+    let c : GapChannel = fresh_at p.interface p.start p.epoch p.channel in
+    let end : Option Item = option_map row_of_end p.end in
     let vs : List (RowEvent Item What) = piece_value (x25 p.interface) p.epoch p.channel c p.items end in
     let es : List Event = piece_events p in
     let one = piece_of_one (x25 p.interface) p.epoch p.channel c p.items end in

@@ -3,14 +3,10 @@ use Rattle.std.proofs.Common.{◌≡◌, true, List, refl}
 use Rattle.line_model.specs.declared.interface.Interface.{Interface}
 use Rattle.line_model.specs.basics.Bounds.{AreSaid}
 use Rattle.line_model.specs.basics.Records.{Item}
-use Rattle.line_model.specs.channels.GapRows.{Recording, RecordedRow}
 use Rattle.line_model.specs.observer.Machine.{Machine, Observer}
 use Rattle.line_model.specs.observer.Observer.{x25, start}
-use Rattle.line_model.specs.observer.GapObserver.{x25_recorded, recorded_start}
 use Rattle.line_model.specs.pieces.Merge.{HasChannels}
-use Rattle.line_model.specs.GapLaws.{AreRecorded}
-use Rattle.line_model.proofs.GapMachines.{recorded_channels}
-use Rattle.line_model.proofs.Handed.{has_channels}
+use Rattle.line_model.proofs.GapMachines.{has_channels}
 
 pub record IsWalk {X L S E : Type 0} (m : Machine X L S E) (start : Observer L S) (rs : List X) : Type 0 where
   pub channels : HasChannels m rs
@@ -20,7 +16,3 @@ pub record IsWalk {X L S E : Type 0} (m : Machine X L S E) (start : Observer L S
 -- what is said on an interface
 pub interface_walk : (i : Interface) (rs : List Item) → AreSaid i rs → IsWalk (x25 i) (start i) rs
 interface_walk i rs said = record { channels = has_channels i rs said; fresh = refl; ready = refl }
-
--- what is recorded
-pub recording_walk : (t : Recording) (rs : List RecordedRow) → AreRecorded t.interface rs → IsWalk (x25_recorded t.interface) (recorded_start t) rs
-recording_walk t rs said = record { channels = recorded_channels t.interface rs said; fresh = refl; ready = refl }

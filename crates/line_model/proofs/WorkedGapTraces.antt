@@ -6,49 +6,48 @@ use Rattle.hex.specs.Hex.{decode_pairs}
 use Rattle.line_model.specs.declared.fault.Kind.TheVariants.{Number, Side, Hex}
 use Rattle.line_model.specs.text.Header.{header_numbers, interface_with, interface_of}
 use Rattle.line_model.specs.text.RowLine.{row_words, octets_of, row_kind, row_of}
-use Rattle.line_model.specs.text.Text.{last_number, size_kind, has_header}
-use Rattle.line_model.specs.text.GapText.{recorded_fault, recorded_content, recording, recorded_rows, recording_of, is_third, third_numbers, recorded_header_kind, recorded_row_kind, recorded_row_of}
-use Rattle.line_model.specs.traces.GapTraces.{IsRecorded}
+use Rattle.line_model.specs.text.Text.{fault, head, rows, head_of, rows_in, last_number, size_kind, header_kind, contents_kind}
+use Rattle.line_model.specs.traces.Traces.{IsReported}
 use Rattle.line_model.specs.traces.WorkedGapTraces.{WorkedGapTraces, all_channels-text, begins_in_the_middle-text, call_after_a_gap-text, gap_in_the_second_form-text, gap_number_falls-text, gap_on_channel_0-text, no_gap-text, restart_of_both_sides-text, restart_owed_at_the_gap-text, settled_by_an_acknowledgement-text, all_channels-report, begins_in_the_middle-report, call_after_a_gap-report, no_gap-report, restart_of_both_sides-report, restart_owed_at_the_gap-report, settled_by_an_acknowledgement-report}
 
-all_channels-holds : IsRecorded all_channels-text all_channels-report
-unfolding digits decode_pairs recorded_fault recorded_content recording recorded_rows recording_of is_third third_numbers recorded_header_kind recorded_row_kind recorded_row_of last_number size_kind has_header header_numbers interface_with interface_of row_words octets_of row_kind row_of
+all_channels-holds : IsReported all_channels-text all_channels-report
+unfolding digits decode_pairs fault head rows head_of rows_in last_number size_kind header_kind contents_kind header_numbers interface_with interface_of row_words octets_of row_kind row_of
 all_channels-holds = record { sound = refl; report = refl }
 
-begins_in_the_middle-holds : IsRecorded begins_in_the_middle-text begins_in_the_middle-report
-unfolding digits decode_pairs recorded_fault recorded_content recording recorded_rows recording_of is_third third_numbers recorded_header_kind recorded_row_kind recorded_row_of last_number size_kind has_header header_numbers interface_with interface_of row_words octets_of row_kind row_of
+begins_in_the_middle-holds : IsReported begins_in_the_middle-text begins_in_the_middle-report
+unfolding digits decode_pairs fault head rows head_of rows_in last_number size_kind header_kind contents_kind header_numbers interface_with interface_of row_words octets_of row_kind row_of
 begins_in_the_middle-holds = record { sound = refl; report = refl }
 
-call_after_a_gap-holds : IsRecorded call_after_a_gap-text call_after_a_gap-report
-unfolding digits decode_pairs recorded_fault recorded_content recording recorded_rows recording_of is_third third_numbers recorded_header_kind recorded_row_kind recorded_row_of last_number size_kind has_header header_numbers interface_with interface_of row_words octets_of row_kind row_of
+call_after_a_gap-holds : IsReported call_after_a_gap-text call_after_a_gap-report
+unfolding digits decode_pairs fault head rows head_of rows_in last_number size_kind header_kind contents_kind header_numbers interface_with interface_of row_words octets_of row_kind row_of
 call_after_a_gap-holds = record { sound = refl; report = refl }
 
-gap_in_the_second_form-holds : recorded_fault gap_in_the_second_form-text ≡ Some (2, Side)
-unfolding digits decode_pairs recorded_fault recorded_content recording recorded_rows recording_of is_third third_numbers recorded_header_kind recorded_row_kind recorded_row_of last_number size_kind has_header header_numbers interface_with interface_of row_words octets_of row_kind row_of
+gap_in_the_second_form-holds : fault gap_in_the_second_form-text ≡ Some (2, Side)
+unfolding digits decode_pairs fault head rows head_of rows_in last_number size_kind header_kind contents_kind header_numbers interface_with interface_of row_words octets_of row_kind row_of
 gap_in_the_second_form-holds = refl
 
-gap_number_falls-holds : recorded_fault gap_number_falls-text ≡ Some (3, Number)
-unfolding digits decode_pairs recorded_fault recorded_content recording recorded_rows recording_of is_third third_numbers recorded_header_kind recorded_row_kind recorded_row_of last_number size_kind has_header header_numbers interface_with interface_of row_words octets_of row_kind row_of
+gap_number_falls-holds : fault gap_number_falls-text ≡ Some (3, Number)
+unfolding digits decode_pairs fault head rows head_of rows_in last_number size_kind header_kind contents_kind header_numbers interface_with interface_of row_words octets_of row_kind row_of
 gap_number_falls-holds = refl
 
-gap_on_channel_0-holds : recorded_fault gap_on_channel_0-text ≡ Some (2, Hex)
-unfolding digits decode_pairs recorded_fault recorded_content recording recorded_rows recording_of is_third third_numbers recorded_header_kind recorded_row_kind recorded_row_of last_number size_kind has_header header_numbers interface_with interface_of row_words octets_of row_kind row_of
+gap_on_channel_0-holds : fault gap_on_channel_0-text ≡ Some (2, Hex)
+unfolding digits decode_pairs fault head rows head_of rows_in last_number size_kind header_kind contents_kind header_numbers interface_with interface_of row_words octets_of row_kind row_of
 gap_on_channel_0-holds = refl
 
-no_gap-holds : IsRecorded no_gap-text no_gap-report
-unfolding digits decode_pairs recorded_fault recorded_content recording recorded_rows recording_of is_third third_numbers recorded_header_kind recorded_row_kind recorded_row_of last_number size_kind has_header header_numbers interface_with interface_of row_words octets_of row_kind row_of
+no_gap-holds : IsReported no_gap-text no_gap-report
+unfolding digits decode_pairs fault head rows head_of rows_in last_number size_kind header_kind contents_kind header_numbers interface_with interface_of row_words octets_of row_kind row_of
 no_gap-holds = record { sound = refl; report = refl }
 
-restart_of_both_sides-holds : IsRecorded restart_of_both_sides-text restart_of_both_sides-report
-unfolding digits decode_pairs recorded_fault recorded_content recording recorded_rows recording_of is_third third_numbers recorded_header_kind recorded_row_kind recorded_row_of last_number size_kind has_header header_numbers interface_with interface_of row_words octets_of row_kind row_of
+restart_of_both_sides-holds : IsReported restart_of_both_sides-text restart_of_both_sides-report
+unfolding digits decode_pairs fault head rows head_of rows_in last_number size_kind header_kind contents_kind header_numbers interface_with interface_of row_words octets_of row_kind row_of
 restart_of_both_sides-holds = record { sound = refl; report = refl }
 
-restart_owed_at_the_gap-holds : IsRecorded restart_owed_at_the_gap-text restart_owed_at_the_gap-report
-unfolding digits decode_pairs recorded_fault recorded_content recording recorded_rows recording_of is_third third_numbers recorded_header_kind recorded_row_kind recorded_row_of last_number size_kind has_header header_numbers interface_with interface_of row_words octets_of row_kind row_of
+restart_owed_at_the_gap-holds : IsReported restart_owed_at_the_gap-text restart_owed_at_the_gap-report
+unfolding digits decode_pairs fault head rows head_of rows_in last_number size_kind header_kind contents_kind header_numbers interface_with interface_of row_words octets_of row_kind row_of
 restart_owed_at_the_gap-holds = record { sound = refl; report = refl }
 
-settled_by_an_acknowledgement-holds : IsRecorded settled_by_an_acknowledgement-text settled_by_an_acknowledgement-report
-unfolding digits decode_pairs recorded_fault recorded_content recording recorded_rows recording_of is_third third_numbers recorded_header_kind recorded_row_kind recorded_row_of last_number size_kind has_header header_numbers interface_with interface_of row_words octets_of row_kind row_of
+settled_by_an_acknowledgement-holds : IsReported settled_by_an_acknowledgement-text settled_by_an_acknowledgement-report
+unfolding digits decode_pairs fault head rows head_of rows_in last_number size_kind header_kind contents_kind header_numbers interface_with interface_of row_words octets_of row_kind row_of
 settled_by_an_acknowledgement-holds = record { sound = refl; report = refl }
 
 pub worked_gaps : WorkedGapTraces

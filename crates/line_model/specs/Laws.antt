@@ -1,10 +1,11 @@
 -- What holds of every interface, and of what its rows say.
-use Rattle.std.specs.Prelude.{◌∷◌, map, ◌++◌, ◌≡◌, ℕ, ◌≤◌, List, filter}
+use Rattle.std.specs.Prelude.{◌∷◌, map, ◌++◌, ◌≡◌, ℕ, ◌≤◌, List, Some, filter}
 use Rattle.std.specs.List.{flat_map}
 use Rattle.std.specs.List.Sorted.{IsPermutation, IsStrictlyIncreasing}
 use Rattle.line_model.specs.declared.interface.Interface.{Interface}
 use Rattle.line_model.specs.declared.finding.Finding.{Finding}
-use Rattle.line_model.specs.basics.Records.{Item, CallRecord}
+use Rattle.line_model.specs.basics.Records.{CallRecord, Item, Row}
+use Rattle.line_model.specs.text.Text.{early_head, early_rows, head, rows}
 use Rattle.line_model.specs.observer.MachineEvents.{walk_events}
 use Rattle.line_model.specs.pieces.Shuffle.{IsShuffle, SameWalks}
 use Rattle.line_model.specs.pieces.Pieces.{is_of, placed, value_of}
@@ -16,7 +17,7 @@ use Rattle.line_model.specs.observer.Observer.{x25, start, events, peak}
 use Rattle.line_model.specs.observer.Report.{findings_of}
 use Rattle.line_model.specs.pieces.Plans.{plan, value, line_findings, channel_totals}
 use Rattle.line_model.specs.work.Book.{totals_of, IsNumbered}
-use Rattle.line_model.specs.basics.Bounds.{AreSaid}
+use Rattle.line_model.specs.basics.Bounds.{AreRows, AreSaid}
 
 -- rows of different channels may be walked in any order: each row has the same events, and the observer is the same at the end
 abbrev pub ShuffleLaw : Type 0
@@ -81,3 +82,19 @@ pub record CallsOfPieces (i : Interface) (rs : List Item) : Type 0 where
 -- the calls of the pieces are those of the walk, in the order of their opening packets
 abbrev pub CallsOrderLaw : Type 0
 CallsOrderLaw = (i : Interface) (rs : List Item) → AreSaid i rs → IsStrictlyIncreasing (map (λ r. r.number) rs) → CallsOfPieces i rs
+
+-- the interface that the first lines of a text set up is that of the text however it goes on
+abbrev pub EarlyHeadLaw : Type 0
+EarlyHeadLaw = (text more : List ℕ) (i : Interface) → early_head text ≡ Some i → head (text ++ more) ≡ Some i
+
+-- the rows of the first lines of a text are the first rows of the text however it goes on
+abbrev pub EarlyRowsLaw : Type 0
+EarlyRowsLaw = (text more : List ℕ) → (rest : List Row) × (rows (text ++ more) ≡ early_rows text ++ rest)
+
+-- the rows of a text are of the interface that it sets up
+abbrev pub RowsLaw : Type 0
+RowsLaw = (text : List ℕ) (i : Interface) → head text ≡ Some i → AreRows i (rows text)
+
+-- so are those of its first lines
+abbrev pub FirstRowsLaw : Type 0
+FirstRowsLaw = (text : List ℕ) (i : Interface) → early_head text ≡ Some i → AreRows i (early_rows text)

@@ -6,5 +6,4 @@ pub mod observer
 pub mod pieces
 pub mod traces
 pub mod Laws
-pub mod GapLaws
 pub mod work

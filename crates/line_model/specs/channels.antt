@@ -8,5 +8,4 @@ pub mod Verdicts
 pub mod ChannelStep
 pub mod Gaps
 pub mod GapStep
-pub mod GapRows
 pub mod GapRestart

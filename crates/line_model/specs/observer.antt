@@ -5,5 +5,3 @@ pub mod Observer
 pub mod Calls
 pub mod Accounts
 pub mod Report
-pub mod GapObserver
-pub mod GapReport

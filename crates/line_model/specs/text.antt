@@ -1,4 +1,3 @@
 pub mod Header
 pub mod RowLine
 pub mod Text
-pub mod GapText

@@ -1,5 +1,4 @@
 pub mod Traces
-pub mod GapTraces
 pub mod WorkedGapTraces
 pub mod WorkedTexts
 pub mod WorkedReports

@@ -8,7 +8,7 @@ use thiserror::Error;
 pub enum Kind {
     /// The text has no line that is not a comment.
     HeaderMissing = 21,
-    /// The header has neither form.
+    /// The header has none of the forms.
     HeaderForm = 22,
     /// A number of the header is out of its range.
     HeaderRange = 23,
@@ -16,9 +16,9 @@ pub enum Kind {
     LineForm = 24,
     /// The row's number: its form, or not above that of the row before.
     Number = 25,
-    /// The row's side is neither `T` nor `N`.
+    /// The row's side is neither `T` nor `N`, nor that of a gap, `?`, where gaps are rows.
     Side = 26,
-    /// The row's octets: no even number of hex digits, or more than 4,200 octets.
+    /// The row's octets: no even number of hex digits, or more than 4,200 octets; or a gap's channel.
     Hex = 27,
     /// More than 8,500 bytes without the LF.
     LineLong = 28,

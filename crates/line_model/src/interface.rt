@@ -1,6 +1,6 @@
 //! The parameters of an interface.
 
-ghost use Rattle.std.specs.Prelude.{◌≡◌, false};
+ghost use Rattle.std.specs.Prelude.{◌≡◌};
 ghost use Rattle.line_model.specs.basics.Limits.{IsInterface};
 
 use crate::state::{ChannelState, DState, PState, Side};
@@ -24,10 +24,9 @@ pub struct Interface {
     pub svc: u16,
     /// The trace begins in the middle: nothing is known of the channels in epoch 1, or with gaps all are adrift.
     pub join: bool,
-    /// Gaps of the recording are rows. No header says so yet.
+    /// Gaps of the recording are rows.
     pub gaps: bool,
     pub ghost lawful: { IsInterface modulus window size pvc incoming two_way svc },
-    pub ghost whole: { gaps ≡ false },
 }
 
 impl Interface {

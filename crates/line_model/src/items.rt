@@ -1,6 +1,7 @@
 //! What rows say, in two lists: what stands before the octets of each row, and the octets that are kept.
 
 ghost use Rattle.std.specs.Prelude.{◌≡◌, ◌++◌, ◌∷◌, [], length, OnErr, OnOk, IfOk, ◌==◌};
+ghost use Rattle.line_model.specs.packets.Says.{gap_item};
 
 use crate::packet::Packet;
 use crate::state::Side;
@@ -56,6 +57,21 @@ pub struct ItemRef<'a> {
     pub length: usize,
     /// Those octets that say more: all, but none of data with Q 0.
     pub octets: &'a [u8],
+}
+
+impl ItemRef<'_> {
+    /// What a gap of all channels says, by its number (profile).
+    pub fn gap_of_all(number: u32) -> ItemRef<'static>
+        ensures { result ≡ gap_item number }
+    {
+        ItemRef {
+            number,
+            side: Side::T,
+            packet: Packet::GapOfAll,
+            length: 0,
+            octets: &[],
+        }
+    }
 }
 
 impl<'a> Model for ItemRef<'a> {

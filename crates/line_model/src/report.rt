@@ -26,7 +26,9 @@ pub struct Report<A: Allocator = Global> {
     pub accounts: Vec<Account, A>,
     /// The peak of virtual calls.
     pub peak: Peak,
-    /// The sums.
+    /// How many gaps there are, where gaps are rows (profile).
+    pub gaps: Option<u32>,
+    /// The sums. A gap is no packet.
     pub summary: Summary,
 }
 
@@ -40,6 +42,7 @@ impl<A: Allocator> Model for Report<A> {
       calls = r.calls.items;
       accounts = r.accounts.items;
       peak = r.peak;
+      gaps = r.gaps;
       summary = r.summary;
     } };
 }

@@ -6,7 +6,7 @@ use Rattle.line_model.specs.declared.fault.Fault.TheVariants.{Memory}
 use Rattle.line_model.specs.declared.finding.Finding.{Finding}
 use Rattle.line_model.specs.observer.Report.{report_of}
 use Rattle.line_model.specs.declared.interface.Interface.{Interface}
-use Rattle.line_model.specs.channels.Channels.{Channel}
+use Rattle.line_model.specs.channels.Gaps.{GapChannel}
 use Rattle.line_model.specs.basics.Records.{Item, Row, ReadRow}
 use Rattle.line_model.specs.text.Text.{early, early_head, early_rows}
 use Rattle.trace_text.specs.Progress.{Progress}
@@ -21,22 +21,24 @@ use Rattle.live_report.specs.Lives.{IsLastRow, IsObserving}
 use Rattle.live_report.proofs.LastLemmas.{same_last}
 use Rattle.live_report.proofs.FoundLemmas.{found_next, found_none, found_refused}
 use Rattle.line_model.specs.packets.Says.{item_of, item_read, items_of, read_row}
+use Rattle.line_model.specs.basics.Bounds.{AreRows}
 use Rattle.line_model.proofs.TextLemmas.{early_rows-nothing}
+use Rattle.line_model.proofs.TextRows.{first_rows_law}
 use Rattle.line_model.proofs.Saying.{all_said, items_more, read_says, said_lengths, said_numbers}
 use Rattle.std.specs.List.Sorted.{IsStrictlyIncreasing}
 
 -- what rows say as a trace has them
-pub items_sound : (i : Interface) (rs : List Row) → IsStrictlyIncreasing (0 ∷ map (λ r. r.number) rs) → All (λ r. r.number ≤ 999999999) rs → sum_by (λ r. length r.octets) rs ≤ 2 ^ 31 → AreItems i (items_of i rs)
-items_sound i rs rising numbers octets = record {
-  said = all_said i rs;
+pub items_sound : (i : Interface) (rs : List Row) → AreRows i rs → IsStrictlyIncreasing (0 ∷ map (λ r. r.number) rs) → All (λ r. r.number ≤ 999999999) rs → sum_by (λ r. length r.octets) rs ≤ 2 ^ 31 → AreItems i (items_of i rs)
+items_sound i rs lawful rising numbers octets = record {
+  said = all_said i rs lawful;
   rising = subst (λ ns. IsStrictlyIncreasing (0 ∷ ns)) (sym (said_numbers i rs)) rising;
   numbers = All-map (λ (r : Item). r.number ≤ 999999999) (item_of i) rs numbers;
   octets = subst (λ n. n ≤ 2 ^ 31) (sym (said_lengths i rs)) octets;
 }
 
 -- what the rows say of a text that has no fault so far
-pub early_trace : (i : Interface) (text : List ℕ) → early text ≡ None → AreItems i (items_of i (early_rows text))
-early_trace i text sound = items_sound i (early_rows text) (early_rises text sound) (early_numbers text sound) (early_octets text sound)
+pub early_trace : (i : Interface) (text : List ℕ) → early text ≡ None → early_head text ≡ Some i → AreItems i (items_of i (early_rows text))
+early_trace i text sound head = items_sound i (early_rows text) (first_rows_law text i head) (early_rises text sound) (early_numbers text sound) (early_octets text sound)
 
 -- a row was taken off the front of a chunk, and this one was put of it
 abbrev pub ReadsRow : (before after : Progress) (chunk rest : List ℕ) → ReadRow → Type 0
@@ -67,14 +69,14 @@ still_last reader after text chunk row s t last = subst (λ rows. IsLastRow rows
 -- ---- the course of a chunk
 
 -- some of a chunk was read, the observer took its rows, what they found was appended, and the last one of them is kept
-pub record Course {A C : Type 0} (I : C → Interface) (N : C → ℕ) (S : C → Channel → Type 0) (i : Interface) (text chunk : List ℕ) (reader : Progress) (o : Observer A C) (rest : List ℕ) (out out_after : List Finding) (row row_after : ReadRow) : Type 0 where
+pub record Course {A C : Type 0} (I : C → Interface) (N : C → ℕ) (S : C → GapChannel → Type 0) (i : Interface) (text chunk : List ℕ) (reader : Progress) (o : Observer A C) (rest : List ℕ) (out out_after : List Finding) (row row_after : ReadRow) : Type 0 where
   pub read : List ℕ
   pub whole : chunk ≡ read ++ rest
   pub observing : IsObserving I N S i (text ++ read) reader o
   pub found : HasFound out out_after (found_at i text) (found_at i (text ++ read))
   pub last : o.keeps_rows ≡ true → IsLastRow (early_rows text) row → IsLastRow (early_rows (text ++ read)) row_after
 
-pub course_begun : {A C : Type 0} → (I : C → Interface) (N : C → ℕ) (S : C → Channel → Type 0) (i : Interface) (text chunk : List ℕ) (reader : Progress) (o : Observer A C) (out : List Finding) (row : ReadRow) → IsObserving I N S i text reader o → Course I N S i text chunk reader o chunk out out row row
+pub course_begun : {A C : Type 0} → (I : C → Interface) (N : C → ℕ) (S : C → GapChannel → Type 0) (i : Interface) (text chunk : List ℕ) (reader : Progress) (o : Observer A C) (out : List Finding) (row : ReadRow) → IsObserving I N S i text reader o → Course I N S i text chunk reader o chunk out out row row
 course_begun I N S i text chunk reader o out row w = record {
   read = [];
   whole = refl;
@@ -91,10 +93,12 @@ next_items i reader after text chunk rest row s t =
     ap (items_of i) is ∙ items_more i (early_rows text) (t.0 ∷ []) ∙ ap (λ r. items_of i (early_rows text) ++ r ∷ []) (sym (read_says i t.0) ∙ ap (item_read i) (sym t.2))
 
 -- the row that was taken may come next
-pub next_rows : (i : Interface) (reader after : Progress) (text chunk rest : List ℕ) (row : ReadRow) → IsReaderOf reader text → ReadsRow reader after chunk rest row → AreItems i (items_of i (early_rows text) ++ item_read i row ∷ [])
-next_rows i reader after text chunk rest row s t = subst (AreItems i) (next_items i reader after text chunk rest row s t) (early_trace i (text ++ t.1.taken) (t.1.stands text s).sound)
+pub next_rows : (i : Interface) (reader after : Progress) (text chunk rest : List ℕ) (row : ReadRow) → IsReaderOf reader text → ReadsRow reader after chunk rest row → after.interface ≡ Some i → AreItems i (items_of i (early_rows text) ++ item_read i row ∷ [])
+next_rows i reader after text chunk rest row s t h =
+    let stands = t.1.stands text s in
+    subst (AreItems i) (next_items i reader after text chunk rest row s t) (early_trace i (text ++ t.1.taken) stands.sound (sym (head_stands after (text ++ t.1.taken) stands) ∙ h))
 
-pub observed_row : {A C : Type 0} → (I : C → Interface) (N : C → ℕ) (S : C → Channel → Type 0) (i : Interface) (text chunk rest : List ℕ) (row : ReadRow) (reader after : Progress) (o : Observer A C)
+pub observed_row : {A C : Type 0} → (I : C → Interface) (N : C → ℕ) (S : C → GapChannel → Type 0) (i : Interface) (text chunk rest : List ℕ) (row : ReadRow) (reader after : Progress) (o : Observer A C)
     → IsReaderOf reader text → (t : ReadsRow reader after chunk rest row) → after.interface ≡ Some i → IsObserverOf I N S i (items_of i (early_rows text) ++ item_read i row ∷ []) o → IsObserving I N S i (text ++ t.1.taken) after o
 observed_row I N S i text chunk rest row reader after o s t h took = record {
   reads = t.1.stands text s;
@@ -102,7 +106,7 @@ observed_row I N S i text chunk rest row reader after o s t h took = record {
   observes = subst (λ items. IsObserverOf I N S i items o) (sym (next_items i reader after text chunk rest row s t)) took;
 }
 
-pub course_row : {A C : Type 0} → (I : C → Interface) (N : C → ℕ) (S : C → Channel → Type 0) (i : Interface) (text chunk rest left : List ℕ) (first last row : ReadRow) (reader after : Progress) (o next : Observer A C) (out out_now out_after more : List Finding)
+pub course_row : {A C : Type 0} → (I : C → Interface) (N : C → ℕ) (S : C → GapChannel → Type 0) (i : Interface) (text chunk rest left : List ℕ) (first last row : ReadRow) (reader after : Progress) (o next : Observer A C) (out out_now out_after more : List Finding)
     → (c : Course I N S i text chunk reader o rest out out_now first last) → ReadsRow reader after rest left row → after.interface ≡ early_head ((text ++ c.read) ++ rest) → IsObserverOf I N S i (items_of i (early_rows (text ++ c.read)) ++ item_read i row ∷ []) next
     → out_after ≡ out_now ++ more → (report_of i (items_of i (early_rows (text ++ c.read)) ++ item_read i row ∷ [])).findings ≡ found_at i (text ++ c.read) ++ more → Course I N S i text chunk after next left out out_after first row
 course_row I N S i text chunk rest left first last row reader after o next out out_now out_after more c t kept took has finds =
@@ -119,15 +123,15 @@ course_row I N S i text chunk rest left first last row reader after o next out o
     }
 
 -- the last row was put where it stays
-pub course_kept : {A C : Type 0} {I : C → Interface} {N : C → ℕ} {S : C → Channel → Type 0} {i : Interface} {text chunk : List ℕ} {reader : Progress} {o : Observer A C} {rest : List ℕ} {out out_after : List Finding} {row row_after kept : ReadRow}
+pub course_kept : {A C : Type 0} {I : C → Interface} {N : C → ℕ} {S : C → GapChannel → Type 0} {i : Interface} {text chunk : List ℕ} {reader : Progress} {o : Observer A C} {rest : List ℕ} {out out_after : List Finding} {row row_after kept : ReadRow}
     → Course I N S i text chunk reader o rest out out_after row row_after → (o.keeps_rows ≡ true → kept ≡ row_after) → Course I N S i text chunk reader o rest out out_after row kept
 course_kept {text = text} c e = record { read = c.read; whole = c.whole; observing = c.observing; found = c.found; last = λ keeps h. subst (IsLastRow (early_rows (text ++ c.read))) (sym (e keeps)) (c.last keeps h) }
 
 -- the whole text with the chunk
-pub course_text : {A C : Type 0} → (I : C → Interface) (N : C → ℕ) (S : C → Channel → Type 0) (i : Interface) (text chunk rest : List ℕ) (reader : Progress) (o : Observer A C) (out out_after : List Finding) (row row_after : ReadRow) (c : Course I N S i text chunk reader o rest out out_after row row_after) → (text ++ c.read) ++ rest ≡ text ++ chunk
+pub course_text : {A C : Type 0} → (I : C → Interface) (N : C → ℕ) (S : C → GapChannel → Type 0) (i : Interface) (text chunk rest : List ℕ) (reader : Progress) (o : Observer A C) (out out_after : List Finding) (row row_after : ReadRow) (c : Course I N S i text chunk reader o rest out out_after row row_after) → (text ++ c.read) ++ rest ≡ text ++ chunk
 course_text I N S i text chunk rest reader o out out_after row row_after c = append_assoc text c.read rest ∙ ap (λ x. text ++ x) (sym c.whole)
 
-pub course_end : {A C : Type 0} → (I : C → Interface) (N : C → ℕ) (S : C → Channel → Type 0) (i : Interface) (text chunk rest : List ℕ) (reader after : Progress) (o : Observer A C) (out out_after : List Finding) (row row_after : ReadRow)
+pub course_end : {A C : Type 0} → (I : C → Interface) (N : C → ℕ) (S : C → GapChannel → Type 0) (i : Interface) (text chunk rest : List ℕ) (reader after : Progress) (o : Observer A C) (out out_after : List Finding) (row row_after : ReadRow)
     → (c : Course I N S i text chunk reader o rest out out_after row row_after) → ReadsChunk reader after rest → after.interface ≡ early_head ((text ++ c.read) ++ rest) → IsObserving I N S i (text ++ chunk) after o
 course_end I N S i text chunk rest reader after o out out_after row row_after c t kept =
     let w = c.observing in
@@ -143,7 +147,7 @@ no_bytes [] none = refl
 no_bytes (b ∷ bytes) none = absurd (omega (arith, none))
 
 -- the chunk was read to its end
-pub course_done : {A C : Type 0} → (I : C → Interface) (N : C → ℕ) (S : C → Channel → Type 0) (i : Interface) (text chunk rest : List ℕ) (reader : Progress) (o : Observer A C) (out out_after : List Finding) (row row_after : ReadRow)
+pub course_done : {A C : Type 0} → (I : C → Interface) (N : C → ℕ) (S : C → GapChannel → Type 0) (i : Interface) (text chunk rest : List ℕ) (reader : Progress) (o : Observer A C) (out out_after : List Finding) (row row_after : ReadRow)
     → Course I N S i text chunk reader o rest out out_after row row_after → length rest ≡ 0 → IsObserving I N S i (text ++ chunk) reader o × HasFound out out_after (found_at i text) (found_at i (text ++ chunk)) × (o.keeps_rows ≡ true → IsLastRow (early_rows text) row → IsLastRow (early_rows (text ++ chunk)) row_after)
 course_done I N S i text chunk rest reader o out out_after row row_after c none =
     let all : text ++ c.read ≡ text ++ chunk = ap (λ x. text ++ x) (sym (c.whole ∙ ap (λ x. c.read ++ x) (no_bytes rest none) ∙ append-nil c.read)) in (
@@ -153,27 +157,27 @@ course_done I N S i text chunk rest reader o out out_after row row_after c none 
     )
 
 -- the rest of the chunk has no further row
-pub course_found : {A C : Type 0} → (I : C → Interface) (N : C → ℕ) (S : C → Channel → Type 0) (i : Interface) (text chunk rest : List ℕ) (reader after : Progress) (o : Observer A C) (out out_after : List Finding) (row row_after : ReadRow)
+pub course_found : {A C : Type 0} → (I : C → Interface) (N : C → ℕ) (S : C → GapChannel → Type 0) (i : Interface) (text chunk rest : List ℕ) (reader after : Progress) (o : Observer A C) (out out_after : List Finding) (row row_after : ReadRow)
     → (c : Course I N S i text chunk reader o rest out out_after row row_after) → ReadsChunk reader after rest → HasFound out out_after (found_at i text) (found_at i (text ++ chunk))
 course_found I N S i text chunk rest reader after o out out_after row row_after c t =
     subst (λ x. HasFound out out_after (found_at i text) (found_at i x)) (course_text I N S i text chunk rest reader o out out_after row row_after c)
     (subst (λ x. HasFound out out_after (found_at i text) x) (ap (λ rows. (report_of i (items_of i rows)).findings) (sym (t.rows (text ++ c.read) c.observing.reads))) c.found)
 
-pub course_last : {A C : Type 0} → (I : C → Interface) (N : C → ℕ) (S : C → Channel → Type 0) (i : Interface) (text chunk rest : List ℕ) (reader after : Progress) (o : Observer A C) (out out_after : List Finding) (row row_after : ReadRow)
+pub course_last : {A C : Type 0} → (I : C → Interface) (N : C → ℕ) (S : C → GapChannel → Type 0) (i : Interface) (text chunk rest : List ℕ) (reader after : Progress) (o : Observer A C) (out out_after : List Finding) (row row_after : ReadRow)
     → Course I N S i text chunk reader o rest out out_after row row_after → ReadsChunk reader after rest → o.keeps_rows ≡ true → IsLastRow (early_rows text) row → IsLastRow (early_rows (text ++ chunk)) row_after
 course_last I N S i text chunk rest reader after o out out_after row row_after c t keeps h =
     subst (λ x. IsLastRow (early_rows x) row_after) (course_text I N S i text chunk rest reader o out out_after row row_after c)
     (still_last reader after (text ++ c.read) rest row_after c.observing.reads t (c.last keeps h))
 
 -- the rest of the chunk is refused
-pub course_refused : {A C : Type 0} → (I : C → Interface) (N : C → ℕ) (S : C → Channel → Type 0) (i : Interface) (text chunk rest : List ℕ) (reader : Progress) (o : Observer A C) (out out_after : List Finding) (row row_after : ReadRow) (f : Fault)
+pub course_refused : {A C : Type 0} → (I : C → Interface) (N : C → ℕ) (S : C → GapChannel → Type 0) (i : Interface) (text chunk rest : List ℕ) (reader : Progress) (o : Observer A C) (out out_after : List Finding) (row row_after : ReadRow) (f : Fault)
     → (c : Course I N S i text chunk reader o rest out out_after row row_after) → AreKnown (early_rows (text ++ c.read)) (early_rows ((text ++ c.read) ++ rest)) f → IsFoundUpTo f out out_after (found_at i text) (found_at i (text ++ chunk))
 course_refused I N S i text chunk rest reader o out out_after row row_after f c k =
     subst (λ x. IsFoundUpTo f out out_after (found_at i text) (found_at i x)) (course_text I N S i text chunk rest reader o out out_after row row_after c)
     (found_refused f i (text ++ c.read) ((text ++ c.read) ++ rest) out out_after (found_at i text) c.found k)
 
 -- memory ran out
-pub course_stopped : {A C : Type 0} → (I : C → Interface) (N : C → ℕ) (S : C → Channel → Type 0) (i : Interface) (text chunk rest : List ℕ) (reader : Progress) (o : Observer A C) (out out_after : List Finding) (row row_after : ReadRow)
+pub course_stopped : {A C : Type 0} → (I : C → Interface) (N : C → ℕ) (S : C → GapChannel → Type 0) (i : Interface) (text chunk rest : List ℕ) (reader : Progress) (o : Observer A C) (out out_after : List Finding) (row row_after : ReadRow)
     → (c : Course I N S i text chunk reader o rest out out_after row row_after) → IsFoundUpTo Memory out out_after (found_at i text) (found_at i (text ++ chunk))
 course_stopped I N S i text chunk rest reader o out out_after row row_after c =
     course_refused I N S i text chunk rest reader o out out_after row row_after Memory c (known-here reader (text ++ c.read) rest Memory c.observing.reads tt tt)

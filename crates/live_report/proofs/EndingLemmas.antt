@@ -1,83 +1,80 @@
--- The live channels of an epoch end one by one, and leave what their pieces are worth.
+-- The open channels of an epoch end one by one, and leave what their pieces are worth.
 use Rattle.std.proofs.Common.{◌≡◌, ◌≢◌, ◌∙◌, sym, ap, subst, refl, ℕ, Bool, true, false, true≢false, eqb, List, [], ◌∷◌, ◌++◌, map, length, Option, Some, None, append_assoc, append-nil, length-append}
 use Rattle.std.specs.List.{AllByRecursion}
 use Rattle.std.proofs.lemmas.Bool.{eqb-true, eqb-false}
 use Rattle.line_model.specs.declared.interface.Interface.{Interface}
-use Rattle.line_model.specs.basics.Records.{Item, Piece, PieceReport}
-use Rattle.line_model.specs.channels.Channels.{Channel}
+use Rattle.line_model.specs.basics.Records.{Piece, PieceReport}
+use Rattle.line_model.specs.declared.piece.PieceEnd.{PieceEnd}
+use Rattle.line_model.specs.channels.Gaps.{GapChannel}
 use Rattle.line_model.specs.pieces.Plan.{has_some}
 use Rattle.line_model.specs.pieces.Plans.{value}
 use Rattle.restart_epochs.specs.OpenRows.{OpenRows, rows_of, IsListing}
 use Rattle.restart_epochs.specs.OpenLanes.{OpenLanes, value_at, HasPopped, IsEmpty}
-use Rattle.restart_epochs.specs.Cutting.{pieces_out}
-use Rattle.channel_run.specs.declared.live.LiveChannel.{LiveChannel}
-use Rattle.channel_run.specs.Live.{StandsFor as IsLive}
-use Rattle.live_report.specs.Lanes.{begun_piece, LaneFor, OpenFor}
+use Rattle.restart_epochs.specs.Cutting.{items_out}
+use Rattle.live_report.specs.AddedPieces.{pieces_of}
+use Rattle.live_report.specs.Lanes.{OpenEpoch, begun_piece, ended_piece, LaneFor, LanesFor, OpenFor}
+use Rattle.live_report.specs.declared.lanes.OpenChannel.{OpenChannel}
 
--- the piece of a channel in an epoch that ended so
-abbrev pub ended_piece : (id : ℕ) → Interface → (epoch : ℕ) → (end : Option ℕ) → (channel : ℕ) → List Item → Piece
-ended_piece id i e end k items = record { id = id; interface = i; epoch = e; channel = k; items = items; end = end }
-
--- some first channels have ended; each of the others has its live channel, and what is listed no more has none
-pub record Ending {A C : Type 0} (I : C → Interface) (N : C → ℕ) (S : C → Channel → Type 0) (i : Interface) (e : ℕ) (end : Option ℕ) (rows : OpenRows)
-    (first : List PieceReport) (lanes : OpenLanes (LiveChannel A C)) (out : List PieceReport) : Type 0 where
+-- some first channels have ended; each of the others has its open channel, and what is listed no more has none
+pub record Ending {A C : Type 0} (I : C → Interface) (N : C → ℕ) (S : C → GapChannel → Type 0) (e : OpenEpoch) (gap : ℕ) (end : Option PieceEnd) (rows : OpenRows)
+    (first : List PieceReport) (lanes : OpenLanes (OpenChannel A C)) (out : List PieceReport) : Type 0 where
   pub has : AllByRecursion (λ k. has_some (rows_of rows k) ≡ true) lanes.channels
-  pub listed : AllByRecursion (λ k. LaneFor I N S (begun_piece i e k (rows_of rows k)) (value_at lanes k)) lanes.channels
+  pub listed : AllByRecursion (λ k. LaneFor I N S (begun_piece e k (rows_of rows k)) (value_at lanes k)) lanes.channels
   pub others : (k : ℕ) → AllByRecursion (λ j. j ≢ k) lanes.channels → value_at lanes k ≡ None
-  pub values : out ++ map value (pieces_out i e end (rows_of rows) (length out) lanes.channels) ≡ first ++ map value (pieces_out i e end (rows_of rows) (length first) rows.channels)
+  pub values : out ++ map value (pieces_of e gap end rows (length out) lanes.channels) ≡ first ++ map value (pieces_of e gap end rows (length first) rows.channels)
 
-lane_none : {A C : Type 0} → (I : C → Interface) (N : C → ℕ) (S : C → Channel → Type 0) (p : Piece) (o : Option (LiveChannel A C)) → p.items ≡ [] → LaneFor I N S p o → o ≡ None
+lane_none : {A C : Type 0} → (I : C → Interface) (N : C → ℕ) (S : C → GapChannel → Type 0) (p : Piece) (o : Option (OpenChannel A C)) → p.items ≡ [] → LaneFor I N S p o → o ≡ None
 lane_none I N S p None none l = refl
-lane_none I N S p (Some live) none l = absurd (true≢false (sym l.0 ∙ ap has_some none))
+lane_none I N S p (Some entry) none l = absurd (true≢false (sym l.0 ∙ ap has_some none))
 
-pub ending_none : {A C : Type 0} → (I : C → Interface) (N : C → ℕ) (S : C → Channel → Type 0) (i : Interface) (e : ℕ) (end : Option ℕ) (rows : OpenRows) (first : List PieceReport) (lanes : OpenLanes (LiveChannel A C))
-    → OpenFor I N S i e rows lanes → IsListing rows → Ending I N S i e end rows first lanes first
-ending_none {A} {C} I N S i e end rows first lanes f l = record {
+pub ending_none : {A C : Type 0} → (I : C → Interface) (N : C → ℕ) (S : C → GapChannel → Type 0) (e : OpenEpoch) (gap : ℕ) (end : Option PieceEnd) (rows : OpenRows) (first : List PieceReport) (lanes : OpenLanes (OpenChannel A C))
+    → LanesFor I N S e rows lanes → IsListing rows → Ending I N S e gap end rows first lanes first
+ending_none {A} {C} I N S e gap end rows first lanes f l = record {
   has = subst (AllByRecursion (λ k. has_some (rows_of rows k) ≡ true)) (sym f.channels) l.listed;
   listed = all lanes.channels;
-  others = λ k not. lane_none I N S (begun_piece i e k (rows_of rows k)) (value_at lanes k) (l.others k (subst (AllByRecursion (λ j. j ≢ k)) f.channels not)) (f.each k);
-  values = ap (λ ks. first ++ map value (pieces_out i e end (rows_of rows) (length first) ks)) f.channels;
+  others = λ k not. lane_none I N S (begun_piece e k (rows_of rows k)) (value_at lanes k) (l.others k (subst (AllByRecursion (λ j. j ≢ k)) f.channels not)) (f.each k);
+  values = ap (λ ks. first ++ map value (pieces_of e gap end rows (length first) ks)) f.channels;
 }
   where
-    all : (ks : List ℕ) → AllByRecursion (λ k. LaneFor I N S (begun_piece i e k (rows_of rows k)) (value_at lanes k)) ks
+    all : (ks : List ℕ) → AllByRecursion (λ k. LaneFor I N S (begun_piece e k (rows_of rows k)) (value_at lanes k)) ks
     all [] = tt
     all (k ∷ ks) = (f.each k, all ks)
 
--- what was popped has a live channel
-pub popped_some : {A C : Type 0} → (I : C → Interface) (N : C → ℕ) (S : C → Channel → Type 0) (i : Interface) (e : ℕ) (end : Option ℕ) (rows : OpenRows) (first : List PieceReport) (before after : OpenLanes (LiveChannel A C)) (out : List PieceReport) (k : ℕ)
-    → Ending I N S i e end rows first before out → HasPopped k None before after → ⊥
-popped_some I N S i e end rows first before after out k g p =
+-- what was popped has an open channel
+pub popped_some : {A C : Type 0} → (I : C → Interface) (N : C → ℕ) (S : C → GapChannel → Type 0) (e : OpenEpoch) (gap : ℕ) (end : Option PieceEnd) (rows : OpenRows) (first : List PieceReport) (before after : OpenLanes (OpenChannel A C)) (out : List PieceReport) (k : ℕ)
+    → Ending I N S e gap end rows first before out → HasPopped k None before after → ⊥
+popped_some I N S e gap end rows first before after out k g p =
     let has : AllByRecursion (λ j. has_some (rows_of rows j) ≡ true) (k ∷ after.channels) = subst (AllByRecursion (λ j. has_some (rows_of rows j) ≡ true)) p.channels g.has in
-    let lane : AllByRecursion (λ j. LaneFor I N S (begun_piece i e j (rows_of rows j)) (value_at before j)) (k ∷ after.channels) = subst (AllByRecursion (λ j. LaneFor I N S (begun_piece i e j (rows_of rows j)) (value_at before j))) p.channels g.listed in
-    let none : rows_of rows k ≡ [] = subst (LaneFor I N S (begun_piece i e k (rows_of rows k))) (sym p.value) lane.0 in
+    let lane : AllByRecursion (λ j. LaneFor I N S (begun_piece e j (rows_of rows j)) (value_at before j)) (k ∷ after.channels) = subst (AllByRecursion (λ j. LaneFor I N S (begun_piece e j (rows_of rows j)) (value_at before j))) p.channels g.listed in
+    let none : rows_of rows k ≡ [] = subst (LaneFor I N S (begun_piece e k (rows_of rows k))) (sym p.value) lane.0 in
     true≢false (sym has.0 ∙ ap has_some none)
 
-pub popped_live : {A C : Type 0} → (I : C → Interface) (N : C → ℕ) (S : C → Channel → Type 0) (i : Interface) (e : ℕ) (end : Option ℕ) (rows : OpenRows) (first : List PieceReport) (before after : OpenLanes (LiveChannel A C)) (out : List PieceReport) (k : ℕ) (live : LiveChannel A C)
-    → Ending I N S i e end rows first before out → HasPopped k (Some live) before after → IsLive I N S live (begun_piece i e k (rows_of rows k))
-popped_live I N S i e end rows first before after out k live g p =
-    let lane : AllByRecursion (λ j. LaneFor I N S (begun_piece i e j (rows_of rows j)) (value_at before j)) (k ∷ after.channels) = subst (AllByRecursion (λ j. LaneFor I N S (begun_piece i e j (rows_of rows j)) (value_at before j))) p.channels g.listed in
-    let here : LaneFor I N S (begun_piece i e k (rows_of rows k)) (Some live) = subst (LaneFor I N S (begun_piece i e k (rows_of rows k))) (sym p.value) lane.0 in
+pub popped_live : {A C : Type 0} → (I : C → Interface) (N : C → ℕ) (S : C → GapChannel → Type 0) (e : OpenEpoch) (gap : ℕ) (end : Option PieceEnd) (rows : OpenRows) (first : List PieceReport) (before after : OpenLanes (OpenChannel A C)) (out : List PieceReport) (k : ℕ) (entry : OpenChannel A C)
+    → Ending I N S e gap end rows first before out → HasPopped k (Some entry) before after → OpenFor I N S entry (begun_piece e k (rows_of rows k))
+popped_live I N S e gap end rows first before after out k entry g p =
+    let lane : AllByRecursion (λ j. LaneFor I N S (begun_piece e j (rows_of rows j)) (value_at before j)) (k ∷ after.channels) = subst (AllByRecursion (λ j. LaneFor I N S (begun_piece e j (rows_of rows j)) (value_at before j))) p.channels g.listed in
+    let here : LaneFor I N S (begun_piece e k (rows_of rows k)) (Some entry) = subst (LaneFor I N S (begun_piece e k (rows_of rows k))) (sym p.value) lane.0 in
     here.1
 
-kept_lanes : {A C : Type 0} → (I : C → Interface) (N : C → ℕ) (S : C → Channel → Type 0) (i : Interface) (e : ℕ) (rows : OpenRows) (before after : OpenLanes (LiveChannel A C)) (k : ℕ) → ((j : ℕ) → j ≢ k → value_at after j ≡ value_at before j)
-    → (ks : List ℕ) → AllByRecursion (λ j. j ≢ k) ks → AllByRecursion (λ j. LaneFor I N S (begun_piece i e j (rows_of rows j)) (value_at before j)) ks → AllByRecursion (λ j. LaneFor I N S (begun_piece i e j (rows_of rows j)) (value_at after j)) ks
-kept_lanes I N S i e rows before after k others [] ne all = tt
-kept_lanes I N S i e rows before after k others (j ∷ ks) ne all =
-    (subst (LaneFor I N S (begun_piece i e j (rows_of rows j))) (sym (others j ne.0)) all.0, kept_lanes I N S i e rows before after k others ks ne.1 all.1)
+kept_lanes : {A C : Type 0} → (I : C → Interface) (N : C → ℕ) (S : C → GapChannel → Type 0) (e : OpenEpoch) (rows : OpenRows) (before after : OpenLanes (OpenChannel A C)) (k : ℕ) → ((j : ℕ) → j ≢ k → value_at after j ≡ value_at before j)
+    → (ks : List ℕ) → AllByRecursion (λ j. j ≢ k) ks → AllByRecursion (λ j. LaneFor I N S (begun_piece e j (rows_of rows j)) (value_at before j)) ks → AllByRecursion (λ j. LaneFor I N S (begun_piece e j (rows_of rows j)) (value_at after j)) ks
+kept_lanes I N S e rows before after k others [] ne all = tt
+kept_lanes I N S e rows before after k others (j ∷ ks) ne all =
+    (subst (LaneFor I N S (begun_piece e j (rows_of rows j))) (sym (others j ne.0)) all.0, kept_lanes I N S e rows before after k others ks ne.1 all.1)
 
-pub ending_more : {A C : Type 0} → (I : C → Interface) (N : C → ℕ) (S : C → Channel → Type 0) (i : Interface) (e : ℕ) (end : Option ℕ) (rows : OpenRows) (first : List PieceReport) (before after : OpenLanes (LiveChannel A C)) (out : List PieceReport) (k : ℕ) (taken : Option (LiveChannel A C)) (report : PieceReport)
-    → Ending I N S i e end rows first before out → HasPopped k taken before after → report ≡ value (ended_piece (length out) i e end k (rows_of rows k))
-    → Ending I N S i e end rows first after (out ++ report ∷ [])
-ending_more {A} {C} I N S i e end rows first before after out k taken report g p is =
+pub ending_more : {A C : Type 0} → (I : C → Interface) (N : C → ℕ) (S : C → GapChannel → Type 0) (e : OpenEpoch) (gap : ℕ) (end : Option PieceEnd) (rows : OpenRows) (first : List PieceReport) (before after : OpenLanes (OpenChannel A C)) (out : List PieceReport) (k : ℕ) (taken : Option (OpenChannel A C)) (report : PieceReport)
+    → Ending I N S e gap end rows first before out → HasPopped k taken before after → report ≡ value (ended_piece (length out) e end k (items_out gap rows k))
+    → Ending I N S e gap end rows first after (out ++ report ∷ [])
+ending_more {A} {C} I N S e gap end rows first before after out k taken report g p is =
     let has : AllByRecursion (λ j. has_some (rows_of rows j) ≡ true) (k ∷ after.channels) = subst (AllByRecursion (λ j. has_some (rows_of rows j) ≡ true)) p.channels g.has in
-    let lane : AllByRecursion (λ j. LaneFor I N S (begun_piece i e j (rows_of rows j)) (value_at before j)) (k ∷ after.channels) = subst (AllByRecursion (λ j. LaneFor I N S (begun_piece i e j (rows_of rows j)) (value_at before j))) p.channels g.listed in
+    let lane : AllByRecursion (λ j. LaneFor I N S (begun_piece e j (rows_of rows j)) (value_at before j)) (k ∷ after.channels) = subst (AllByRecursion (λ j. LaneFor I N S (begun_piece e j (rows_of rows j)) (value_at before j))) p.channels g.listed in
     record {
       has = has.1;
-      listed = kept_lanes I N S i e rows before after k p.others after.channels p.once lane.1;
+      listed = kept_lanes I N S e rows before after k p.others after.channels p.once lane.1;
       others = λ j not. at j not (eqb j k) refl;
-      values = append_assoc out (report ∷ []) (map value (pieces_out i e end (rows_of rows) (length (out ++ report ∷ [])) after.channels))
-          ∙ (λ t. out ++ is t ∷ map value (pieces_out i e end (rows_of rows) (length-append out (report ∷ []) t) after.channels))
-          ∙ ap (λ ks. out ++ map value (pieces_out i e end (rows_of rows) (length out) ks)) (sym p.channels) ∙ g.values;
+      values = append_assoc out (report ∷ []) (map value (pieces_of e gap end rows (length (out ++ report ∷ [])) after.channels))
+          ∙ (λ t. out ++ is t ∷ map value (pieces_of e gap end rows (length-append out (report ∷ []) t) after.channels))
+          ∙ ap (λ ks. out ++ map value (pieces_of e gap end rows (length out) ks)) (sym p.channels) ∙ g.values;
     }
   where
     at : (j : ℕ) → AllByRecursion (λ m. m ≢ j) after.channels → (b : Bool) → eqb j k ≡ b → value_at after j ≡ None
@@ -86,9 +83,9 @@ ending_more {A} {C} I N S i e end rows first before after out k taken report g p
         let ne = eqb-false j k other in
         p.others j ne ∙ g.others j (subst (AllByRecursion (λ m. m ≢ j)) (sym p.channels) ((λ s. ne (sym s)), not))
 
-pub ending_all : {A C : Type 0} → (I : C → Interface) (N : C → ℕ) (S : C → Channel → Type 0) (i : Interface) (e : ℕ) (end : Option ℕ) (rows : OpenRows) (first : List PieceReport) (lanes : OpenLanes (LiveChannel A C)) (out : List PieceReport)
-    → Ending I N S i e end rows first lanes out → lanes.channels ≡ [] → (out ≡ first ++ map value (pieces_out i e end (rows_of rows) (length first) rows.channels)) × IsEmpty lanes
-ending_all I N S i e end rows first lanes out g none = (
-  sym (append-nil out) ∙ ap (λ ks. out ++ map value (pieces_out i e end (rows_of rows) (length out) ks)) (sym none) ∙ g.values,
+pub ending_all : {A C : Type 0} → (I : C → Interface) (N : C → ℕ) (S : C → GapChannel → Type 0) (e : OpenEpoch) (gap : ℕ) (end : Option PieceEnd) (rows : OpenRows) (first : List PieceReport) (lanes : OpenLanes (OpenChannel A C)) (out : List PieceReport)
+    → Ending I N S e gap end rows first lanes out → lanes.channels ≡ [] → (out ≡ first ++ map value (pieces_of e gap end rows (length first) rows.channels)) × IsEmpty lanes
+ending_all I N S e gap end rows first lanes out g none = (
+  sym (append-nil out) ∙ ap (λ ks. out ++ map value (pieces_of e gap end rows (length out) ks)) (sym none) ∙ g.values,
   record { channels = none; values = λ k. g.others k (subst (AllByRecursion (λ j. j ≢ k)) (sym none) tt) },
 )

@@ -1,5 +1,5 @@
 -- What a follower told.
-use Rattle.std.proofs.Common.{◌≡◌, ◌∙◌, sym, ap, ℕ, ◌+◌, ◌≤◌, ◌<◌, List, [], ◌++◌, length, drop, Option, None, Result, Ok, Err, OnOk, OnErr, arith, append-nil, append_assoc, length-append}
+use Rattle.std.proofs.Common.{◌≡◌, ◌∙◌, sym, ap, ℕ, ◌+◌, ◌≤◌, List, [], ◌++◌, length, drop, Option, None, Result, Ok, Err, OnOk, OnErr, arith, append-nil, append_assoc, length-append}
 use Rattle.std.proofs.Math.Seq.{drop-append_seam}
 use Rattle.line_model.specs.basics.Device.{with_more}
 use Rattle.line_model.specs.text.Text.{begun_line, early, ended_lines, head, rows, size_of}
@@ -56,10 +56,6 @@ part_of (Err f) old new bytes h e = e
 pub always : {T : Type 0} → (w : Result T Fault) (P : Type 0) → P → OnOk w P
 always (Ok x) P h = h
 always (Err f) P h = tt
-
-all_of : {T : Type 0} → (w : Result T Fault) (P : Type 0) (a b : ℕ) → OnOk w P → OnErr w (a < b) → b ≡ a → P
-all_of (Ok x) P a b h e same = h
-all_of (Err f) P a b h e same = absurd (omega (arith, e, same))
 
 -- the sink took a first part of what came
 pub told_first : {T U : Type 0} → (r : Result T Fault) (w : Result U Fault) (before old new : Option (List ℕ)) (text all : List ℕ) (written out : List Finding) → written ≡ out → HasFindings before old text → IsFoundBy r [] out (found text) (found all)

@@ -1,36 +1,38 @@
 -- The row that an observer took last, by the route of the row.
-use Rattle.std.proofs.Common.{◌≡◌, ◌∙◌, sym, ap, subst, refl, ℕ, Bool, true, false, true≢false, List, [], ◌∷◌, ◌++◌, length, length-append, Option, Some, None, option_to_list, arith}
+use Rattle.std.proofs.Common.{◌≡◌, ◌∙◌, sym, ap, subst, refl, ℕ, ◌≤◌, Bool, true, false, true≢false, List, [], ◌∷◌, ◌++◌, length, length-append, Option, Some, None, option_to_list, arith}
 use Rattle.std.specs.Prelude.{MatchOption}
 use Rattle.line_model.specs.declared.event.Event.{Event}
 use Rattle.line_model.specs.declared.interface.Interface.{Interface}
 use Rattle.line_model.specs.declared.route.Route.{Route}
-use Rattle.line_model.specs.declared.route.Route.TheVariants.{ToChannel, Leave, Enter, Found, Pass}
+use Rattle.line_model.specs.declared.route.Route.TheVariants.{ToChannel, Leave, Enter, Renew, Found, Pass}
 use Rattle.line_model.specs.basics.Records.{Item}
-use Rattle.line_model.specs.channels.Channels.{Channel}
-use Rattle.line_model.specs.channels.RestartMachine.{LineState}
+use Rattle.line_model.specs.channels.Gaps.{GapChannel}
+use Rattle.line_model.specs.channels.GapRestart.{GapLine, is_of_all, is_ready, routing}
 use Rattle.line_model.specs.observer.Machine.{Observer}
-use Rattle.line_model.specs.observer.Observer.{routing, is_ready}
 use Rattle.line_model.specs.observer.Report.{report_of}
 use Rattle.line_model.specs.pieces.Plan.{has_some}
 use Rattle.channel_run.specs.Live.{channel_so_far}
 use Rattle.channel_run.specs.Run.{row_events}
-use Rattle.restart_epochs.specs.OpenRows.{OpenRows, rows_of}
-use Rattle.restart_epochs.specs.Cutting.{Cutting, IsTakenBy, StandsFor as IsCutterOf, observer, places, rows_if}
+use Rattle.restart_epochs.specs.OpenRows.{OpenRows, HasMore, last_number, rows_of}
+use Rattle.restart_epochs.specs.Cutting.{Cutting, HasTurned, IsTakenBy, StandsFor as IsCutterOf, gap_turned, items_out, observer, places, rows_if}
 use Rattle.restart_epochs.specs.declared.walk.EpochWalk.{EpochWalk}
 use Rattle.restart_epochs.specs.declared.walk.Step.{Step}
 use Rattle.restart_epochs.specs.declared.walk.Turn.{Turn}
-use Rattle.restart_epochs.specs.Walks.{epoch_after, turn_of, IsStep}
+use Rattle.restart_epochs.specs.Walks.{epoch_after, passed, turn_of, IsStep}
+use Rattle.restart_epochs.proofs.GapRows.{last_pushed, no_gap}
+use Rattle.restart_epochs.proofs.LaneSteps.{start_stays}
 use Rattle.restart_epochs.proofs.Routes.{is_to_channel}
 use Rattle.restart_epochs.proofs.Steps.{on_channel, routed_to, routed_none}
 use Rattle.live_report.specs.Lanes.{begun_piece}
-use Rattle.live_report.specs.Turns.{walked_piece, HasEvents, JudgesBy}
+use Rattle.live_report.specs.Observing.{epoch_at}
+use Rattle.live_report.specs.Turns.{epoch_of, reached_piece, HasEvents, JudgesBy}
 use Rattle.live_report.specs.JudgedRows.{IsJudge, IsJudgedRow, IsRestart, IsTaker, KnowsLast, taker}
 use Rattle.live_report.specs.declared.judged_row.Judge.{Judge}
 use Rattle.live_report.specs.declared.judged_row.Judge.TheVariants as judge
 use Rattle.live_report.specs.declared.judged_row.JudgedRow.{JudgedRow}
-use Rattle.live_report.proofs.FindingLemmas.{events_on, state_here}
+use Rattle.live_report.proofs.FindingLemmas.{events_on, reached_is, state_here}
 use Rattle.line_model.specs.basics.Bounds.{IsSaid}
-use Rattle.line_model.specs.packets.Says.{packet_channel}
+use Rattle.line_model.specs.packets.Says.{gap_of, packet_channel}
 
 -- ---- lists
 
@@ -51,7 +53,7 @@ same_last (c ∷ a) (d ∷ b) x y h =
 
 -- ---- the last row
 
-pub taker_is : (i : Interface) (to : Option ℕ) (o more : Observer LineState Channel) (j : Judge) → IsJudge i to o more j → taker j ≡ to
+pub taker_is : (i : Interface) (to : Option ℕ) (o more : Observer GapLine GapChannel) (j : Judge) → IsJudge i to o more j → taker j ≡ to
 taker_is i None o more (judge.Restart before after) h = refl
 taker_is i None o more (judge.Channel k before after accepted) h = absurd h
 taker_is i (Some n) o more (judge.Restart before after) h = absurd h
@@ -66,12 +68,6 @@ knows i rs r l last events is h before x e =
     subst (λ o. MatchOption o ⊥ (λ m. IsJudgedRow i before x m events)) (sym is)
     (subst (λ y. IsJudgedRow i before y l events) same.1 (subst (λ b. IsJudgedRow i b r l events) same.0 h))
 
--- a channel of the open epoch of a walk, as the observer has it
-channel_here : {B : Type 0} → (i : Interface) (rs : List Item) (c : Cutting) (v : EpochWalk B) (k : ℕ) → IsCutterOf i rs c → is_ready (observer i rs).line ≡ true → v.interface ≡ c.interface → v.epoch ≡ c.epoch
-    → channel_so_far (walked_piece v k c.open_rows) ≡ (observer i rs).states k
-channel_here i rs c v k s ready same_interface same_epoch =
-    (λ t. channel_so_far (begun_piece (same_interface t) (same_epoch t) k (rows_of c.open_rows k))) ∙ sym (state_here i rs c k s ready)
-
 -- where a channel has rows in the open epoch, it is open
 pub open_is_ready : (i : Interface) (rs : List Item) (c : Cutting) (k : ℕ) → IsCutterOf i rs c → has_some (rows_of c.open_rows k) ≡ true → is_ready (observer i rs).line ≡ true
 open_is_ready i rs c k s some = at (is_ready (observer i rs).line) refl
@@ -81,28 +77,33 @@ open_is_ready i rs c k s some = at (is_ready (observer i rs).line) refl
     at false e = absurd (true≢false (sym some ∙ ap has_some (s.rows k ∙ ap (λ b. rows_if b i (places i rs) (observer i rs).epoch k) e)))
 
 -- what a turn makes known of a row
-pub record Judged {B : Type 0} (turn : Turn) (item : Item) (walk : EpochWalk B) (machine : LineState) (rows rows_after : OpenRows) (row : JudgedRow) (events : List Event) : Type 0 where
+pub record Judged {B : Type 0} (turn : Turn) (item : Item) (walk : EpochWalk B) (gap : ℕ) (machine : GapLine) (rows rows_after : OpenRows) (row : JudgedRow) (events : List Event) : Type 0 where
   pub number : row.number ≡ item.number
   pub side : row.side ≡ item.side
   pub packet : row.packet ≡ item.packet
-  pub judge : JudgesBy turn walk machine rows rows_after row.judge
-  pub came : HasEvents turn walk rows item events
+  pub judge : JudgesBy turn walk gap machine rows rows_after row.judge
+  pub came : HasEvents turn walk gap rows item events
+
+-- a row that is passed is judged by the restart machine
+passed_judges : {B : Type 0} → (of_all : Bool) (walk : EpochWalk B) (gap : ℕ) (machine : GapLine) (rows after : OpenRows) (by : Judge) → JudgesBy (passed of_all) walk gap machine rows after by → IsRestart walk.machine.line.state machine.line.state by
+passed_judges true walk gap machine rows after by h = h
+passed_judges false walk gap machine rows after by h = h
 
 -- by what the row did to the channels
-pub last_known : {B : Type 0} → (i : Interface) (rs : List Item) (c a : Cutting) (r : Item) (step : Step) (v : EpochWalk B) (row : JudgedRow) (last : Option JudgedRow) (events : List Event)
+pub last_known : {B : Type 0} → (i : Interface) (rs : List Item) (c a : Cutting) (r : Item) (step : Step) (v : EpochWalk B) (gap : ℕ) (row : JudgedRow) (last : Option JudgedRow) (events : List Event)
     → IsCutterOf i rs c → IsCutterOf i (rs ++ r ∷ []) a → IsTakenBy r step c a → IsSaid c.interface r → IsStep c.line c.epoch r step
-    → v.interface ≡ c.interface → v.epoch ≡ c.epoch → v.machine ≡ c.line → last ≡ Some row → Judged step.turn r v step.machine c.open_rows a.open_rows row events
+    → epoch_of v ≡ epoch_at c → gap ≡ c.gap → v.machine ≡ c.line → c.gap ≤ r.number → last ≡ Some row → Judged step.turn r v gap step.machine c.open_rows a.open_rows row events
     → (report_of i (rs ++ r ∷ [])).findings ≡ (report_of i rs).findings ++ option_to_list row.finding → KnowsLast i (rs ++ r ∷ []) last events
-last_known {B} i rs c a r step v row last events s grown taken packet is same_interface same_epoch same_machine last_is judged finding =
-    knows i rs r row last events last_is (at (routing c.line r).route refl (subst (λ t. Judged t r v step.machine c.open_rows a.open_rows row events) is.turn judged))
+last_known {B} i rs c a r step v gap row last events s grown taken said is same same_gap same_machine earlier last_is judged finding =
+    knows i rs r row last events last_is (at (routing c.line r).route refl (subst (λ t. Judged t r v gap step.machine c.open_rows a.open_rows row events) is.turn judged))
   where
     k : ℕ
     k = packet_channel r.packet
 
-    o : Observer LineState Channel
+    o : Observer GapLine GapChannel
     o = observer i rs
 
-    more : Observer LineState Channel
+    more : Observer GapLine GapChannel
     more = observer i (rs ++ r ∷ [])
 
     routes : (q : Route) → (routing c.line r).route ≡ q → is_to_channel (routing o.line r).route ≡ is_to_channel q
@@ -114,30 +115,45 @@ last_known {B} i rs c a r step v row last events s grown taken packet is same_in
     some_one : (x y : ℕ) → Some x ≡ Some y → x ≡ y
     some_one x y h = cc
 
-    on_line : (q : Route) → (routing c.line r).route ≡ q → is_to_channel q ≡ false → IsRestart v.machine.state step.machine.state row.judge → IsJudgedRow i rs r row events
+    on_line : (q : Route) → (routing c.line r).route ≡ q → is_to_channel q ≡ false → IsRestart v.machine.line.state step.machine.line.state row.judge → IsJudgedRow i rs r row events
     on_line q e to judge =
         let none = routed_none i o.line r (routes q e ∙ to) in
-        let before = ap (λ m. m.state) (same_machine ∙ s.line) in
-        let after = ap (λ m. m.state) (sym taken.line ∙ grown.line) in
+        let before = ap (λ m. m.line.state) (same_machine ∙ s.line) in
+        let after = ap (λ m. m.line.state) (sym taken.line ∙ grown.line) in
         record {
           number = judged.number;
           side = judged.side;
           packet = judged.packet;
-          judge = subst (λ n. IsJudge i n o more row.judge) (sym none) (subst (λ x. IsRestart o.line.state x row.judge) after (subst (λ x. IsRestart x step.machine.state row.judge) before judge));
+          judge = subst (λ n. IsJudge i n o more row.judge) (sym none) (subst (λ x. IsRestart o.line.line.state x row.judge) after (subst (λ x. IsRestart x step.machine.line.state row.judge) before judge));
           finding = finding;
           came = λ n there. absurd (no_one n (sym none ∙ there));
         }
 
-    on_its_channel : (routing c.line r).route ≡ ToChannel → Judged (turn_of r.packet ToChannel) r v step.machine c.open_rows a.open_rows row events → IsJudgedRow i rs r row events
+    -- after the row of a channel no gap of all channels is left
+    all_read : (routing c.line r).route ≡ ToChannel → items_out a.gap a.open_rows k ≡ rows_of a.open_rows k
+    all_read e =
+        let turn = is.turn ∙ ap (turn_of r.packet) e in
+        let has : HasMore c.gap k r c.open_rows a.open_rows = subst (λ t. HasTurned t r c.gap c.open_rows a.open_rows) turn taken.open_rows in
+        let gap_is : a.gap ≡ c.gap = taken.gap ∙ ap (λ t. gap_turned t r c.gap) turn in
+        no_gap a.gap (rows_of a.open_rows k) (omega (arith, gap_is, earlier, ap last_number has.row, last_pushed (items_out c.gap c.open_rows k) r))
+
+    epoch_kept : (routing c.line r).route ≡ ToChannel → epoch_at a ≡ epoch_at c
+    epoch_kept e =
+        let epoch = is.epoch ∙ ap (epoch_after c.epoch) e in
+        let start = taken.start ∙ start_stays c.epoch step.epoch c.start step.machine epoch in
+        λ t. record { interface = taken.counted.interface t; number = (taken.epoch ∙ epoch) t; start = start t }
+
+    on_its_channel : (routing c.line r).route ≡ ToChannel → Judged (turn_of r.packet ToChannel) r v gap step.machine c.open_rows a.open_rows row events → IsJudgedRow i rs r row events
     on_its_channel e j =
         let there = routes ToChannel e in
         let on = on_channel i rs r there in
         let to = routed_to i o.line r there in
-        let epoch : v.epoch ≡ a.epoch = same_epoch ∙ sym (taken.epoch ∙ is.epoch ∙ ap (epoch_after c.epoch) e) in
-        let before = channel_here i rs c v k s on.ready same_interface same_epoch in
-        let after = channel_here i (rs ++ r ∷ []) a v k grown (ap is_ready on.line ∙ on.ready) (same_interface ∙ sym taken.counted.interface) epoch in
+        let kept = same ∙ sym (epoch_kept e) in
+        let reached = reached_is c v gap k same same_gap in
+        let before = ap channel_so_far reached ∙ sym (state_here i rs c k s on.ready) in
+        let after = (λ t. channel_so_far (begun_piece (kept t) k (sym (all_read e) t))) ∙ sym (state_here i (rs ++ r ∷ []) a k grown (ap is_ready on.line ∙ on.ready)) in
         let came : events ≡ row_events i o.epoch k (o.states k) r =
-        j.came ∙ (λ t. row_events (same_interface t) (same_epoch t) k (channel_so_far (begun_piece (same_interface t) (same_epoch t) k (rows_of c.open_rows k))) r)
+        j.came ∙ ap (λ p. row_events p.interface p.epoch p.channel (channel_so_far p) r) reached
         ∙ sym (events_on i rs c r s (ap (λ x. is_to_channel (routing x r).route) s.line ∙ there)) in
         record {
           number = j.number;
@@ -145,15 +161,16 @@ last_known {B} i rs c a r step v row last events s grown taken packet is same_in
           packet = j.packet;
           judge = subst (λ n. IsJudge i n o more row.judge) (sym to)
               (subst (λ x. IsTaker i k (o.states k) x row.judge) after
-              (subst (λ x. IsTaker i k x (channel_so_far (walked_piece v k a.open_rows)) row.judge) before
-              (subst (λ x. IsTaker x k (channel_so_far (walked_piece v k c.open_rows)) (channel_so_far (walked_piece v k a.open_rows)) row.judge) (same_interface ∙ s.interface) j.judge)));
+              (subst (λ x. IsTaker i k x (channel_so_far (begun_piece (epoch_of v) k (rows_of a.open_rows k))) row.judge) before
+              (subst (λ x. IsTaker x k (channel_so_far (reached_piece v gap k c.open_rows)) (channel_so_far (begun_piece (epoch_of v) k (rows_of a.open_rows k))) row.judge) (ap (λ x. x.interface) same ∙ s.interface) j.judge)));
           finding = finding;
           came = λ n here. subst (λ m. events ≡ row_events i o.epoch m (o.states m) r) (some_one k n (sym to ∙ here)) came;
         }
 
-    at : (q : Route) → (routing c.line r).route ≡ q → Judged (turn_of r.packet q) r v step.machine c.open_rows a.open_rows row events → IsJudgedRow i rs r row events
+    at : (q : Route) → (routing c.line r).route ≡ q → Judged (turn_of r.packet q) r v gap step.machine c.open_rows a.open_rows row events → IsJudgedRow i rs r row events
     at ToChannel e j = on_its_channel e j
     at (Leave code) e j = on_line (Leave code) e refl j.judge
     at Enter e j = on_line Enter e refl j.judge
+    at Renew e j = on_line Renew e refl j.judge
     at (Found state code) e j = on_line (Found state code) e refl j.judge
-    at Pass e j = on_line Pass e refl j.judge
+    at Pass e j = on_line Pass e refl (passed_judges (is_of_all (gap_of r.packet)) v gap step.machine c.open_rows a.open_rows row.judge j.judge)

@@ -13,8 +13,9 @@ use Rattle.line_model.specs.traces.Traces.{trace_report}
 use Rattle.report_merge.specs.Parts.{findings_text, rest_text}
 use Rattle.report_merge.proofs.WrittenLemmas.{two_parts}
 use Rattle.line_model.proofs.FinalFaults.{early-append, no_size_fault, small_lines, both_none}
+use Rattle.line_model.proofs.TextRows.{early_head_law, early_rows_law}
 use Rattle.trace_text.proofs.FeedLemmas.{early-none, map_none}
-use Rattle.trace_text.proofs.Grows.{early_head_stays, head_stays, rows_first}
+use Rattle.trace_text.proofs.Grows.{early_head_stays}
 use Rattle.trace_text.proofs.RefusalLemmas.{more_lines, rows_grow}
 use Rattle.live_report.specs.Found.{found, found_at, found_text}
 use Rattle.live_report.specs.Laws.{GrowthLaw, ReportLaw}
@@ -107,8 +108,8 @@ some_same i j h = cc
 in_report : (given rest : List ℕ) (i : Interface) (o : Option Interface) → early_head given ≡ o → early given ≡ None → head (given ++ rest) ≡ Some i → (others : List Finding) × ((report_of i (items_of i (rows (given ++ rest)))).findings ≡ found given ++ others)
 in_report given rest i None e h is = ((report_of i (items_of i (rows (given ++ rest)))).findings, ap (λ xs. xs ++ (report_of i (items_of i (rows (given ++ rest)))).findings) (sym (found_unheaded given e)))
 in_report given rest i (Some j) e h is =
-    let same : j ≡ i = some_same j i (sym (head_stays given rest j h e) ∙ is) in
-    let rs = rows_first given rest h in
+    let same : j ≡ i = some_same j i (sym (early_head_law given rest j e) ∙ is) in
+    let rs = early_rows_law given rest in
     let grown = findings_grow i (items_of i (early_rows given)) (items_of i rs.0) in
     (grown.0, ap (λ l. (report_of i (items_of i l)).findings) rs.1 ∙ ap (λ l. (report_of i l).findings) (items_more i (early_rows given) rs.0) ∙ grown.1 ∙ ap (λ xs. xs ++ grown.0) (ap (λ k. found_at k given) (sym same) ∙ sym (found_under j given e)))
 
@@ -130,7 +131,7 @@ report_text_in text more None e h =
   where
     headless : (o : Option Interface) → early_head text ≡ o → found_text text ≡ []
     headless None k = ap findings_text (found_unheaded text k)
-    headless (Some j) k = absurd (let bad : None ≡ Some j = sym e ∙ head_stays text more j h k in cc)
+    headless (Some j) k = absurd (let bad : None ≡ Some j = sym e ∙ early_head_law text more j k in cc)
 
 -- ---- a text without a fault has none so far
 

@@ -1,3 +1,4 @@
+pub mod GapLemmas
 pub mod LaneLemmas
 pub mod EndingLemmas
 pub mod FindingLemmas

@@ -3,7 +3,7 @@ use Rattle.std.proofs.Common.{◌≡◌, ◌∙◌, sym, ap, subst, refl, ℕ, B
 use Rattle.std.specs.Prelude.{IfErr, IfSome}
 use Rattle.std.specs.Result.{result_err}
 use Rattle.line_model.specs.declared.interface.Interface.{Interface}
-use Rattle.line_model.specs.channels.Channels.{Channel}
+use Rattle.line_model.specs.channels.Gaps.{GapChannel}
 use Rattle.line_model.specs.basics.Records.{ReadRow, Row}
 use Rattle.line_model.specs.observer.Report.{report_of}
 use Rattle.line_model.specs.declared.fault.Fault.{Fault}
@@ -46,19 +46,19 @@ pub fault_of : {T : Type 0} → (r : Result T Fault) (P : Fault → Type 0) → 
 fault_of (Ok x) P h = tt
 fault_of (Err f) P h = h
 
-pub observing_of : {A C : Type 0} → (I : C → Interface) (N : C → ℕ) (S : C → Channel → Type 0) (live : Live A C) (text : List ℕ) (o : Observer A C) → StandsFor I N S live text → live.observer ≡ Some o
+pub observing_of : {A C : Type 0} → (I : C → Interface) (N : C → ℕ) (S : C → GapChannel → Type 0) (live : Live A C) (text : List ℕ) (o : Observer A C) → StandsFor I N S live text → live.observer ≡ Some o
     → (i : Interface) × IsObserving I N S i text live.lines o
 observing_of I N S live text o s h =
     let seen : IsObserved I N S text live.lines.interface (Some o) = subst (IsObserved I N S text live.lines.interface) h s.observed in
     (seen.0, record { reads = s.reads; header = seen.1; observes = seen.2 })
 
-pub keeps_rows : {A C : Type 0} → (I : C → Interface) (N : C → ℕ) (S : C → Channel → Type 0) (live : Live A C) (text : List ℕ) (o : Observer A C) → StandsFor I N S live text → live.keeps_rows ≡ true → live.observer ≡ Some o → o.keeps_rows ≡ true
+pub keeps_rows : {A C : Type 0} → (I : C → Interface) (N : C → ℕ) (S : C → GapChannel → Type 0) (live : Live A C) (text : List ℕ) (o : Observer A C) → StandsFor I N S live text → live.keeps_rows ≡ true → live.observer ≡ Some o → o.keeps_rows ≡ true
 keeps_rows I N S live text o s keeps h = subst (λ x. IfSome x (λ z. z.keeps_rows ≡ live.keeps_rows)) h s.keeps ∙ keeps
 
-pub nothing_seen : {A C : Type 0} → (I : C → Interface) (N : C → ℕ) (S : C → Channel → Type 0) (live : Live A C) (text : List ℕ) → StandsFor I N S live text → live.observer ≡ None → early_rows text ≡ []
+pub nothing_seen : {A C : Type 0} → (I : C → Interface) (N : C → ℕ) (S : C → GapChannel → Type 0) (live : Live A C) (text : List ℕ) → StandsFor I N S live text → live.observer ≡ None → early_rows text ≡ []
 nothing_seen I N S live text s h = subst (IsObserved I N S text live.lines.interface) h s.observed
 
-pub stands_observing : {A C : Type 0} → (I : C → Interface) (N : C → ℕ) (S : C → Channel → Type 0) (i : Interface) (live : Live A C) (text : List ℕ) (o : Observer A C) → IsObserving I N S i text live.lines o → live.observer ≡ Some o → live.refused ≡ None → o.keeps_rows ≡ live.keeps_rows → (live.keeps_rows ≡ true → IsLastRow (early_rows text) live.rows.last) → StandsFor I N S live text
+pub stands_observing : {A C : Type 0} → (I : C → Interface) (N : C → ℕ) (S : C → GapChannel → Type 0) (i : Interface) (live : Live A C) (text : List ℕ) (o : Observer A C) → IsObserving I N S i text live.lines o → live.observer ≡ Some o → live.refused ≡ None → o.keeps_rows ≡ live.keeps_rows → (live.keeps_rows ≡ true → IsLastRow (early_rows text) live.rows.last) → StandsFor I N S live text
 stands_observing I N S i live text o w h running keeps last = record {
   reads = w.reads;
   running = running;
@@ -68,10 +68,10 @@ stands_observing I N S i live text o w h running keeps last = record {
 }
 
 -- the first row may come
-pub first_rows : (i : Interface) (reader after : Progress) (text chunk rest : List ℕ) (row : ReadRow) → IsReaderOf reader text → early_rows text ≡ [] → ReadsRow reader after chunk rest row → AreItems i ([] ++ item_read i row ∷ [])
-first_rows i reader after text chunk rest row s none t = subst (λ rows. AreItems i (items_of i rows ++ item_read i row ∷ [])) none (next_rows i reader after text chunk rest row s t)
+pub first_rows : (i : Interface) (reader after : Progress) (text chunk rest : List ℕ) (row : ReadRow) → IsReaderOf reader text → early_rows text ≡ [] → ReadsRow reader after chunk rest row → Some i ≡ after.interface → AreItems i ([] ++ item_read i row ∷ [])
+first_rows i reader after text chunk rest row s none t h = subst (λ rows. AreItems i (items_of i rows ++ item_read i row ∷ [])) none (next_rows i reader after text chunk rest row s t (sym h))
 
-pub first_observed : {A C : Type 0} → (I : C → Interface) (N : C → ℕ) (S : C → Channel → Type 0) (i : Interface) (text chunk rest : List ℕ) (row : ReadRow) (reader after : Progress) (o : Observer A C)
+pub first_observed : {A C : Type 0} → (I : C → Interface) (N : C → ℕ) (S : C → GapChannel → Type 0) (i : Interface) (text chunk rest : List ℕ) (row : ReadRow) (reader after : Progress) (o : Observer A C)
     → IsReaderOf reader text → early_rows text ≡ [] → (t : ReadsRow reader after chunk rest row) → Some i ≡ after.interface → IsObserverOf I N S i ([] ++ item_read i row ∷ []) o → IsObserving I N S i (text ++ t.1.taken) after o
 first_observed I N S i text chunk rest row reader after o s none t h took =
     observed_row I N S i text chunk rest row reader after o s t (sym h) (subst (λ rows. IsObserverOf I N S i (items_of i rows ++ item_read i row ∷ []) o) (sym none) took)
@@ -113,12 +113,12 @@ first_found i text chunk rest row reader after out out_after more s none t has f
 -- ---- a packet whose line is not read
 
 -- the row whose line the reader went past may come next
-pub passed_rows : (i : Interface) (reader after : Progress) (text line : List ℕ) (row : Row) → IsReaderOf reader text → TakesRow reader after line [] row → AreItems i (items_of i (early_rows text) ++ item_of i row ∷ [])
-passed_rows i reader after text line row s t =
-    subst (λ r. AreItems i (items_of i (early_rows text) ++ r ∷ [])) (read_says i row) (next_rows i reader after text line [] (read_row row) s (row, t, refl))
+pub passed_rows : (i : Interface) (reader after : Progress) (text line : List ℕ) (row : Row) → IsReaderOf reader text → TakesRow reader after line [] row → after.interface ≡ Some i → AreItems i (items_of i (early_rows text) ++ item_of i row ∷ [])
+passed_rows i reader after text line row s t h =
+    subst (λ r. AreItems i (items_of i (early_rows text) ++ r ∷ [])) (read_says i row) (next_rows i reader after text line [] (read_row row) s (row, t, refl) h)
 
 -- the reader went past the line of a row, and the observer took it
-pub passed_row : {A C : Type 0} → (I : C → Interface) (N : C → ℕ) (S : C → Channel → Type 0) (i : Interface) (text line : List ℕ) (row : Row) (reader after : Progress) (o next : Observer A C) (out out_after more : List Finding)
+pub passed_row : {A C : Type 0} → (I : C → Interface) (N : C → ℕ) (S : C → GapChannel → Type 0) (i : Interface) (text line : List ℕ) (row : Row) (reader after : Progress) (o next : Observer A C) (out out_after more : List Finding)
     → (w : IsObserving I N S i text reader o) → TakesRow reader after line [] row → after.interface ≡ reader.interface → IsObserverOf I N S i (items_of i (early_rows text) ++ item_of i row ∷ []) next
     → out_after ≡ out ++ more → (report_of i (items_of i (early_rows text) ++ item_of i row ∷ [])).findings ≡ found_at i text ++ more
     → IsObserving I N S i (text ++ line) after next × HasFound out out_after (found_at i text) (found_at i (text ++ line)) × IsLastRow (early_rows (text ++ line)) (read_row row)

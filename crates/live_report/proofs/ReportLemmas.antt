@@ -11,7 +11,6 @@ use Rattle.line_model.specs.declared.fault.Fault.TheVariants.{Memory, Trace, Wri
 use Rattle.line_model.specs.declared.totals.Summary.{Summary}
 use Rattle.trace_text.specs.Progress.{Progress}
 use Rattle.trace_text.specs.StandsFor.{StandsFor as IsReaderOf, IsFaultOf, IsTextFault, last_row}
-use Rattle.trace_text.proofs.Grows.{head_stays}
 use Rattle.trace_text.proofs.RefusalLemmas.{head_stands}
 use Rattle.trace_text.proofs.RowsOfText.{text_numbers, text_octets, text_rises}
 use Rattle.live_report.specs.Observing.{AreItems, last_item}
@@ -21,6 +20,7 @@ use Rattle.line_model.proofs.DeviceLemmas.{front_of}
 use Rattle.line_model.specs.packets.Says.{item_read, items_of, read_row}
 use Rattle.live_report.proofs.ChunkLemmas.{items_sound}
 use Rattle.line_model.proofs.Saying.{items_more, read_says}
+use Rattle.line_model.proofs.TextRows.{early_head_law, rows_law}
 
 -- a report of the rows of a text is the text's
 pub told_at : (text : List ℕ) (i : Interface) (rs : List Item) (answer : Result Report Fault) → IfOk answer (λ r. r ≡ report_of i rs) → fault text ≡ None → head text ≡ Some i → items_of i (rows text) ≡ rs → IfOk answer (IsReportOf text)
@@ -32,8 +32,8 @@ memory_only P (Ok x) h m = tt
 memory_only P (Err f) h m = subst P (sym h) m
 
 -- the rows of a text that has no fault
-pub whole_trace : (i : Interface) (text : List ℕ) → fault text ≡ None → AreItems i (items_of i (rows text))
-whole_trace i text sound = items_sound i (rows text) (text_rises text sound) (text_numbers text sound) (text_octets text sound)
+pub whole_trace : (i : Interface) (text : List ℕ) → fault text ≡ None → head text ≡ Some i → AreItems i (items_of i (rows text))
+whole_trace i text sound header = items_sound i (rows text) (rows_law text i header) (text_rises text sound) (text_numbers text sound) (text_octets text sound)
 
 -- what the rows of a text say, with the row of a last line that no LF ended
 pub ended_items : (i : Interface) (text : List ℕ) (has_row : Bool) (row : ReadRow) → (last : Row) × (rows text ≡ early_rows text ++ last_row has_row last) × (has_row ≡ true → row ≡ read_row last) → items_of i (rows text) ≡ items_of i (early_rows text) ++ last_item i has_row row
@@ -42,7 +42,7 @@ ended_items i text true row end = ap (items_of i) end.1 ∙ items_more i (early_
 
 -- the header that was read is the text's
 pub whole_header : (reader : Progress) (text : List ℕ) (i : Interface) → IsReaderOf reader text → reader.interface ≡ Some i → head text ≡ Some i
-whole_header reader text i s h = ap head (sym (append-nil text)) ∙ head_stays text [] i s.sound (sym (head_stands reader text s) ∙ h)
+whole_header reader text i s h = ap head (sym (append-nil text)) ∙ early_head_law text [] i (sym (head_stands reader text s) ∙ h)
 
 -- ---- what was written
 

@@ -5,13 +5,13 @@ use Rattle.std.proofs.lemmas.List.Sums.{sum_by-append, sum_by-cons, sum_by_push}
 use Rattle.line_model.specs.declared.event.Event.{Event}
 use Rattle.line_model.specs.declared.interface.Interface.{Interface}
 use Rattle.line_model.specs.basics.Records.{Item}
-use Rattle.line_model.specs.channels.Channels.{Channel}
-use Rattle.line_model.specs.channels.RestartMachine.{LineState}
+use Rattle.line_model.specs.channels.Gaps.{GapChannel}
+use Rattle.line_model.specs.channels.GapRestart.{GapLine}
 use Rattle.line_model.specs.observer.Machine.{Observer, after, routed, walk}
 use Rattle.line_model.specs.observer.Observer.{start, x25}
 use Rattle.line_model.specs.text.Text.{head, rows}
 use Rattle.channel_run.specs.StatusWord.{view_in}
-use Rattle.channel_run.specs.Views.{IsViewOf}
+use Rattle.channel_run.specs.Views.{IsViewOf, is_adrift}
 use Rattle.data_transfer.specs.Packed.{Packed}
 use Rattle.restart_epochs.specs.Cutting.{observer}
 use Rattle.live_report.specs.JudgedRows.{IsJudge, IsJudgedRow}
@@ -30,9 +30,9 @@ use Rattle.channel_run.specs.Run.{data_events, row_events}
 -- ---- why the data of a row was not counted
 
 -- by the channel that took it
-by_taker : (i : Interface) (o more : Observer LineState Channel) (r : Item) (events : List Event) (taker : Option ℕ) (k : ℕ) (before after : Packed) (accepted : Option ℕ) (answer : Option Reason)
+by_taker : (i : Interface) (o more : Observer GapLine GapChannel) (r : Item) (events : List Event) (taker : Option ℕ) (k : ℕ) (before after : Packed) (accepted : Option ℕ) (answer : Option Reason)
     → IsJudge i taker o more (judge.Channel k before after accepted) → ((n : ℕ) → taker ≡ Some n → events ≡ row_events i o.epoch n (o.states n) r)
-    → ((j : Interface) (c : Channel) → IsViewOf j c (view_in before) → answer ≡ reason_on c events) → answer ≡ reason_by i taker o r
+    → ((j : Interface) (c : GapChannel) → IsViewOf j c (view_in before) → answer ≡ reason_on c events) → answer ≡ reason_by i taker o r
 by_taker i o more r events None k before after accepted answer h came by = absurd h
 by_taker i o more r events (Some n) k before after accepted answer h came by = by i (o.states n) h.1 ∙ ap (reason_on (o.states n)) (came n refl)
 
@@ -42,11 +42,8 @@ of_data i earlier r row events l b is =
     let o = observer i earlier in
     ap (λ x. cond x (reason_by i (routed (x25 i) o.line r) o r) None) (sym is ∙ ap is_data l.packet)
 
-pub no_data : (i : Interface) (earlier : List Item) (r : Item) (row : JudgedRow) (events : List Event) → IsJudgedRow i earlier r row events → is_data row.packet ≡ false → None ≡ reason_at i (observer i earlier) r
-no_data i earlier r row events l none = of_data i earlier r row events l false none
-
 pub on_channel : (i : Interface) (earlier : List Item) (r : Item) (row : JudgedRow) (events : List Event) (k : ℕ) (before after : Packed) (accepted : Option ℕ) (answer : Option Reason) → IsJudgedRow i earlier r row events
-    → is_data row.packet ≡ true → row.judge ≡ judge.Channel k before after accepted → ((j : Interface) (c : Channel) → IsViewOf j c (view_in before) → answer ≡ reason_on c events) → answer ≡ reason_at i (observer i earlier) r
+    → is_data row.packet ≡ true → row.judge ≡ judge.Channel k before after accepted → ((j : Interface) (c : GapChannel) → IsViewOf j c (view_in before) → answer ≡ reason_on c events) → answer ≡ reason_at i (observer i earlier) r
 on_channel i earlier r row events k before after accepted answer l data_is by reason =
     let o = observer i earlier in
     let more = observer i (earlier ++ r ∷ []) in
@@ -62,12 +59,12 @@ pub has_data : (events : List Event) (epoch k : ℕ) (r : Item) (n : ℕ) → co
 has_data [] epoch k r n = refl
 has_data (e ∷ es) epoch k r n = or_true (tells_data e.what) (counts_data (es ++ data_events epoch k r (Some n))) (has_data es epoch k r n)
 
-counted_on : (i : Interface) (o more : Observer LineState Channel) (r : Item) (events : List Event) (taker : Option ℕ) (k : ℕ) (before after : Packed) (accepted : Option ℕ)
+counted_on : (i : Interface) (o more : Observer GapLine GapChannel) (r : Item) (events : List Event) (taker : Option ℕ) (k : ℕ) (before after : Packed) (accepted : Option ℕ)
     → IsJudge i taker o more (judge.Channel k before after accepted) → ((n : ℕ) → taker ≡ Some n → events ≡ row_events i o.epoch n (o.states n) r) → counts_data events ≡ true → None ≡ reason_by i taker o r
 counted_on i o more r events None k before after accepted h came counted = absurd h
 counted_on i o more r events (Some n) k before after accepted h came counted =
     let c = o.states n in
-    ap (λ b. cond b None (cond (has_finding events) (Some Finding) (Some (reason_of_state c.state c.owed)))) (sym counted) ∙ ap (reason_on c) (came n refl)
+    ap (λ b. cond b None (cond (has_finding events) (Some Finding) (Some (reason_of_state c.channel.state (is_adrift c.certainty) c.channel.owed)))) (sym counted) ∙ ap (reason_on c) (came n refl)
 
 none_if : (b : Bool) (why : Option Reason) → None ≡ why → None ≡ cond b why None
 none_if true why h = h
@@ -84,7 +81,7 @@ was_counted i earlier r row events k before after accepted l by counted =
 -- ---- rows one by one
 
 -- those of some rows and of one more
-left_out_more : (i : Interface) (o : Observer LineState Channel) (rs : List Item) (r : Item) → left_out i o (rs ++ r ∷ []) ≡ left_out i o rs ++ left_out_at i (walk (x25 i) o rs) r
+left_out_more : (i : Interface) (o : Observer GapLine GapChannel) (rs : List Item) (r : Item) → left_out i o (rs ++ r ∷ []) ≡ left_out i o rs ++ left_out_at i (walk (x25 i) o rs) r
 left_out_more i o [] r = append-nil (left_out_at i o r)
 left_out_more i o (x ∷ rs) r =
     ap (λ ds. left_out_at i o x ++ ds) (left_out_more i (after (x25 i) o x) rs r)
@@ -108,7 +105,7 @@ row_octets : (why : Reason) (came : Option Reason) (n : ℕ) → sum_by (λ d. d
 row_octets why None n = omega arith
 row_octets why (Some reason) n = its_octets (is_same why reason) (record { reason = reason; octets = n })
 
-few_packets : (why : Reason) (i : Interface) (o : Observer LineState Channel) (rs : List Item) → length (filter (λ d. is_same why d.reason) (left_out i o rs)) ≤ length rs
+few_packets : (why : Reason) (i : Interface) (o : Observer GapLine GapChannel) (rs : List Item) → length (filter (λ d. is_same why d.reason) (left_out i o rs)) ≤ length rs
 few_packets why i o [] = omega arith
 few_packets why i o (r ∷ rs) =
     let p : LeftOut → Bool = λ d. is_same why d.reason in
@@ -116,7 +113,7 @@ few_packets why i o (r ∷ rs) =
     let later = left_out i (after (x25 i) o r) rs in
     omega (arith, row_packets why (reason_at i o r) (user_octets i r.length), few_packets why i (after (x25 i) o r) rs, ap (λ (ds : List LeftOut). length ds) (filter-append p here later), length-append (filter p here) (filter p later))
 
-few_octets : (why : Reason) (i : Interface) (o : Observer LineState Channel) (rs : List Item) → sum_by (λ d. d.octets) (filter (λ d. is_same why d.reason) (left_out i o rs)) ≤ sum_by (λ r. r.length) rs
+few_octets : (why : Reason) (i : Interface) (o : Observer GapLine GapChannel) (rs : List Item) → sum_by (λ d. d.octets) (filter (λ d. is_same why d.reason) (left_out i o rs)) ≤ sum_by (λ r. r.length) rs
 few_octets why i o [] = omega arith
 few_octets why i o (r ∷ rs) =
     let p : LeftOut → Bool = λ d. is_same why d.reason in
@@ -206,7 +203,7 @@ uncounted_same i earlier r came =
     ∙ ap amounts_of (sym (left_out_more i (start i) earlier r))
 
 -- the rows of a trace are few
-pub few_with : {A C : Type 0} → (I : C → Interface) (N : C → ℕ) (S : C → Channel → Type 0) (i : Interface) (rs : List Item) (r : Item) (o : Running A C) → StandsFor I N S i rs o → AreItems i (rs ++ r ∷ []) → AreFew (rs ++ r ∷ [])
+pub few_with : {A C : Type 0} → (I : C → Interface) (N : C → ℕ) (S : C → GapChannel → Type 0) (i : Interface) (rs : List Item) (r : Item) (o : Running A C) → StandsFor I N S i rs o → AreItems i (rs ++ r ∷ []) → AreFew (rs ++ r ∷ [])
 few_with I N S i rs r o s sound = record { rows = omega (arith, length-append rs (r ∷ []), s.cut.packets, s.bounds.rows, s.bounds.last); octets = omega (arith, sound.octets) }
 
 -- what was not counted of the rows of a text

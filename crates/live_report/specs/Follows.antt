@@ -1,6 +1,6 @@
 -- A follower: a trace that is fed, and how many of its findings were told.
 use Rattle.std.specs.Prelude.{◌≡◌, ℕ, ◌≤◌, List, ◌++◌, Option, Some, None, Result, IfErr, IfSome, OnOk, length, take}
-use Rattle.line_model.specs.channels.Channels.{Channel}
+use Rattle.line_model.specs.channels.Gaps.{GapChannel}
 use Rattle.line_model.specs.basics.Device.{with_more}
 use Rattle.line_model.specs.declared.fault.Kind.{Kind}
 use Rattle.line_model.specs.declared.fault.Fault.{Fault}
@@ -15,14 +15,14 @@ use Rattle.live_report.specs.Lives.{StandsFor as IsLive}
 use Rattle.live_report.specs.Reports.{IsReportFault}
 
 -- it was fed this text, refused none of it, and told all of its findings
-pub record StandsFor {A C : Type 0} (interface_of : C → Interface) (number_of : C → ℕ) (stands_for : C → Channel → Type 0) (f : Follower A C) (text : List ℕ) : Type 0 where
+pub record StandsFor {A C : Type 0} (interface_of : C → Interface) (number_of : C → ℕ) (stands_for : C → GapChannel → Type 0) (f : Follower A C) (text : List ℕ) : Type 0 where
   pub live : IsLive interface_of number_of stands_for f.live text
   pub running : f.refused ≡ None
   pub told : f.told ≡ length (found text)
   pub few : f.told ≤ bytes_fed f.live.lines
 
 -- it was fed some text, or it refused
-pub record IsFed {A C : Type 0} (interface_of : C → Interface) (number_of : C → ℕ) (stands_for : C → Channel → Type 0) (f : Follower A C) : Type 0 where
+pub record IsFed {A C : Type 0} (interface_of : C → Interface) (number_of : C → ℕ) (stands_for : C → GapChannel → Type 0) (f : Follower A C) : Type 0 where
   pub fed : f.refused ≡ None → (text : List ℕ) × StandsFor interface_of number_of stands_for f text
   pub kinds : IfSome f.refused IsReportFault
 

@@ -4,8 +4,8 @@ use Rattle.line_model.specs.declared.event.Event.{Event}
 use Rattle.line_model.specs.declared.interface.Interface.{Interface}
 use Rattle.line_model.specs.declared.state.RState.{RState}
 use Rattle.line_model.specs.basics.Records.{Item}
-use Rattle.line_model.specs.channels.Channels.{Channel}
-use Rattle.line_model.specs.channels.RestartMachine.{LineState}
+use Rattle.line_model.specs.channels.Gaps.{GapChannel}
+use Rattle.line_model.specs.channels.GapRestart.{GapLine}
 use Rattle.line_model.specs.observer.Machine.{Observer, routed}
 use Rattle.line_model.specs.observer.Observer.{x25}
 use Rattle.line_model.specs.observer.Report.{report_of}
@@ -28,13 +28,13 @@ IsRestart b a (judge.Restart before after) = (before ≡ b) × (after ≡ a)
 IsRestart b a _ = ⊥
 
 -- a logical channel of an interface, which was so before and after a row
-abbrev pub IsTaker : Interface → (k : ℕ) → (before after : Channel) → Judge → Type 0
+abbrev pub IsTaker : Interface → (k : ℕ) → (before after : GapChannel) → Judge → Type 0
 IsTaker i k b a (judge.Channel n before after accepted) = (n ≡ k) × IsViewOf i b (view_in before) × IsViewOf i a (view_in after)
 IsTaker i k b a _ = ⊥
 
 -- the logical channel that took a row, or the restart machine where none did, as an observer has it before and after the row
-abbrev pub IsJudge : Interface → (taker : Option ℕ) → (before after : Observer LineState Channel) → Judge → Type 0
-IsJudge i None b a j = IsRestart b.line.state a.line.state j
+abbrev pub IsJudge : Interface → (taker : Option ℕ) → (before after : Observer GapLine GapChannel) → Judge → Type 0
+IsJudge i None b a j = IsRestart b.line.line.state a.line.line.state j
 IsJudge i (Some k) b a j = IsTaker i k (b.states k) (a.states k) j
 
 -- a row after others, as it was judged: its number, its side and its packet, the machine that judged it, what it found, and the events on

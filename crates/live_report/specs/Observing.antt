@@ -6,19 +6,18 @@ use Rattle.line_model.specs.declared.finding.Finding.{Finding}
 use Rattle.line_model.specs.basics.Records.{Item, Piece, PieceReport, ReadRow, Report}
 use Rattle.line_model.specs.packets.Says.{item_read}
 use Rattle.line_model.specs.basics.Bounds.{AreSaid}
-use Rattle.line_model.specs.channels.Channels.{Channel}
+use Rattle.line_model.specs.channels.Gaps.{GapChannel}
 use Rattle.line_model.specs.observer.Report.{report_of}
 use Rattle.line_model.specs.pieces.Plans.{value}
 use Rattle.line_model.specs.text.Text.{last_or}
 use Rattle.channel_run.specs.declared.run.Channel.{Ghosts as Machine}
-use Rattle.restart_epochs.specs.OpenRows.{rows_of}
-use Rattle.restart_epochs.specs.Cutting.{Cutting, IsCutting, StandsFor as IsCutterOf, given_of}
+use Rattle.restart_epochs.specs.Cutting.{Cutting, IsCutting, StandsFor as IsCutterOf, given_of, items_out}
 use Rattle.report_merge.specs.Gathered.{gathered}
 use Rattle.live_report.specs.declared.observer.Observer.{Observer}
 use Rattle.live_report.specs.JudgedRows.{KnowsLast}
 use Rattle.live_report.specs.Uncounted.{uncounted_of}
 use Rattle.live_report.specs.declared.uncounted.Uncounted.{Uncounted}
-use Rattle.live_report.specs.Lanes.{OpenFor, begun_piece}
+use Rattle.live_report.specs.Lanes.{LanesFor, OpenEpoch, begun_piece}
 
 -- what rows of an interface say, as a trace has them: their numbers rise, and their octets are few
 pub record AreItems (i : Interface) (rs : List Item) : Type 0 where
@@ -32,21 +31,28 @@ abbrev pub last_item : Interface → (has_row : Bool) → ReadRow → List Item
 last_item i false row = []
 last_item i true row = item_read i row ∷ []
 
--- an observer holds what a cutter does, with a live channel in place of the rows of each channel of the open epoch, and
+-- the open epoch of a cutter
+abbrev pub epoch_at : Cutting → OpenEpoch
+epoch_at c = record { interface = c.interface; number = c.epoch; start = c.start }
+
+-- an observer holds what a cutter does, with an open channel in place of the rows of each channel of the open epoch, and
 -- what these reports of the pieces give whose epochs have ended
-pub record Holds {A C : Type 0} (interface_of : C → Interface) (number_of : C → ℕ) (stands_for : C → Channel → Type 0)
+pub record Holds {A C : Type 0} (interface_of : C → Interface) (number_of : C → ℕ) (stands_for : C → GapChannel → Type 0)
     (c : Cutting) (reports : List PieceReport) (o : Observer A C) : Type 0 where
   pub interface : o.walk.interface ≡ c.interface
   pub line : o.walk.machine ≡ c.line
   pub epoch : o.walk.epoch ≡ c.epoch
+  pub start : o.walk.start ≡ c.start
   pub packets : o.walk.packets ≡ c.packets
+  pub gaps : o.walk.gaps ≡ c.gaps
   pub findings : o.walk.findings.items ≡ c.findings
   pub ended : o.ended ≡ gathered reports
-  pub lanes : OpenFor interface_of number_of stands_for c.interface c.epoch c.open_rows o.lanes
+  pub gap : o.lanes.gap ≡ c.gap
+  pub lanes : LanesFor interface_of number_of stands_for (epoch_at c) c.open_rows o.lanes.table
 
 -- an observer took these rows of an interface: it holds what a cutter of them does, and the values of the pieces that
 -- are known whole
-pub record StandsFor {A C : Type 0} (interface_of : C → Interface) (number_of : C → ℕ) (stands_for : C → Channel → Type 0)
+pub record StandsFor {A C : Type 0} (interface_of : C → Interface) (number_of : C → ℕ) (stands_for : C → GapChannel → Type 0)
     (i : Interface) (rs : List Item) (o : Observer A C) : Type 0 where
   pub sound : AreItems i rs
   pub cutting : Cutting
@@ -69,9 +75,9 @@ HasWalked m i rows o = StandsFor m.interface_of m.number_of m.stands_for i rows 
 abbrev pub HasKept : {A C : Type 0} → Machine C A → Interface → List Item → Observer A C → Type 0
 HasKept m i rows o = HasWalked m i rows o × (o.keeps_rows ≡ true)
 
--- the piece of a channel in the open epoch
+-- the piece of a channel in the open epoch, up to the last gap of all channels
 abbrev pub open_piece : Cutting → (channel : ℕ) → Piece
-open_piece c channel = begun_piece c.interface c.epoch channel (rows_of c.open_rows channel)
+open_piece c channel = begun_piece (epoch_at c) channel (items_out c.gap c.open_rows channel)
 
 -- it has walked some rows
 abbrev pub IsObserver : {A C : Type 0} → Machine C A → Observer A C → Type 0

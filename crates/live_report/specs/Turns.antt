@@ -1,58 +1,63 @@
--- What a row does to the live channels of the open epoch.
+-- What a row does to the open channels.
 use Rattle.std.specs.Prelude.{◌≡◌, ℕ, ◌++◌, ◌∷◌, [], List, Option}
 use Rattle.line_model.specs.declared.interface.Interface.{Interface}
 use Rattle.line_model.specs.declared.event.Event.{Event}
 use Rattle.line_model.specs.declared.finding.Finding.{Finding}
 use Rattle.line_model.specs.basics.Bounds.{IsPiece}
 use Rattle.line_model.specs.basics.Records.{Item, Piece}
-use Rattle.line_model.specs.channels.RestartMachine.{LineState}
-use Rattle.restart_epochs.specs.OpenLanes.{OpenLanes}
-use Rattle.restart_epochs.specs.OpenRows.{OpenRows, rows_of, IsListing}
+use Rattle.line_model.specs.channels.GapRestart.{GapLine}
+use Rattle.restart_epochs.specs.OpenRows.{OpenRows, rows_of, with_gap, IsListing}
 use Rattle.restart_epochs.specs.declared.walk.EpochWalk.{EpochWalk}
 use Rattle.restart_epochs.specs.declared.walk.Step.{Step}
 use Rattle.restart_epochs.specs.declared.walk.Turn.{Turn}
 use Rattle.restart_epochs.specs.declared.walk.Turn.TheVariants.{ToChannel}
-use Rattle.channel_run.specs.declared.live.LiveChannel.{LiveChannel}
 use Rattle.channel_run.specs.declared.run.Channel.{Ghosts as Machine}
 use Rattle.channel_run.specs.Live.{channel_so_far}
 use Rattle.channel_run.specs.Run.{data_events, row_events}
 use Rattle.live_report.specs.declared.judged_row.Judge.{Judge}
 use Rattle.live_report.specs.declared.judged_row.Judge.TheVariants as judge
+use Rattle.live_report.specs.declared.lanes.OpenChannels.{OpenChannels}
+use Rattle.live_report.specs.AddedPieces.{ArePieces}
 use Rattle.live_report.specs.JudgedRows.{IsRestart, IsTaker}
-use Rattle.live_report.specs.Lanes.{begun_piece, FindsOn, LanesStandFor}
+use Rattle.live_report.specs.Lanes.{LanesStandFor, OpenEpoch, begun_piece, FindsOn}
 
--- the piece of a channel in the open epoch of a walk
-abbrev pub walked_piece : {B : Type 0} → EpochWalk B → (channel : ℕ) → OpenRows → Piece
-walked_piece walk channel rows = begun_piece walk.interface walk.epoch channel (rows_of rows channel)
+-- the open epoch of a walk
+abbrev pub epoch_of : {B : Type 0} → EpochWalk B → OpenEpoch
+epoch_of walk = record { interface = walk.interface; number = walk.epoch; start = walk.start }
 
--- of any rows of the open epoch of a walk that live channels stand for
-abbrev pub OfLanes : {A B C : Type 0} → Machine C A → EpochWalk B → OpenLanes (LiveChannel A C) → (OpenRows → Type 0) → Type 0
-OfLanes m walk lanes Fact = (rows : OpenRows) → LanesStandFor m walk.interface walk.epoch rows lanes → Fact rows
+-- the piece of a channel in it, up to the last gap of all channels
+abbrev pub reached_piece : {B : Type 0} → EpochWalk B → (gap channel : ℕ) → OpenRows → Piece
+reached_piece walk gap channel rows = begun_piece (epoch_of walk) channel (with_gap gap (rows_of rows channel))
+
+-- of any rows of the open epoch of a walk that open channels represent
+abbrev pub OfLanes : {A B C : Type 0} → Machine C A → EpochWalk B → OpenChannels A C → (OpenRows → Type 0) → Type 0
+OfLanes m walk lanes Fact = (rows : OpenRows) → LanesStandFor m (epoch_of walk) rows lanes → ArePieces (epoch_of walk) lanes.gap rows → Fact rows
 
 -- a channel of the open epoch that took a row: these are the rows before and after it
-abbrev pub TakesOn : {B : Type 0} → EpochWalk B → (channel : ℕ) → (rows after : OpenRows) → Judge → Type 0
-TakesOn walk channel rows after by = IsTaker walk.interface channel (channel_so_far (walked_piece walk channel rows)) (channel_so_far (walked_piece walk channel after)) by
+abbrev pub TakesOn : {B : Type 0} → EpochWalk B → (gap channel : ℕ) → (rows after : OpenRows) → Judge → Type 0
+TakesOn walk gap channel rows after by =
+    IsTaker walk.interface channel (channel_so_far (reached_piece walk gap channel rows)) (channel_so_far (begun_piece (epoch_of walk) channel (rows_of after channel))) by
 
--- the live channels of a walk stand for the rows of its open epoch
-abbrev pub StandsAt : {A B C : Type 0} → Machine C A → EpochWalk B → OpenRows → OpenLanes (LiveChannel A C) → Type 0
-StandsAt m walk rows lanes = LanesStandFor m walk.interface walk.epoch rows lanes × IsListing rows
+-- the open channels of a walk represent the rows of its open epoch
+abbrev pub StandsAt : {A B C : Type 0} → Machine C A → EpochWalk B → OpenRows → OpenChannels A C → Type 0
+StandsAt m walk rows lanes = LanesStandFor m (epoch_of walk) rows lanes × ArePieces (epoch_of walk) lanes.gap rows × IsListing rows
 
--- of any rows that they stand for
-abbrev pub OfOpen : {A B C : Type 0} → Machine C A → EpochWalk B → OpenLanes (LiveChannel A C) → (OpenRows → Type 0) → Type 0
+-- of any rows that they represent
+abbrev pub OfOpen : {A B C : Type 0} → Machine C A → EpochWalk B → OpenChannels A C → (OpenRows → Type 0) → Type 0
 OfOpen m walk lanes Fact = (rows : OpenRows) → StandsAt m walk rows lanes → Fact rows
 
 -- a row that goes to a channel can be one of its piece
-abbrev pub MayTurn : Turn → Interface → Item → OpenRows → Type 0
-MayTurn (ToChannel channel) i item rows = IsPiece i channel (rows_of rows channel ++ item ∷ [])
-MayTurn _ i item rows = Unit {0}
+abbrev pub MayTurn : Turn → Interface → (gap : ℕ) → Item → OpenRows → Type 0
+MayTurn (ToChannel channel) i gap item rows = IsPiece i channel (with_gap gap (rows_of rows channel) ++ item ∷ [])
+MayTurn _ i gap item rows = Unit {0}
 
 -- what a row finds: where it goes to a channel what that finds, else what the restart machine does
-abbrev pub FindsAt : {B : Type 0} → Turn → (line : Option Finding) → EpochWalk B → OpenRows → Item → Option Finding → Type 0
-FindsAt (ToChannel channel) line walk rows row found = FindsOn (walked_piece walk channel rows) row found
-FindsAt _ line walk rows row found = found ≡ line
+abbrev pub FindsAt : {B : Type 0} → Turn → (line : Option Finding) → EpochWalk B → (gap : ℕ) → OpenRows → Item → Option Finding → Type 0
+FindsAt (ToChannel channel) line walk gap rows row found = FindsOn (reached_piece walk gap channel rows) row found
+FindsAt _ line walk gap rows row found = found ≡ line
 
-abbrev pub FindsBy : {B : Type 0} → Step → EpochWalk B → OpenRows → Item → Option Finding → Type 0
-FindsBy step walk rows row found = FindsAt step.turn step.finding walk rows row found
+abbrev pub FindsBy : {B : Type 0} → Step → EpochWalk B → (gap : ℕ) → OpenRows → Item → Option Finding → Type 0
+FindsBy step walk gap rows row found = FindsAt step.turn step.finding walk gap rows row found
 
 -- events, and after them that of accepted data with Q 0 on the channel that took a row
 abbrev pub with_data : (epoch : ℕ) → Judge → Item → List Event → List Event
@@ -60,11 +65,11 @@ with_data epoch (judge.Restart before after) item events = events
 with_data epoch (judge.Channel k before after accepted) item events = events ++ data_events epoch k item accepted
 
 -- the events of a row that goes to a channel
-abbrev pub HasEvents : {B : Type 0} → Turn → EpochWalk B → OpenRows → Item → List Event → Type 0
-HasEvents (ToChannel channel) walk rows row events = events ≡ row_events walk.interface walk.epoch channel (channel_so_far (walked_piece walk channel rows)) row
-HasEvents _ walk rows row events = Unit {0}
+abbrev pub HasEvents : {B : Type 0} → Turn → EpochWalk B → (gap : ℕ) → OpenRows → Item → List Event → Type 0
+HasEvents (ToChannel channel) walk gap rows row events = events ≡ row_events walk.interface walk.epoch channel (channel_so_far (reached_piece walk gap channel rows)) row
+HasEvents _ walk gap rows row events = Unit {0}
 
 -- the machine that judges a row: the channel that it goes to, else the restart machine, which is so after it
-abbrev pub JudgesBy : {B : Type 0} → Turn → EpochWalk B → (machine : LineState) → (rows after : OpenRows) → Judge → Type 0
-JudgesBy (ToChannel channel) walk machine rows after by = TakesOn walk channel rows after by
-JudgesBy _ walk machine rows after by = IsRestart walk.machine.state machine.state by
+abbrev pub JudgesBy : {B : Type 0} → Turn → EpochWalk B → (gap : ℕ) → (machine : GapLine) → (rows after : OpenRows) → Judge → Type 0
+JudgesBy (ToChannel channel) walk gap machine rows after by = TakesOn walk gap channel rows after by
+JudgesBy _ walk gap machine rows after by = IsRestart walk.machine.line.state machine.line.state by

@@ -12,8 +12,8 @@ use Rattle.line_model.specs.declared.packet.PacketKind.TheVariants as kind
 use Rattle.line_model.specs.declared.state.ChannelState.{ChannelState}
 use Rattle.line_model.specs.declared.state.ChannelState.TheVariants as state
 use Rattle.line_model.specs.basics.Records.{Item}
-use Rattle.line_model.specs.channels.Channels.{Channel}
-use Rattle.line_model.specs.channels.RestartMachine.{LineState}
+use Rattle.line_model.specs.channels.Gaps.{GapChannel}
+use Rattle.line_model.specs.channels.GapRestart.{GapLine}
 use Rattle.line_model.specs.observer.Machine.{Observer, after, routed}
 use Rattle.line_model.specs.observer.Observer.{start, x25}
 use Rattle.line_model.specs.observer.Report.{is_finding}
@@ -25,6 +25,7 @@ use Rattle.live_report.specs.declared.uncounted.Reason.TheVariants.{Finding, Owe
 use Rattle.live_report.specs.declared.uncounted.Uncounted.{Uncounted}
 use Rattle.line_model.specs.packets.Says.{items_of}
 use Rattle.channel_run.specs.Run.{row_events}
+use Rattle.channel_run.specs.Views.{is_adrift}
 
 -- whether a packet is a data packet
 abbrev pub is_data_kind : PacketKind → Bool
@@ -48,23 +49,23 @@ counts_data es = list_any (λ e. tells_data e.what) es
 abbrev pub has_finding : List Event → Bool
 has_finding es = list_any (λ e. is_finding e.what) es
 
--- why a channel in a state passes over data with which nothing is wrong
-abbrev pub reason_of_state : ChannelState → (owed : Bool) → Reason
-reason_of_state state.Unknown owed = Unknown
-reason_of_state (state.Setup s) owed = if owed then Owed else NotInTransfer
-reason_of_state (state.Transfer s) owed = if owed then Owed else Discarded
+-- why a channel in a state passes over data with which nothing is wrong; adrift without a call nothing is known of it
+abbrev pub reason_of_state : ChannelState → (adrift owed : Bool) → Reason
+reason_of_state state.Unknown adrift owed = Unknown
+reason_of_state (state.Setup s) adrift owed = if adrift then Unknown else (if owed then Owed else NotInTransfer)
+reason_of_state (state.Transfer s) adrift owed = if owed then Owed else Discarded
 
 -- why a channel did not count the data of a row with these events, by what was known of it before; none where it did
-abbrev pub reason_on : Channel → List Event → Option Reason
-reason_on c es = if counts_data es then None else (if has_finding es then Some Finding else Some (reason_of_state c.state c.owed))
+abbrev pub reason_on : GapChannel → List Event → Option Reason
+reason_on g es = if counts_data es then None else (if has_finding es then Some Finding else Some (reason_of_state g.channel.state (is_adrift g.certainty) g.channel.owed))
 
 -- why a data packet was not counted: where no channel took it, a restart goes on
-abbrev pub reason_by : Interface → (taker : Option ℕ) → Observer LineState Channel → Item → Option Reason
+abbrev pub reason_by : Interface → (taker : Option ℕ) → Observer GapLine GapChannel → Item → Option Reason
 reason_by i None o r = Some Restart
 reason_by i (Some k) o r = reason_on (o.states k) (row_events i o.epoch k (o.states k) r)
 
 -- why the data of a row was not counted, by what was known before it; none where it has no data, or where it was counted
-abbrev pub reason_at : Interface → Observer LineState Channel → Item → Option Reason
+abbrev pub reason_at : Interface → Observer GapLine GapChannel → Item → Option Reason
 reason_at i o r = if is_data r.packet then reason_by i (routed (x25 i) o.line r) o r else None
 
 -- how many octets of user data a data packet has
@@ -81,11 +82,11 @@ abbrev pub left_out_by : (why : Option Reason) → (octets : ℕ) → List LeftO
 left_out_by None n = []
 left_out_by (Some why) n = record { reason = why; octets = n } ∷ []
 
-abbrev pub left_out_at : Interface → Observer LineState Channel → Item → List LeftOut
+abbrev pub left_out_at : Interface → Observer GapLine GapChannel → Item → List LeftOut
 left_out_at i o r = left_out_by (reason_at i o r) (user_octets i r.length)
 
 -- the data packets of some rows that were not counted, in order
-abbrev pub left_out : Interface → Observer LineState Channel → List Item → List LeftOut
+abbrev pub left_out : Interface → Observer GapLine GapChannel → List Item → List LeftOut
 left_out i o [] = []
 left_out i o (r ∷ rs) = left_out_at i o r ++ left_out i (after (x25 i) o r) rs
 

@@ -1,35 +1,38 @@
-//! The live channels of an epoch that has ended.
+//! The logical channels of an epoch that has ended.
 
 ghost use Rattle.std.specs.Prelude.{◌≡◌, ◌<◌, ◌+◌, ◌^◌, IfErr, length};
 ghost use Rattle.line_model.specs.declared.fault.Fault.TheVariants.{Memory};
 ghost use Rattle.live_report.specs.AddedPieces.{EmptiesLanes, MayAddPieces, AddsPieces};
 
-use channel_run::live::LiveChannel;
+use crate::lanes::OpenChannels;
 use channel_run::run::Channel;
 use line_model::fault::Fault;
+use line_model::piece::PieceEnd;
 use report_merge::parts::Parts;
-use restart_epochs::channel_table::ChannelTable;
 use std::alloc::Allocator;
 use std::boxed::Box;
 
-/// Ends the live channels of an epoch, by their channels, and adds what their pieces are worth. It refuses for want of
+/// Ends the open channels of an epoch, by their channels, and adds what their pieces are worth. It refuses for want of
 /// memory alone.
 pub fn end_channels<A: Allocator + Copy, C: Channel<A>>(
-    end: Option<u32>,
-    lanes: &mut ChannelTable<LiveChannel<A, C>, A>,
+    alloc: A,
+    end: Option<PieceEnd>,
+    lanes: &mut OpenChannels<A, C>,
     out: &mut Parts<A>,
 ) -> Result<(), Fault>
     requires room { MayAddPieces C.Channel lanes.old out.old }
-    requires pieces { out.old.pieces + length lanes.old.channels < 2 ^ 32 }
+    requires pieces { out.old.pieces + length lanes.old.table.channels < 2 ^ 32 }
     ensures values { AddsPieces C.Channel end lanes.old out.old out.new result }
     ensures emptied { EmptiesLanes C.Channel lanes.old lanes.new result }
     ensures memory { IfErr result (λ fault. fault ≡ Memory) }
 {
-    while let Some((channel, live)) = lanes.pop_first() {
-        if let Some(live) = live {
-            let report = Box::into_inner(live).end(out.pieces(), end)?;
+    let mut events = Vec::new(alloc);
+    while let Some((channel, entry)) = lanes.table.pop_first() {
+        if let Some(entry) = entry {
+            let report = Box::into_inner(entry).end(lanes.gap, &mut events, out.pieces(), end)?;
             out.add(report)?;
         }
     }
+    lanes.gap = 0;
     Ok(())
 }

@@ -12,5 +12,6 @@ pub mod observer;
 mod observing;
 mod read_rows;
 mod reporting;
+mod row_ref;
 pub mod row_text;
 pub mod uncounted;

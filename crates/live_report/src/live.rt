@@ -17,6 +17,7 @@ ghost use Rattle.trace_text.specs.ObserverAnswers.{IsReportOf};
 use crate::observer::Observer;
 use crate::observing::{finish_observing, observe_chunk};
 use crate::read_rows::ReadRows;
+use crate::row_ref::RowRef;
 use crate::uncounted::Uncounted;
 use channel_run::run::Channel;
 use line_model::device::Sink;
@@ -213,12 +214,12 @@ impl<A: Allocator + Copy, C: Channel<A>> Live<A, C> {
     fn take_packet(&mut self, number: u32, side: Side, octets: &[u8]) -> Result<bool, Fault>
         requires { (text : List ℕ) × WasFed C.Channel text self.old }
         ensures taken { OfFed C.Channel self.old (λ text. result ≡ Ok true → WasFed C.Channel
-            (text ++ row_text (record { number = number; side = side; octets = octets.now })) self.new) }
+            (text ++ row_text (record { number = number; side = side; octets = octets.now; gap = None })) self.new) }
         ensures passed { OfFed C.Channel self.old (λ text. result ≡ Ok false
             → WasFed C.Channel text self.new) }
         ensures found { OfFed C.Channel self.old (λ text. result ≡ Ok true
             → HasFound self.old.found.items self.new.found.items (found text)
-            (found (text ++ row_text (record { number = number; side = side; octets = octets.now })))) }
+            (found (text ++ row_text (record { number = number; side = side; octets = octets.now; gap = None })))) }
         ensures kinds { IfErr result IsTextFault }
     {
         let Some(observer) = &mut self.observer else {
@@ -227,7 +228,14 @@ impl<A: Allocator + Copy, C: Channel<A>> Live<A, C> {
         if !self.lines.pass_row(number, octets.len()) {
             return Ok(false);
         }
-        let finding = observer.take_octets(number, side, octets.len(), octets)?;
+        let row = RowRef {
+            number,
+            side,
+            length: octets.len(),
+            octets,
+            gap: None,
+        };
+        let finding = observer.take_row(row)?;
         append_finding(&mut self.found, finding)?;
         self.rows.keep_row(self.keeps_rows, number, side, octets)?;
         Ok(true)
@@ -242,12 +250,12 @@ impl<A: Allocator + Copy, C: Channel<A>> Live<A, C> {
         ensures fed { IsFed C.interface_of C.number_of C.stands_for self.new }
         // Of any text that it was fed: it was fed that text with the line, or still that text.
         ensures taken { OfFed C.Channel self.old (λ text. result ≡ Ok true → WasFed C.Channel
-            (text ++ row_text (record { number = number; side = side; octets = octets.now })) self.new) }
+            (text ++ row_text (record { number = number; side = side; octets = octets.now; gap = None })) self.new) }
         ensures passed { OfFed C.Channel self.old (λ text. result ≡ Ok false
             → WasFed C.Channel text self.new) }
         ensures found { OfFed C.Channel self.old (λ text. result ≡ Ok true
             → HasFound [] self.new.found.items (found text)
-            (found (text ++ row_text (record { number = number; side = side; octets = octets.now })))) }
+            (found (text ++ row_text (record { number = number; side = side; octets = octets.now; gap = None })))) }
         ensures kinds { IfErr result IsTextFault }
         ensures refuses { IfErr result (λ fault. self.new.refused ≡ Some fault) }
         ensures again { (fault : Fault) → self.old.refused ≡ Some fault

@@ -1,13 +1,13 @@
 //! The observer that runs: it walks a trace row by row, and keeps what it found, not what it read.
 
-ghost use Rattle.std.specs.Prelude.{◌≡◌, ◌<◌, ◌+◌, ◌^◌, ◌++◌, ◌∷◌, [], None, Some, true, List, length, map, IfErr, IfOk, IfSome, MatchOption, OnOk};
+ghost use Rattle.std.specs.Prelude.{◌≡◌, ◌<◌, ◌≤◌, ◌+◌, ◌-◌, ◌^◌, ◌++◌, ◌∷◌, [], None, Some, true, List, length, map, IfErr, IfOk, IfSome, MatchOption, OnOk, cond};
 ghost use Rattle.line_model.specs.basics.Records as records;
 ghost use Rattle.line_model.specs.declared.fault.Fault.TheVariants.{Memory};
 ghost use Rattle.line_model.specs.declared.interface.Interface.{Interface as AnyInterface};
-ghost use Rattle.line_model.specs.packets.Says.{item_read, said_octets};
-ghost use Rattle.line_model.specs.pieces.Plans.{value};
+ghost use Rattle.line_model.specs.packets.Says.{item_read};
+ghost use Rattle.line_model.specs.pieces.Plans.{end_at, value};
 ghost use Rattle.restart_epochs.specs.OpenRows.{OpenRows};
-ghost use Rattle.restart_epochs.specs.Cutting.{Cutting, ended_by, observer, HasTurned};
+ghost use Rattle.restart_epochs.specs.Cutting.{Cutting, ended_by, gap_turned, observer, HasTurned};
 ghost use Rattle.report_merge.specs.Gathered.{gathered};
 ghost use Rattle.channel_run.specs.Live.{channel_so_far};
 ghost use Rattle.channel_run.specs.Views.{IsViewOf};
@@ -15,15 +15,15 @@ ghost use Rattle.live_report.specs.Lanes.{LanesStandFor};
 ghost use Rattle.live_report.specs.JudgedRows.{IsJudgedRow};
 ghost use Rattle.live_report.specs.Uncounted.{uncounted_of};
 ghost use Rattle.live_report.specs.declared.judged_row.Judge.TheVariants.{Restart};
-ghost use Rattle.live_report.specs.Turns.{FindsBy, HasEvents, JudgesBy, MayTurn, OfOpen, StandsAt, with_data};
+ghost use Rattle.live_report.specs.Turns.{FindsBy, HasEvents, JudgesBy, MayTurn, OfOpen, StandsAt, epoch_of, with_data};
 ghost use Rattle.live_report.specs.Observing.{open_piece, HasKept, HasWalked, IsHolding, IsObserver, MayWalk, ReturnsFinding, ReturnsReport, WalksOn};
 
 use crate::ending::end_channels;
 use crate::judged_row::{Judge, JudgedRow};
-use crate::lanes::step_channel;
+use crate::lanes::OpenChannels;
 use crate::reporting::report_channels;
+use crate::row_ref::RowRef;
 use crate::uncounted::Uncounted;
-use channel_run::live::LiveChannel;
 use channel_run::run::{Channel, View};
 use line_model::event::{Event, What};
 use line_model::fault::Fault;
@@ -31,11 +31,11 @@ use line_model::finding::Finding;
 use line_model::interface::Interface;
 use line_model::items::ItemRef;
 use line_model::report::Report;
-use line_model::row::{ReadRow, is_unqualified};
-use line_model::state::{RState, Side};
-use packet_decode::decode::decode;
+use line_model::row::{ReadRow, said_octets};
+use line_model::state::RState;
 use report_merge::parts::Parts;
-use restart_epochs::channel_table::ChannelTable;
+use report_merge::row_counts::RowCounts;
+use restart_epochs::parts::end_at;
 use restart_epochs::walk::{EpochWalk, Step, Turn};
 use std::alloc::Allocator;
 
@@ -46,7 +46,7 @@ pub struct Observer<A: Allocator, C: Channel<A>> {
     /// What the pieces give whose epochs have ended.
     ended: Parts<A>,
     /// The channels that have rows in the epoch that has not ended.
-    lanes: ChannelTable<LiveChannel<A, C>, A>,
+    lanes: OpenChannels<A, C>,
     /// Whether it keeps each row as it was judged, with its events.
     pub(crate) keeps_rows: bool,
     /// The row that was taken last, as it was judged, where rows are kept.
@@ -57,20 +57,13 @@ pub struct Observer<A: Allocator, C: Channel<A>> {
     uncounted: Uncounted,
 }
 
-/// The octets that say more than the packet and its length do.
-fn said_octets(octets: &[u8]) -> &[u8]
-    ensures { result.now ≡ said_octets octets.now }
-{
-    if is_unqualified(octets) { &[] } else { octets }
-}
-
 /// A row of a packet that no channel takes, which the restart machine judged in a state.
 fn judged_on_line(item: &ItemRef<'_>, before: RState, step: &Step) -> JudgedRow
     ensures { result ≡ record {
       number = item.now.number;
       side = item.now.side;
       packet = item.now.packet;
-      judge = Restart before step.now.machine.state;
+      judge = Restart before step.now.machine.line.state;
       finding = step.now.finding;
     } }
 {
@@ -86,6 +79,22 @@ fn judged_on_line(item: &ItemRef<'_>, before: RState, step: &Step) -> JudgedRow
     }
 }
 
+/// What the rows of a walk count for.
+fn row_counts<A: Allocator>(walk: &EpochWalk<A>) -> RowCounts
+    requires { walk.now.gaps ≤ walk.now.packets }
+    ensures packets { result.packets ≡ walk.now.packets - walk.now.gaps }
+    ensures gaps { result.gaps ≡ cond walk.now.interface.gaps (Some walk.now.gaps) None }
+{
+    RowCounts {
+        packets: walk.packets - walk.gaps,
+        gaps: if walk.interface.gaps {
+            Some(walk.gaps)
+        } else {
+            None
+        },
+    }
+}
+
 impl<A: Allocator + Copy, C: Channel<A>> Observer<A, C> {
     /// An observer before the first row, which keeps the row that it took last, or none. It takes no memory.
     pub fn new(alloc: A, interface: &Interface, keeps_rows: bool) -> Self
@@ -95,7 +104,7 @@ impl<A: Allocator + Copy, C: Channel<A>> Observer<A, C> {
         Observer {
             walk: EpochWalk::new(alloc, interface),
             ended: Parts::new(alloc),
-            lanes: ChannelTable::new(alloc),
+            lanes: OpenChannels::new(alloc),
             keeps_rows,
             last: None,
             events: Vec::new(alloc),
@@ -109,39 +118,46 @@ impl<A: Allocator + Copy, C: Channel<A>> Observer<A, C> {
     fn turn(&mut self, step: &Step, item: &ItemRef<'_>) -> Result<JudgedRow, Fault>
         requires room { (rows : OpenRows) × (reports : List records.PieceReport)
             × StandsAt C.Channel self.old.walk rows self.old.lanes × (self.old.ended ≡ gathered reports)
-            × MayTurn step.now.turn self.old.walk.interface item.now rows }
-        requires pieces { self.old.ended.pieces + length self.old.lanes.channels < 2 ^ 32 }
+            × MayTurn step.now.turn self.old.walk.interface self.old.lanes.gap item.now rows }
+        requires pieces { self.old.ended.pieces + length self.old.lanes.table.channels < 2 ^ 32 }
         ensures walk { self.new.walk ≡ self.old.walk }
         ensures uncounted { self.new.uncounted ≡ self.old.uncounted }
         ensures keeps { self.new.keeps_rows ≡ self.old.keeps_rows }
+        ensures gap { OnOk result (self.new.lanes.gap ≡ gap_turned step.now.turn item.now self.old.lanes.gap) }
         ensures lanes { OfOpen C.Channel self.old.walk self.old.lanes (λ rows. (after : OpenRows)
-            → MayTurn step.now.turn self.old.walk.interface item.now rows
-            → HasTurned step.now.turn item.now rows after
-            → OnOk result (LanesStandFor C.Channel self.old.walk.interface self.old.walk.epoch after self.new.lanes)) }
+            → MayTurn step.now.turn self.old.walk.interface self.old.lanes.gap item.now rows
+            → HasTurned step.now.turn item.now self.old.lanes.gap rows after
+            → OnOk result (LanesStandFor C.Channel (epoch_of self.old.walk) after self.new.lanes)) }
         ensures ended { OfOpen C.Channel self.old.walk self.old.lanes (λ rows. (reports : List records.PieceReport)
             → self.old.ended ≡ gathered reports
             → OnOk result (self.new.ended ≡ gathered (reports ++ map value (ended_by step.now.turn
-            self.old.walk.interface self.old.walk.epoch item.now.number (length reports) rows)))) }
+            self.old.walk.interface self.old.walk.epoch self.old.walk.start (end_at item.now) (length reports)
+            self.old.lanes.gap rows)))) }
         ensures number { IfOk result (λ row. row.number ≡ item.now.number) }
         ensures side { IfOk result (λ row. row.side ≡ item.now.side) }
         ensures packet { IfOk result (λ row. row.packet ≡ item.now.packet) }
         ensures judge { OfOpen C.Channel self.old.walk self.old.lanes (λ rows. (after : OpenRows)
-            → MayTurn step.now.turn self.old.walk.interface item.now rows
-            → HasTurned step.now.turn item.now rows after
-            → IfOk result (λ row. JudgesBy step.now.turn self.old.walk step.now.machine rows after row.judge)) }
+            → MayTurn step.now.turn self.old.walk.interface self.old.lanes.gap item.now rows
+            → HasTurned step.now.turn item.now self.old.lanes.gap rows after
+            → IfOk result (λ row. JudgesBy step.now.turn self.old.walk self.old.lanes.gap step.now.machine rows after row.judge)) }
         ensures finding { OfOpen C.Channel self.old.walk self.old.lanes (λ rows.
-            IfOk result (λ row. FindsBy step.now self.old.walk rows item.now row.finding)) }
+            IfOk result (λ row. FindsBy step.now self.old.walk self.old.lanes.gap rows item.now row.finding)) }
         ensures events { OfOpen C.Channel self.old.walk self.old.lanes (λ rows.
-            IfOk result (λ row. HasEvents step.now.turn self.old.walk rows item.now
+            IfOk result (λ row. HasEvents step.now.turn self.old.walk self.old.lanes.gap rows item.now
             (with_data self.old.walk.epoch row.judge item.now self.new.events.items))) }
         ensures memory { IfErr result (λ fault. fault ≡ Memory) }
     {
         match step.turn {
             Turn::ToChannel(channel) => {
-                step_channel(&self.walk, channel, item, &mut self.events, &mut self.lanes)
+                self.lanes.step(&self.walk, channel, item, &mut self.events)
+            }
+            Turn::ToAll => {
+                self.lanes.gap = item.number;
+                Ok(judged_on_line(item, self.walk.machine.state(), step))
             }
             Turn::Ends => {
-                end_channels(Some(item.number), &mut self.lanes, &mut self.ended)?;
+                let alloc = *self.events.allocator();
+                end_channels(alloc, Some(end_at(item)), &mut self.lanes, &mut self.ended)?;
                 Ok(judged_on_line(item, self.walk.machine.state(), step))
             }
             Turn::Stays => Ok(judged_on_line(item, self.walk.machine.state(), step)),
@@ -150,7 +166,7 @@ impl<A: Allocator + Copy, C: Channel<A>> Observer<A, C> {
 
     /// The state of the restart machine.
     pub fn restart_state(&self) -> RState
-        ensures { result ≡ self.now.walk.machine.state }
+        ensures { result ≡ self.now.walk.machine.line.state }
     {
         self.walk.machine.state()
     }
@@ -164,7 +180,7 @@ impl<A: Allocator + Copy, C: Channel<A>> Observer<A, C> {
         self.walk.epoch
     }
 
-    /// How many rows were taken.
+    /// How many rows were taken; a gap is one of them.
     pub fn packets(&self) -> u32
         ensures kept { result ≡ self.now.walk.packets }
         ensures walked { (i : AnyInterface) (rows : List records.Item)
@@ -198,7 +214,8 @@ impl<A: Allocator + Copy, C: Channel<A>> Observer<A, C> {
         self.uncounted
     }
 
-    /// What is known of a logical channel in the epoch that goes on, if it has rows there.
+    /// What is known of a logical channel in the epoch that goes on, if it has rows there, and no gap of all channels came
+    /// after the last of them.
     pub fn view(&self, channel: u16) -> Option<View>
         ensures held { (c : Cutting) (reports : List records.PieceReport)
             → IsHolding C.Channel c reports self.now
@@ -207,10 +224,7 @@ impl<A: Allocator + Copy, C: Channel<A>> Observer<A, C> {
             → HasWalked C.Channel i rows self.now
             → IfSome result (IsViewOf i ((observer i rows).states channel)) }
     {
-        match self.lanes.get(channel) {
-            Some(live) => Some(live.view()),
-            None => None,
-        }
+        self.lanes.view(channel)
     }
 
     /// Takes the next row, and returns what it finds. Fails only when memory is refused; drop the observer then.
@@ -223,30 +237,30 @@ impl<A: Allocator + Copy, C: Channel<A>> Observer<A, C> {
         ensures keeps { self.new.keeps_rows ≡ self.old.keeps_rows }
         ensures memory { IfErr result (λ fault. fault ≡ Memory) }
     {
-        self.take_octets(row.number, row.side, row.length, row.octets.as_slice())
+        self.take_row(RowRef {
+            number: row.number,
+            side: row.side,
+            length: row.length,
+            octets: row.octets.as_slice(),
+            gap: row.gap,
+        })
     }
 
-    /// Takes the next row by its number, its side, its length and the octets that are read of it, as `take` does.
-    pub(crate) fn take_octets(
-        &mut self,
-        number: u32,
-        side: Side,
-        length: usize,
-        octets: &[u8],
-    ) -> Result<Option<Finding>, Fault>
-        requires room { MayWalk C.Channel self.old (λ i. item_read i (record { number = number; side = side; length = length; octets = octets.now }) ∷ []) }
-        ensures stands { WalksOn C.Channel self.old (λ i. item_read i (record { number = number; side = side; length = length; octets = octets.now })) self.new result }
-        ensures finding { ReturnsFinding C.Channel self.old (λ i. item_read i (record { number = number; side = side; length = length; octets = octets.now })) result }
+    /// Takes the next row where its octets lie, as `take` does.
+    pub(crate) fn take_row(&mut self, row: RowRef<'_>) -> Result<Option<Finding>, Fault>
+        requires room { MayWalk C.Channel self.old (λ i. item_read i row ∷ []) }
+        ensures stands { WalksOn C.Channel self.old (λ i. item_read i row.entry) self.new result }
+        ensures finding { ReturnsFinding C.Channel self.old (λ i. item_read i row.entry) result }
         ensures keeps { self.new.keeps_rows ≡ self.old.keeps_rows }
         ensures memory { IfErr result (λ fault. fault ≡ Memory) }
     {
-        let packet = decode(&self.walk.interface, octets);
+        let packet = row.packet(&self.walk.interface);
         self.take_item(&ItemRef {
-            number,
-            side,
+            number: row.number,
+            side: row.side,
             packet,
-            length,
-            octets: said_octets(octets),
+            length: row.length,
+            octets: said_octets(row.octets),
         })
     }
 
@@ -318,7 +332,7 @@ impl<A: Allocator + Copy, C: Channel<A>> Observer<A, C> {
         let mut parts = self.ended.copy()?;
         report_channels(alloc, &self.lanes, &mut parts)?;
         let findings = Vec::from_slice(alloc, self.walk.findings.as_slice())?;
-        parts.finish(findings, self.walk.packets)
+        parts.finish(findings, row_counts(&self.walk))
     }
 
     /// The report of the rows that were taken. It refuses for want of memory alone.
@@ -333,7 +347,9 @@ impl<A: Allocator + Copy, C: Channel<A>> Observer<A, C> {
             mut lanes,
             ..
         } = self;
-        end_channels(None, &mut lanes, &mut ended)?;
-        ended.finish(walk.findings, walk.packets)
+        let alloc = *walk.findings.allocator();
+        end_channels(alloc, None, &mut lanes, &mut ended)?;
+        let rows = row_counts(&walk);
+        ended.finish(walk.findings, rows)
     }
 }

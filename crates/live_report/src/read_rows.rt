@@ -1,6 +1,6 @@
 //! The row that was read last, and room for the next one.
 
-ghost use Rattle.std.specs.Prelude.{◌≡◌, true, OnOk};
+ghost use Rattle.std.specs.Prelude.{◌≡◌, None, true, OnOk};
 ghost use Rattle.line_model.specs.packets.Says.{read_octets, read_row};
 
 use line_model::row::{ReadRow, is_unqualified};
@@ -15,6 +15,7 @@ fn blank_row<A: Allocator>(alloc: A) -> ReadRow<A> {
         side: Side::T,
         length: 0,
         octets: Vec::new(alloc),
+        gap: None,
     }
 }
 
@@ -48,7 +49,7 @@ impl<A: Allocator + Copy> ReadRows<A> {
 }
 
 impl<A: Allocator> ReadRows<A> {
-    /// Where rows are kept, puts a row in the place of the last one. Fails only when memory is refused.
+    /// Where rows are kept, puts the row of a packet in the place of the last one. Fails only when memory is refused.
     #[inline(always)]
     pub(crate) fn keep_row(
         &mut self,
@@ -58,7 +59,7 @@ impl<A: Allocator> ReadRows<A> {
         octets: &[u8],
     ) -> Result<(), AllocError>
         ensures { keeps_rows ≡ true → OnOk result (self.new.last
-            ≡ read_row (record { number = number; side = side; octets = octets.now })) }
+            ≡ read_row (record { number = number; side = side; octets = octets.now; gap = None })) }
     {
         if !keeps_rows {
             return Ok(());
@@ -66,6 +67,7 @@ impl<A: Allocator> ReadRows<A> {
         self.last.number = number;
         self.last.side = side;
         self.last.length = octets.len();
+        self.last.gap = None;
         self.last.octets.clear();
         self.last.octets.extend_from_slice(read_octets(octets))
     }

@@ -1,6 +1,6 @@
 //! The line that writes a row.
 
-ghost use Rattle.std.specs.Prelude.{◌≡◌, ◌++◌, OnOk};
+ghost use Rattle.std.specs.Prelude.{◌≡◌, ◌++◌, None, OnOk};
 ghost use Rattle.trace_text.specs.RowTexts.{octets_word, row_text, side_letter};
 
 use hex::encode_upper;
@@ -32,7 +32,7 @@ fn append_octets<A: Allocator + Copy>(
     line.extend_from_slice(digits.as_bytes())
 }
 
-/// Puts the line that writes a row in the place of another, with its line feed. Fails only when memory is refused.
+/// Puts the line that writes the row of a packet in the place of another, with its line feed. Fails only when memory is refused.
 pub fn put_row<A: Allocator + Copy>(
     line: &mut Vec<u8, A>,
     number: u32,
@@ -40,7 +40,7 @@ pub fn put_row<A: Allocator + Copy>(
     octets: &[u8],
 ) -> Result<(), AllocError>
     ensures { OnOk result (line.new.items
-        ≡ row_text (record { number = number; side = side; octets = octets.now })) }
+        ≡ row_text (record { number = number; side = side; octets = octets.now; gap = None })) }
 {
     let mut digits = Buffer::new();
     line.clear();

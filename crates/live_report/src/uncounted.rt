@@ -2,7 +2,7 @@
 
 ghost use Rattle.std.specs.Prelude.{◌≡◌, ℕ, ◌++◌, ◌∷◌, [], List};
 ghost use Rattle.line_model.specs.basics.Records.{Item};
-ghost use Rattle.line_model.specs.channels.Channels as channels;
+ghost use Rattle.line_model.specs.channels.Gaps.{GapChannel};
 ghost use Rattle.line_model.specs.declared.interface.Interface.{Interface as AnyInterface};
 ghost use Rattle.restart_epochs.specs.Cutting.{observer};
 ghost use Rattle.channel_run.specs.StatusWord.{view_in};
@@ -31,7 +31,7 @@ pub enum Reason {
     NotInTransfer,
     /// A reset goes on, and the state discards data.
     Discarded,
-    /// The recording began in the middle, and nothing is known of the channel.
+    /// The recording began in the middle or has a gap, and nothing is known of the channel.
     Unknown,
     /// A restart goes on.
     Restart,
@@ -49,12 +49,14 @@ pub const REASONS: [Reason; 6] = [
 
 impl Reason {
     /// Why a channel in a state passed over data with which nothing is wrong.
-    fn of_state(state: ChannelState, owed: bool) -> Reason
-        ensures { result ≡ reason_of_state state owed }
+    fn of_state(state: ChannelState, adrift: bool, owed: bool) -> Reason
+        ensures { result ≡ reason_of_state state adrift owed }
     {
         match state {
             ChannelState::Unknown => Reason::Unknown,
-            ChannelState::Setup(_) => if owed {
+            ChannelState::Setup(_) => if adrift {
+                Reason::Unknown
+            } else if owed {
                 Reason::Owed
             } else {
                 Reason::NotInTransfer
@@ -104,8 +106,8 @@ pub fn has_finding(events: &[Event]) -> bool
 
 /// Why a channel did not count the data of a row with these events, by what was known of it before; none where it did.
 fn reason_on(word: &FlowWord, events: &[Event]) -> Option<Reason>
-    ensures { (i : AnyInterface) (c : channels.Channel) → IsViewOf i c (view_in word.now)
-        → result ≡ reason_on c events.now }
+    ensures { (i : AnyInterface) (g : GapChannel) → IsViewOf i g (view_in word.now)
+        → result ≡ reason_on g events.now }
 {
     if counts_data(events) {
         return None;
@@ -114,7 +116,7 @@ fn reason_on(word: &FlowWord, events: &[Event]) -> Option<Reason>
         return Some(Reason::Finding);
     }
     let view = view_in(word);
-    Some(Reason::of_state(view.state, view.owed))
+    Some(Reason::of_state(view.state, view.adrift, view.owed))
 }
 
 /// Returns why the data of a row was not counted; none where it has no data, or where it was counted.
@@ -176,7 +178,7 @@ pub struct Uncounted {
     pub not_in_transfer: Amount,
     /// A reset goes on, and the state discards data.
     pub discarded: Amount,
-    /// The recording began in the middle, and nothing is known of the channel.
+    /// The recording began in the middle or has a gap, and nothing is known of the channel.
     pub unknown: Amount,
     /// A restart goes on.
     pub restart: Amount,

@@ -1,6 +1,6 @@
 -- What a row says of its octets: data and call packets, and where the header of data ends.
 use Rattle.std.proofs.lemmas.Bool.{ltb-false, eqb-false}
-use Rattle.std.proofs.Common.{◌≡◌, ◌≢◌, ◌≤◌, ◌==◌, ◌&&◌, ◌%◌, ◌/◌, ◌^◌, ◌∙◌, nat_lt, ℕ, Bool, true, false, refl, sym, ap, subst, arith, List, [], ◌∷◌, length, cond, Some, None}
+use Rattle.std.proofs.Common.{◌≡◌, ◌≢◌, ◌≤◌, ◌==◌, ◌&&◌, ◌%◌, ◌/◌, ◌^◌, ◌∙◌, nat_lt, ℕ, Bool, true, false, refl, sym, ap, subst, arith, List, [], ◌∷◌, length, cond, Option, Some, None}
 use Rattle.std.specs.Prelude.{if◌then◌else◌, not, unwrap_or}
 use Rattle.line_model.specs.basics.Bounds.{IsSaid}
 use Rattle.line_model.specs.basics.Choice.{first_that, value_at}
@@ -10,7 +10,7 @@ use Rattle.line_model.specs.declared.packet.DataHeader.{DataHeader}
 use Rattle.line_model.specs.declared.packet.Class.{Class}
 use Rattle.line_model.specs.declared.packet.Class.TheVariants.{Call, Accepted, Short, WrongFormat, Unassigned, Restart, RestartConfirm, Diagnostic, Registration, RestartHere, TwoOctets, Clear, ClearConfirm, Interrupt, InterruptConfirm, Reset, ResetConfirm, Data, Rr, Rnr, Rej, Undefined}
 use Rattle.line_model.specs.packets.Classes.{channel_type, class_of, flow_type, format_of, header_length, line_type, packet_class, packet_of, packet_with, supervisory, type_class}
-use Rattle.line_model.specs.packets.Says.{header_in, is_unqualified, said_octets}
+use Rattle.line_model.specs.packets.Says.{header_in, is_unqualified, packet_or_gap, said_octets}
 use Rattle.line_model.specs.basics.Octets.{octet, bits, channel_of}
 use Rattle.line_model.proofs.PacketClass.{class_is}
 use Rattle.packet_decode.specs.SaidData.{IsSaidData}
@@ -45,16 +45,17 @@ record IsTyped (k : Class) : Type 0 where
   wrong : WrongFormat ≢ k
   unassigned : Unassigned ≢ k
   two : TwoOctets ≢ k
+  undefined : Undefined ≢ k
   line : NoneIs k line_types
 
 typed_data : IsTyped Data
-typed_data = record { short = λ h. cc; wrong = λ h. cc; unassigned = λ h. cc; two = λ h. cc; line = ((λ h. cc), ((λ h. cc), ((λ h. cc), ((λ h. cc), ((λ h. cc), tt))))) }
+typed_data = record { short = λ h. cc; wrong = λ h. cc; unassigned = λ h. cc; two = λ h. cc; undefined = λ h. cc; line = ((λ h. cc), ((λ h. cc), ((λ h. cc), ((λ h. cc), ((λ h. cc), tt))))) }
 
 typed_call : IsTyped Call
-typed_call = record { short = λ h. cc; wrong = λ h. cc; unassigned = λ h. cc; two = λ h. cc; line = ((λ h. cc), ((λ h. cc), ((λ h. cc), ((λ h. cc), ((λ h. cc), tt))))) }
+typed_call = record { short = λ h. cc; wrong = λ h. cc; unassigned = λ h. cc; two = λ h. cc; undefined = λ h. cc; line = ((λ h. cc), ((λ h. cc), ((λ h. cc), ((λ h. cc), ((λ h. cc), tt))))) }
 
 typed_accepted : IsTyped Accepted
-typed_accepted = record { short = λ h. cc; wrong = λ h. cc; unassigned = λ h. cc; two = λ h. cc; line = ((λ h. cc), ((λ h. cc), ((λ h. cc), ((λ h. cc), ((λ h. cc), tt))))) }
+typed_accepted = record { short = λ h. cc; wrong = λ h. cc; unassigned = λ h. cc; two = λ h. cc; undefined = λ h. cc; line = ((λ h. cc), ((λ h. cc), ((λ h. cc), ((λ h. cc), ((λ h. cc), tt))))) }
 
 by_third : (short wrong apart line two : Bool) (l m k : Class) → IsTyped k → l ≢ k →
     first_that ((short, Short) ∷ (wrong, WrongFormat) ∷ (apart, Unassigned) ∷ (line, if two then Unassigned else l) ∷ []) (if two then TwoOctets else m) ≡ k →
@@ -100,12 +101,24 @@ other_bit i t k apart e = by (bits 1 1 t == 0) e
     by true h = absurd (apart h)
     by false h = refl
 
+-- what has such a class is no gap
+packet_said : (i : Interface) (item : Item) (k : Class) → IsTyped k → (said : IsSaid i item) → packet_class item.packet ≡ k → item.packet ≡ packet_of i said.row.octets
+packet_said i item k typed said is = says ∙ at said.row.gap (ap packet_class (sym says) ∙ is)
+  where
+    says : item.packet ≡ packet_or_gap said.row.gap (packet_of i said.row.octets)
+    says = ap (λ j. j.packet) said.says
+
+    at : (gap : Option (Option ℕ)) → packet_class (packet_or_gap gap (packet_of i said.row.octets)) ≡ k → packet_or_gap gap (packet_of i said.row.octets) ≡ packet_of i said.row.octets
+    at None e = refl
+    at (Some None) e = absurd (typed.unassigned e)
+    at (Some (Some c)) e = absurd (typed.undefined e)
+
 -- ---- call packets
 
 whole_octets : (i : Interface) (item : Item) (k : Class) → IsTyped k → Data ≢ k → IsSaid i item → packet_class item.packet ≡ k → class_of i item.octets ≡ k
 whole_octets i item k typed apart said is =
     let xs : List ℕ = said.row.octets in
-    let class : class_of i xs ≡ k = class_is i xs item.packet (ap (λ j. j.packet) said.says) ∙ is in
+    let class : class_of i xs ≡ k = class_is i xs item.packet (packet_said i item k typed said is) ∙ is in
     let loud : is_unqualified xs ≡ false = ap (λ b. b && (bits 8 8 (octet 1 xs) == 0)) (other_bit i (octet 3 xs) k apart (type_is i xs k typed class).1) in
     ap (class_of i) (ap (λ j. j.octets) said.says ∙ ap (λ b. cond b [] xs) loud) ∙ class
 
@@ -139,7 +152,7 @@ last_false false b e = refl
 pub data_said : (i : Interface) (item : Item) (h : DataHeader) → IsSaid i item → packet_class item.packet ≡ Data → header_in item.packet ≡ Some h → IsSaidData i item h
 data_said i item h said is header =
     let xs : List ℕ = said.row.octets in
-    let packet : item.packet ≡ packet_of i xs = ap (λ j. j.packet) said.says in
+    let packet : item.packet ≡ packet_of i xs = packet_said i item Data typed_data said is in
     let class : class_of i xs ≡ Data = class_is i xs item.packet packet ∙ is in
     let (three, type) = type_is i xs Data typed_data class in
     let (whole, q) = header_at (i.modulus == 8) (nat_lt (length xs) 4) _ _ h (length xs) (bits 8 8 (octet 1 xs) == 1) three (ltb-false (length xs) 4) refl refl

@@ -15,6 +15,7 @@ use Rattle.line_model.specs.pieces.Plans.{plan, value}
 use Rattle.line_model.specs.work.Book.{times, ids_of}
 use Rattle.line_model.proofs.Counting.{bit, times-cons, times-append}
 use Rattle.line_model.proofs.BookTotals.{numbers_law}
+use Rattle.report_merge.specs.declared.row_counts.RowCounts.{RowCounts}
 use Rattle.report_merge.specs.Refusal.{stranger, IsFirstDouble, IsRefusal}
 use Rattle.report_merge.specs.Merged.{IsOfWalk}
 
@@ -88,9 +89,9 @@ stands i rs reports h x =
 numbered : (i : Interface) (rs : List Item) → NumberedFrom 0 (plan i rs)
 numbered i rs k p e = omega (arith, numbers_law i rs k p e)
 
-pub memory_alone : (i : Interface) (rs : List Item) (reports : List PieceReport) (line : List Finding) (packets pieces : ℕ) (f : Fault)
-    → IsOfWalk i rs reports line packets pieces → IsRefusal f pieces (ids_of reports) → f ≡ Memory
-memory_alone i rs reports line packets pieces f w refused = at f refused
+pub memory_alone : (i : Interface) (rs : List Item) (reports : List PieceReport) (line : List Finding) (counts : RowCounts) (pieces : ℕ) (f : Fault)
+    → IsOfWalk i rs reports line counts pieces → IsRefusal f pieces (ids_of reports) → f ≡ Memory
+memory_alone i rs reports line counts pieces f w refused = at f refused
   where
     count : (x : ℕ) → times x (ids_of reports) ≡ times x (ids (plan i rs))
     count = stands i rs reports w.values

@@ -1,6 +1,6 @@
 -- The merged report of a plan's values is the report of the walk.
 use Rattle.std.proofs.Common.{◌≡◌, ℕ, Bool, true, false, not, Option, Some, None, List, [], ◌∷◌, ◌++◌, length, map, refl, sym, ap, ◌∙◌, subst}
-use Rattle.std.specs.Prelude.{sum, sum_by}
+use Rattle.std.specs.Prelude.{sum, sum_by, ◌-◌}
 use Rattle.std.specs.List.{filter, flat_map}
 use Rattle.std.specs.List.Sorted.{IsPermutation}
 use Rattle.std.proofs.lemmas.List.Sorted.{IsPermutation-refl, IsPermutation-sym, IsPermutation-trans, IsPermutation-append, sum_by-IsPermutation}
@@ -15,10 +15,11 @@ use Rattle.line_model.specs.basics.Bounds.{AreSaid}
 use Rattle.line_model.specs.observer.MachineEvents.{RowEvent, walk_events}
 use Rattle.line_model.specs.pieces.Merge.{is_line}
 use Rattle.line_model.specs.observer.Peak.{how_many, IsPeakOfTimes}
-use Rattle.line_model.specs.observer.Observer.{x25, start, event_of, events, peak, routing, route_found}
+use Rattle.line_model.specs.channels.GapRestart.{routing}
+use Rattle.line_model.specs.observer.Observer.{x25, start, event_of, events, peak, route_found}
 use Rattle.line_model.specs.observer.Calls.{all_lengths, segments_of, calls_of, up_at}
 use Rattle.line_model.specs.observer.Accounts.{accounts_of}
-use Rattle.line_model.specs.observer.Report.{findings_of, report_of}
+use Rattle.line_model.specs.observer.Report.{findings_of, gaps_of, report_of}
 use Rattle.line_model.specs.pieces.Plans.{plan, value, line_findings, channel_events_of}
 use Rattle.line_model.proofs.Rising.{rises-from_index}
 use Rattle.line_model.proofs.LinePart.{line_none}
@@ -27,6 +28,7 @@ use Rattle.line_model.proofs.InOrder.{findings_order, calls_order}
 use Rattle.line_model.proofs.CallPeaks.{increasing}
 use Rattle.line_model.proofs.PeakOfCalls.{calls_peak}
 use Rattle.report_merge.specs.Merged.{IsMerged, IsOfWalk}
+use Rattle.report_merge.specs.declared.row_counts.RowCounts.{RowCounts}
 use Rattle.report_merge.proofs.SortedLists.{sorted_unique, flat_map_permuted, flat_map-map}
 use Rattle.line_model.proofs.Peaks.{peak_unique}
 
@@ -62,9 +64,9 @@ lengths_of_channels i rs =
 
 -- ---- the parts of the report
 
-findings_are : (i : Interface) (rs : List Item) (reports : List PieceReport) (line : List Finding) (packets pieces : ℕ) (r : Report)
-    → IsOfWalk i rs reports line packets pieces → IsMerged r reports line packets → r.findings ≡ findings_of (events i rs)
-findings_are i rs reports line packets pieces r w m =
+findings_are : (i : Interface) (rs : List Item) (reports : List PieceReport) (line : List Finding) (counts : RowCounts) (pieces : ℕ) (r : Report)
+    → IsOfWalk i rs reports line counts pieces → IsMerged r reports line counts → r.findings ≡ findings_of (events i rs)
+findings_are i rs reports line counts pieces r w m =
     let own = findings_order i rs w.said (increasing (map (λ r. r.number) rs) w.rising) in
     let walked = findings_of (events i rs) in
     let found : PieceReport → List Finding = λ p. p.findings in
@@ -79,9 +81,9 @@ findings_are i rs reports line packets pieces r w m =
     (IsPermutation-trans walked (line_findings i rs ++ of_values) r.findings start_from
     (IsPermutation-trans (line_findings i rs ++ of_values) (line ++ flat_map found reports) r.findings reported m.same_findings))
 
-calls_are : (i : Interface) (rs : List Item) (reports : List PieceReport) (line : List Finding) (packets pieces : ℕ) (r : Report)
-    → IsOfWalk i rs reports line packets pieces → IsMerged r reports line packets → r.calls ≡ calls_of (events i rs)
-calls_are i rs reports line packets pieces r w m =
+calls_are : (i : Interface) (rs : List Item) (reports : List PieceReport) (line : List Finding) (counts : RowCounts) (pieces : ℕ) (r : Report)
+    → IsOfWalk i rs reports line counts pieces → IsMerged r reports line counts → r.calls ≡ calls_of (events i rs)
+calls_are i rs reports line counts pieces r w m =
     let own = calls_order i rs w.said (increasing (map (λ r. r.number) rs) w.rising) in
     let walked = calls_of (events i rs) in
     let opened : PieceReport → List CallRecord = λ p. p.calls in
@@ -103,21 +105,23 @@ segments_are i rs said reports h =
 
 -- ---- the report
 
-pub report_is : (i : Interface) (rs : List Item) (reports : List PieceReport) (line : List Finding) (packets pieces : ℕ) (r : Report)
-    → IsOfWalk i rs reports line packets pieces → IsMerged r reports line packets → r ≡ report_of i rs
-report_is i rs reports line packets pieces r w m =
-    let found = findings_are i rs reports line packets pieces r w m in
-    let called = calls_are i rs reports line packets pieces r w m in
+pub report_is : (i : Interface) (rs : List Item) (reports : List PieceReport) (line : List Finding) (counts : RowCounts) (pieces : ℕ) (r : Report)
+    → IsOfWalk i rs reports line counts pieces → IsMerged r reports line counts → r ≡ report_of i rs
+report_is i rs reports line counts pieces r w m =
+    let found = findings_are i rs reports line counts pieces r w m in
+    let called = calls_are i rs reports line counts pieces r w m in
     let paid : r.accounts ≡ accounts_of (calls_of (events i rs)) = m.accounts ∙ ap accounts_of called in
     let top = peak_unique (up_at (calls_of (events i rs))) r.peak.count (peak i rs).0 r.peak.packet (peak i rs).1
     (subst (λ l. IsPeakOfTimes (up_at l) r.peak.count r.peak.packet) called m.peak) (calls_peak i rs w.said w.rising) in
+    let packets : ℕ = length rs - gaps_of rs in
     let sums : r.summary ≡ (report_of i rs).summary =
     m.summary
     ∙ ap (λ n. record { packets = n; findings = length r.findings; calls = length r.calls; octets = sum_by (λ p. p.octets) reports; segments = sum_by (λ p. p.segments) reports }) w.packets_are
-    ∙ ap (λ l. record { packets = length rs; findings = length l; calls = length r.calls; octets = sum_by (λ p. p.octets) reports; segments = sum_by (λ p. p.segments) reports }) found
-    ∙ ap (λ l. record { packets = length rs; findings = length (findings_of (events i rs)); calls = length l; octets = sum_by (λ p. p.octets) reports; segments = sum_by (λ p. p.segments) reports }) called
-    ∙ ap (λ n. record { packets = length rs; findings = length (findings_of (events i rs)); calls = length (calls_of (events i rs)); octets = n; segments = sum_by (λ p. p.segments) reports }) (octets_are i rs w.said reports w.values)
-    ∙ ap (λ n. record { packets = length rs; findings = length (findings_of (events i rs)); calls = length (calls_of (events i rs)); octets = sum (all_lengths (events i rs)); segments = n }) (segments_are i rs w.said reports w.values) in
+    ∙ ap (λ l. record { packets = packets; findings = length l; calls = length r.calls; octets = sum_by (λ p. p.octets) reports; segments = sum_by (λ p. p.segments) reports }) found
+    ∙ ap (λ l. record { packets = packets; findings = length (findings_of (events i rs)); calls = length l; octets = sum_by (λ p. p.octets) reports; segments = sum_by (λ p. p.segments) reports }) called
+    ∙ ap (λ n. record { packets = packets; findings = length (findings_of (events i rs)); calls = length (calls_of (events i rs)); octets = n; segments = sum_by (λ p. p.segments) reports }) (octets_are i rs w.said reports w.values)
+    ∙ ap (λ n. record { packets = packets; findings = length (findings_of (events i rs)); calls = length (calls_of (events i rs)); octets = sum (all_lengths (events i rs)); segments = n }) (segments_are i rs w.said reports w.values) in
+    let missed : r.gaps ≡ (report_of i rs).gaps = m.gaps ∙ w.gaps_are in
     let count = top.0 in
     let packet = top.1 in
-    λ j. record { findings = found j; calls = called j; accounts = paid j; peak = record { count = count j; packet = packet j }; summary = sums j }
+    λ j. record { findings = found j; calls = called j; accounts = paid j; peak = record { count = count j; packet = packet j }; gaps = missed j; summary = sums j }

@@ -2,7 +2,7 @@
 use Rattle.std.proofs.Common.{◌≡◌, ℕ, zero, suc, ◌+◌, ◌<◌, List, [], ◌∷◌, ◌++◌, length, get_or, drop, refl, sym, ap, ◌∙◌, subst, arith, append_assoc}
 use Rattle.std.specs.List.{flat_map, enumerate_from}
 use Rattle.line_model.specs.basics.Records.{Report}
-use Rattle.line_model.specs.observer.Report.{account_line, call_line, finding_line, line, peak_line, setting_lines, summary_line, text_of}
+use Rattle.line_model.specs.observer.Report.{account_line, call_line, finding_line, gap_lines, line, peak_line, setting_lines, summary_line, text_of}
 use Rattle.report_merge.specs.Parts.{findings_text, rest_text}
 
 -- ---- lines
@@ -57,8 +57,8 @@ turn f xs i d first before after lt t step =
 
 -- ---- the two parts of a report
 
-in_two : (f c s a p z : List ℕ) → f ++ ((((c ++ s) ++ a) ++ p) ++ z) ≡ ((((f ++ c) ++ s) ++ a) ++ p) ++ z
-in_two f c s a p z = simp append_assoc
+in_two : (f c s a p g z : List ℕ) → f ++ (((((c ++ s) ++ a) ++ p) ++ g) ++ z) ≡ (((((f ++ c) ++ s) ++ a) ++ p) ++ g) ++ z
+in_two f c s a p g z = simp append_assoc
 
 pub two_parts : (r : Report) → findings_text r.findings ++ rest_text r ≡ text_of r
-two_parts r = in_two (flat_map finding_line r.findings) (flat_map call_line (enumerate_from 1 r.calls)) (flat_map setting_lines (enumerate_from 1 r.calls)) (flat_map account_line r.accounts) (peak_line r.peak) (summary_line r.summary)
+two_parts r = in_two (flat_map finding_line r.findings) (flat_map call_line (enumerate_from 1 r.calls)) (flat_map setting_lines (enumerate_from 1 r.calls)) (flat_map account_line r.accounts) (peak_line r.peak) (gap_lines r.gaps) (summary_line r.summary)

@@ -2,7 +2,7 @@
 use Rattle.std.specs.Prelude.{ℕ, List, ◌++◌}
 use Rattle.std.specs.List.{flat_map, enumerate_from}
 use Rattle.line_model.specs.basics.Records.{Report}
-use Rattle.line_model.specs.observer.Report.{account_line, call_line, finding_line, peak_line, setting_lines, summary_line}
+use Rattle.line_model.specs.observer.Report.{account_line, call_line, finding_line, gap_lines, peak_line, setting_lines, summary_line}
 use Rattle.line_model.specs.declared.finding.Finding.{Finding}
 
 -- the lines of findings
@@ -16,4 +16,5 @@ rest_text r =
     ++ flat_map setting_lines (enumerate_from 1 r.calls)
     ++ flat_map account_line r.accounts
     ++ peak_line r.peak
+    ++ gap_lines r.gaps
     ++ summary_line r.summary

@@ -12,6 +12,7 @@ pub mod merging;
 mod part_lists;
 pub mod parts;
 pub mod reports;
+pub mod row_counts;
 pub mod text;
 mod turns;
 pub mod words;

@@ -1,7 +1,7 @@
 //! The lines of a report.
 
 ghost use Rattle.std.specs.Prelude.{[], ◌∷◌, ◌++◌, decimal};
-ghost use Rattle.line_model.specs.observer.Report.{number_word, address_word, finding_line, call_line, setting_line, account_line, peak_line, summary_line, line};
+ghost use Rattle.line_model.specs.observer.Report.{number_word, address_word, finding_line, call_line, setting_line, account_line, peak_line, gap_lines, summary_line, line};
 ghost use Rattle.line_model.specs.basics.Written.{PutsTo};
 
 use crate::fields::{put_last, put_last_number, put_number, put_word};
@@ -83,6 +83,16 @@ pub fn put_peak<W: Sink>(out: &mut WriteBuffer, sink: &mut W, peak: Peak)
     match peak.packet {
         Some(packet) => put_last_number(out, sink, u64::from(packet)),
         None => put_last(out, sink, b"-"),
+    }
+}
+
+/// Puts the line of the gaps, if the trace records them.
+pub fn put_gaps<W: Sink>(out: &mut WriteBuffer, sink: &mut W, gaps: Option<u32>)
+    ensures { PutsTo W.Sink sink.old sink.new out.old out.new (gap_lines gaps) }
+{
+    if let Some(gaps) = gaps {
+        put_word(out, sink, b"G");
+        put_last_number(out, sink, u64::from(gaps));
     }
 }
 

@@ -11,6 +11,7 @@ use crate::judge::{first_stranger, judge};
 use crate::part_lists::PartLists;
 use crate::parts::Parts;
 use crate::reports::Reports;
+use crate::row_counts::RowCounts;
 use line_model::fault::Fault;
 use line_model::finding::Finding;
 use line_model::report::Report;
@@ -56,26 +57,26 @@ fn gather<A: Allocator + Clone, T: Reports<A> + Drop>(
 }
 
 /// Merges the reports of pieces, or of bundles of pieces, in any order, with the findings of the restart machine, for a
-/// trace of so many packets and pieces. `Stranger` is the first report whose id is not below the number of pieces; else
+/// trace of these rows and of so many pieces. `Stranger` is the first report whose id is not below the number of pieces; else
 /// `Double` the first whose id stands before it; else `Missing` the least id that is absent; and `Memory`. The order of a
 /// report is profile.
 pub fn merge<A: Allocator + Clone, T: Reports<A> + Drop>(
     alloc: A,
     reports: Vec<T, A>,
     line: Vec<Finding, A>,
-    packets: u32,
+    rows: RowCounts,
     pieces: u32,
 ) -> Result<Report<A>, Fault>
     ensures whole { IfOk result (λ r. IsWhole pieces (ids_of (flat_map T.reports reports.items))) }
-    ensures merged { IfOk result (λ r. IsMerged r (flat_map T.reports reports.items) line.items packets) }
-    ensures report { IfOk result (IsReportOfWalk (flat_map T.reports reports.items) line.items packets pieces) }
+    ensures merged { IfOk result (λ r. IsMerged r (flat_map T.reports reports.items) line.items rows) }
+    ensures report { IfOk result (IsReportOfWalk (flat_map T.reports reports.items) line.items rows pieces) }
     ensures refused { IfErr result (λ f. IsRefusal f pieces (ids_of (flat_map T.reports reports.items))) }
-    ensures plan { IfErr result (IsMemoryOfWalk (flat_map T.reports reports.items) line.items packets pieces) }
+    ensures plan { IfErr result (IsMemoryOfWalk (flat_map T.reports reports.items) line.items rows pieces) }
 {
     if let Some(id) = stranger_of(&reports, pieces) {
         return Err(Fault::Stranger(id));
     }
     let ids = all_ids(alloc.clone()?, &reports)?;
     judge(alloc.clone()?, &ids, pieces)?;
-    gather(alloc, reports)?.finish(line, packets)
+    gather(alloc, reports)?.finish(line, rows)
 }

@@ -8,6 +8,7 @@ ghost use Rattle.report_merge.specs.Gathered.{AreGathered, AreSorted, counted, g
 ghost use Rattle.report_merge.specs.Merged.{IsMerged, IsOfWalk};
 
 use crate::call_list::CallList;
+use crate::row_counts::RowCounts;
 use crate::turns::sort_findings;
 use call_accounts::account::accounts_of;
 use call_accounts::peak::peak_of;
@@ -175,13 +176,13 @@ impl<A: Allocator + Clone> Parts<A> {
         })
     }
 
-    /// The report of a trace of so many packets, of which these are all pieces, with the findings of its restart
-    /// machine. It refuses for want of memory alone. The order of a report is profile.
-    pub fn finish(self, line: Vec<Finding, A>, packets: u32) -> Result<Report<A>, Fault>
+    /// The report of a trace of these rows, of which these are all pieces, with the findings of its restart machine. It
+    /// fails only when memory is refused. The order of a report is profile.
+    pub fn finish(self, line: Vec<Finding, A>, rows: RowCounts) -> Result<Report<A>, Fault>
         ensures merged { (ps : List records.PieceReport) → AreGathered ps self
-            → IfOk result (λ report. IsMerged report ps line.items packets) }
+            → IfOk result (λ report. IsMerged report ps line.items rows) }
         ensures report { (i : Interface) (rs : List records.Item) (ps : List records.PieceReport)
-            → self ≡ gathered ps → IsOfWalk i rs ps line.items packets (length ps)
+            → self ≡ gathered ps → IsOfWalk i rs ps line.items rows (length ps)
             → IfOk result (λ report. report ≡ report_of i rs) }
         ensures memory { IfErr result (λ fault. fault ≡ Fault.Memory) }
     {
@@ -200,7 +201,7 @@ impl<A: Allocator + Clone> Parts<A> {
         let accounts = accounts_of(line.allocator().clone()?, calls.as_slice())?;
         let peak = peak_of(line.allocator().clone()?, calls.as_slice())?;
         let summary = Summary {
-            packets: u64::from(packets),
+            packets: u64::from(rows.packets),
             findings: findings.len() as u64,
             calls: calls.len() as u64,
             octets,
@@ -211,6 +212,7 @@ impl<A: Allocator + Clone> Parts<A> {
             calls,
             accounts,
             peak,
+            gaps: rows.gaps,
             summary,
         })
     }

@@ -6,7 +6,9 @@ ghost use Rattle.line_model.specs.observer.Report.{text_of, call_line, setting_l
 ghost use Rattle.report_merge.specs.Parts.{findings_text, rest_text};
 ghost use Rattle.line_model.specs.basics.Written.{PutsTo, TakesAll, TakesFront};
 
-use crate::lines::{put_account, put_call, put_finding, put_peak, put_setting, put_summary};
+use crate::lines::{
+    put_account, put_call, put_finding, put_gaps, put_peak, put_setting, put_summary,
+};
 use line_model::call::{Account, CallRecord, SettingRecord};
 use line_model::device::Sink;
 use line_model::fault::Fault;
@@ -81,6 +83,7 @@ fn put_rest<W: Sink, A: Allocator>(out: &mut WriteBuffer, sink: &mut W, report: 
     put_all_settings(out, sink, report.calls.as_slice());
     put_accounts(out, sink, report.accounts.as_slice());
     put_peak(out, sink, report.peak);
+    put_gaps(out, sink, report.gaps);
     put_summary(out, sink, &report.summary);
 }
 

@@ -44,3 +44,8 @@ come_behind i last octets [] ys h = subst (λ n. Comes i last n ys) (omega arith
 come_behind i last octets (x ∷ xs) ys h =
     let same : (octets + x.length) + all_octets xs ≡ octets + all_octets (x ∷ xs) = omega (arith, octets_first x xs) in
     subst (λ n. Comes i (last_or x.number (numbers xs)) n ys) same (come_behind i x.number (octets + x.length) xs ys h.3)
+
+-- the number of the last of them
+pub come_up : (i : Interface) (last octets : ℕ) (items : List Item) → Comes i last octets items → last ≤ last_or last (numbers items)
+come_up i last octets [] h = omega arith
+come_up i last octets (item ∷ items) h = let first = h.0 in let rest = come_up i item.number (octets + item.length) items h.3 in omega (arith, first, rest)

@@ -6,9 +6,9 @@ use Rattle.std.proofs.lemmas.List.{map-append, length-map}
 use Rattle.std.proofs.lemmas.List.FromFn.{length-enumerate_from}
 use Rattle.line_model.specs.declared.interface.Interface.{Interface}
 use Rattle.line_model.specs.basics.Records.{Item, Piece}
-use Rattle.line_model.specs.pieces.Pieces.{Placed, piece_rows, piece_end}
+use Rattle.line_model.specs.pieces.Pieces.{Placed, piece_rows, piece_end, piece_start, step_rows}
 use Rattle.line_model.specs.pieces.Plan.{has_some, plan_of}
-use Rattle.line_model.specs.pieces.Plans.{piece_of, plan}
+use Rattle.line_model.specs.pieces.Plans.{end_at, piece_of, plan, single_gaps}
 use Rattle.line_model.specs.observer.Observer.{x25, start}
 use Rattle.restart_epochs.specs.Cutting.{observer, places, channels_in}
 use Rattle.line_model.proofs.Pieces.{filter_append}
@@ -87,33 +87,41 @@ pieces_more i ps n =
 
 -- ---- epochs that a row did not touch
 
--- the rows and the end of an epoch are the same in both
-pub record SameEpoch (e : ℕ) (ps qs : List (Placed Item)) : Type 0 where
+-- the start, the rows and the end of an epoch are the same in both
+pub record SameEpoch (i : Interface) (e : ℕ) (ps qs : List (Placed Item)) : Type 0 where
+  pub start : piece_start e qs ≡ piece_start e ps
   pub rows : (k : ℕ) → piece_rows e k qs ≡ piece_rows e k ps
+  pub steps : (k : ℕ) → step_rows (x25 i) e k qs ≡ step_rows (x25 i) e k ps
   pub end : piece_end e qs ≡ piece_end e ps
 
 pub filter_each : (f g : ℕ → Bool) → ((k : ℕ) → f k ≡ g k) → (ks : List ℕ) → filter f ks ≡ filter g ks
 filter_each f g h [] = refl
 filter_each f g h (k ∷ ks) = ap (λ b. cond b (k ∷ filter f ks) (filter f ks)) (h k) ∙ ap (λ l. cond (g k) (k ∷ l) l) (filter_each f g h ks)
 
-keys_same : (i : Interface) (ps qs : List (Placed Item)) (e : ℕ) → SameEpoch e ps qs → keys_in i qs e ≡ keys_in i ps e
+keys_same : (i : Interface) (ps qs : List (Placed Item)) (e : ℕ) → SameEpoch i e ps qs → keys_in i qs e ≡ keys_in i ps e
 keys_same i ps qs e s = ap (map (λ k. (e, k))) (filter_each (λ k. has_some (piece_rows e k qs)) (λ k. has_some (piece_rows e k ps)) (λ k. ap has_some (s.rows k)) (range_with_len 1 i.svc))
 
-piece_same : (i : Interface) (ps qs : List (Placed Item)) (e id k : ℕ) → SameEpoch e ps qs → piece_of i qs (id, (e, k)) ≡ piece_of i ps (id, (e, k))
-piece_same i ps qs e id k s =
-    ap (λ rows. record { id = id; interface = i; epoch = e; channel = k; items = rows; end = option_map (λ (r : Item). r.number) (piece_end e qs) }) (s.rows k)
-    ∙ ap (λ end. record { id = id; interface = i; epoch = e; channel = k; items = piece_rows e k ps; end = option_map (λ (r : Item). r.number) end }) s.end
+piece_same : (i : Interface) (ps qs : List (Placed Item)) (e id k : ℕ) → SameEpoch i e ps qs → piece_of i qs (id, (e, k)) ≡ piece_of i ps (id, (e, k))
+piece_same i ps qs e id k s = λ j. record {
+  id = id;
+  interface = i;
+  epoch = e;
+  start = s.start j;
+  channel = k;
+  items = single_gaps (s.steps k j);
+  end = option_map end_at (s.end j);
+}
 
-mapped_same : (i : Interface) (ps qs : List (Placed Item)) (e id : ℕ) (ks : List ℕ) → SameEpoch e ps qs → map (piece_of i qs) (enumerate_from id (map (λ k. (e, k)) ks)) ≡ map (piece_of i ps) (enumerate_from id (map (λ k. (e, k)) ks))
+mapped_same : (i : Interface) (ps qs : List (Placed Item)) (e id : ℕ) (ks : List ℕ) → SameEpoch i e ps qs → map (piece_of i qs) (enumerate_from id (map (λ k. (e, k)) ks)) ≡ map (piece_of i ps) (enumerate_from id (map (λ k. (e, k)) ks))
 mapped_same i ps qs e id [] s = refl
 mapped_same i ps qs e id (k ∷ ks) s =
     ap (λ p. p ∷ map (piece_of i qs) (enumerate_from (id + 1) (map (λ j. (e, j)) ks))) (piece_same i ps qs e id k s)
     ∙ ap (λ l. piece_of i ps (id, (e, k)) ∷ l) (mapped_same i ps qs e (id + 1) ks s)
 
-pub pieces_in_same : (i : Interface) (ps qs : List (Placed Item)) (e id : ℕ) → SameEpoch e ps qs → pieces_in i qs id e ≡ pieces_in i ps id e
+pub pieces_in_same : (i : Interface) (ps qs : List (Placed Item)) (e id : ℕ) → SameEpoch i e ps qs → pieces_in i qs id e ≡ pieces_in i ps id e
 pieces_in_same i ps qs e id s = ap (λ ks. map (piece_of i qs) (enumerate_from id ks)) (keys_same i ps qs e s) ∙ mapped_same i ps qs e id (channels_in i ps e) s
 
-keys_to_same : (i : Interface) (ps qs : List (Placed Item)) (n : ℕ) → ((e : ℕ) → e ≤ n → SameEpoch e ps qs) → keys_to i qs n ≡ keys_to i ps n
+keys_to_same : (i : Interface) (ps qs : List (Placed Item)) (n : ℕ) → ((e : ℕ) → e ≤ n → SameEpoch i e ps qs) → keys_to i qs n ≡ keys_to i ps n
 keys_to_same i ps qs zero s = refl
 keys_to_same i ps qs (suc n) s =
     keys_more i qs n
@@ -121,10 +129,10 @@ keys_to_same i ps qs (suc n) s =
     ∙ ap (λ l. keys_to i ps n ++ l) (keys_same i ps qs (n + 1) (s (n + 1) (omega arith)))
     ∙ sym (keys_more i ps n)
 
-pub pieces_to_same : (i : Interface) (ps qs : List (Placed Item)) (n : ℕ) → ((e : ℕ) → e ≤ n → SameEpoch e ps qs) → pieces_to i qs n ≡ pieces_to i ps n
+pub pieces_to_same : (i : Interface) (ps qs : List (Placed Item)) (n : ℕ) → ((e : ℕ) → e ≤ n → SameEpoch i e ps qs) → pieces_to i qs n ≡ pieces_to i ps n
 pieces_to_same i ps qs zero s = refl
 pieces_to_same i ps qs (suc n) s =
-    let earlier : (e : ℕ) → e ≤ n → SameEpoch e ps qs = λ e h. s e (omega arith) in
+    let earlier : (e : ℕ) → e ≤ n → SameEpoch i e ps qs = λ e h. s e (omega arith) in
     pieces_more i qs n
     ∙ ap (λ l. l ++ pieces_in i qs (length (keys_to i qs n)) (n + 1)) (pieces_to_same i ps qs n earlier)
     ∙ ap (λ ks. pieces_to i ps n ++ pieces_in i qs (length ks) (n + 1)) (keys_to_same i ps qs n earlier)
@@ -136,7 +144,7 @@ pieces_to_same i ps qs (suc n) s =
 ended : Piece → Bool
 ended p = is_some p.end
 
-has_number : (o : Option Item) → is_some (option_map (λ (r : Item). r.number) o) ≡ is_some o
+has_number : (o : Option Item) → is_some (option_map end_at o) ≡ is_some o
 has_number None = refl
 has_number (Some r) = refl
 
@@ -153,7 +161,7 @@ dropped_in : (i : Interface) (ps : List (Placed Item)) (e id : ℕ) (ks : List �
 dropped_in i ps e id [] h = refl
 dropped_in i ps e id (k ∷ ks) h =
     let more : List Piece = filter (λ p. is_some p.end) (map (piece_of i ps) (enumerate_from (id + 1) (map (λ j. (e, j)) ks))) in
-    ap (λ (o : Option Item). cond (is_some (option_map (λ (r : Item). r.number) o)) (piece_of i ps (id, (e, k)) ∷ more) more) h ∙ dropped_in i ps e (id + 1) ks h
+    ap (λ (o : Option Item). cond (is_some (option_map end_at o)) (piece_of i ps (id, (e, k)) ∷ more) more) h ∙ dropped_in i ps e (id + 1) ks h
 
 pub all_given : (i : Interface) (ps : List (Placed Item)) (n : ℕ) → ((e : ℕ) → 1 ≤ e → e ≤ n → is_some (piece_end e ps) ≡ true) → filter (λ p. is_some p.end) (pieces_to i ps n) ≡ pieces_to i ps n
 all_given i ps zero h = refl

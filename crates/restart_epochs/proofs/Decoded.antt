@@ -3,7 +3,7 @@ use Rattle.std.proofs.Common.{◌≡◌, refl, ap, sym, ◌∙◌, List, [], ◌
 use Rattle.std.specs.List.{zip}
 use Rattle.std.proofs.lemmas.List.{map-append}
 use Rattle.line_model.specs.basics.Records.{Row, Item}
-use Rattle.line_model.specs.packets.Says.{item_of, items_of, said_octets}
+use Rattle.line_model.specs.packets.Says.{item_of, items_of, packet_or_gap, said_octets}
 use Rattle.line_model.specs.declared.interface.Interface.{Interface}
 use Rattle.line_model.specs.declared.packet.Packet.{Packet}
 use Rattle.line_model.specs.packets.Classes.{packet_of}
@@ -22,9 +22,9 @@ pub said-more : (i : Interface) (ps : List (Row × Packet)) (r : Row) (p : Packe
 said-more i ps r p = map-append (λ (q : Row × Packet). item_of i q.0) ps ((r, p) ∷ [])
 
 -- what a row says with the packet that was decoded
-pub said_by : (i : Interface) (r : Row) (p : Packet) (item : Item) → item ≡ record { number = r.number; side = r.side; packet = p; length = length r.octets; octets = said_octets r.octets }
+pub said_by : (i : Interface) (r : Row) (p : Packet) (item : Item) → item ≡ record { number = r.number; side = r.side; packet = packet_or_gap r.gap p; length = length r.octets; octets = said_octets r.octets }
     → p ≡ packet_of i r.octets → item ≡ item_of i r
-said_by i r p item is e = is ∙ ap (λ q. record { number = r.number; side = r.side; packet = q; length = length r.octets; octets = said_octets r.octets }) e
+said_by i r p item is e = is ∙ ap (λ q. record { number = r.number; side = r.side; packet = packet_or_gap r.gap q; length = length r.octets; octets = said_octets r.octets }) e
 
 first_or : Packet → List Packet → Packet
 first_or d [] = d

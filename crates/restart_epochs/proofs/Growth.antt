@@ -1,14 +1,20 @@
 -- What one more row does to the pieces that are known whole, and to the rows of the open epoch.
 use Rattle.std.proofs.Common.{◌≡◌, ◌≢◌, ◌∙◌, sym, ap, subst, refl, ℕ, zero, suc, ◌+◌, ◌-◌, ◌<◌, ◌≤◌, Bool, true, false, true≢false, ◌&&◌, eqb, List, [], ◌∷◌, ◌++◌, length, None, arith}
 use Rattle.std.specs.Prelude.{is_some}
-use Rattle.std.specs.List.{filter}
+use Rattle.std.specs.List.{AllByRecursion, filter}
 use Rattle.std.proofs.lemmas.Bool.{ne_eqb, and_right, eq-eqb, eqb-true, eqb-false}
 use Rattle.line_model.specs.declared.interface.Interface.{Interface}
 use Rattle.line_model.specs.basics.Records.{Item, Piece}
+use Rattle.line_model.specs.channels.GapRestart.{is_gap_of_all}
 use Rattle.line_model.specs.pieces.Shuffle.{is_channel}
-use Rattle.line_model.specs.pieces.Pieces.{Placed, piece_end}
+use Rattle.line_model.specs.pieces.Pieces.{Placed, piece_end, steps_by}
+use Rattle.line_model.proofs.Rising.{all_append}
 use Rattle.restart_epochs.specs.Cutting.{observer, places, given_of, EndsOf}
-use Rattle.restart_epochs.proofs.Epochs.{rows_same, end_same, end_stays, end_new}
+use Rattle.restart_epochs.specs.Walks.{epoch_after}
+use Rattle.restart_epochs.proofs.Routes.{fits_route, is_leaving, is_to_channel}
+use Rattle.line_model.specs.declared.route.Route.{Route}
+use Rattle.line_model.specs.declared.route.Route.TheVariants.{Pass, Found, Leave, Enter, Renew, ToChannel}
+use Rattle.restart_epochs.proofs.Epochs.{rows_same, end_same, end_stays, end_new, later_end, start_kept, start_same, steps_none, steps_same}
 use Rattle.restart_epochs.proofs.Cuts.{SameEpoch, pieces_to, pieces_in, pieces_more, pieces_to_same, keys_to, pieces-length, plan_is, all_given, others_given}
 
 pub ends_nothing : EndsOf [] 1 true
@@ -17,9 +23,15 @@ ends_nothing = record {
   ended = λ e lo hi. absurd (omega (arith, lo, hi));
   left = λ h. absurd (true≢false h);
   unended = λ h. refl;
-  later = λ e k h. refl;
-  later_end = λ e h. refl;
+  within = tt;
 }
+
+pub within_more : (ps : List (Placed Item)) (p : Placed Item) (epoch : ℕ) → AllByRecursion (λ q. q.epoch ≤ epoch) ps → p.epoch ≡ epoch → AllByRecursion (λ q. q.epoch ≤ epoch) (ps ++ p ∷ [])
+within_more ps p epoch within at = all_append (λ q. q.epoch ≤ epoch) ps (p ∷ []) within (omega (arith, at), tt)
+
+within_next : (ps : List (Placed Item)) (epoch : ℕ) → AllByRecursion (λ q. q.epoch ≤ epoch) ps → AllByRecursion (λ q. q.epoch ≤ epoch + 1) ps
+within_next [] epoch h = tt
+within_next (p ∷ ps) epoch h = let le = h.0 in (omega (arith, le), within_next ps epoch h.1)
 
 not_of : (b : Bool) (p : Placed Item) (epoch e : ℕ) → p.epoch ≡ epoch → epoch ≢ e → (b && eqb p.epoch e) ≡ false
 not_of b p epoch e at ne = and_right b (eqb p.epoch e) (ne_eqb p.epoch e (λ h. ne (sym at ∙ h)))
@@ -33,8 +45,7 @@ ends_same ps p epoch ready h at stays = record {
   ended = λ e lo hi. ap (λ o. is_some o) (end_same e ps p (stays_in p e stays)) ∙ h.ended e lo hi;
   left = λ r. ap (λ o. is_some o) (end_same epoch ps p (stays_in p epoch stays)) ∙ h.left r;
   unended = λ r. end_same epoch ps p (stays_in p epoch stays) ∙ h.unended r;
-  later = λ e k lt. rows_same e k ps p (not_of (is_channel k p.channel) p epoch e at (λ q. omega (arith, q, lt))) ∙ h.later e k lt;
-  later_end = λ e lt. end_same e ps p (stays_in p e stays) ∙ h.later_end e lt;
+  within = within_more ps p epoch h.within at;
 }
 
 pub ends_leave : (ps : List (Placed Item)) (p : Placed Item) (epoch : ℕ) → EndsOf ps epoch true → p.epoch ≡ epoch → p.leaves ≡ true → EndsOf (ps ++ p ∷ []) epoch false
@@ -43,26 +54,47 @@ ends_leave ps p epoch h at leaves = record {
   ended = λ e lo hi. ap (λ o. is_some o) (end_stays e ps p (h.ended e lo hi)) ∙ h.ended e lo hi;
   left = λ r. ap (λ o. is_some o) (end_new epoch ps p (ap (λ b. b && eqb p.epoch epoch) leaves ∙ eq-eqb p.epoch epoch at) (h.unended refl));
   unended = λ r. absurd (true≢false (sym r));
-  later = λ e k lt. rows_same e k ps p (not_of (is_channel k p.channel) p epoch e at (λ q. omega (arith, q, lt))) ∙ h.later e k lt;
-  later_end = λ e lt. end_same e ps p (not_of p.leaves p epoch e at (λ q. omega (arith, q, lt))) ∙ h.later_end e lt;
+  within = within_more ps p epoch h.within at;
 }
 
 split_last : (e epoch : ℕ) → e < epoch + 1 → (e ≢ epoch → e < epoch)
 split_last e epoch lt ne = omega (arith, lt, ne)
 
-pub ends_enter : (ps : List (Placed Item)) (p : Placed Item) (epoch : ℕ) → EndsOf ps epoch false → p.epoch ≡ epoch → p.leaves ≡ false → EndsOf (ps ++ p ∷ []) (epoch + 1) true
-ends_enter ps p epoch h at stays = record {
+-- the next epoch begins once one has ended
+pub ends_begin : (ps : List (Placed Item)) (epoch : ℕ) → EndsOf ps epoch false → EndsOf ps (epoch + 1) true
+ends_begin ps epoch h = record {
   begun = omega arith;
-  ended = λ e lo hi. ap (λ o. is_some o) (end_same e ps p (stays_in p e stays)) ∙ was e lo hi (eqb e epoch) refl;
+  ended = λ e lo hi. was e lo hi (eqb e epoch) refl;
   left = λ r. absurd (true≢false r);
-  unended = λ r. end_same (epoch + 1) ps p (stays_in p (epoch + 1) stays) ∙ h.later_end (epoch + 1) (omega arith);
-  later = λ e k lt. rows_same e k ps p (not_of (is_channel k p.channel) p epoch e at (λ q. omega (arith, q, lt))) ∙ h.later e k (omega (arith, lt));
-  later_end = λ e lt. end_same e ps p (stays_in p e stays) ∙ h.later_end e (omega (arith, lt));
+  unended = λ r. later_end epoch (epoch + 1) ps (omega arith) h.within;
+  within = within_next ps epoch h.within;
 }
   where
     was : (e : ℕ) → 1 ≤ e → e < epoch + 1 → (b : Bool) → eqb e epoch ≡ b → is_some (piece_end e ps) ≡ true
     was e lo hi true same = subst (λ n. is_some (piece_end n ps) ≡ true) (sym (eqb-true e epoch same)) (h.left refl)
     was e lo hi false other = h.ended e lo (split_last e epoch hi (eqb-false e epoch other))
+
+-- the epochs after a row that goes to no channel, by its route
+pub ends_by : (ps : List (Placed Item)) (p : Placed Item) (epoch : ℕ) (t : Route) (b a : Bool) → fits_route b a t ≡ true → is_to_channel t ≡ false → EndsOf ps epoch b → p.epoch ≡ epoch → p.leaves ≡ is_leaving t
+    → EndsOf (ps ++ p ∷ []) (epoch_after epoch t) a
+ends_by ps p epoch Pass true true fit to h at leaves = ends_same ps p epoch true h at leaves
+ends_by ps p epoch Pass false false fit to h at leaves = ends_same ps p epoch false h at leaves
+ends_by ps p epoch Pass true false fit to h at leaves = absurd (true≢false (sym fit))
+ends_by ps p epoch Pass false true fit to h at leaves = absurd (true≢false (sym fit))
+ends_by ps p epoch (Found s n) true true fit to h at leaves = ends_same ps p epoch true h at leaves
+ends_by ps p epoch (Found s n) false false fit to h at leaves = ends_same ps p epoch false h at leaves
+ends_by ps p epoch (Found s n) true false fit to h at leaves = absurd (true≢false (sym fit))
+ends_by ps p epoch (Found s n) false true fit to h at leaves = absurd (true≢false (sym fit))
+ends_by ps p epoch (Leave c) true false fit to h at leaves = ends_leave ps p epoch h at leaves
+ends_by ps p epoch (Leave c) true true fit to h at leaves = absurd (true≢false (sym fit))
+ends_by ps p epoch (Leave c) false a fit to h at leaves = absurd (true≢false (sym fit))
+ends_by ps p epoch Enter false true fit to h at leaves = ends_begin (ps ++ p ∷ []) epoch (ends_same ps p epoch false h at leaves)
+ends_by ps p epoch Enter false false fit to h at leaves = absurd (true≢false (sym fit))
+ends_by ps p epoch Enter true a fit to h at leaves = absurd (true≢false (sym fit))
+ends_by ps p epoch Renew true true fit to h at leaves = ends_begin (ps ++ p ∷ []) epoch (ends_leave ps p epoch h at leaves)
+ends_by ps p epoch Renew true false fit to h at leaves = absurd (true≢false (sym fit))
+ends_by ps p epoch Renew false a fit to h at leaves = absurd (true≢false (sym fit))
+ends_by ps p epoch ToChannel b a fit to h at leaves = absurd (true≢false to)
 
 -- how many epochs are known whole
 abbrev pub whole_epochs : (epoch : ℕ) (ready : Bool) → ℕ
@@ -89,15 +121,23 @@ given_pieces i rs false h =
 
 -- ---- epochs that the row is none of
 
-pub same_below : (ps : List (Placed Item)) (p : Placed Item) (epoch e : ℕ) → p.epoch ≡ epoch → e < epoch → SameEpoch e ps (ps ++ p ∷ [])
-same_below ps p epoch e at lt = record {
-  rows = λ k. rows_same e k ps p (not_of (is_channel k p.channel) p epoch e at (λ q. omega (arith, q, lt)));
-  end = end_same e ps p (not_of p.leaves p epoch e at (λ q. omega (arith, q, lt)));
+same_other : (i : Interface) (ps : List (Placed Item)) (p : Placed Item) (epoch e : ℕ) → p.epoch ≡ epoch → epoch ≢ e → SameEpoch i e ps (ps ++ p ∷ [])
+same_other i ps p epoch e at ne = record {
+  start = start_same e ps p (ne_eqb p.epoch e (λ h. ne (sym at ∙ h)));
+  rows = λ k. rows_same e k ps p (not_of (is_channel k p.channel) p epoch e at ne);
+  steps = λ k. steps_same i e k ps p (not_of (steps_by k p (is_gap_of_all p.row)) p epoch e at ne);
+  end = end_same e ps p (not_of p.leaves p epoch e at ne);
 }
 
-pub same_line : (ps : List (Placed Item)) (p : Placed Item) (e : ℕ) → p.channel ≡ None → p.leaves ≡ false → SameEpoch e ps (ps ++ p ∷ [])
-same_line ps p e line stays = record {
+pub same_below : (i : Interface) (ps : List (Placed Item)) (p : Placed Item) (epoch e : ℕ) → p.epoch ≡ epoch → e < epoch → SameEpoch i e ps (ps ++ p ∷ [])
+same_below i ps p epoch e at lt = same_other i ps p epoch e at (λ q. omega (arith, q, lt))
+
+-- nor one that ended, of which the row may be
+pub same_line : (i : Interface) (ps : List (Placed Item)) (p : Placed Item) (e : ℕ) → p.channel ≡ None → p.all ≡ false → p.leaves ≡ false → is_some (piece_end e ps) ≡ true → SameEpoch i e ps (ps ++ p ∷ [])
+same_line i ps p e line alone stays ended = record {
+  start = start_kept e ps p ended;
   rows = λ k. rows_same e k ps p (ap (λ c. is_channel k c && eqb p.epoch e) line);
+  steps = λ k. steps_same i e k ps p (ap (λ b. b && eqb p.epoch e) (steps_none p k line alone (is_gap_of_all p.row)));
   end = end_same e ps p (stays_in p e stays);
 }
 
@@ -107,7 +147,7 @@ pub leave_pieces : (i : Interface) (ps : List (Placed Item)) (p : Placed Item) (
 leave_pieces i ps p zero lo at = absurd (omega (arith, lo))
 leave_pieces i ps p (suc n) lo at =
     let qs : List (Placed Item) = ps ++ p ∷ [] in
-    let same : (e : ℕ) → e ≤ n → SameEpoch e ps qs = λ e h. same_below ps p (suc n) e at (omega (arith, h)) in
+    let same : (e : ℕ) → e ≤ n → SameEpoch i e ps qs = λ e h. same_below i ps p (suc n) e at (omega (arith, h)) in
     let back : n ≡ suc n - 1 = omega arith in
     let next : n + 1 ≡ suc n = omega arith in
     pieces_more i qs n

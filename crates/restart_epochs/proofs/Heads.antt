@@ -1,81 +1,21 @@
 -- The pieces that are known whole stand first in the plan of the rows that come, whatever they are.
-use Rattle.std.proofs.Common.{◌≡◌, ◌∙◌, sym, ap, subst, refl, ℕ, zero, suc, ◌+◌, ◌-◌, ◌<◌, ◌≤◌, ◌⊎◌, inl, inr, Bool, true, false, true≢false, ◌&&◌, cond, eqb, not, List, [], ◌∷◌, ◌++◌, length, arith, append-nil, append_assoc}
+use Rattle.std.proofs.Common.{◌≡◌, ◌∙◌, sym, ap, subst, refl, ℕ, zero, suc, ◌+◌, ◌-◌, ◌<◌, ◌≤◌, ◌⊎◌, inl, inr, Bool, true, false, true≢false, eqb, List, [], ◌∷◌, ◌++◌, length, arith, append-nil, append_assoc}
 use Rattle.std.proofs.lemmas.Bool.{eqb-true, eqb-false}
 use Rattle.line_model.specs.declared.interface.Interface.{Interface}
 use Rattle.line_model.specs.basics.Records.{Item, Piece}
-use Rattle.line_model.specs.channels.RestartMachine.{LineState}
-use Rattle.line_model.specs.channels.Channels.{Channel}
-use Rattle.line_model.specs.observer.Machine.{Observer, line_moved}
-use Rattle.line_model.specs.pieces.Pieces.{Placed}
+use Rattle.std.specs.Prelude.{is_some}
+use Rattle.line_model.specs.declared.route.Route.{Route}
+use Rattle.line_model.specs.declared.route.Route.TheVariants.{Pass, Found, Leave, Enter, Renew, ToChannel}
+use Rattle.line_model.specs.channels.GapRestart.{is_ready, routing}
+use Rattle.line_model.specs.pieces.Pieces.{Placed, piece_end}
 use Rattle.line_model.specs.pieces.Plans.{plan}
-use Rattle.line_model.specs.observer.Observer.{x25, routing, is_ready}
 use Rattle.restart_epochs.specs.Cutting.{observer, places, given_of, EndsOf}
-use Rattle.restart_epochs.proofs.Routes.{is_to_channel}
+use Rattle.restart_epochs.specs.Walks.{epoch_after}
+use Rattle.restart_epochs.proofs.Routes.{fits, fits_route, is_leaving, is_to_channel}
 use Rattle.restart_epochs.proofs.Epochs.{place_of, places_more}
-use Rattle.restart_epochs.proofs.Steps.{on_channel, on_line}
+use Rattle.restart_epochs.proofs.Steps.{on_channel, on_line, unready_alone}
 use Rattle.restart_epochs.proofs.Cuts.{SameEpoch, pieces_to, pieces_in, keys_to, pieces_more, pieces_to_same, plan_is}
-use Rattle.restart_epochs.proofs.Growth.{ends_nothing, ends_same, ends_leave, ends_enter, whole_epochs, given_pieces, same_below, same_line}
-
--- an epoch that no row will be of any more
-abbrev IsShut : Interface → List Item → ℕ → Type 0
-IsShut i rs e = (e < (observer i rs).epoch) ⊎ ((e ≡ (observer i rs).epoch) × (is_ready (observer i rs).line ≡ false))
-
--- an epoch that stays as it is, and shut
-record Kept (i : Interface) (rs more : List Item) (e : ℕ) : Type 0 where
-  same : SameEpoch e (places i rs) (places i more)
-  shut : IsShut i more e
-
-epoch_moved : (i : Interface) (o : Observer LineState Channel) (l : LineState) (b a : Bool) → (line_moved (x25 i) o l b a).epoch ≡ cond (not b && a) (o.epoch + 1) o.epoch
-epoch_moved i o l true true = refl
-epoch_moved i o l true false = refl
-epoch_moved i o l false true = refl
-epoch_moved i o l false false = refl
-
-still_below : (c : Bool) (e n : ℕ) → e < n → e < cond c (n + 1) n
-still_below true e n lt = omega (arith, lt)
-still_below false e n lt = lt
-
-with_place : (i : Interface) (rs : List Item) (r : Item) (e : ℕ) → SameEpoch e (places i rs) (places i rs ++ place_of i rs r ∷ []) → SameEpoch e (places i rs) (places i (rs ++ r ∷ []))
-with_place i rs r e s = subst (SameEpoch e (places i rs)) (sym (places_more i rs r)) s
-
-keeps_one : (i : Interface) (rs : List Item) (r : Item) (e : ℕ) → IsShut i rs e → Kept i rs (rs ++ r ∷ []) e
-keeps_one i rs r e s = at (is_to_channel (routing (observer i rs).line r).route) refl s
-  where
-    behind : (n : ℕ) → e ≡ n → (a : Bool) (m : ℕ) (next : LineState) → m ≡ cond a (n + 1) n → is_ready next ≡ a → (e < m) ⊎ ((e ≡ m) × (is_ready next ≡ false))
-    behind n same true m next h k = inl (omega (arith, same, h))
-    behind n same false m next h k = inr (same ∙ sym h, k)
-
-    at : (b : Bool) → is_to_channel (routing (observer i rs).line r).route ≡ b → IsShut i rs e → Kept i rs (rs ++ r ∷ []) e
-    at true h (inl lt) = record {
-      same = with_place i rs r e (same_below (places i rs) (place_of i rs r) (observer i rs).epoch e refl lt);
-      shut = inl (subst (λ n. e < n) (sym (on_channel i rs r h).epoch) lt);
-    }
-    at true h (inr w) = absurd (true≢false (sym (on_channel i rs r h).ready ∙ w.1))
-    at false h (inl lt) =
-        let o = observer i rs in
-        let l : LineState = (routing o.line r).after in
-        record {
-          same = with_place i rs r e (same_below (places i rs) (place_of i rs r) o.epoch e refl lt);
-          shut = inl (subst (λ n. e < n) (sym ((on_line i rs r h).epoch ∙ epoch_moved i o l (is_ready o.line) (is_ready l))) (still_below (not (is_ready o.line) && is_ready l) e o.epoch lt));
-        }
-    at false h (inr w) =
-        let o = observer i rs in
-        let l : LineState = (routing o.line r).after in
-        let on = on_line i rs r h in
-        record {
-          same = with_place i rs r e (same_line (places i rs) (place_of i rs r) e on.channel (on.leaves ∙ ap (λ b. b && not (is_ready l)) w.1));
-          shut = behind o.epoch w.0 (is_ready l) (observer i (rs ++ r ∷ [])).epoch (observer i (rs ++ r ∷ [])).line
-              (on.epoch ∙ epoch_moved i o l (is_ready o.line) (is_ready l) ∙ ap (λ b. cond (not b && is_ready l) (o.epoch + 1) o.epoch) w.1)
-              (ap is_ready on.line);
-        }
-
-keeps : (i : Interface) (rs more : List Item) (e : ℕ) → IsShut i rs e → Kept i rs (rs ++ more) e
-keeps i rs [] e s = subst (λ l. Kept i rs l e) (sym (append-nil rs)) (record { same = record { rows = λ k. refl; end = refl }; shut = s })
-keeps i rs (r ∷ more) e s =
-    let one = keeps_one i rs r e s in
-    let rest = keeps i (rs ++ r ∷ []) more e one.shut in
-    subst (λ l. Kept i rs l e) (append_assoc rs (r ∷ []) more)
-    (record { same = record { rows = λ k. rest.same.rows k ∙ one.same.rows k; end = rest.same.end ∙ one.same.end }; shut = rest.shut })
+use Rattle.restart_epochs.proofs.Growth.{ends_by, ends_nothing, ends_same, whole_epochs, given_pieces, same_below, same_line}
 
 -- ---- the epochs of any rows
 
@@ -89,33 +29,16 @@ ends_one i rs r h = at (is_to_channel (routing (observer i rs).line r).route) re
     ends_here epoch ready e l s = subst (λ ps. EndsOf ps (observer i (rs ++ r ∷ [])).epoch (is_ready (observer i (rs ++ r ∷ [])).line)) (sym (places_more i rs r))
         (subst (λ n. EndsOf (places i rs ++ place_of i rs r ∷ []) n (is_ready (observer i (rs ++ r ∷ [])).line)) (sym e) (subst (EndsOf (places i rs ++ place_of i rs r ∷ []) epoch) (sym l) s))
 
-    on_the_line : (b a : Bool) → is_ready (observer i rs).line ≡ b → is_ready (routing (observer i rs).line r).after ≡ a → is_to_channel (routing (observer i rs).line r).route ≡ false → Ends i (rs ++ r ∷ [])
-    on_the_line true true was will to =
-        let on = on_line i rs r to in
-        let o = observer i rs in
-        ends_here o.epoch true (on.epoch ∙ (λ j. (line_moved (x25 i) o (routing o.line r).after (was j) (will j)).epoch)) (ap is_ready on.line ∙ will)
-        (ends_same (places i rs) (place_of i rs r) o.epoch true (subst (EndsOf (places i rs) o.epoch) was h) refl (on.leaves ∙ (λ j. was j && not (will j))))
-    on_the_line true false was will to =
-        let on = on_line i rs r to in
-        let o = observer i rs in
-        ends_here o.epoch false (on.epoch ∙ (λ j. (line_moved (x25 i) o (routing o.line r).after (was j) (will j)).epoch)) (ap is_ready on.line ∙ will)
-        (ends_leave (places i rs) (place_of i rs r) o.epoch (subst (EndsOf (places i rs) o.epoch) was h) refl (on.leaves ∙ (λ j. was j && not (will j))))
-    on_the_line false true was will to =
-        let on = on_line i rs r to in
-        let o = observer i rs in
-        ends_here (o.epoch + 1) true (on.epoch ∙ (λ j. (line_moved (x25 i) o (routing o.line r).after (was j) (will j)).epoch)) (ap is_ready on.line ∙ will)
-        (ends_enter (places i rs) (place_of i rs r) o.epoch (subst (EndsOf (places i rs) o.epoch) was h) refl (on.leaves ∙ (λ j. was j && not (will j))))
-    on_the_line false false was will to =
-        let on = on_line i rs r to in
-        let o = observer i rs in
-        ends_here o.epoch false (on.epoch ∙ (λ j. (line_moved (x25 i) o (routing o.line r).after (was j) (will j)).epoch)) (ap is_ready on.line ∙ will)
-        (ends_same (places i rs) (place_of i rs r) o.epoch false (subst (EndsOf (places i rs) o.epoch) was h) refl (on.leaves ∙ (λ j. was j && not (will j))))
-
     at : (b : Bool) → is_to_channel (routing (observer i rs).line r).route ≡ b → Ends i (rs ++ r ∷ [])
     at true to =
         let on = on_channel i rs r to in
         ends_here (observer i rs).epoch (is_ready (observer i rs).line) on.epoch (ap is_ready on.line) (ends_same (places i rs) (place_of i rs r) (observer i rs).epoch (is_ready (observer i rs).line) h refl on.leaves)
-    at false to = on_the_line (is_ready (observer i rs).line) (is_ready (routing (observer i rs).line r).after) refl refl to
+    at false to =
+        let on = on_line i rs r to in
+        let o = observer i rs in
+        let route : Route = (routing o.line r).route in
+        ends_here (epoch_after o.epoch route) (is_ready (routing o.line r).after) on.epoch (ap is_ready on.line)
+        (ends_by (places i rs) (place_of i rs r) o.epoch route (is_ready o.line) (is_ready (routing o.line r).after) (fits o.line r) to h refl on.leaves)
 
 ends_from : (i : Interface) (rs more : List Item) → Ends i rs → Ends i (rs ++ more)
 ends_from i rs [] h = subst (Ends i) (sym (append-nil rs)) h
@@ -123,6 +46,89 @@ ends_from i rs (r ∷ more) h = subst (Ends i) (append_assoc rs (r ∷ []) more)
 
 pub ends_of : (i : Interface) (rs : List Item) → Ends i rs
 ends_of i rs = ends_from i [] rs ends_nothing
+
+-- ---- epochs that stay as they are
+
+-- an epoch that no row will be of any more
+abbrev IsShut : Interface → List Item → ℕ → Type 0
+IsShut i rs e = (e < (observer i rs).epoch) ⊎ ((e ≡ (observer i rs).epoch) × (is_ready (observer i rs).line ≡ false))
+
+-- an epoch that stays as it is, and shut
+record Kept (i : Interface) (rs more : List Item) (e : ℕ) : Type 0 where
+  same : SameEpoch i e (places i rs) (places i more)
+  shut : IsShut i more e
+
+still_below : (route : Route) (e n : ℕ) → e < n → e < epoch_after n route
+still_below Enter e n lt = omega (arith, lt)
+still_below Renew e n lt = omega (arith, lt)
+still_below Pass e n lt = lt
+still_below (Found s c) e n lt = lt
+still_below (Leave c) e n lt = lt
+still_below ToChannel e n lt = lt
+
+-- outside r1 no epoch ends, and the last one is left behind or stays shut
+record IsBehind (n : ℕ) (after : Bool) (route : Route) : Type 0 where
+  stays : is_leaving route ≡ false
+  shut : (n < epoch_after n route) ⊎ ((n ≡ epoch_after n route) × (after ≡ false))
+
+behind : (n : ℕ) (b a : Bool) (route : Route) → b ≡ false → fits_route b a route ≡ true → IsBehind n a route
+behind n true a route e fit = absurd (true≢false e)
+behind n false a Enter e fit = record { stays = refl; shut = inl (omega arith) }
+behind n false false Pass e fit = record { stays = refl; shut = inr (refl, refl) }
+behind n false true Pass e fit = absurd (true≢false (sym fit))
+behind n false false (Found s c) e fit = record { stays = refl; shut = inr (refl, refl) }
+behind n false true (Found s c) e fit = absurd (true≢false (sym fit))
+behind n false a (Leave c) e fit = absurd (true≢false (sym fit))
+behind n false a Renew e fit = absurd (true≢false (sym fit))
+behind n false a ToChannel e fit = absurd (true≢false (sym fit))
+
+with_place : (i : Interface) (rs : List Item) (r : Item) (e : ℕ) → SameEpoch i e (places i rs) (places i rs ++ place_of i rs r ∷ []) → SameEpoch i e (places i rs) (places i (rs ++ r ∷ []))
+with_place i rs r e s = subst (SameEpoch i e (places i rs)) (sym (places_more i rs r)) s
+
+shut_at : (e n next epoch : ℕ) (a b : Bool) → e ≡ n → epoch ≡ next → b ≡ a → (n < next) ⊎ ((n ≡ next) × (a ≡ false)) → (e < epoch) ⊎ ((e ≡ epoch) × (b ≡ false))
+shut_at e n next epoch a b same at ready (inl lt) = inl (omega (arith, same, at, lt))
+shut_at e n next epoch a b same at ready (inr w) = inr (same ∙ w.0 ∙ sym at, ready ∙ w.1)
+
+keeps_one : (i : Interface) (rs : List Item) (r : Item) (e : ℕ) → IsShut i rs e → Kept i rs (rs ++ r ∷ []) e
+keeps_one i rs r e s = at (is_to_channel (routing (observer i rs).line r).route) refl s
+  where
+    at : (b : Bool) → is_to_channel (routing (observer i rs).line r).route ≡ b → IsShut i rs e → Kept i rs (rs ++ r ∷ []) e
+    at true h (inl lt) = record {
+      same = with_place i rs r e (same_below i (places i rs) (place_of i rs r) (observer i rs).epoch e refl lt);
+      shut = inl (subst (λ n. e < n) (sym (on_channel i rs r h).epoch) lt);
+    }
+    at true h (inr w) = absurd (true≢false (sym (on_channel i rs r h).ready ∙ w.1))
+    at false h (inl lt) =
+        let o = observer i rs in
+        record {
+          same = with_place i rs r e (same_below i (places i rs) (place_of i rs r) o.epoch e refl lt);
+          shut = inl (subst (λ n. e < n) (sym (on_line i rs r h).epoch) (still_below (routing o.line r).route e o.epoch lt));
+        }
+    at false h (inr w) =
+        let o = observer i rs in
+        let on = on_line i rs r h in
+        let a : Bool = is_ready (routing o.line r).after in
+        let is = behind o.epoch (is_ready o.line) a (routing o.line r).route w.1 (fits o.line r) in
+        record {
+          same = with_place i rs r e (same_line i (places i rs) (place_of i rs r) e on.channel (unready_alone i o.line r w.1) (on.leaves ∙ is.stays) (ap (λ n. is_some (piece_end n (places i rs))) w.0 ∙ (ends_of i rs).left w.1));
+          shut = shut_at e o.epoch (epoch_after o.epoch (routing o.line r).route) (observer i (rs ++ r ∷ [])).epoch a (is_ready (observer i (rs ++ r ∷ [])).line) w.0 on.epoch (ap is_ready on.line) is.shut;
+        }
+
+keeps : (i : Interface) (rs more : List Item) (e : ℕ) → IsShut i rs e → Kept i rs (rs ++ more) e
+keeps i rs [] e s = subst (λ l. Kept i rs l e) (sym (append-nil rs)) (record { same = record { start = refl; rows = λ k. refl; steps = λ k. refl; end = refl }; shut = s })
+keeps i rs (r ∷ more) e s =
+    let one = keeps_one i rs r e s in
+    let rest = keeps i (rs ++ r ∷ []) more e one.shut in
+    subst (λ l. Kept i rs l e) (append_assoc rs (r ∷ []) more)
+    (record {
+      same = record {
+        start = rest.same.start ∙ one.same.start;
+        rows = λ k. rest.same.rows k ∙ one.same.rows k;
+        steps = λ k. rest.same.steps k ∙ one.same.steps k;
+        end = rest.same.end ∙ one.same.end;
+      };
+      shut = rest.shut;
+    })
 
 -- ---- the pieces up to an epoch come before those up to a later one
 

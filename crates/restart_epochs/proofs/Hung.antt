@@ -3,25 +3,31 @@ use Rattle.std.proofs.Common.{◌≡◌, ◌∙◌, sym, ap, subst, refl, ℕ, �
 use Rattle.line_model.specs.declared.interface.Interface.{Interface}
 use Rattle.line_model.specs.basics.Records.{Item, Piece}
 use Rattle.line_model.specs.pieces.Plan.{has_some}
-use Rattle.restart_epochs.specs.BlockCuts.{AreAdded, HasTakenAll, HaveEnded, IsJoined, MayCome, MayEndAll, joined, listed, pieces_ended, rows_after, rows_on}
+use Rattle.restart_epochs.specs.BlockCuts.{AreAdded, HasTakenAll, HaveEnded, IsJoined, MayCome, MayEndAll, gap_joined, gap_left, joined, listed, parts_of, pieces_ended, rows_after, rows_on}
 use Rattle.restart_epochs.specs.BlockStates.{IsBlockCut, block_rows}
 use Rattle.restart_epochs.specs.Cutting.{Cutting, IsCutting, IsUnchanged, StandsFor}
-use Rattle.restart_epochs.specs.OpenRows.{OpenRows, rows_of}
+use Rattle.restart_epochs.specs.OpenRows.{OpenRows, rows_of, with_part}
+use Rattle.restart_epochs.specs.Walks.{start_joined}
 use Rattle.restart_epochs.specs.declared.block_cut.BlockCut.{BlockCut}
-use Rattle.restart_epochs.proofs.Added.{added_rows, are_within, lists, parts_listed, same_bounds, same_stands, some_behind, within_open}
+use Rattle.restart_epochs.proofs.Added.{AreOnce, added_rows, are_within, lists, parts_listed, parts_once, same_bounds, same_stands, some_behind, within_open}
 use Rattle.restart_epochs.proofs.BlockJoins.{both_rows}
 use Rattle.restart_epochs.proofs.Comings.{all_come}
+use Rattle.restart_epochs.proofs.GapRows.{part_some}
 use Rattle.restart_epochs.proofs.Listings.{listing}
 
 -- the epochs of the block were given out, and the rows of its open epoch added
 pub record IsHung {A : Type 0} (c : Cutting) (b : BlockCut A) (c' : Cutting) (out out' : List Piece) : Type 0 where
   pub between : OpenRows
-  pub ended : HaveEnded c.interface c.epoch b.ended.items c.given c'.given c.open_rows between out out'
-  pub added : AreAdded b.tail.items between c'.open_rows
+  pub gap : ℕ
+  pub ended : HaveEnded c.interface c.epoch c.start b.ended.items c.given c'.given c.gap gap c.open_rows between out out'
+  pub added : AreAdded gap b.tail.items between c'.open_rows
+  pub joined : c'.gap ≡ gap_joined gap b.gap
   pub interface : c'.interface ≡ c.interface
   pub line : c'.line ≡ b.walk.machine
   pub epoch : c'.epoch ≡ c.epoch + b.walk.epoch
+  pub start : c'.start ≡ start_joined b.walk.epoch c.start b.walk.start
   pub packets : c'.packets ≡ c.packets + b.walk.packets
+  pub gaps : c'.gaps ≡ c.gaps + b.walk.gaps
   pub last : c'.last ≡ cond (b.walk.packets == 0) c.last b.last
   pub octets : c'.octets ≡ c.octets + b.octets
   pub findings : c'.findings ≡ c.findings ++ b.walk.findings.items
@@ -42,7 +48,7 @@ pub record MayHang {A : Type 0} (c : Cutting) (b : BlockCut A) : Type 0 where
 abbrev pub may_hang : {A : Type 0} (i : Interface) (rows items : List Item) (c : Cutting) (b : BlockCut A) → StandsFor i rows c → IsCutting c → IsBlockCut c.line items b → MayCome c items → MayHang c b
 may_hang i rows items c b stands bounds cut come = record { interface = i; rows = rows; items = items; stands = stands; bounds = bounds; cut = cut; joins = cut.cut i rows c stands bounds refl (all_come c items come) }
 
-pub may_end : {A : Type 0} (c : Cutting) (b : BlockCut A) → MayHang c b → MayEndAll c.interface c.epoch c.given c.open_rows b.ended.items
+pub may_end : {A : Type 0} (c : Cutting) (b : BlockCut A) → MayHang c b → MayEndAll c.interface c.epoch c.start c.given c.gap c.open_rows b.ended.items
 may_end c b m =
     let ids = m.joins.bounds.ids in
     let rows = m.joins.bounds.rows in
@@ -55,36 +61,46 @@ may_end c b m =
     }
 
 -- the counts of both fit
-pub counts_fit : {A : Type 0} (c : Cutting) (b : BlockCut A) → MayHang c b → (c.epoch + b.walk.epoch < 4294967296) × (c.packets + b.walk.packets < 4294967296) × (c.octets + b.octets < 4294967296)
+pub counts_fit : {A : Type 0} (c : Cutting) (b : BlockCut A) → MayHang c b → (c.epoch + b.walk.epoch < 4294967296) × (c.packets + b.walk.packets < 4294967296) × (c.gaps + b.walk.gaps < 4294967296) × (c.octets + b.octets < 4294967296)
 counts_fit c b m =
     let epochs = m.joins.bounds.epochs in
     let rows = m.joins.bounds.rows in
     let last = m.joins.bounds.last in
     let octets = m.joins.bounds.octets in
-    (omega (arith, epochs, rows, last), omega (arith, rows, last), omega (arith, octets))
+    let gaps = m.joins.bounds.gaps in
+    (omega (arith, epochs, rows, last), omega (arith, rows, last), omega (arith, gaps, rows, last), omega (arith, octets))
+
+-- the parts of the epoch that is open after the block are of one channel each
+tail_once : {A : Type 0} → (c : Cutting) (b : BlockCut A) → MayHang c b → AreOnce b.tail.items
+tail_once c b m = subst AreOnce (sym (m.cut.parts ∙ ap (parts_of (rows_of m.cut.rows)) m.joins.listed)) (parts_once (rows_of m.cut.rows) (λ k. has_some (rows_of m.cut.rows k)) 1 c.interface.svc)
 
 hung_same : {A : Type 0} (c c' : Cutting) (b : BlockCut A) (out out' : List Piece) → (m : MayHang c b) → IsHung c b c' out out' → IsUnchanged (joined c (block_rows b m.cut.rows)) c'
 hung_same c c' b out out' m h =
     let n = c.interface.svc in
+    let g = gap_left c.gap b.ended.items in
     let o = rows_after c.open_rows b.ended.items in
     let all = joined c (block_rows b m.cut.rows) in
+    let tail : (k : ℕ) → rows_on k b.tail.items ≡ rows_of m.cut.rows k = m.cut.tail in
     let rows : (k : ℕ) → rows_of c'.open_rows k ≡ rows_of all.open_rows k = λ k.
-    added_rows b.tail.items h.between c'.open_rows h.added k ∙ (λ j. h.ended.rows k j ++ m.cut.tail k j) ∙ sym (both_rows n o m.cut.rows k) in
+    added_rows h.gap b.tail.items h.between c'.open_rows h.added (tail_once c b m) k ∙ (λ j. with_part (h.ended.left j) (h.ended.rows k j) (tail k j)) ∙ sym (both_rows n g o m.cut.rows k) in
     let within : (k : ℕ) → has_some (rows_on k b.tail.items) ≡ true → (1 ≤ k) × (k ≤ n) = λ k some.
     subst (λ (j : Interface). (1 ≤ k) × (k ≤ j.svc)) (sym m.joins.stands.interface)
-    (within_open m.interface (m.rows ++ m.items) all m.joins.stands k (ap has_some (both_rows n o m.cut.rows k ∙ ap (λ l. rows_of o k ++ l) (sym (m.cut.tail k))) ∙ some_behind (rows_of o k) (rows_on k b.tail.items) some)) in
+    (within_open m.interface (m.rows ++ m.items) all m.joins.stands k (ap has_some (both_rows n g o m.cut.rows k ∙ ap (with_part g (rows_of o k)) (sym (tail k))) ∙ part_some g (rows_of o k) (rows_on k b.tail.items) ∙ some_behind (rows_of o k) (rows_on k b.tail.items) some)) in
     record {
       interface = h.interface;
       line = h.line;
       epoch = h.epoch;
+      start = h.start;
       given = h.ended.count;
       packets = h.packets;
+      gaps = h.gaps;
       last = h.last;
       octets = h.octets;
       findings = h.findings;
+      gap = h.joined ∙ ap (λ m'. gap_joined m' b.gap) h.ended.left;
       open_rows = record {
         rows = rows;
-        channels = parts_listed n b.tail.items h.between c'.open_rows h.added (are_within n b.tail.items within) h.ended.channels ∙ ap (listed n) (λ j k. rows k j);
+        channels = parts_listed n h.gap b.tail.items h.between c'.open_rows h.added (are_within n b.tail.items within) h.ended.channels ∙ ap (listed n) (λ j k. rows k j);
       };
     }
 

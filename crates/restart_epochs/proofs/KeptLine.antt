@@ -1,5 +1,5 @@
 -- A row that goes to a channel leaves the restart machine as it is.
-use Rattle.std.proofs.Common.{◌≡◌, ◌∙◌, sym, refl, ℕ, Bool, true, false, true≢false, Option, Some, None}
+use Rattle.std.proofs.Common.{◌≡◌, ◌∙◌, sym, ap, refl, ℕ, Bool, true, false, true≢false, ◌&&◌, Option, Some, None}
 use Rattle.line_model.specs.declared.packet.Class.{Class}
 use Rattle.line_model.specs.declared.state.Side.{Side}
 use Rattle.line_model.specs.declared.state.Side.TheVariants.{T, N}
@@ -11,7 +11,11 @@ use Rattle.line_model.specs.declared.table.Action.{Action}
 use Rattle.line_model.specs.declared.table.Action.TheVariants.{Move, Error, Ends}
 use Rattle.line_model.specs.channels.Tables.{action}
 use Rattle.line_model.specs.channels.RestartMachine.{LineState, Routing, is_outside, restart_name, outside_step, restart_move, restart_moving, restart_error, restart_fault, restart_step, passes_joining, inside_step, line_step}
-use Rattle.restart_epochs.proofs.Routes.{is_to_channel, line_of}
+use Rattle.line_model.specs.basics.Records.{Item}
+use Rattle.line_model.specs.packets.Classes.{packet_class}
+use Rattle.line_model.specs.packets.Says.{gap_of}
+use Rattle.line_model.specs.channels.GapRestart.{GapLine, gap_on, is_of_restart, is_ready, routing, routing_by}
+use Rattle.restart_epochs.proofs.Routes.{adrift_no, gap_of_all, is_to_channel, line_of, stepped_if}
 
 kept_outside : (l : LineState) (a : Action) → (outside_step l a).after ≡ l
 kept_outside l (Error n) = refl
@@ -44,7 +48,7 @@ kept_inside : (passes : Bool) (l : LineState) (x : Side) (k : Class) (n : ℕ) �
 kept_inside true l x k n h = refl
 kept_inside false l x k n h = kept_acted l x k n (action x (restart_name l.state) l.owed k) h
 
-pub kept_line : (l : LineState) (x : Side) (k : Class) (n : ℕ) → is_to_channel (line_step l x k n).route ≡ true → (line_step l x k n).after ≡ l
+kept_line : (l : LineState) (x : Side) (k : Class) (n : ℕ) → is_to_channel (line_step l x k n).route ≡ true → (line_step l x k n).after ≡ l
 kept_line l x k n h = at (is_outside k) refl h
   where
     step : Bool → Routing
@@ -56,3 +60,23 @@ kept_line l x k n h = at (is_outside k) refl h
     at : (b : Bool) → is_outside k ≡ b → is_to_channel (step b).route ≡ true → (step b).after ≡ l
     at true e t = kept_outside l (action x (restart_name l.state) l.owed k)
     at false e t = kept_inside (passes_joining l k) l x k n t
+
+pub kept_row : (g : GapLine) (r : Item) → is_to_channel (routing g r).route ≡ true → (routing g r).after ≡ g
+kept_row g r h = at (gap_of r.packet) h
+  where
+    k : Class
+    k = packet_class r.packet
+
+    by : (v : Bool) → is_to_channel (stepped_if v g r.side k r.length).route ≡ true → (stepped_if v g r.side k r.length).after ≡ g
+    by true t = absurd (true≢false (sym t ∙ adrift_no g r.side k (restart_fault k r.length)))
+    by false t = ap (λ l. record g { line = l }) (kept_line g.line r.side k r.length t)
+
+    on : (s : RState) → (gap_on s g).after ≡ g
+    on R1 = refl
+    on R2 = refl
+    on R3 = refl
+
+    at : (o : Option (Option ℕ)) → is_to_channel (routing_by o g r.side k r.length).route ≡ true → (routing_by o g r.side k r.length).after ≡ g
+    at None t = by (g.adrift && is_ready g && is_of_restart k) t
+    at (Some None) t = absurd (true≢false (sym t ∙ gap_of_all g g.line.state))
+    at (Some (Some c)) t = on g.line.state

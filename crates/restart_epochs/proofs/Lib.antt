@@ -1,10 +1,12 @@
 pub mod Routes
 pub mod KeptLine
+pub mod GapRows
 pub mod Epochs
 pub mod Steps
 pub mod Cuts
 pub mod Growth
 pub mod LineFindings
+pub mod LaneSteps
 pub mod Listed
 pub mod Pushes
 pub mod GivenOut

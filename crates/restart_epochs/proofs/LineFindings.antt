@@ -4,35 +4,29 @@ use Rattle.std.specs.List.{filter}
 use Rattle.std.proofs.lemmas.List.{map-append}
 use Rattle.std.proofs.lemmas.List.Elements.{filter_map-append}
 use Rattle.line_model.specs.declared.interface.Interface.{Interface}
-use Rattle.line_model.specs.declared.finding.Finding.{Finding}
 use Rattle.line_model.specs.declared.route.Route.{Route}
-use Rattle.line_model.specs.declared.route.Route.TheVariants.{Pass, Found, Leave, Enter, ToChannel}
+use Rattle.line_model.specs.declared.route.Route.TheVariants.{Pass, Found, Leave, Enter, Renew, ToChannel}
 use Rattle.line_model.specs.declared.event.What.{What}
 use Rattle.line_model.specs.basics.Records.{Item}
-use Rattle.line_model.specs.channels.RestartMachine.{LineState}
-use Rattle.line_model.specs.channels.Channels.{Channel}
-use Rattle.line_model.specs.channels.ChannelStep.{channel_step}
+use Rattle.line_model.specs.channels.GapRestart.{GapLine, is_ready, routing}
+use Rattle.line_model.specs.channels.Gaps.{GapChannel}
 use Rattle.line_model.specs.packets.Says.{packet_channel}
-use Rattle.line_model.specs.observer.Machine.{Machine, Observer, after, walk}
-use Rattle.line_model.specs.observer.MachineEvents.{RowEvent, stamp, closed_events, row_events, row_events_routed, walk_events}
+use Rattle.line_model.specs.observer.Machine.{Machine, Observer, after, renewed, steps_all, walk}
+use Rattle.line_model.specs.observer.MachineEvents.{RowEvent, stamp, ended_events, row_events, row_events_by, walk_events}
 use Rattle.line_model.specs.pieces.Merge.{is_line}
-use Rattle.line_model.specs.observer.Observer.{x25, start, routing, is_ready, route_found, event_of}
+use Rattle.line_model.specs.observer.Observer.{x25, start, row_step, route_found, event_of}
 use Rattle.line_model.specs.observer.Report.{findings_of}
 use Rattle.line_model.specs.pieces.Plans.{line_findings}
 use Rattle.line_model.proofs.LinePart.{channel_dropped, line_kept, closed_dropped}
 use Rattle.restart_epochs.specs.Cutting.{observer}
 use Rattle.restart_epochs.specs.Walks.{route_finding}
 use Rattle.restart_epochs.proofs.Routes.{is_to_channel}
-use Rattle.restart_epochs.proofs.Steps.{routed_to, routed_none}
+use Rattle.restart_epochs.proofs.Steps.{in_r1_alone, routed_to, routed_none}
 use Rattle.line_model.proofs.Pieces.{filter_append}
 
 pub events_append : {X L S E : Type 0} → (m : Machine X L S E) (o : Observer L S) (p q : List X) → walk_events m o (p ++ q) ≡ walk_events m o p ++ walk_events m (walk m o p) q
 events_append m o [] q = refl
 events_append m o (x ∷ p) q = ap (λ l. row_events m o x ++ l) (events_append m (after m o x) p q) ∙ sym (append_assoc (row_events m o x) (walk_events m (after m o x) p) (walk_events m (walk m (after m o x) p) q))
-
--- the findings among the line's events
-line_of_events : List (RowEvent Item What) → List Finding
-line_of_events vs = findings_of (map event_of (filter is_line vs))
 
 line_append : (us vs : List (RowEvent Item What)) → findings_of (map event_of (filter is_line (us ++ vs))) ≡ findings_of (map event_of (filter is_line us)) ++ findings_of (map event_of (filter is_line vs))
 line_append us vs =
@@ -46,6 +40,7 @@ found_here e r (Leave (Some n)) = refl
 found_here e r (Leave None) = refl
 found_here e r Pass = refl
 found_here e r Enter = refl
+found_here e r Renew = refl
 found_here e r ToChannel = refl
 
 pub to_none : (r : Item) (route : Route) → is_to_channel route ≡ true → route_finding r route ≡ []
@@ -54,19 +49,32 @@ to_none r Pass h = refl
 to_none r (Found s n) h = absurd (true≢false (sym h))
 to_none r (Leave c) h = absurd (true≢false (sym h))
 to_none r Enter h = refl
+to_none r Renew h = refl
 
-on_routed : (i : Interface) (o : Observer LineState Channel) (r : Item) (b : Bool) → is_to_channel (routing o.line r).route ≡ b
+ended_none : (i : Interface) (o : Observer GapLine GapChannel) (r : Item) (v : Bool) → filter is_line (ended_events (x25 i) o r v) ≡ []
+ended_none i o r true = closed_dropped (x25 i) o r true false
+ended_none i o r false = closed_dropped (x25 i) o r (is_ready o.line) (is_ready (routing o.line r).after)
+
+-- what the line part tells of a row, whether it steps each channel, or none
+of_line : (i : Interface) (o : Observer GapLine GapChannel) (r : Item) (v : Bool) → findings_of (map event_of (filter is_line (row_events_by (x25 i) o r v None))) ≡ route_finding r (routing o.line r).route
+of_line i o r true =
+    ap (λ l. findings_of (map event_of l)) (line_kept o.epoch r (route_found r (routing o.line r).route)) ∙ found_here o.epoch r (routing o.line r).route
+of_line i o r false =
+    let own = stamp o.epoch None r (route_found r (routing o.line r).route) in
+    let v = renewed (x25 i) o.line r in
+    let ended = ended_events (x25 i) o r v in
+    ap (λ l. findings_of (map event_of l)) (filter_append is_line own ended ∙ ap (λ l. filter is_line own ++ l) (ended_none i o r v) ∙ append-nil (filter is_line own) ∙ line_kept o.epoch r (route_found r (routing o.line r).route))
+    ∙ found_here o.epoch r (routing o.line r).route
+
+on_routed : (i : Interface) (o : Observer GapLine GapChannel) (r : Item) (b : Bool) → is_to_channel (routing o.line r).route ≡ b
     → findings_of (map event_of (filter is_line (row_events (x25 i) o r))) ≡ route_finding r (routing o.line r).route
 on_routed i o r true h =
-    ap (λ q. findings_of (map event_of (filter is_line (row_events_routed (x25 i) o r q)))) (routed_to i o.line r h)
-    ∙ ap (λ l. findings_of (map event_of l)) (channel_dropped o.epoch (packet_channel r.packet) r (channel_step i (packet_channel r.packet) (o.states (packet_channel r.packet)) r).reported)
+    (λ j. findings_of (map event_of (filter is_line (row_events_by (x25 i) o r (in_r1_alone i o.line r h j) (routed_to i o.line r h j)))))
+    ∙ ap (λ l. findings_of (map event_of l)) (channel_dropped o.epoch (packet_channel r.packet) r (row_step i (packet_channel r.packet) (o.states (packet_channel r.packet)) r).reported)
     ∙ sym (to_none r (routing o.line r).route h)
 on_routed i o r false h =
-    let own = stamp o.epoch None r (route_found r (routing o.line r).route) in
-    let closed = closed_events (x25 i) o r (is_ready o.line) (is_ready (routing o.line r).after) in
-    ap (λ q. findings_of (map event_of (filter is_line (row_events_routed (x25 i) o r q)))) (routed_none i o.line r h)
-    ∙ ap (λ l. findings_of (map event_of l)) (filter_append is_line own closed ∙ ap (λ l. filter is_line own ++ l) (closed_dropped (x25 i) o r (is_ready o.line) (is_ready (routing o.line r).after)) ∙ append-nil (filter is_line own) ∙ line_kept o.epoch r (route_found r (routing o.line r).route))
-    ∙ found_here o.epoch r (routing o.line r).route
+    ap (λ q. findings_of (map event_of (filter is_line (row_events_by (x25 i) o r (steps_all (x25 i) o.line r) q)))) (routed_none i o.line r h)
+    ∙ of_line i o r (steps_all (x25 i) o.line r)
 
 pub line_findings_more : (i : Interface) (rs : List Item) (r : Item) → line_findings i (rs ++ r ∷ []) ≡ line_findings i rs ++ route_finding r (routing (observer i rs).line r).route
 line_findings_more i rs r =

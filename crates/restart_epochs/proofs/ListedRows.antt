@@ -20,8 +20,8 @@ all_but P (j ∷ ks) k all = at (nat_cmp k j) (ranks k j) (all_but P ks k) all
     at Equal is more h = (subst P (sym is) h.0, h)
     at Greater is more h = let rest = more h.1 in (rest.0, (h.0, rest.1))
 
-pub others_more : (channel : ℕ) (item : Item) (before after : OpenRows) → HasMore channel item before after → HasNoOthers before → HasNoOthers after
-others_more channel item before after more none k all = at (rows_of before channel) refl (subst (AllByRecursion (λ j. j ≢ k)) more.channels all)
+pub others_more : (gap channel : ℕ) (item : Item) (before after : OpenRows) → HasMore gap channel item before after → HasNoOthers before → HasNoOthers after
+others_more gap channel item before after more none k all = at (rows_of before channel) refl (subst (AllByRecursion (λ j. j ≢ k)) more.channels all)
   where
     at : (was : List Item) → rows_of before channel ≡ was → AllByRecursion (λ j. j ≢ k) (with_channel was channel before.channels) → rows_of after k ≡ []
     at [] is left =

@@ -1,15 +1,17 @@
 -- The channels that are listed, and the rows of the open epoch with one more.
-use Rattle.std.proofs.Common.{◌≡◌, ◌≢◌, ◌∙◌, sym, ap, subst, refl, ℕ, zero, suc, Bool, true, false, cond, List, [], ◌∷◌, ◌++◌, arith, Option, Some, None}
+use Rattle.std.proofs.Common.{◌≡◌, ◌≢◌, ◌∙◌, sym, ap, subst, refl, ℕ, zero, suc, inl, Bool, true, false, cond, List, [], ◌∷◌, ◌++◌, arith, Option, Some, None}
 use Rattle.std.specs.List.{filter, range_with_len, AllByRecursion}
 use Rattle.line_model.specs.declared.interface.Interface.{Interface}
 use Rattle.line_model.specs.basics.Records.{Item}
 use Rattle.line_model.specs.pieces.Plan.{has_some}
-use Rattle.line_model.specs.pieces.Pieces.{piece_rows}
-use Rattle.line_model.specs.observer.Observer.{is_ready}
+use Rattle.line_model.specs.observer.Observer.{x25}
+use Rattle.line_model.specs.pieces.Pieces.{piece_rows, step_rows}
+use Rattle.line_model.specs.channels.GapRestart.{is_ready}
 use Rattle.restart_epochs.specs.OpenLanes.{lane_at}
-use Rattle.restart_epochs.specs.OpenRows.{OpenRows, rows_in, rows_of, with_channel, HasMore, IsListing}
-use Rattle.restart_epochs.specs.Cutting.{Cutting, StandsFor, IsCutting, observer, places, rows_if, channels_if, no_cutting}
-use Rattle.restart_epochs.proofs.Pushes.{no_rows_of, stands_nothing}
+use Rattle.restart_epochs.specs.OpenRows.{OpenRows, rows_in, rows_of, with_channel, with_gap, HasMore, IsListing}
+use Rattle.restart_epochs.specs.Cutting.{Cutting, StandsFor, IsCutting, observer, places, rows_if, channels_if, no_cutting, taken_rows}
+use Rattle.restart_epochs.proofs.Epochs.{some_taken}
+use Rattle.restart_epochs.proofs.Pushes.{none_taken, stands_nothing}
 use Rattle.restart_epochs.proofs.Bounds.{no_items}
 
 -- what a test lets through passes it
@@ -21,10 +23,10 @@ passes f (k ∷ ks) = at (f k) refl (passes f ks)
     at true e rest = (e, rest)
     at false e rest = rest
 
-all_some : (i : Interface) (rs : List Item) (e : ℕ) (o : OpenRows) → ((k : ℕ) → rows_of o k ≡ piece_rows e k (places i rs))
+all_some : (i : Interface) (rs : List Item) (e : ℕ) (o : OpenRows) → ((k : ℕ) → rows_of o k ≡ taken_rows (step_rows (x25 i) e k (places i rs)))
     → (ks : List ℕ) → AllByRecursion (λ k. has_some (piece_rows e k (places i rs)) ≡ true) ks → AllByRecursion (λ k. has_some (rows_of o k) ≡ true) ks
 all_some i rs e o rows [] all = tt
-all_some i rs e o rows (k ∷ ks) all = (ap has_some (rows k) ∙ all.0, all_some i rs e o rows ks all.1)
+all_some i rs e o rows (k ∷ ks) all = (ap has_some (rows k) ∙ some_taken i rs e k ∙ all.0, all_some i rs e o rows ks all.1)
 
 -- a cutter lists the channels that have rows
 pub listing : (i : Interface) (rs : List Item) (c : Cutting) → StandsFor i rs c → IsListing c.open_rows
@@ -33,12 +35,12 @@ listing i rs c s = at (is_ready (observer i rs).line) refl
     at : (b : Bool) → is_ready (observer i rs).line ≡ b → IsListing c.open_rows
     at true e =
         let n = (observer i rs).epoch in
-        let rows : (k : ℕ) → rows_of c.open_rows k ≡ piece_rows n k (places i rs) = λ k. s.rows k ∙ ap (λ b. rows_if b i (places i rs) n k) e in
+        let rows : (k : ℕ) → rows_of c.open_rows k ≡ taken_rows (step_rows (x25 i) n k (places i rs)) = λ k. s.rows k ∙ ap (λ b. rows_if b i (places i rs) n k) e in
         let channels = s.channels ∙ ap (λ b. channels_if b i (places i rs) n) e in
         record {
           listed = subst (AllByRecursion (λ k. has_some (rows_of c.open_rows k) ≡ true)) (sym channels)
               (all_some i rs n c.open_rows rows _ (passes (λ k. has_some (piece_rows n k (places i rs))) (range_with_len 1 i.svc)));
-          others = λ k not. rows k ∙ no_rows_of i rs s.said n k (subst (AllByRecursion (λ j. j ≢ k)) channels not);
+          others = λ k not. rows k ∙ none_taken i rs s.said n k (subst (AllByRecursion (λ j. j ≢ k)) channels not);
         }
     at false e = record {
       listed = subst (AllByRecursion (λ k. has_some (rows_of c.open_rows k) ≡ true)) (sym (s.channels ∙ ap (λ b. channels_if b i (places i rs) (observer i rs).epoch) e)) tt;
@@ -49,39 +51,41 @@ listing i rs c s = at (is_ready (observer i rs).line) refl
 pub bare : (i : Interface) (rs : List Item) (c : Cutting) → StandsFor i rs c → is_ready c.line ≡ false → (k : ℕ) → rows_of c.open_rows k ≡ []
 bare i rs c s h k = s.rows k ∙ ap (λ b. rows_if b i (places i rs) (observer i rs).epoch k) (ap is_ready (sym s.line) ∙ h)
 
--- lanes with one more row
-abbrev pub lanes_with : List (Option (List Item)) → ℕ → Item → List (Option (List Item))
-lanes_with [] zero item = Some (item ∷ []) ∷ []
-lanes_with [] (suc k) item = None ∷ lanes_with [] k item
-lanes_with (lane ∷ lanes) zero item = Some (rows_in lane ++ item ∷ []) ∷ lanes
-lanes_with (lane ∷ lanes) (suc k) item = lane ∷ lanes_with lanes k item
+-- lanes of which one has these rows
+abbrev pub lanes_with : List (Option (List Item)) → ℕ → List Item → List (Option (List Item))
+lanes_with [] zero rows = Some rows ∷ []
+lanes_with [] (suc k) rows = None ∷ lanes_with [] k rows
+lanes_with (lane ∷ lanes) zero rows = Some rows ∷ lanes
+lanes_with (lane ∷ lanes) (suc k) rows = lane ∷ lanes_with lanes k rows
 
-with_here : (lanes : List (Option (List Item))) (k : ℕ) (item : Item) → rows_in (lane_at (lanes_with lanes k item) k) ≡ rows_in (lane_at lanes k) ++ item ∷ []
-with_here [] zero item = refl
-with_here [] (suc k) item = with_here [] k item
-with_here (lane ∷ lanes) zero item = refl
-with_here (lane ∷ lanes) (suc k) item = with_here lanes k item
+with_here : (lanes : List (Option (List Item))) (k : ℕ) (rows : List Item) → rows_in (lane_at (lanes_with lanes k rows) k) ≡ rows
+with_here [] zero rows = refl
+with_here [] (suc k) rows = with_here [] k rows
+with_here (lane ∷ lanes) zero rows = refl
+with_here (lane ∷ lanes) (suc k) rows = with_here lanes k rows
 
-with_other : (lanes : List (Option (List Item))) (k : ℕ) (item : Item) (j : ℕ) → j ≢ k → lane_at (lanes_with lanes k item) j ≡ lane_at lanes j
-with_other [] zero item zero ne = absurd (ne refl)
-with_other [] zero item (suc j) ne = refl
-with_other [] (suc k) item zero ne = refl
-with_other [] (suc k) item (suc j) ne = with_other [] k item j (λ e. ne (ap suc e))
-with_other (lane ∷ lanes) zero item zero ne = absurd (ne refl)
-with_other (lane ∷ lanes) zero item (suc j) ne = refl
-with_other (lane ∷ lanes) (suc k) item zero ne = refl
-with_other (lane ∷ lanes) (suc k) item (suc j) ne = with_other lanes k item j (λ e. ne (ap suc e))
+with_other : (lanes : List (Option (List Item))) (k : ℕ) (rows : List Item) (j : ℕ) → j ≢ k → lane_at (lanes_with lanes k rows) j ≡ lane_at lanes j
+with_other [] zero rows zero ne = absurd (ne refl)
+with_other [] zero rows (suc j) ne = refl
+with_other [] (suc k) rows zero ne = refl
+with_other [] (suc k) rows (suc j) ne = with_other [] k rows j (λ e. ne (ap suc e))
+with_other (lane ∷ lanes) zero rows zero ne = absurd (ne refl)
+with_other (lane ∷ lanes) zero rows (suc j) ne = refl
+with_other (lane ∷ lanes) (suc k) rows zero ne = refl
+with_other (lane ∷ lanes) (suc k) rows (suc j) ne = with_other lanes k rows j (λ e. ne (ap suc e))
 
--- the rows with one more
-abbrev pub rows_with : OpenRows → ℕ → Item → OpenRows
-rows_with o k item = record { lanes = lanes_with o.lanes k item; channels = with_channel (rows_of o k) k o.channels }
+-- the rows with one more, behind the last gap of all channels
+abbrev pub rows_with : OpenRows → (gap channel : ℕ) → Item → OpenRows
+rows_with o gap k item = record { lanes = lanes_with o.lanes k (with_gap gap (rows_of o k) ++ item ∷ []); channels = with_channel (rows_of o k) k o.channels }
 
-pub has_one_more : (o : OpenRows) (k : ℕ) (item : Item) → HasMore k item o (rows_with o k item)
-has_one_more o k item = record { row = with_here o.lanes k item; others = λ j ne. ap rows_in (with_other o.lanes k item j ne); channels = refl }
+pub has_one_more : (o : OpenRows) (gap k : ℕ) (item : Item) → HasMore gap k item o (rows_with o gap k item)
+has_one_more o gap k item =
+    let rows = with_gap gap (rows_of o k) ++ item ∷ [] in
+    record { row = with_here o.lanes k rows; others = λ j ne. ap rows_in (with_other o.lanes k rows j ne); channels = refl }
 
 -- before the first row
 pub nothing_cut : (i : Interface) → StandsFor i [] (no_cutting i)
-nothing_cut i = stands_nothing i (no_cutting i) refl refl refl refl refl refl (λ k. refl) refl
+nothing_cut i = stands_nothing i (no_cutting i) refl refl refl refl refl refl refl refl refl (λ k. refl) refl
 
 pub nothing_bound : (i : Interface) → IsCutting (no_cutting i)
 nothing_bound i = record {
@@ -90,5 +94,8 @@ nothing_bound i = record {
   octets = omega arith;
   epochs = omega arith;
   ids = omega arith;
-  lanes = λ k. no_items i k 0 0;
+  gaps = omega arith;
+  gap = omega arith;
+  recorded = inl refl;
+  lanes = λ k. no_items i k 0 0 0;
 }

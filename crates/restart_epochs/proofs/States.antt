@@ -1,104 +1,139 @@
--- The state of each channel is that of the rows of its piece so far.
-use Rattle.std.proofs.Common.{◌≡◌, ◌∙◌, sym, ap, refl, subst, ℕ, ◌+◌, Bool, true, false, true≢false, ◌&&◌, cond, eqb, List, [], ◌∷◌, ◌++◌, arith, append-nil, append_assoc}
-use Rattle.std.proofs.lemmas.Bool.{ne_eqb, eq-eqb, eqb-true, eqb-false}
+-- The state of each channel is that of the rows that stepped it in its epoch.
+use Rattle.std.proofs.Common.{◌≡◌, ◌∙◌, sym, ap, refl, subst, ℕ, ◌+◌, Bool, true, false, true≢false, ◌&&◌, cond, eqb, None, List, [], ◌∷◌, ◌++◌, arith, append-nil, append_assoc}
+use Rattle.std.proofs.lemmas.Bool.{and_parts, ne_eqb, eq-eqb, eqb-true, eqb-false}
 use Rattle.line_model.specs.declared.interface.Interface.{Interface}
 use Rattle.line_model.specs.basics.Records.{Item}
-use Rattle.line_model.specs.channels.Channels.{Channel, fresh}
-use Rattle.line_model.specs.channels.ChannelStep.{channel_step}
+use Rattle.line_model.specs.channels.Gaps.{GapChannel, fresh_at}
+use Rattle.line_model.specs.channels.GapRestart.{GapLine, is_gap_of_all, is_ready, routing, start_by}
 use Rattle.line_model.specs.packets.Says.{packet_channel}
-use Rattle.line_model.specs.observer.Machine.{after_routed, line_moved}
+use Rattle.line_model.specs.observer.Machine.{Observer, after, after_by, line_moved, line_stepped, renewed, routed, stays_ready, steps_all}
 use Rattle.line_model.specs.pieces.Shuffle.{is_channel}
-use Rattle.line_model.specs.pieces.Pieces.{piece_rows}
-use Rattle.line_model.specs.observer.Observer.{x25, routing, is_ready}
-use Rattle.restart_epochs.specs.Cutting.{observer, places}
+use Rattle.line_model.specs.pieces.Pieces.{Placed, step_rows, steps_by}
+use Rattle.line_model.specs.observer.Observer.{x25, row_step}
+use Rattle.restart_epochs.specs.Cutting.{epoch_start, observer, places}
 use Rattle.restart_epochs.proofs.Routes.{is_to_channel}
-use Rattle.restart_epochs.proofs.Epochs.{place_of, places_more, observer_more, rows_same, rows_on_more}
-use Rattle.restart_epochs.proofs.Steps.{on_channel, on_line, routed_to, routed_none}
+use Rattle.restart_epochs.proofs.Epochs.{later_start, later_steps, observer_more, place_of, places_more, started_next, steps_none, steps_one, steps_same}
+use Rattle.restart_epochs.proofs.Growth.{within_more}
 use Rattle.restart_epochs.proofs.Heads.{ends_of}
+use Rattle.restart_epochs.proofs.Steps.{OnChannel, on_channel, on_line, routed_none, stepped_on}
 
 -- a channel after some rows
-abbrev pub after_rows : Interface → (channel : ℕ) → Channel → List Item → Channel
+abbrev pub after_rows : Interface → (channel : ℕ) → GapChannel → List Item → GapChannel
 after_rows i k c [] = c
-after_rows i k c (r ∷ rs) = after_rows i k (channel_step i k c r).after rs
+after_rows i k c (r ∷ rs) = after_rows i k (row_step i k c r).after rs
 
-after_more : (i : Interface) (k : ℕ) (c : Channel) (rs : List Item) (r : Item) → after_rows i k c (rs ++ r ∷ []) ≡ (channel_step i k (after_rows i k c rs) r).after
+after_more : (i : Interface) (k : ℕ) (c : GapChannel) (rs : List Item) (r : Item) → after_rows i k c (rs ++ r ∷ []) ≡ (row_step i k (after_rows i k c rs) r).after
 after_more i k c [] r = refl
-after_more i k c (x ∷ rs) r = after_more i k (channel_step i k c x).after rs r
+after_more i k c (x ∷ rs) r = after_more i k (row_step i k c x).after rs r
 
--- in r1 each channel is what the rows of its piece made of a fresh one
+-- a channel as its epoch begins
+abbrev begun : Interface → List Item → (channel : ℕ) → GapChannel
+begun i rs k = let o = observer i rs in fresh_at i (epoch_start o.epoch o.line (places i rs)) o.epoch k
+
+-- a channel as its epoch began, after the rows that stepped it
+abbrev stepped : Interface → GapLine → (epoch channel : ℕ) → List (Placed Item) → GapChannel
+stepped i l e k ps = after_rows i k (fresh_at i (epoch_start e l ps) e k) (step_rows (x25 i) e k ps)
+
+-- in r1 each channel is what these rows made of a fresh one
 abbrev pub StatesAre : Interface → List Item → Type 0
-StatesAre i rs = is_ready (observer i rs).line ≡ true → (k : ℕ) → (observer i rs).states k ≡ after_rows i k (fresh i (observer i rs).epoch k) (piece_rows (observer i rs).epoch k (places i rs))
+StatesAre i rs = is_ready (observer i rs).line ≡ true → (k : ℕ)
+    → (observer i rs).states k ≡ after_rows i k (fresh_at i (epoch_start (observer i rs).epoch (observer i rs).line (places i rs)) (observer i rs).epoch k) (step_rows (x25 i) (observer i rs).epoch k (places i rs))
 
--- the rows of a channel in an epoch, as one more row leaves them
-rows_in : (i : Interface) (rs : List Item) (r : Item) (e k : ℕ) → piece_rows e k (places i (rs ++ r ∷ [])) ≡ piece_rows e k (places i rs ++ place_of i rs r ∷ [])
-rows_in i rs r e k = ap (piece_rows e k) (places_more i rs r)
-
-states_channel : (i : Interface) (rs : List Item) (r : Item) → StatesAre i rs → is_to_channel (routing (observer i rs).line r).route ≡ true → StatesAre i (rs ++ r ∷ [])
-states_channel i rs r h to ready k =
-    let on = on_channel i rs r to in
+-- with a row of the epoch more, which steps the channel or not
+one_more : (i : Interface) (rs : List Item) (r : Item) (k : ℕ) (l' : GapLine) → let o = observer i rs in (steps_by k (place_of i rs r) (is_gap_of_all r) && eqb o.epoch o.epoch) ≡ true
+    → stepped i l' o.epoch k (places i rs ++ place_of i rs r ∷ []) ≡ (row_step i k (stepped i o.line o.epoch k (places i rs)) r).after
+one_more i rs r k l' steps =
     let o = observer i rs in
-    let j = packet_channel r.packet in
-    let is = observer_more i rs r ∙ ap (after_routed (x25 i) o r) (routed_to i o.line r to) in
-    ap (λ q. q.states k) is ∙ at (eqb k j) refl
-    ∙ ap (λ e. after_rows i k (fresh i e k) (piece_rows e k (places i (rs ++ r ∷ [])))) (sym on.epoch)
+    let p = place_of i rs r in
+    (λ j. after_rows i k (fresh_at i (started_next o.epoch o.line l' (places i rs) p (eq-eqb o.epoch o.epoch refl) refl j) o.epoch k) (steps_one i o.epoch k (places i rs) p steps j))
+    ∙ after_more i k (fresh_at i (epoch_start o.epoch o.line (places i rs)) o.epoch k) (step_rows (x25 i) o.epoch k (places i rs)) r
+
+not_more : (i : Interface) (rs : List Item) (r : Item) (k : ℕ) (l' : GapLine) → let o = observer i rs in (steps_by k (place_of i rs r) (is_gap_of_all r) && eqb o.epoch o.epoch) ≡ false
+    → stepped i l' o.epoch k (places i rs ++ place_of i rs r ∷ []) ≡ stepped i o.line o.epoch k (places i rs)
+not_more i rs r k l' steps =
+    let o = observer i rs in
+    let p = place_of i rs r in
+    λ j. after_rows i k (fresh_at i (started_next o.epoch o.line l' (places i rs) p (eq-eqb o.epoch o.epoch refl) refl j) o.epoch k) (steps_same i o.epoch k (places i rs) p steps j)
+
+-- and with the first row behind an epoch
+anew : (i : Interface) (rs : List Item) (r : Item) (k : ℕ) (l' : GapLine) → let o = observer i rs in stepped i l' (o.epoch + 1) k (places i rs ++ place_of i rs r ∷ []) ≡ fresh_at i (start_by l') (o.epoch + 1) k
+anew i rs r k l' =
+    let o = observer i rs in
+    let p = place_of i rs r in
+    let within = within_more (places i rs) p o.epoch (ends_of i rs).within refl in
+    λ j. after_rows i k (fresh_at i (later_start o.epoch (o.epoch + 1) l' (places i rs ++ p ∷ []) (omega arith) within j) (o.epoch + 1) k) (later_steps i o.epoch (o.epoch + 1) k (places i rs ++ p ∷ []) (omega arith) within j)
+
+-- the state of a channel after a row
+abbrev StateIs : Interface → List Item → Item → ℕ → Observer GapLine GapChannel → Type 0
+StateIs i rs r k o' = o'.states k ≡ stepped i o'.line o'.epoch k (places i rs ++ place_of i rs r ∷ [])
+
+states_channel : (i : Interface) (rs : List Item) (r : Item) (k : ℕ) → StatesAre i rs → is_to_channel (routing (observer i rs).line r).route ≡ true → StateIs i rs r k (after (x25 i) (observer i rs) r)
+states_channel i rs r k h to = subst (StateIs i rs r k) (sym (stepped_on i (observer i rs) r to)) (at (eqb k (packet_channel r.packet)) refl)
   where
-    at : (b : Bool) → eqb k (packet_channel r.packet) ≡ b
-        → (let s : Channel = cond (eqb k (packet_channel r.packet)) (channel_step i (packet_channel r.packet) ((observer i rs).states (packet_channel r.packet)) r).after ((observer i rs).states k) in s)
-        ≡ after_rows i k (fresh i (observer i rs).epoch k) (piece_rows (observer i rs).epoch k (places i (rs ++ r ∷ [])))
+    o : Observer GapLine GapChannel
+    o = observer i rs
+
+    n : ℕ
+    n = packet_channel r.packet
+
+    on : OnChannel i rs r
+    on = on_channel i rs r to
+
+    steps : (steps_by k (place_of i rs r) (is_gap_of_all r) && eqb o.epoch o.epoch) ≡ (eqb n k && eqb o.epoch o.epoch)
+    steps = (λ j. steps_by k (place_of i rs r) (on.own j) && eqb o.epoch o.epoch) ∙ (λ j. is_channel k (on.channel j) && eqb o.epoch o.epoch)
+
+    at : (b : Bool) → eqb k n ≡ b → (let s : GapChannel = cond (eqb k n) (row_step i n (o.states n) r).after (o.states k) in s) ≡ stepped i o.line o.epoch k (places i rs ++ place_of i rs r ∷ [])
     at true same =
-        let on = on_channel i rs r to in
-        let o = observer i rs in
-        let j = packet_channel r.packet in
-        let e : k ≡ j = eqb-true k j same in
-        let here : (is_channel k (place_of i rs r).channel && eqb (place_of i rs r).epoch o.epoch) ≡ true =
-        ap (λ q. is_channel k q && eqb o.epoch o.epoch) on.channel ∙ ap (λ b. b && eqb o.epoch o.epoch) (eq-eqb j k (sym e)) ∙ eq-eqb o.epoch o.epoch refl in
-        ap (λ b. cond b (channel_step i j (o.states j) r).after (o.states k)) same
-        ∙ ap (λ n. (channel_step i n (o.states n) r).after) (sym e)
-        ∙ ap (λ c. (channel_step i k c r).after) (h on.ready k)
-        ∙ sym (after_more i k (fresh i o.epoch k) (piece_rows o.epoch k (places i rs)) r)
-        ∙ ap (after_rows i k (fresh i o.epoch k)) (sym (rows_in i rs r o.epoch k ∙ rows_on_more o.epoch k (places i rs) (place_of i rs r) here))
+        let e : k ≡ n = eqb-true k n same in
+        ap (λ b. cond b (row_step i n (o.states n) r).after (o.states k)) same
+        ∙ ap (λ m. (row_step i m (o.states m) r).after) (sym e)
+        ∙ ap (λ g. (row_step i k g r).after) (h on.ready k)
+        ∙ sym (one_more i rs r k o.line (steps ∙ ap (λ b. b && eqb o.epoch o.epoch) (eq-eqb n k (sym e)) ∙ eq-eqb o.epoch o.epoch refl))
     at false other =
-        let on = on_channel i rs r to in
-        let o = observer i rs in
-        let j = packet_channel r.packet in
-        let ne = eqb-false k j other in
-        let none : (is_channel k (place_of i rs r).channel && eqb (place_of i rs r).epoch o.epoch) ≡ false =
-        ap (λ q. is_channel k q && eqb o.epoch o.epoch) on.channel ∙ ap (λ b. b && eqb o.epoch o.epoch) (ne_eqb j k (λ e. ne (sym e))) in
-        ap (λ b. cond b (channel_step i j (o.states j) r).after (o.states k)) other
+        let ne = eqb-false k n other in
+        ap (λ b. cond b (row_step i n (o.states n) r).after (o.states k)) other
         ∙ h on.ready k
-        ∙ ap (after_rows i k (fresh i o.epoch k)) (sym (rows_in i rs r o.epoch k ∙ rows_same o.epoch k (places i rs) (place_of i rs r) none))
+        ∙ sym (not_more i rs r k o.line (steps ∙ ap (λ b. b && eqb o.epoch o.epoch) (ne_eqb n k (λ e. ne (sym e)))))
 
-states_line : (i : Interface) (rs : List Item) (r : Item) → StatesAre i rs → is_to_channel (routing (observer i rs).line r).route ≡ false → StatesAre i (rs ++ r ∷ [])
-states_line i rs r h to ready k = at (is_ready (observer i rs).line) (is_ready (routing (observer i rs).line r).after) refl refl
+-- a row of the line part, after which r1 stands
+moved : (i : Interface) (rs : List Item) (r : Item) (k : ℕ) (b a : Bool) → let o = observer i rs in StatesAre i rs → is_ready o.line ≡ b → a ≡ true → (steps_by k (place_of i rs r) (is_gap_of_all r) && eqb o.epoch o.epoch) ≡ false
+    → StateIs i rs r k (line_moved (x25 i) o (routing o.line r).after b a)
+moved i rs r k true a h was will steps = h was k ∙ sym (not_more i rs r k (routing (observer i rs).line r).after steps)
+moved i rs r k false true h was will steps = sym (anew i rs r k (routing (observer i rs).line r).after)
+moved i rs r k false false h was will steps = absurd (true≢false (sym will))
+
+stepped_line : (i : Interface) (rs : List Item) (r : Item) (k : ℕ) (v : Bool) → let o = observer i rs in StatesAre i rs → is_ready (routing o.line r).after ≡ true → (steps_by k (place_of i rs r) (is_gap_of_all r) && eqb o.epoch o.epoch) ≡ false
+    → StateIs i rs r k (line_stepped (x25 i) o r v)
+stepped_line i rs r k true h will steps = sym (anew i rs r k (routing (observer i rs).line r).after)
+stepped_line i rs r k false h will steps = moved i rs r k (is_ready (observer i rs).line) (is_ready (routing (observer i rs).line r).after) h refl will steps
+
+states_line : (i : Interface) (rs : List Item) (r : Item) (k : ℕ) → StatesAre i rs → is_to_channel (routing (observer i rs).line r).route ≡ false → is_ready (routing (observer i rs).line r).after ≡ true → StateIs i rs r k (after (x25 i) (observer i rs) r)
+states_line i rs r k h to will = at (steps_all (x25 i) (observer i rs).line r) refl
   where
-    now : Interface → List Item → Type 0
-    now j qs = (observer j qs).states k ≡ after_rows j k (fresh j (observer j qs).epoch k) (piece_rows (observer j qs).epoch k (places j qs))
+    o : Observer GapLine GapChannel
+    o = observer i rs
 
-    is : observer i (rs ++ r ∷ []) ≡ line_moved (x25 i) (observer i rs) (routing (observer i rs).line r).after (is_ready (observer i rs).line) (is_ready (routing (observer i rs).line r).after)
-    is = observer_more i rs r ∙ ap (after_routed (x25 i) (observer i rs) r) (routed_none i (observer i rs).line r to)
+    none : routed (x25 i) o.line r ≡ None
+    none = routed_none i o.line r to
 
-    same : (e : ℕ) → piece_rows e k (places i (rs ++ r ∷ [])) ≡ piece_rows e k (places i rs)
-    same e = rows_in i rs r e k ∙ rows_same e k (places i rs) (place_of i rs r) (ap (λ q. is_channel k q && eqb (observer i rs).epoch e) (on_line i rs r to).channel)
-
-    at : (b a : Bool) → is_ready (observer i rs).line ≡ b → is_ready (routing (observer i rs).line r).after ≡ a → now i (rs ++ r ∷ [])
-    at b false was will = absurd (true≢false (sym ready ∙ ap is_ready (on_line i rs r to).line ∙ will))
-    at true true was will =
-        let o = observer i rs in
-        let moved = is ∙ (λ t. line_moved (x25 i) o (routing o.line r).after (was t) (will t)) in
-        ap (λ q. q.states k) moved ∙ h was k ∙ ap (after_rows i k (fresh i o.epoch k)) (sym (same o.epoch))
-        ∙ ap (λ e. after_rows i k (fresh i e k) (piece_rows e k (places i (rs ++ r ∷ [])))) (sym (ap (λ q. q.epoch) moved))
-    at false true was will =
-        let o = observer i rs in
-        let moved = is ∙ (λ t. line_moved (x25 i) o (routing o.line r).after (was t) (will t)) in
-        ap (λ q. q.states k) moved ∙ ap (after_rows i k (fresh i (o.epoch + 1) k)) (sym (same (o.epoch + 1) ∙ (ends_of i rs).later (o.epoch + 1) k (omega arith)))
-        ∙ ap (λ e. after_rows i k (fresh i e k) (piece_rows e k (places i (rs ++ r ∷ [])))) (sym (ap (λ q. q.epoch) moved))
+    at : (v : Bool) → steps_all (x25 i) o.line r ≡ v → StateIs i rs r k (after_by (x25 i) o r v (routed (x25 i) o.line r))
+    at true all =
+        let parts = and_parts (is_gap_of_all r) (stays_ready (x25 i) o.line r) all in
+        let ready = (and_parts (is_ready o.line) (is_ready (routing o.line r).after) parts.1).0 in
+        ap (λ g. (row_step i k g r).after) (h ready k)
+        ∙ sym (one_more i rs r k (routing o.line r).after ((λ j. steps_by k (place_of i rs r) (parts.0 j) && eqb o.epoch o.epoch) ∙ (λ j. all j && eqb o.epoch o.epoch) ∙ eq-eqb o.epoch o.epoch refl))
+    at false alone =
+        subst (λ q. StateIs i rs r k (after_by (x25 i) o r false q)) (sym none)
+        (stepped_line i rs r k (renewed (x25 i) o.line r) h will (ap (λ b. b && eqb o.epoch o.epoch) (steps_none (place_of i rs r) k none alone (is_gap_of_all r))))
 
 states_one : (i : Interface) (rs : List Item) (r : Item) → StatesAre i rs → StatesAre i (rs ++ r ∷ [])
-states_one i rs r h = at (is_to_channel (routing (observer i rs).line r).route) refl
+states_one i rs r h ready k =
+    subst (λ ps. (observer i (rs ++ r ∷ [])).states k ≡ stepped i (observer i (rs ++ r ∷ [])).line (observer i (rs ++ r ∷ [])).epoch k ps) (sym (places_more i rs r))
+    (subst (StateIs i rs r k) (sym (observer_more i rs r)) (at (is_to_channel (routing (observer i rs).line r).route) refl))
   where
-    at : (b : Bool) → is_to_channel (routing (observer i rs).line r).route ≡ b → StatesAre i (rs ++ r ∷ [])
-    at true to = states_channel i rs r h to
-    at false to = states_line i rs r h to
+    at : (b : Bool) → is_to_channel (routing (observer i rs).line r).route ≡ b → StateIs i rs r k (after (x25 i) (observer i rs) r)
+    at true to = states_channel i rs r k h to
+    at false to = states_line i rs r k h to (sym (ap is_ready (on_line i rs r to).line) ∙ ready)
 
 states_from : (i : Interface) (rs more : List Item) → StatesAre i rs → StatesAre i (rs ++ more)
 states_from i rs [] h = subst (StatesAre i) (sym (append-nil rs)) h

@@ -1,23 +1,19 @@
 -- What one more row does to the observer, by its route.
-use Rattle.std.proofs.Common.{◌≡◌, ◌∙◌, sym, ap, refl, ℕ, Bool, true, false, true≢false, ◌&&◌, cond, not, List, [], ◌∷◌, ◌++◌, Option, Some, None}
-use Rattle.std.proofs.lemmas.Bool.{and_parts}
+use Rattle.std.proofs.Common.{◌≡◌, ◌∙◌, sym, ap, subst, refl, ℕ, Bool, true, false, true≢false, ◌&&◌, cond, not, List, [], ◌∷◌, ◌++◌, Option, Some, None}
+use Rattle.std.proofs.lemmas.Bool.{and_parts, and_right}
 use Rattle.line_model.specs.declared.interface.Interface.{Interface}
-use Rattle.line_model.specs.declared.packet.Class.{Class}
-use Rattle.line_model.specs.declared.state.Side.{Side}
-use Rattle.line_model.specs.declared.state.RState.{RState}
-use Rattle.line_model.specs.declared.state.RState.TheVariants.{R1, R2, R3}
 use Rattle.line_model.specs.declared.route.Route.{Route}
-use Rattle.line_model.specs.declared.route.Route.TheVariants.{Pass, Found, Leave, Enter, ToChannel}
+use Rattle.line_model.specs.declared.route.Route.TheVariants.{Pass, Found, Leave, Enter, Renew, ToChannel}
 use Rattle.line_model.specs.basics.Records.{Item}
-use Rattle.line_model.specs.packets.Says.{packet_channel}
-use Rattle.line_model.specs.packets.Classes.{packet_class}
-use Rattle.line_model.specs.channels.RestartMachine.{LineState, line_step}
-use Rattle.line_model.specs.channels.Channels.{Channel}
-use Rattle.line_model.specs.observer.Machine.{Observer, routed, after_routed, line_moved}
-use Rattle.line_model.specs.pieces.Pieces.{leaves_routed}
-use Rattle.line_model.specs.observer.Observer.{x25, routing, is_ready, line_in_r1, channel_in_r1}
+use Rattle.line_model.specs.packets.Says.{gap_of, packet_channel}
+use Rattle.line_model.specs.channels.GapRestart.{GapLine, is_gap_of_all, is_of_all, is_ready, line_in_r1_with, routing}
+use Rattle.line_model.specs.channels.Gaps.{GapChannel}
+use Rattle.line_model.specs.observer.Machine.{Observer, after, after_by, after_routed, channel_unless, line_moved, line_stepped, routed, stays_ready, steps_all}
+use Rattle.line_model.specs.pieces.Pieces.{leaves_by, leaves_line}
+use Rattle.line_model.specs.observer.Observer.{x25, channel_in_r1, is_renewal}
 use Rattle.restart_epochs.specs.Cutting.{observer}
-use Rattle.restart_epochs.proofs.Routes.{is_to_channel, line_of, fits_route, fits, alike_in_r1, handed_to, handed_none}
+use Rattle.restart_epochs.specs.Walks.{epoch_after}
+use Rattle.restart_epochs.proofs.Routes.{is_to_channel, is_leaving, fits_route, fits, alike, all_passes, not_for_all, handed_to, handed_none, quiet_at}
 use Rattle.restart_epochs.proofs.Epochs.{place_of, observer_more}
 
 to_channel_route : (route : Route) (b a : Bool) → is_to_channel route ≡ true → fits_route b a route ≡ true → b ≡ true
@@ -26,33 +22,44 @@ to_channel_route Pass b a h f = absurd (true≢false (sym h))
 to_channel_route (Found s n) b a h f = absurd (true≢false (sym h))
 to_channel_route (Leave c) b a h f = absurd (true≢false (sym h))
 to_channel_route Enter b a h f = absurd (true≢false (sym h))
-
-alike : (s : RState) (w j : Bool) (x : Side) (k : Class) (n : ℕ) → is_ready (line_of s w j) ≡ true → is_to_channel (line_step (line_of s w j) x k n).route ≡ is_to_channel (line_step (line_in_r1 false) x k n).route
-alike R1 w j x k n h = alike_in_r1 w j x k n
-alike R2 w j x k n h = absurd (true≢false (sym h))
-alike R3 w j x k n h = absurd (true≢false (sym h))
+to_channel_route Renew b a h f = absurd (true≢false (sym h))
 
 -- a row that goes to its channel finds r1
-pub in_r1 : (l : LineState) (r : Item) → is_to_channel (routing l r).route ≡ true → is_ready l ≡ true
-in_r1 l r h = to_channel_route (routing l r).route (is_ready l) _ h (fits l r.side (packet_class r.packet) r.length)
+pub in_r1 : (l : GapLine) (r : Item) → is_to_channel (routing l r).route ≡ true → is_ready l ≡ true
+in_r1 l r h = to_channel_route (routing l r).route (is_ready l) _ h (fits l r)
 
-pub routed_to : (i : Interface) (l : LineState) (r : Item) → is_to_channel (routing l r).route ≡ true → routed (x25 i) l r ≡ Some (packet_channel r.packet)
+pub in_r1_alone : (i : Interface) (l : GapLine) (r : Item) → is_to_channel (routing l r).route ≡ true → steps_all (x25 i) l r ≡ false
+in_r1_alone i l r h = ap (λ b. b && stays_ready (x25 i) l r) (not_for_all l r h)
+
+-- its channel in r1
+pub handed_at : (l : GapLine) (r : Item) → is_to_channel (routing l r).route ≡ true → channel_in_r1 r ≡ Some (packet_channel r.packet)
+handed_at l r h = handed_to (routing (line_in_r1_with false false) r).route (packet_channel r.packet) (sym (alike l r (in_r1 l r h)) ∙ h)
+
+pub routed_to : (i : Interface) (l : GapLine) (r : Item) → is_to_channel (routing l r).route ≡ true → routed (x25 i) l r ≡ Some (packet_channel r.packet)
 routed_to i l r h =
-    let ready = in_r1 l r h in
-    let there = alike l.state l.owed l.joining r.side (packet_class r.packet) r.length ready in
-    ap (λ b. cond b (channel_in_r1 r) None) ready ∙ handed_to (routing (line_in_r1 false) r).route (packet_channel r.packet) (sym there ∙ h)
+    ap (λ b. cond b (channel_unless (x25 i) r (is_of_all (gap_of r.packet))) None) (in_r1 l r h)
+    ∙ ap (channel_unless (x25 i) r) (not_for_all l r h) ∙ handed_at l r h
 
 none_at : (b : Bool) (o : Option ℕ) → (b ≡ true → o ≡ None) → cond b o None ≡ None
 none_at true o h = h refl
 none_at false o h = refl
 
-pub routed_none : (i : Interface) (l : LineState) (r : Item) → is_to_channel (routing l r).route ≡ false → routed (x25 i) l r ≡ None
+pub routed_none : (i : Interface) (l : GapLine) (r : Item) → is_to_channel (routing l r).route ≡ false → routed (x25 i) l r ≡ None
 routed_none i l r h =
-    none_at (is_ready l) (channel_in_r1 r)
-    (λ ready. handed_none (routing (line_in_r1 false) r).route (packet_channel r.packet) (sym (alike l.state l.owed l.joining r.side (packet_class r.packet) r.length ready) ∙ h))
+    none_at (is_ready l) (channel_unless (x25 i) r (is_of_all (gap_of r.packet)))
+    (λ ready. unless (is_of_all (gap_of r.packet)) (handed_none (routing (line_in_r1_with false false) r).route (packet_channel r.packet) (sym (alike l r ready) ∙ h)))
+  where
+    unless : (all : Bool) → channel_in_r1 r ≡ None → channel_unless (x25 i) r all ≡ None
+    unless true none = refl
+    unless false none = none
+
+-- the observer after a row that goes to its channel
+pub stepped_on : (i : Interface) (o : Observer GapLine GapChannel) (r : Item) → is_to_channel (routing o.line r).route ≡ true → after (x25 i) o r ≡ after_routed (x25 i) o r (Some (packet_channel r.packet))
+stepped_on i o r h = λ j. after_by (x25 i) o r (in_r1_alone i o.line r h j) (routed_to i o.line r h j)
 
 -- what a row on a channel leaves
 pub record OnChannel (i : Interface) (rs : List Item) (r : Item) : Type 0 where
+  pub own : is_gap_of_all r ≡ false
   pub ready : is_ready (observer i rs).line ≡ true
   pub line : (observer i (rs ++ r ∷ [])).line ≡ (observer i rs).line
   pub epoch : (observer i (rs ++ r ∷ [])).epoch ≡ (observer i rs).epoch
@@ -64,34 +71,103 @@ on_channel i rs r h =
     let o = observer i rs in
     let to = routed_to i o.line r h in
     record {
+      own = not_for_all o.line r h;
       ready = in_r1 o.line r h;
-      line = ap (λ p. p.line) (observer_more i rs r) ∙ ap (λ q. (after_routed (x25 i) o r q).line) to;
-      epoch = ap (λ p. p.epoch) (observer_more i rs r) ∙ ap (λ q. (after_routed (x25 i) o r q).epoch) to;
+      line = ap (λ p. p.line) (observer_more i rs r ∙ stepped_on i o r h);
+      epoch = ap (λ p. p.epoch) (observer_more i rs r ∙ stepped_on i o r h);
       channel = to;
-      leaves = ap (λ q. leaves_routed (x25 i) o.line r q) to;
+      leaves = λ j. leaves_by (x25 i) o.line r (in_r1_alone i o.line r h j) (to j);
     }
 
-moved_line : (i : Interface) (o : Observer LineState Channel) (l : LineState) (b a : Bool) → (line_moved (x25 i) o l b a).line ≡ l
+-- ---- a row of the line part
+
+moved_line : (i : Interface) (o : Observer GapLine GapChannel) (l : GapLine) (b a : Bool) → (line_moved (x25 i) o l b a).line ≡ l
 moved_line i o l false true = refl
 moved_line i o l false false = refl
 moved_line i o l true true = refl
 moved_line i o l true false = refl
 
+-- what is left of an observer after a row, and whether it ends the epoch
+record IsLeftBy (o p : Observer GapLine GapChannel) (next : GapLine) (route : Route) (leaves : Bool) : Type 0 where
+  line : p.line ≡ next
+  epoch : p.epoch ≡ epoch_after o.epoch route
+  left : leaves ≡ is_leaving route
+
+moved_by : (i : Interface) (o : Observer GapLine GapChannel) (r : Item) (t : Route) (b a : Bool) → is_ready o.line ≡ b → is_ready (routing o.line r).after ≡ a
+    → (line_moved (x25 i) o (routing o.line r).after b a).epoch ≡ epoch_after o.epoch t → (b && not a) ≡ is_leaving t
+    → IsLeftBy o (line_stepped (x25 i) o r false) (routing o.line r).after t (leaves_line (x25 i) o.line r false)
+moved_by i o r t b a was will epoch leaves = record {
+  line = moved_line i o (routing o.line r).after (is_ready o.line) (is_ready (routing o.line r).after);
+  epoch = (λ j. (line_moved (x25 i) o (routing o.line r).after (was j) (will j)).epoch) ∙ epoch;
+  left = (λ j. was j && not (will j)) ∙ leaves;
+}
+
+-- a row that is for no channel, by its route
+stepped_by : (i : Interface) (o : Observer GapLine GapChannel) (r : Item) (t : Route) (b a : Bool) → is_ready o.line ≡ b → is_ready (routing o.line r).after ≡ a → fits_route b a t ≡ true → is_to_channel t ≡ false
+    → IsLeftBy o (line_stepped (x25 i) o r (is_renewal t && (b && a))) (routing o.line r).after t (leaves_line (x25 i) o.line r (is_renewal t && (b && a)))
+stepped_by i o r Renew true true was will fit to = record { line = refl; epoch = refl; left = refl }
+stepped_by i o r Renew true false was will fit to = absurd (true≢false (sym fit))
+stepped_by i o r Renew false a was will fit to = absurd (true≢false (sym fit))
+stepped_by i o r Pass true true was will fit to = moved_by i o r Pass true true was will refl refl
+stepped_by i o r Pass false false was will fit to = moved_by i o r Pass false false was will refl refl
+stepped_by i o r Pass true false was will fit to = absurd (true≢false (sym fit))
+stepped_by i o r Pass false true was will fit to = absurd (true≢false (sym fit))
+stepped_by i o r (Found s n) true true was will fit to = moved_by i o r (Found s n) true true was will refl refl
+stepped_by i o r (Found s n) false false was will fit to = moved_by i o r (Found s n) false false was will refl refl
+stepped_by i o r (Found s n) true false was will fit to = absurd (true≢false (sym fit))
+stepped_by i o r (Found s n) false true was will fit to = absurd (true≢false (sym fit))
+stepped_by i o r (Leave c) true false was will fit to = moved_by i o r (Leave c) true false was will refl refl
+stepped_by i o r (Leave c) true true was will fit to = absurd (true≢false (sym fit))
+stepped_by i o r (Leave c) false a was will fit to = absurd (true≢false (sym fit))
+stepped_by i o r Enter false true was will fit to = moved_by i o r Enter false true was will refl refl
+stepped_by i o r Enter false false was will fit to = absurd (true≢false (sym fit))
+stepped_by i o r Enter true a was will fit to = absurd (true≢false (sym fit))
+stepped_by i o r ToChannel b a was will fit to = absurd (true≢false to)
+
 -- what a row of the line part leaves
 pub record OnLine (i : Interface) (rs : List Item) (r : Item) : Type 0 where
   pub line : (observer i (rs ++ r ∷ [])).line ≡ (routing (observer i rs).line r).after
-  pub epoch : (observer i (rs ++ r ∷ [])).epoch ≡ (line_moved (x25 i) (observer i rs) (routing (observer i rs).line r).after (is_ready (observer i rs).line) (is_ready (routing (observer i rs).line r).after)).epoch
+  pub epoch : (observer i (rs ++ r ∷ [])).epoch ≡ epoch_after (observer i rs).epoch (routing (observer i rs).line r).route
   pub channel : (place_of i rs r).channel ≡ None
-  pub leaves : (place_of i rs r).leaves ≡ (is_ready (observer i rs).line && not (is_ready (routing (observer i rs).line r).after))
+  pub leaves : (place_of i rs r).leaves ≡ is_leaving (routing (observer i rs).line r).route
 
 pub on_line : (i : Interface) (rs : List Item) (r : Item) → is_to_channel (routing (observer i rs).line r).route ≡ false → OnLine i rs r
 on_line i rs r h =
     let o = observer i rs in
-    let to = routed_none i o.line r h in
-    let moved = ap (λ q. after_routed (x25 i) o r q) to in
+    let left = at (steps_all (x25 i) o.line r) refl in
     record {
-      line = ap (λ p. p.line) (observer_more i rs r ∙ moved) ∙ moved_line i o (routing o.line r).after (is_ready o.line) (is_ready (routing o.line r).after);
-      epoch = ap (λ p. p.epoch) (observer_more i rs r ∙ moved);
-      channel = to;
-      leaves = ap (λ q. leaves_routed (x25 i) o.line r q) to;
+      line = ap (λ p. p.line) (observer_more i rs r) ∙ left.line;
+      epoch = ap (λ p. p.epoch) (observer_more i rs r) ∙ left.epoch;
+      channel = routed_none i o.line r h;
+      leaves = left.left;
     }
+  where
+    o : Observer GapLine GapChannel
+    o = observer i rs
+
+    at : (v : Bool) → steps_all (x25 i) o.line r ≡ v
+        → IsLeftBy o (after_by (x25 i) o r v (routed (x25 i) o.line r)) (routing o.line r).after (routing o.line r).route (leaves_by (x25 i) o.line r v (routed (x25 i) o.line r))
+    at true all =
+        let w = and_parts (is_of_all (gap_of r.packet)) (stays_ready (x25 i) o.line r) all in
+        let pass = all_passes o.line r w.0 (and_parts (is_ready o.line) (is_ready (routing o.line r).after) w.1).0 in
+        record { line = refl; epoch = ap (epoch_after o.epoch) (sym pass); left = ap is_leaving (sym pass) }
+    at false all =
+        subst (λ q. IsLeftBy o (after_by (x25 i) o r false q) (routing o.line r).after (routing o.line r).route (leaves_by (x25 i) o.line r false q)) (sym (routed_none i o.line r h))
+        (stepped_by i o r (routing o.line r).route (is_ready o.line) (is_ready (routing o.line r).after) refl refl (fits o.line r) h)
+
+-- ---- whether a row steps each channel
+
+-- outside r1 it does not
+pub unready_alone : (i : Interface) (l : GapLine) (r : Item) → is_ready l ≡ false → steps_all (x25 i) l r ≡ false
+unready_alone i l r h = and_right (is_gap_of_all r) (stays_ready (x25 i) l r) (ap (λ b. b && is_ready (routing l r).after) h)
+
+-- nor does a row that is no gap of all channels
+pub own_alone : (i : Interface) (l : GapLine) (r : Item) → is_gap_of_all r ≡ false → steps_all (x25 i) l r ≡ false
+own_alone i l r h = ap (λ b. b && stays_ready (x25 i) l r) h
+
+-- a gap of all channels in r1 does
+pub gap_steps_all : (i : Interface) (l : GapLine) (r : Item) → is_gap_of_all r ≡ true → is_ready l ≡ true → steps_all (x25 i) l r ≡ true
+gap_steps_all i l r gap ready =
+    let pass = all_passes l r gap ready in
+    let after : is_ready (routing l r).after ≡ true = quiet_at (is_ready l) (is_ready (routing l r).after) Pass refl (ap (fits_route (is_ready l) (is_ready (routing l r).after)) (sym pass) ∙ fits l r) ∙ ready in
+    λ j. gap j && (ready j && after j)

@@ -1,31 +1,37 @@
 -- Rows that are cut by epoch and logical channel apart from the rows before them.
-use Rattle.std.specs.Prelude.{◌≡◌, ◌≢◌, ℕ, ◌+◌, ◌<◌, ◌≤◌, ◌^◌, ◌==◌, true, cond, List, [], ◌∷◌, ◌++◌, length, map, filter, All, Option, Some}
+use Rattle.std.specs.Prelude.{◌≡◌, ◌≢◌, ◌⊎◌, ℕ, ◌+◌, ◌<◌, ◌≤◌, ◌^◌, ◌==◌, true, cond, List, [], ◌∷◌, ◌++◌, length, map, filter, All, Option, Some}
 use Rattle.std.specs.List.{range_with_len}
 use Rattle.std.specs.List.Sorted.{IsStrictlyIncreasing}
 use Rattle.line_model.specs.basics.Bounds.{AreSaid, IsPiece, IsSaid, all_octets}
 use Rattle.line_model.specs.basics.Records.{Item, Piece}
-use Rattle.line_model.specs.channels.RestartMachine.{LineState}
+use Rattle.line_model.specs.declared.gap.EpochStart.{EpochStart}
+use Rattle.line_model.specs.declared.piece.PieceEnd.{PieceEnd}
+use Rattle.line_model.specs.pieces.Plans.{end_at}
+use Rattle.line_model.specs.channels.GapRestart.{GapLine}
 use Rattle.line_model.specs.declared.finding.Finding.{Finding}
 use Rattle.line_model.specs.declared.interface.Interface.{Interface}
 use Rattle.line_model.specs.pieces.Plan.{has_some}
 use Rattle.line_model.specs.text.Text.{last_or}
-use Rattle.restart_epochs.specs.Cutting.{Cutting, HasAppended, IsCutting, StandsFor, given_of, pieces_out}
+use Rattle.restart_epochs.specs.Cutting.{Cutting, HasAppended, IsCutting, StandsFor, given_of, piece_out, pieces_out}
+use Rattle.restart_epochs.specs.Walks.{start_joined}
 use Rattle.restart_epochs.specs.OpenLanes.{lane_at}
-use Rattle.restart_epochs.specs.OpenRows.{OpenRows, no_rows, rows_in, rows_of, with_channel, HasMore, HasNoOthers, IsSame}
+use Rattle.restart_epochs.specs.OpenRows.{OpenRows, last_number, no_rows, rows_in, rows_of, with_channel, with_gap, with_part, HasMore, HasNoOthers, IsSame}
 use Rattle.restart_epochs.specs.declared.walk.Turn.{Turn}
-use Rattle.restart_epochs.specs.declared.walk.Turn.TheVariants.{ToChannel, Ends, Stays}
+use Rattle.restart_epochs.specs.declared.walk.Turn.TheVariants.{ToChannel, Ends}
 
 -- rows of a channel
 pub record ChannelRows : Type 0 where
   pub channel : ℕ
   pub items : List Item
 
--- the rows of an epoch of a block by channel, how many epochs began before in the block, and the number of the row that
--- ended it
+-- the rows of an epoch of a block by channel, the number of the last gap of all channels, or 0, how many epochs began before
+-- in the block, how this one began if it did so in the block, and the row that ended it
 pub record EpochRows : Type 0 where
   pub parts : List ChannelRows
+  pub gap : ℕ
   pub epoch : ℕ
-  pub end : ℕ
+  pub start : EpochStart
+  pub end : PieceEnd
 
 -- the rows of a channel in all parts
 abbrev pub rows_on : ℕ → List ChannelRows → List Item
@@ -36,9 +42,13 @@ rows_on k (p ∷ ps) = cond (p.channel == k) (p.items ++ rows_on k ps) (rows_on 
 abbrev pub parts_of : (ℕ → List Item) → List ℕ → List ChannelRows
 parts_of rows channels = map (λ k. record { channel = k; items = rows k }) channels
 
--- the rows of a channel, and those that parts have of it
-abbrev pub with_parts : OpenRows → List ChannelRows → ℕ → List Item
-with_parts o parts k = rows_of o k ++ rows_on k parts
+-- the rows of a channel, and those that parts have of it; before these this was the last gap of all channels
+abbrev pub with_parts : (gap : ℕ) → OpenRows → List ChannelRows → ℕ → List Item
+with_parts gap o parts k = with_part gap (rows_of o k) (rows_on k parts)
+
+-- the last gap of all channels, of those in some rows and in later ones
+abbrev pub gap_joined : (gap later : ℕ) → ℕ
+gap_joined gap later = cond (later == 0) gap later
 
 -- the channels up to a number that have rows
 abbrev pub listed : ℕ → (ℕ → List Item) → List ℕ
@@ -46,44 +56,60 @@ listed n rows = filter (λ k. has_some (rows k)) (range_with_len 1 n)
 
 -- ---- the cutter with the rows of a block
 
--- the rows of a block as they were cut: the restart machine after them, how many epochs began in it, how many rows there
--- are, the number of the last, their octets, the findings of the restart machine, the epochs that ended, and the rows of
--- the epoch that is open
+-- the rows of a block as they were cut: the restart machine after them, how many epochs began in it and how the last of them
+-- did, how many rows there are and how many of them are gaps, the number of the last, their octets, the findings of the restart
+-- machine, the epochs that ended, and of the epoch that is open the last gap of all channels and the rows
 pub record BlockRows : Type 0 where
-  pub line : LineState
+  pub line : GapLine
   pub epoch : ℕ
+  pub start : EpochStart
   pub packets : ℕ
+  pub gaps : ℕ
   pub last : ℕ
   pub octets : ℕ
   pub findings : List Finding
   pub ended : List EpochRows
+  pub gap : ℕ
   pub rows : OpenRows
 
--- the rows of both lanes
-abbrev pub lanes_both : List (Option (List Item)) → List (Option (List Item)) → List (Option (List Item))
-lanes_both [] others = others
-lanes_both (a ∷ lanes) [] = a ∷ lanes
-lanes_both (a ∷ lanes) (b ∷ others) = Some (rows_in a ++ rows_in b) ∷ lanes_both lanes others
+-- the rows of both lanes, and the last gap of all channels between them
+abbrev pub lanes_both : (gap : ℕ) → List (Option (List Item)) → List (Option (List Item)) → List (Option (List Item))
+lanes_both gap lanes [] = lanes
+lanes_both gap [] (b ∷ others) = Some (with_part gap [] (rows_in b)) ∷ lanes_both gap [] others
+lanes_both gap (a ∷ lanes) (b ∷ others) = Some (with_part gap (rows_in a) (rows_in b)) ∷ lanes_both gap lanes others
 
 -- the rows of each channel in both tables, of so many channels
-abbrev pub both : ℕ → OpenRows → OpenRows → OpenRows
-both n a b = record { lanes = lanes_both a.lanes b.lanes; channels = listed n (λ k. rows_in (lane_at (lanes_both a.lanes b.lanes) k)) }
+abbrev pub both : ℕ → (gap : ℕ) → OpenRows → OpenRows → OpenRows
+both n gap a b = record { lanes = lanes_both gap a.lanes b.lanes; channels = listed n (λ k. rows_in (lane_at (lanes_both gap a.lanes b.lanes) k)) }
 
 -- the rows that are open once these epochs have ended
 abbrev pub rows_after : OpenRows → List EpochRows → OpenRows
 rows_after o [] = o
 rows_after o (e ∷ es) = no_rows
 
--- the pieces of epochs that end one after the other, where these rows were open; the block begins in this epoch
-abbrev pub pieces_of : Interface → (epoch given : ℕ) → OpenRows → List EpochRows → List Piece
-pieces_of i epoch given o [] = []
-pieces_of i epoch given o (e ∷ es) =
-    let channels : List ℕ = listed i.svc (with_parts o e.parts) in
-    pieces_out i (epoch + e.epoch) (Some e.end) (with_parts o e.parts) given channels ++ pieces_of i epoch (given + length channels) no_rows es
+-- the last gap of all channels in the epoch that is open then
+abbrev pub gap_left : (gap : ℕ) → List EpochRows → ℕ
+gap_left gap [] = gap
+gap_left gap (e ∷ es) = 0
+
+-- the items of the pieces of an epoch that ends, where these rows were open
+abbrev pub items_ended : (gap : ℕ) → OpenRows → EpochRows → ℕ → List Item
+items_ended gap o e k = with_gap (gap_joined gap e.gap) (with_parts gap o e.parts k)
+
+-- the pieces of an epoch that ends, where these rows were open; the block begins in an epoch that began so
+abbrev pub pieces_at : Interface → (epoch : ℕ) → EpochStart → (given gap : ℕ) → OpenRows → EpochRows → List Piece
+pieces_at i epoch start given gap o e =
+    pieces_out i (epoch + e.epoch) (start_joined e.epoch start e.start) (Some e.end) (items_ended gap o e) given (listed i.svc (with_parts gap o e.parts))
+
+-- the pieces of epochs that end one after the other
+abbrev pub pieces_of : Interface → (epoch : ℕ) → EpochStart → (given gap : ℕ) → OpenRows → List EpochRows → List Piece
+pieces_of i epoch start given gap o [] = []
+pieces_of i epoch start given gap o (e ∷ es) =
+    pieces_at i epoch start given gap o e ++ pieces_of i epoch start (given + length (listed i.svc (with_parts gap o e.parts))) 0 no_rows es
 
 -- the pieces that are known whole with the rows of a block
 abbrev pub pieces_ended : Cutting → BlockRows → List Piece
-pieces_ended c b = pieces_of c.interface c.epoch c.given c.open_rows b.ended
+pieces_ended c b = pieces_of c.interface c.epoch c.start c.given c.gap c.open_rows b.ended
 
 -- a cutter with the rows of a block
 abbrev pub joined : Cutting → BlockRows → Cutting
@@ -91,12 +117,15 @@ joined c b = record {
   interface = c.interface;
   line = b.line;
   epoch = c.epoch + b.epoch;
+  start = start_joined b.epoch c.start b.start;
   given = c.given + length (pieces_ended c b);
   packets = c.packets + b.packets;
+  gaps = c.gaps + b.gaps;
   last = cond (b.packets == 0) c.last b.last;
   octets = c.octets + b.octets;
   findings = c.findings ++ b.findings;
-  open_rows = both c.interface.svc (rows_after c.open_rows b.ended) b.rows;
+  gap = gap_joined (gap_left c.gap b.ended) b.gap;
+  open_rows = both c.interface.svc (gap_left c.gap b.ended) (rows_after c.open_rows b.ended) b.rows;
 }
 
 -- ---- rows that a cutter may take
@@ -114,16 +143,21 @@ Comes i last octets [] = octets ≤ 2 ^ 31
 Comes i last octets (item ∷ items) = (last < item.number) × (item.number ≤ 999999999) × IsSaid i item × Comes i item.number (octets + item.length) items
 
 -- the rows of an epoch of a block can be pieces, where these were open
-pub record FitsEpoch (i : Interface) (epoch : ℕ) (o : OpenRows) (e : EpochRows) : Type 0 where
+pub record FitsEpoch (i : Interface) (epoch gap : ℕ) (o : OpenRows) (e : EpochRows) : Type 0 where
   pub epochs : epoch + e.epoch < 2 ^ 32
-  pub pieces : (k : ℕ) → IsPiece i k (with_parts o e.parts k)
+  pub pieces : (k : ℕ) → IsPiece i k (items_ended gap o e k)
   pub channels : (k : ℕ) → has_some (rows_on k e.parts) ≡ true → (1 ≤ k) × (k ≤ i.svc)
   pub parts : e.parts ≡ parts_of (λ k. rows_on k e.parts) (listed i.svc (λ k. rows_on k e.parts))
 
 -- the rows of all epochs that ended can be pieces
-abbrev pub AreFit : Interface → (epoch : ℕ) → OpenRows → List EpochRows → Type 0
-AreFit i epoch o [] = Unit {0}
-AreFit i epoch o (e ∷ es) = FitsEpoch i epoch o e × AreFit i epoch no_rows es
+abbrev pub AreFit : Interface → (epoch gap : ℕ) → OpenRows → List EpochRows → Type 0
+AreFit i epoch gap o [] = Unit {0}
+AreFit i epoch gap o (e ∷ es) = FitsEpoch i epoch gap o e × AreFit i epoch 0 no_rows es
+
+-- the rows of the open epoch of a block and its last gap of all channels come after a row of this number
+pub record IsBehind (last : ℕ) (b : BlockRows) : Type 0 where
+  pub gap : (b.gap ≡ 0) ⊎ (last < b.gap)
+  pub rows : (k : ℕ) → (rows_of b.rows k ≡ []) ⊎ (last < last_number (rows_of b.rows k))
 
 -- a cutter that was given some rows, with the rows of a block, was given both, and the pieces that are known whole with
 -- them are those of the block
@@ -134,11 +168,12 @@ pub record IsJoined (i : Interface) (rs : List Item) (c : Cutting) (items : List
   pub last : (joined c b).last ≡ last_or c.last (map (λ it. it.number) items)
   pub octets : (joined c b).octets ≡ c.octets + all_octets items
   pub listed : b.rows.channels ≡ listed c.interface.svc (rows_of b.rows)
-  pub fit : AreFit c.interface c.epoch c.open_rows b.ended
+  pub fit : AreFit c.interface c.epoch c.gap c.open_rows b.ended
+  pub behind : IsBehind c.last b
 
 -- rows were cut after a restart machine: wherever they come to a cutter with this machine, the cutter with the rows of
 -- the block was given them too
-abbrev pub IsCutApart : LineState → List Item → BlockRows → Type 0
+abbrev pub IsCutApart : GapLine → List Item → BlockRows → Type 0
 IsCutApart l items b = (i : Interface) (rs : List Item) (c : Cutting) → StandsFor i rs c → IsCutting c → c.line ≡ l → Comes c.interface c.last c.octets items → IsJoined i rs c items b
 
 -- all rows were taken out, and their parts have each of them
@@ -147,12 +182,15 @@ pub record AreAllOut (before after : OpenRows) : Type 0 where
   pub none : (k : ℕ) → rows_of after k ≡ []
   pub channels : after.channels ≡ []
 
--- what a row did to the rows of a block
-abbrev pub HasCut : Turn → Item → (epoch : ℕ) → (ended ended_after : List EpochRows) → (before after : OpenRows) → Type 0
-HasCut (ToChannel channel) item epoch ended ended_after before after = (ended_after ≡ ended) × HasMore channel item before after
-HasCut Ends item epoch ended ended_after before after =
-    (ended_after ≡ ended ++ record { parts = parts_of (rows_of before) before.channels; epoch = epoch; end = item.number } ∷ []) × AreAllOut before after
-HasCut Stays item epoch ended ended_after before after = (ended_after ≡ ended) × (after ≡ before)
+-- the epoch of a block that a row ends
+abbrev pub epoch_ended : Item → (epoch : ℕ) → EpochStart → (gap : ℕ) → OpenRows → EpochRows
+epoch_ended item epoch start gap rows = record { parts = parts_of (rows_of rows) rows.channels; gap = gap; epoch = epoch; start = start; end = end_at item }
+
+-- what a row did to the rows of a block, in an epoch that began so with this last gap of all channels
+abbrev pub HasCut : Turn → Item → (epoch : ℕ) → EpochStart → (gap : ℕ) → (ended ended_after : List EpochRows) → (before after : OpenRows) → Type 0
+HasCut (ToChannel channel) item epoch start gap ended ended_after before after = (ended_after ≡ ended) × HasMore gap channel item before after
+HasCut Ends item epoch start gap ended ended_after before after = (ended_after ≡ ended ++ epoch_ended item epoch start gap before ∷ []) × AreAllOut before after
+HasCut _ item epoch start gap ended ended_after before after = (ended_after ≡ ended) × (after ≡ before)
 
 -- ---- what a cutter took
 
@@ -169,46 +207,54 @@ abbrev pub with_rows : (added : List Item) → (was : List Item) → ℕ → Lis
 with_rows [] was k channels = channels
 with_rows (item ∷ items) was k channels = with_channel was k channels
 
--- a channel has these rows more
-pub record HasAll (channel : ℕ) (items : List Item) (before after : OpenRows) : Type 0 where
-  pub rows : rows_of after channel ≡ rows_of before channel ++ items
+-- a channel that had no rows has these
+pub record HasFirst (channel : ℕ) (items : List Item) (before after : OpenRows) : Type 0 where
+  pub rows : rows_of after channel ≡ items
+  pub others : (k : ℕ) → k ≢ channel → rows_of after k ≡ rows_of before k
+  pub channels : after.channels ≡ with_rows items [] channel before.channels
+
+-- a channel has these rows more, behind the last gap of all channels
+pub record HasAll (gap channel : ℕ) (items : List Item) (before after : OpenRows) : Type 0 where
+  pub rows : rows_of after channel ≡ with_part gap (rows_of before channel) items
   pub others : (k : ℕ) → k ≢ channel → rows_of after k ≡ rows_of before k
   pub channels : after.channels ≡ with_rows items (rows_of before channel) channel before.channels
 
 -- the rows of parts were added one after the other
-abbrev pub AreAdded : List ChannelRows → OpenRows → OpenRows → Type 0
-AreAdded [] before after = IsSame before after
-AreAdded (p ∷ ps) before after = (next : OpenRows) × HasAll p.channel p.items before next × AreAdded ps next after
+abbrev pub AreAdded : (gap : ℕ) → List ChannelRows → OpenRows → OpenRows → Type 0
+AreAdded gap [] before after = IsSame before after
+AreAdded gap (p ∷ ps) before after = (next : OpenRows) × HasAll gap p.channel p.items before next × AreAdded gap ps next after
 
--- the pieces of an epoch whose rows are these parts
-abbrev pub part_pieces : Interface → (epoch : ℕ) → (end : Option ℕ) → (id : ℕ) → List ChannelRows → List Piece
-part_pieces i e end id [] = []
-part_pieces i e end id (p ∷ ps) = record { id = id; interface = i; epoch = e; channel = p.channel; items = p.items; end = end } ∷ part_pieces i e end (id + 1) ps
+-- the pieces of an epoch whose rows are these parts, up to this last gap of all channels
+abbrev pub part_pieces : Interface → (epoch : ℕ) → EpochStart → (end : Option PieceEnd) → (gap id : ℕ) → List ChannelRows → List Piece
+part_pieces i e start end gap id [] = []
+part_pieces i e start end gap id (p ∷ ps) =
+    piece_out i e start end id p.channel (with_gap gap p.items) ∷ part_pieces i e start end gap (id + 1) ps
 
 -- the rows of an epoch may be added to these, and its pieces be given out
-pub record MayEnd (i : Interface) (epoch given : ℕ) (o : OpenRows) (e : EpochRows) : Type 0 where
+pub record MayEnd (i : Interface) (epoch given gap : ℕ) (o : OpenRows) (e : EpochRows) : Type 0 where
   pub channels : o.channels ≡ listed i.svc (rows_of o)
   pub others : HasNoOthers o
-  pub ids : given + length (listed i.svc (with_parts o e.parts)) < 2 ^ 32
-  pub fits : FitsEpoch i epoch o e
+  pub ids : given + length (listed i.svc (with_parts gap o e.parts)) < 2 ^ 32
+  pub fits : FitsEpoch i epoch gap o e
 
 -- the pieces of an epoch were given out, and no row is left
-pub record HasEnded (i : Interface) (epoch : ℕ) (e : EpochRows) (given given_after : ℕ) (before after : OpenRows) (out out_after : List Piece) : Type 0 where
-  pub count : given_after ≡ given + length (listed i.svc (with_parts before e.parts))
-  pub pieces : out_after ≡ out ++ pieces_out i (epoch + e.epoch) (Some e.end) (with_parts before e.parts) given (listed i.svc (with_parts before e.parts))
+pub record HasEnded (i : Interface) (epoch : ℕ) (start : EpochStart) (e : EpochRows) (given given_after gap : ℕ) (before after : OpenRows) (out out_after : List Piece) : Type 0 where
+  pub count : given_after ≡ given + length (listed i.svc (with_parts gap before e.parts))
+  pub pieces : out_after ≡ out ++ pieces_at i epoch start given gap before e
   pub rows : (k : ℕ) → rows_of after k ≡ []
   pub channels : after.channels ≡ []
 
 -- the same of epochs one after the other
-pub record MayEndAll (i : Interface) (epoch given : ℕ) (o : OpenRows) (es : List EpochRows) : Type 0 where
+pub record MayEndAll (i : Interface) (epoch : ℕ) (start : EpochStart) (given gap : ℕ) (o : OpenRows) (es : List EpochRows) : Type 0 where
   pub channels : o.channels ≡ listed i.svc (rows_of o)
   pub others : HasNoOthers o
-  pub ids : given + length (pieces_of i epoch given o es) < 2 ^ 32
-  pub fit : AreFit i epoch o es
+  pub ids : given + length (pieces_of i epoch start given gap o es) < 2 ^ 32
+  pub fit : AreFit i epoch gap o es
 
 -- the pieces of the epochs were given out
-pub record HaveEnded (i : Interface) (epoch : ℕ) (es : List EpochRows) (given given_after : ℕ) (before after : OpenRows) (out out_after : List Piece) : Type 0 where
-  pub count : given_after ≡ given + length (pieces_of i epoch given before es)
-  pub pieces : out_after ≡ out ++ pieces_of i epoch given before es
+pub record HaveEnded (i : Interface) (epoch : ℕ) (start : EpochStart) (es : List EpochRows) (given given_after gap gap_after : ℕ) (before after : OpenRows) (out out_after : List Piece) : Type 0 where
+  pub count : given_after ≡ given + length (pieces_of i epoch start given gap before es)
+  pub pieces : out_after ≡ out ++ pieces_of i epoch start given gap before es
+  pub left : gap_after ≡ gap_left gap es
   pub rows : (k : ℕ) → rows_of after k ≡ rows_of (rows_after before es) k
   pub channels : after.channels ≡ listed i.svc (rows_of after)

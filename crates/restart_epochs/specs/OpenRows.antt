@@ -1,11 +1,39 @@
 -- The rows of the open epoch, by logical channel (profile).
-use Rattle.std.specs.Prelude.{◌≡◌, ◌≢◌, ℕ, ◌<◌, length, List, [], ◌∷◌, ◌++◌, Option, Some, None, true}
+use Rattle.std.specs.Prelude.{◌≡◌, ◌≢◌, ℕ, ◌<◌, nat_lt, length, List, [], ◌∷◌, ◌++◌, map, Option, Some, None, Bool, true, false, not}
 use Rattle.std.specs.BTreeSet.{insert_key}
 use Rattle.std.specs.Ordering.{nat_cmp}
 use Rattle.std.specs.List.{AllByRecursion}
 use Rattle.line_model.specs.basics.Records.{Item}
+use Rattle.line_model.specs.channels.GapRestart.{is_gap_of_all}
+use Rattle.line_model.specs.packets.Says.{gap_items}
 use Rattle.line_model.specs.pieces.Plan.{has_some}
+use Rattle.line_model.specs.text.Text.{last_or}
 use Rattle.restart_epochs.specs.OpenLanes.{OpenLanes, value_at, no_lanes}
+
+-- ---- rows of a channel, and the last gap of all channels
+
+-- the number of the last row, or 0
+abbrev pub last_number : List Item → ℕ
+last_number rows = last_or 0 (map (λ r. r.number) rows)
+
+-- a gap of all channels by its number, where it came after a row of that number; 0 is no gap
+abbrev pub gap_after : (gap number : ℕ) → Option ℕ
+gap_after gap number = elim (nat_lt number gap) [ true ↦ Some gap | false ↦ None ]
+
+-- rows, and the last gap of all channels behind them, if it came after the last of them
+abbrev pub with_gap : (gap : ℕ) → List Item → List Item
+with_gap gap rows = rows ++ gap_items (gap_after gap (last_number rows))
+
+-- whether rows begin with one that is no gap of all channels
+abbrev pub begins_with_row : List Item → Bool
+begins_with_row [] = false
+begins_with_row (r ∷ rs) = not (is_gap_of_all r)
+
+-- rows, and behind them later ones; a gap of all channels between them stands only where the later ones begin with no other
+abbrev pub with_part : (gap : ℕ) → (rows later : List Item) → List Item
+with_part gap rows later = elim (begins_with_row later) [ true ↦ with_gap gap rows ++ later | false ↦ rows ++ later ]
+
+-- ---- the rows of all channels
 
 -- a list of rows for each channel that has some
 abbrev pub OpenRows : Type 0
@@ -43,9 +71,9 @@ abbrev pub with_channel : List Item → ℕ → List ℕ → List ℕ
 with_channel [] k channels = insert_key nat_cmp channels k
 with_channel (item ∷ items) k channels = channels
 
--- a channel has one more row
-pub record HasMore (channel : ℕ) (item : Item) (before after : OpenRows) : Type 0 where
-  pub row : rows_of after channel ≡ rows_of before channel ++ item ∷ []
+-- a channel has one more row, behind the last gap of all channels
+pub record HasMore (gap channel : ℕ) (item : Item) (before after : OpenRows) : Type 0 where
+  pub row : rows_of after channel ≡ with_gap gap (rows_of before channel) ++ item ∷ []
   pub others : (k : ℕ) → k ≢ channel → rows_of after k ≡ rows_of before k
   pub channels : after.channels ≡ with_channel (rows_of before channel) channel before.channels
 

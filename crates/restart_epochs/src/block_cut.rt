@@ -2,10 +2,10 @@
 
 ghost use Rattle.std.specs.Prelude.{◌≡◌, ◌+◌, ◌<◌, ◌++◌, ◌∷◌, ◌==◌, ◌^◌, [], List, IfOk, IfSome, OnOk, cond};
 ghost use Rattle.line_model.specs.basics.Records as records;
-ghost use Rattle.line_model.specs.channels.RestartMachine.{LineState};
+ghost use Rattle.line_model.specs.channels.GapRestart.{GapLine};
 ghost use Rattle.restart_epochs.specs.BlockStates.{BlockTurned, IsBlockCut, IsCutSoFar};
 
-use crate::parts::{EndedRows, Part};
+use crate::parts::{EndedRows, Part, end_at};
 use crate::restart::Restart;
 use crate::rows_by_channel::RowsByChannel;
 use crate::walk::{EpochWalk, Turn};
@@ -29,6 +29,8 @@ pub struct BlockCut<A: Allocator = Global> {
     pub(crate) ended: Vec<EndedRows<A>, A>,
     /// The rows of the epoch that is open after the block.
     pub(crate) tail: Vec<Part<A>, A>,
+    /// The number of the last gap of all channels in that epoch, or 0.
+    pub(crate) gap: u32,
     /// The number of the last row, or 0.
     pub(crate) last: u32,
     pub(crate) octets: u32,
@@ -54,6 +56,8 @@ pub struct BlockCutter<A: Allocator = Global> {
     ended: Vec<EndedRows<A>, A>,
     /// The rows of the epoch that is open.
     rows: RowsByChannel<A>,
+    /// The number of its last gap of all channels, or 0.
+    gap: u32,
     last: u32,
     octets: u32,
 }
@@ -68,6 +72,7 @@ impl<A: Allocator + Copy> BlockCutter<A> {
             walk: EpochWalk::of_block(alloc, interface, machine),
             ended: Vec::new(alloc),
             rows: lists.emptied(),
+            gap: 0,
             last: 0,
             octets: 0,
         }
@@ -76,28 +81,37 @@ impl<A: Allocator + Copy> BlockCutter<A> {
     /// The octets with those of one more row. `None`: a count would pass its type.
     fn octets_with(&self, item: &ItemRef<'_>) -> Option<u32>
         ensures { IfSome result (λ octets. (octets ≡ self.now.octets + item.now.length)
-            × (self.now.walk.epoch + 1 < 2 ^ 32) × (self.now.walk.packets + 1 < 2 ^ 32)) }
+            × (self.now.walk.epoch + 1 < 2 ^ 32) × (self.now.walk.packets + 1 < 2 ^ 32)
+            × (self.now.walk.gaps + 1 < 2 ^ 32)) }
     {
-        if self.walk.epoch == u32::MAX || self.walk.packets == u32::MAX {
+        let walk = &self.walk;
+        if walk.epoch == u32::MAX || walk.packets == u32::MAX || walk.gaps == u32::MAX {
             return None;
         }
         let length = u32::try_from(item.length).ok()?;
         self.octets.checked_add(length)
     }
 
-    /// Keeps a row that goes to a channel, and ends the epoch where a row leaves r1.
+    /// Keeps a row that goes to a channel, and ends the epoch where a row does.
     fn turn(&mut self, turn: Turn, item: &ItemRef<'_>) -> Result<(), AllocError>
         ensures { OnOk result (BlockTurned turn item.now self.old self.new) }
     {
         match turn {
-            Turn::ToChannel(channel) => self.rows.push(channel, item),
+            Turn::ToChannel(channel) => self.rows.push(self.gap, channel, item),
+            Turn::ToAll => {
+                self.gap = item.number;
+                Ok(())
+            }
             Turn::Ends => {
                 let ended = EndedRows {
                     parts: self.rows.take_parts()?,
+                    gap: self.gap,
                     epoch: self.walk.epoch,
-                    end: item.number,
+                    start: self.walk.start,
+                    end: end_at(item),
                 };
                 self.ended.push(ended)?;
+                self.gap = 0;
                 Ok(())
             }
             Turn::Stays => Ok(()),
@@ -107,7 +121,7 @@ impl<A: Allocator + Copy> BlockCutter<A> {
     /// Takes the next row. A count that grows past its type is refused as memory is. After a refusal the cutter is of no
     /// use.
     pub fn push(&mut self, item: &ItemRef<'_>) -> Result<(), AllocError>
-        ensures { (l : LineState) (items : List records.Item) → IsCutSoFar l items self.old
+        ensures { (l : GapLine) (items : List records.Item) → IsCutSoFar l items self.old
             → OnOk result (IsCutSoFar l (items ++ item.now ∷ []) self.new) }
     {
         let Some(octets) = self.octets_with(item) else {
@@ -123,13 +137,14 @@ impl<A: Allocator + Copy> BlockCutter<A> {
 
     /// The rows as they were cut, and the lists for the next cutter.
     pub fn end(self) -> Result<(BlockCut<A>, RowsByChannel<A>), AllocError>
-        ensures { (l : LineState) (items : List records.Item) → IsCutSoFar l items self
+        ensures { (l : GapLine) (items : List records.Item) → IsCutSoFar l items self
             → IfOk result (λ cut. IsBlockCut l items cut.0) }
     {
         let BlockCutter {
             walk,
             ended,
             mut rows,
+            gap,
             last,
             octets,
         } = self;
@@ -138,6 +153,7 @@ impl<A: Allocator + Copy> BlockCutter<A> {
             walk,
             ended,
             tail,
+            gap,
             last,
             octets,
         };

@@ -1,7 +1,9 @@
 //! A whole trace that falls into pieces.
 
-ghost use Rattle.std.specs.Prelude.{◌≡◌, ◌≤◌, ◌∷◌, ◌^◌, All, IfErr, IfOk, length, map, sum_by};
+ghost use Rattle.std.specs.Prelude.{◌≡◌, ◌≤◌, ◌-◌, ◌∷◌, ◌^◌, All, IfErr, IfOk, length, map, sum_by};
 ghost use Rattle.std.specs.List.Sorted.{IsStrictlyIncreasing};
+ghost use Rattle.line_model.specs.basics.Bounds.{AreRows};
+ghost use Rattle.line_model.specs.observer.Report.{gaps_among, gaps_of};
 ghost use Rattle.line_model.specs.packets.Says.{items_of};
 ghost use Rattle.line_model.specs.pieces.Plans.{plan, line_findings};
 ghost use Rattle.line_model.specs.declared.fault.Fault.TheVariants.{Memory};
@@ -21,6 +23,7 @@ pub fn cut<A: Allocator + Copy + Send + Sync>(
     interface: &Interface,
     rows: Vec<Row<A>, A>,
 ) -> Result<Cut<A>, Fault>
+    requires lawful { AreRows interface.now rows.items }
     requires rising { IsStrictlyIncreasing (0 ∷ map (λ r. r.number) rows.items) }
     requires numbers { All (λ r. r.number ≤ 999999999) rows.items }
     requires octets { sum_by (λ r. length r.octets) rows.items ≤ 2 ^ 31 }
@@ -28,8 +31,12 @@ pub fn cut<A: Allocator + Copy + Send + Sync>(
         ≡ plan interface.now (items_of interface.now rows.items)) }
     ensures interface_findings { IfOk result (λ cut. cut.interface_findings.items
         ≡ line_findings interface.now (items_of interface.now rows.items)) }
-    ensures packets { IfOk result (λ cut. cut.packets ≡ length rows.items) }
-    ensures few { IfOk result (λ cut. length cut.pieces.items ≤ cut.packets) }
+    ensures packets { IfOk result (λ cut. cut.packets
+        ≡ length rows.items - gaps_of (items_of interface.now rows.items)) }
+    ensures gaps { IfOk result (λ cut. cut.gaps
+        ≡ gaps_among interface.now.gaps (items_of interface.now rows.items)) }
+    ensures few { IfOk result (λ cut. length cut.pieces.items ≤ 999999999) }
+    ensures of_rows { IfOk result (λ cut. length cut.pieces.items ≤ length rows.items) }
     ensures refused { IfErr result (λ fault. fault ≡ Memory) }
 {
     let alloc = *rows.allocator();
@@ -43,11 +50,13 @@ pub fn cut<A: Allocator + Copy + Send + Sync>(
         pieces: mut open,
         interface_findings,
         packets,
+        gaps,
     } = cutter.end()?;
     pieces.append(&mut open)?;
     Ok(Cut {
         pieces,
         interface_findings,
         packets,
+        gaps,
     })
 }

@@ -1,6 +1,6 @@
 //! The cutter: a trace falls into pieces by epoch and logical channel, row by row.
 
-ghost use Rattle.std.specs.Prelude.{◌≡◌, ◌<◌, ◌≤◌, ◌+◌, ◌^◌, ◌++◌, ◌∷◌, [], List, length, IfErr, IfOk, OnOk};
+ghost use Rattle.std.specs.Prelude.{◌≡◌, ◌<◌, ◌≤◌, ◌+◌, ◌-◌, ◌^◌, ◌++◌, ◌∷◌, [], List, length, IfErr, IfOk, OnOk, Some, None, cond};
 ghost use Rattle.line_model.specs.basics.Bounds.{IsSaid};
 ghost use Rattle.restart_epochs.specs.Cutting.{IsUnchanged};
 
@@ -36,11 +36,14 @@ impl<A: Allocator> Model for Cutter<A> {
       interface = c.walk.interface;
       line = c.walk.machine;
       epoch = c.walk.epoch;
+      start = c.walk.start;
       given = c.pieces.given;
       packets = c.walk.packets;
+      gaps = c.walk.gaps;
       last = c.last;
       octets = c.octets;
       findings = c.walk.findings.items;
+      gap = c.pieces.gap;
       open_rows = c.pieces.rows;
     } };
 
@@ -48,24 +51,30 @@ impl<A: Allocator> Model for Cutter<A> {
       interface = c.walk.interface;
       line = c.walk.machine;
       epoch = c.walk.epoch;
+      start = c.walk.start;
       given = c.pieces.given;
       packets = c.walk.packets;
+      gaps = c.walk.gaps;
       last = c.last;
       octets = c.octets;
       findings = c.walk.findings.items;
+      gap = c.pieces.gap;
       open_rows = c.pieces.rows;
     }) };
 }
 
-/// A trace that was cut: its pieces, the findings of the restart machine, and the number of rows.
+/// A trace that was cut: its pieces, the findings of the restart machine, and how many rows are packets, and how many are gaps
+/// where gaps are rows.
 #[derive(Drop)]
 pub struct Cut<A: Allocator = Global> {
     pub pieces: Vec<Piece<A>, A>,
     pub interface_findings: Vec<Finding, A>,
     pub packets: u32,
+    pub gaps: Option<u32>,
 }
 
 impl<A: Allocator + Copy> Cutter<A> {
+    ghost use Rattle.line_model.specs.observer.Report.{gaps_among, gaps_of};
     ghost use Rattle.line_model.specs.pieces.Plans.{plan, line_findings};
     ghost use Rattle.line_model.specs.basics.Records as records;
     ghost use Rattle.line_model.specs.declared.interface.Interface.{Interface as AnyInterface};
@@ -82,6 +91,7 @@ impl<A: Allocator + Copy> Cutter<A> {
             walk: EpochWalk::new(alloc, interface),
             pieces: OpenPieces {
                 given: 0,
+                gap: 0,
                 rows: ChannelTable::new(alloc),
             },
             last: 0,
@@ -128,8 +138,7 @@ impl<A: Allocator + Copy> Cutter<A> {
     {
         copy_pieces(
             *self.walk.findings.allocator(),
-            &self.walk.interface,
-            self.walk.epoch,
+            self.open_epoch(),
             self.pieces.given,
             &self.pieces.rows,
         )
@@ -149,17 +158,51 @@ impl<A: Allocator + Copy> Cutter<A> {
         self.walk.findings.as_slice()
     }
 
-    /// The pieces that were not given out yet, all findings of the restart machine, and the number of rows.
+    /// The epoch that has not ended.
+    fn open_epoch(&self) -> EndedEpoch
+        ensures interface { result.interface ≡ self.now.interface }
+        ensures number { result.number ≡ self.now.epoch }
+        ensures start { result.start ≡ self.now.start }
+        ensures gap { result.gap ≡ self.now.gap }
+        ensures end { result.end ≡ None }
+    {
+        EndedEpoch {
+            interface: self.walk.interface,
+            number: self.walk.epoch,
+            start: self.walk.start,
+            gap: self.pieces.gap,
+            end: None,
+        }
+    }
+
+    /// The number of gaps, where gaps are rows.
+    fn gaps(&self) -> Option<u32>
+        ensures { result ≡ cond self.now.interface.gaps (Some self.now.gaps) None }
+    {
+        if self.walk.interface.gaps {
+            Some(self.walk.gaps)
+        } else {
+            None
+        }
+    }
+
+    /// The pieces that were not given out yet, all findings of the restart machine, and how many rows are packets and gaps.
     pub fn end(self) -> Result<Cut<A>, Fault>
         ensures pieces { OfCut self (λ i rows.
             IfOk result (λ cut. given_of i rows ++ cut.pieces.items ≡ plan i rows)) }
         ensures interface_findings { OfCut self (λ i rows.
             IfOk result (λ cut. cut.interface_findings.items ≡ line_findings i rows)) }
-        ensures packets { OfCut self (λ i rows. IfOk result (λ cut. cut.packets ≡ length rows)) }
+        ensures packets { OfCut self (λ i rows. IfOk result (λ cut. cut.packets ≡ length rows - gaps_of rows)) }
+        ensures gaps { OfCut self (λ i rows. IfOk result (λ cut. cut.gaps ≡ gaps_among i.gaps rows)) }
         ensures few { OfCut self (λ i rows.
-            IfOk result (λ cut. length (given_of i rows) + length cut.pieces.items ≤ cut.packets)) }
+            IfOk result (λ cut. length (given_of i rows) + length cut.pieces.items ≤ 999999999)) }
+        // Each piece has a row.
+        ensures of_rows { OfCut self (λ i rows.
+            IfOk result (λ cut. length (given_of i rows) + length cut.pieces.items ≤ length rows)) }
         ensures refused { IfErr result (λ fault. fault ≡ Memory) }
     {
+        let epoch = self.open_epoch();
+        let gaps = self.gaps();
         let Cutter {
             walk,
             pieces: mut left,
@@ -167,16 +210,12 @@ impl<A: Allocator + Copy> Cutter<A> {
         } = self;
         let mut pieces = Vec::new(*walk.findings.allocator());
         pieces.reserve(left.rows.len())?;
-        let epoch = EndedEpoch {
-            interface: walk.interface,
-            number: walk.epoch,
-            end: None,
-        };
         append_pieces(epoch, left.given, &mut left.rows, &mut pieces);
         Ok(Cut {
             pieces,
             interface_findings: walk.findings,
-            packets: walk.packets,
+            packets: walk.packets - walk.gaps,
+            gaps,
         })
     }
 }

@@ -2,21 +2,20 @@
 
 ghost use Rattle.std.specs.Prelude.{◌≡◌, [], IfOk, OnOk, OnErr, MatchOption};
 ghost use Rattle.restart_epochs.specs.OpenRows.{rows_of, AreOut, IsSame, HasMore, IsTakenOut};
-ghost use Rattle.restart_epochs.specs.BlockCuts.{AreAdded, HasAll};
+ghost use Rattle.restart_epochs.specs.BlockCuts.{AreAdded, HasAll, HasFirst};
 
 use crate::channel_table::ChannelTable;
+use crate::open_lane::OpenLane;
 use crate::parts::Part;
 use line_model::items::ItemRef;
-use line_model::part_items::PartItems;
-use line_model::piece_items::PieceItems;
 use std::alloc::{AllocError, Allocator};
 use std::boxed::Box;
 
 /// Takes the rows of a channel out, if it has some. It stays listed.
 fn take_rows<A: Allocator + Copy>(
     channel: u16,
-    table: &mut ChannelTable<PieceItems<A>, A>,
-) -> Option<Box<PieceItems<A>, A>>
+    table: &mut ChannelTable<OpenLane<A>, A>,
+) -> Option<Box<OpenLane<A>, A>>
     ensures { MatchOption result ((rows_of table.old channel ≡ []) × IsSame table.old table.new)
         (λ rows. AreOut channel rows.value table.old table.new) }
 {
@@ -31,11 +30,11 @@ fn take_rows<A: Allocator + Copy>(
 fn keep_first<A: Allocator + Copy>(
     alloc: A,
     channel: u16,
-    rows: PieceItems<A>,
-    table: &mut ChannelTable<PieceItems<A>, A>,
+    rows: OpenLane<A>,
+    table: &mut ChannelTable<OpenLane<A>, A>,
 ) -> Result<(), AllocError>
     requires none { rows_of table.old channel ≡ [] }
-    ensures ok { OnOk result (HasAll channel rows table.old table.new) }
+    ensures ok { OnOk result (HasFirst channel rows table.old table.new) }
     ensures refused { OnErr result (IsSame table.old table.new) }
 {
     if rows.is_empty() {
@@ -47,40 +46,44 @@ fn keep_first<A: Allocator + Copy>(
     Ok(())
 }
 
-/// Appends a row of a channel. Where memory is refused the rows stay as they were.
+/// Appends a row of a channel behind the last gap of all channels. Where memory is refused the rows stay as they were.
 pub fn keep_row<A: Allocator + Copy>(
     alloc: A,
+    gap: u32,
     channel: u16,
     item: &ItemRef<'_>,
-    table: &mut ChannelTable<PieceItems<A>, A>,
+    table: &mut ChannelTable<OpenLane<A>, A>,
 ) -> Result<(), AllocError>
-    ensures ok { OnOk result (HasMore channel item.now table.old table.new) }
+    ensures ok { OnOk result (HasMore gap channel item.now table.old table.new) }
     ensures refused { OnErr result (IsSame table.old table.new) }
 {
     let Some(mut rows) = take_rows(channel, table) else {
-        let mut first = PieceItems::new(alloc);
-        first.push(item)?;
+        let mut first = OpenLane::new(alloc);
+        first.push(gap, item)?;
         return keep_first(alloc, channel, first, table);
     };
-    let pushed = rows.push(item);
+    let pushed = rows.push(gap, item);
     table.put(channel, rows);
     pushed
 }
 
-/// Appends a part of a channel's rows, which are not copied. Where memory is refused the rows of the channel are lost.
+/// Appends a part of a channel's rows, which are not copied, behind the last gap of all channels. Where memory is refused the
+/// rows of the channel are lost.
 fn keep_part<A: Allocator + Copy>(
     alloc: A,
+    gap: u32,
     part: Part<A>,
-    table: &mut ChannelTable<PieceItems<A>, A>,
+    table: &mut ChannelTable<OpenLane<A>, A>,
 ) -> Result<(), AllocError>
-    ensures { OnOk result (HasAll part.channel part.items table.old table.new) }
+    ensures { OnOk result (HasAll gap part.channel part.items table.old table.new) }
 {
-    let Part { channel, items } = part;
-    let items = PartItems::shared(items);
+    let channel = part.channel;
     let Some(mut rows) = take_rows(channel, table) else {
-        return keep_first(alloc, channel, PieceItems::of(items), table);
+        let mut first = OpenLane::new(alloc);
+        first.add(gap, part)?;
+        return keep_first(alloc, channel, first, table);
     };
-    rows.add(items)?;
+    rows.add(gap, part)?;
     table.put(channel, rows);
     Ok(())
 }
@@ -88,13 +91,14 @@ fn keep_part<A: Allocator + Copy>(
 /// Appends the rows of parts, one part after the other.
 pub fn keep_parts<A: Allocator + Copy>(
     alloc: A,
+    gap: u32,
     parts: Vec<Part<A>, A>,
-    rows: &mut ChannelTable<PieceItems<A>, A>,
+    rows: &mut ChannelTable<OpenLane<A>, A>,
 ) -> Result<(), AllocError>
-    ensures { OnOk result (AreAdded parts.items rows.old rows.new) }
+    ensures { OnOk result (AreAdded gap parts.items rows.old rows.new) }
 {
     for part in parts {
-        keep_part(alloc, part, rows)?;
+        keep_part(alloc, gap, part, rows)?;
     }
     Ok(())
 }
@@ -103,26 +107,26 @@ pub fn keep_parts<A: Allocator + Copy>(
 pub fn copy_rows<A: Allocator + Copy>(
     alloc: A,
     channel: u16,
-    rows: &ChannelTable<PieceItems<A>, A>,
-) -> Result<PieceItems<A>, AllocError>
+    rows: &ChannelTable<OpenLane<A>, A>,
+) -> Result<OpenLane<A>, AllocError>
     ensures { IfOk result (λ items. items ≡ rows_of rows.now channel) }
 {
     match rows.get(channel) {
         Some(items) => items.copy(),
-        None => Ok(PieceItems::new(alloc)),
+        None => Ok(OpenLane::new(alloc)),
     }
 }
 
 /// Takes out the first channel that has rows, with them.
 pub fn take_first<A: Allocator + Copy>(
     alloc: A,
-    rows: &mut ChannelTable<PieceItems<A>, A>,
-) -> Option<(u16, PieceItems<A>)>
+    rows: &mut ChannelTable<OpenLane<A>, A>,
+) -> Option<(u16, OpenLane<A>)>
     ensures { MatchOption result ((rows.old.channels ≡ []) × (rows.new ≡ rows.old))
         (λ taken. IsTakenOut taken.0 taken.1 rows.old rows.new) }
 {
     match rows.pop_first()? {
         (channel, Some(items)) => Some((channel, Box::into_inner(items))),
-        (channel, None) => Some((channel, PieceItems::new(alloc))),
+        (channel, None) => Some((channel, OpenLane::new(alloc))),
     }
 }

@@ -2,11 +2,13 @@
 #![tactic(auto)]
 
 pub mod block_cut;
+mod block_lane;
 pub mod channel_table;
 pub mod cut;
 pub mod cutter;
 mod ended_epoch;
 mod kept_rows;
+mod open_lane;
 mod open_pieces;
 pub mod parts;
 pub mod restart;

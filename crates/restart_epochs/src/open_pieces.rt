@@ -2,18 +2,19 @@
 
 ghost use Rattle.std.specs.Prelude.{◌≡◌, ℕ, ◌<◌, ◌+◌, ◌^◌, ◌++◌, [], OnOk, OnErr, length};
 ghost use Rattle.line_model.specs.basics.Bounds.{IsPiece};
-ghost use Rattle.restart_epochs.specs.OpenRows.{rows_of, IsSame};
-ghost use Rattle.restart_epochs.specs.Cutting.{ended_by, given_after, pieces_out, HasTurned, IsEmptied};
+ghost use Rattle.line_model.specs.pieces.Plans.{end_at};
+ghost use Rattle.restart_epochs.specs.OpenRows.{IsSame};
+ghost use Rattle.restart_epochs.specs.Cutting.{ended_by, gap_turned, given_after, items_out, pieces_out, HasTurned, IsEmptied};
 ghost use Rattle.restart_epochs.specs.BlockCuts.{HasEnded, HaveEnded, MayEnd, MayEndAll};
 
 use crate::channel_table::ChannelTable;
 use crate::ended_epoch::{EndedEpoch, append_parts, append_pieces};
 use crate::kept_rows::{keep_parts, keep_row};
-use crate::parts::EndedRows;
-use crate::walk::{EpochWalk, Turn};
+use crate::open_lane::OpenLane;
+use crate::parts::{EndedRows, end_at, gap_joined};
+use crate::walk::{EpochWalk, Turn, start_joined};
 use line_model::items::ItemRef;
 use line_model::piece::Piece;
-use line_model::piece_items::PieceItems;
 use std::alloc::{AllocError, Allocator};
 
 /// The pieces of the open epoch.
@@ -21,13 +22,15 @@ use std::alloc::{AllocError, Allocator};
 pub struct OpenPieces<A: Allocator> {
     /// How many pieces were given out.
     pub given: u32,
+    /// The number of the last gap of all channels in the open epoch, or 0.
+    pub gap: u32,
     /// The rows of each channel.
-    pub rows: ChannelTable<PieceItems<A>, A>,
+    pub rows: ChannelTable<OpenLane<A>, A>,
 }
 
 impl<A: Allocator + Copy> OpenPieces<A> {
-    /// Keeps a row that goes to a channel, and gives out the pieces that a row ends. Where memory is refused nothing
-    /// has changed.
+    /// Keeps a row that goes to a channel, and gives out the pieces that a row ends. Of a gap of all channels its number is kept
+    /// alone. Where memory is refused nothing has changed.
     pub fn turn(
         &mut self,
         walk: &EpochWalk<A>,
@@ -36,23 +39,34 @@ impl<A: Allocator + Copy> OpenPieces<A> {
         out: &mut Vec<Piece<A>, A>,
     ) -> Result<(), AllocError>
         requires ids { self.old.given + length self.old.rows.channels < 2 ^ 32 }
-        requires pieces { (k : ℕ) → IsPiece walk.now.interface k (rows_of self.old.rows k) }
-        ensures rows { OnOk result (HasTurned turn item.now self.old.rows self.new.rows) }
+        requires pieces { (k : ℕ) → IsPiece walk.now.interface k (items_out self.old.gap self.old.rows k) }
+        ensures rows { OnOk result (HasTurned turn item.now self.old.gap self.old.rows self.new.rows) }
+        ensures gap { OnOk result (self.new.gap ≡ gap_turned turn item.now self.old.gap) }
         ensures count { OnOk result (self.new.given ≡ given_after turn self.old.given self.old.rows) }
         ensures given { OnOk result (out.new.items ≡ out.old.items
-            ++ ended_by turn walk.now.interface walk.now.epoch item.now.number self.old.given self.old.rows) }
-        ensures refused { OnErr result ((self.new.given ≡ self.old.given)
+            ++ ended_by turn walk.now.interface walk.now.epoch walk.now.start (end_at item.now) self.old.given self.old.gap self.old.rows) }
+        ensures refused { OnErr result ((self.new.given ≡ self.old.given) × (self.new.gap ≡ self.old.gap)
             × IsSame self.old.rows self.new.rows × (out.new.items ≡ out.old.items)) }
     {
         match turn {
-            Turn::ToChannel(channel) => {
-                keep_row(*walk.findings.allocator(), channel, item, &mut self.rows)
+            Turn::ToChannel(channel) => keep_row(
+                *walk.findings.allocator(),
+                self.gap,
+                channel,
+                item,
+                &mut self.rows,
+            ),
+            Turn::ToAll => {
+                self.gap = item.number;
+                Ok(())
             }
             Turn::Ends => {
                 let epoch = EndedEpoch {
                     interface: walk.interface,
                     number: walk.epoch,
-                    end: Some(item.number),
+                    start: walk.start,
+                    gap: self.gap,
+                    end: Some(end_at(item)),
                 };
                 self.give_out(epoch, out)
             }
@@ -63,46 +77,57 @@ impl<A: Allocator + Copy> OpenPieces<A> {
     /// Appends the pieces of the open epoch, which has ended. Where memory is refused nothing has changed.
     fn give_out(&mut self, epoch: EndedEpoch, out: &mut Vec<Piece<A>, A>) -> Result<(), AllocError>
         requires ids { self.old.given + length self.old.rows.channels < 2 ^ 32 }
-        requires pieces { (k : ℕ) → IsPiece epoch.interface k (rows_of self.old.rows k) }
+        requires pieces { (k : ℕ) → IsPiece epoch.interface k (items_out epoch.gap self.old.rows k) }
         ensures rows { OnOk result ((self.new.rows.channels ≡ []) × IsEmptied self.old.rows self.new.rows) }
+        ensures gap { OnOk result (self.new.gap ≡ 0) }
         ensures count { OnOk result (self.new.given ≡ self.old.given + length self.old.rows.channels) }
         ensures given { OnOk result (out.new.items ≡ out.old.items
-            ++ pieces_out epoch.interface epoch.number epoch.end (rows_of self.old.rows) self.old.given self.old.rows.channels) }
-        ensures refused { OnErr result ((self.new.given ≡ self.old.given)
+            ++ pieces_out epoch.interface epoch.number epoch.start epoch.end (items_out epoch.gap self.old.rows) self.old.given self.old.rows.channels) }
+        ensures refused { OnErr result ((self.new.given ≡ self.old.given) × (self.new.gap ≡ self.old.gap)
             × IsSame self.old.rows self.new.rows × (out.new.items ≡ out.old.items)) }
     {
         let pieces = self.rows.len();
         out.reserve(pieces)?;
         append_pieces(epoch, self.given, &mut self.rows, out);
         self.given += pieces as u32;
+        self.gap = 0;
         Ok(())
     }
 
-    /// Adds the rows of an epoch of a block, and appends the pieces of the epoch: where no row is kept, the parts as they
-    /// are. Where memory is refused rows are lost.
+    /// Adds the rows of an epoch of a block, and appends the pieces of the epoch: where no row and no gap is kept, the parts as
+    /// they are. Where memory is refused rows are lost.
     fn end_epoch(
         &mut self,
         walk: &EpochWalk<A>,
         ended: EndedRows<A>,
         out: &mut Vec<Piece<A>, A>,
     ) -> Result<(), AllocError>
-        requires rows { MayEnd walk.now.interface walk.now.epoch self.old.given self.old.rows ended }
-        ensures { OnOk result (HasEnded walk.now.interface walk.now.epoch ended self.old.given self.new.given
-            self.old.rows self.new.rows out.old.items out.new.items) }
+        requires rows { MayEnd walk.now.interface walk.now.epoch self.old.given self.old.gap self.old.rows ended }
+        ensures pieces { OnOk result (HasEnded walk.now.interface walk.now.epoch walk.now.start ended self.old.given self.new.given
+            self.old.gap self.old.rows self.new.rows out.old.items out.new.items) }
+        ensures gap { OnOk result (self.new.gap ≡ 0) }
     {
-        let EndedRows { parts, epoch, end } = ended;
+        let EndedRows {
+            parts,
+            gap,
+            epoch,
+            start,
+            end,
+        } = ended;
         let epoch = EndedEpoch {
             interface: walk.interface,
             number: walk.epoch + epoch,
+            start: start_joined(epoch, walk.start, start),
+            gap: gap_joined(self.gap, gap),
             end: Some(end),
         };
-        if self.rows.len() == 0 {
+        if self.rows.len() == 0 && self.gap == 0 {
             let count = parts.len();
             append_parts(epoch, self.given, parts, out)?;
             self.given += count as u32;
             return Ok(());
         }
-        keep_parts(*walk.findings.allocator(), parts, &mut self.rows)?;
+        keep_parts(*walk.findings.allocator(), self.gap, parts, &mut self.rows)?;
         self.give_out(epoch, out)?;
         Ok(())
     }
@@ -115,9 +140,9 @@ impl<A: Allocator + Copy> OpenPieces<A> {
         ended: Vec<EndedRows<A>, A>,
         out: &mut Vec<Piece<A>, A>,
     ) -> Result<(), AllocError>
-        requires rows { MayEndAll walk.now.interface walk.now.epoch self.old.given self.old.rows ended.items }
-        ensures { OnOk result (HaveEnded walk.now.interface walk.now.epoch ended.items self.old.given self.new.given
-            self.old.rows self.new.rows out.old.items out.new.items) }
+        requires rows { MayEndAll walk.now.interface walk.now.epoch walk.now.start self.old.given self.old.gap self.old.rows ended.items }
+        ensures { OnOk result (HaveEnded walk.now.interface walk.now.epoch walk.now.start ended.items self.old.given self.new.given
+            self.old.gap self.new.gap self.old.rows self.new.rows out.old.items out.new.items) }
     {
         for epoch in ended {
             self.end_epoch(walk, epoch, out)?;

@@ -1,16 +1,19 @@
 //! The restart machine.
 
-ghost use Rattle.std.specs.Prelude.{◌≡◌, ℕ, false, true, IfSome};
+ghost use Rattle.std.specs.Prelude.{◌≡◌, ℕ, IfSome};
 ghost use Rattle.std.specs.Bool.{OnTrue};
 ghost use Rattle.line_model.specs.declared.route.Route.TheVariants.{ToChannel};
 ghost use Rattle.line_model.specs.declared.state.Side.{Side as AnySide};
 ghost use Rattle.line_model.specs.packets.Classes.{packet_class};
-ghost use Rattle.line_model.specs.packets.Says.{packet_channel};
-ghost use Rattle.line_model.specs.observer.Observer.{line_in_r1};
+ghost use Rattle.line_model.specs.packets.Says.{gap_of, packet_channel};
+ghost use Rattle.line_model.specs.observer.Observer.{start};
 ghost use Rattle.line_model.specs.channels.RestartMachine.{restart_fault, restart_move, restart_error, restart_step, passes_joining, line_step};
+ghost use Rattle.line_model.specs.channels.GapRestart.{adrift_confirmation, adrift_restart, gap_in, gap_line_step, gap_on, is_of_restart, line_in_r1_with, line_takes, routing_by, start_by};
 
 use line_model::diagnostic::{PACKET_TOO_LONG, PACKET_TOO_SHORT};
-use line_model::packet::{Class, Packet};
+use line_model::gap::EpochStart;
+use line_model::interface::Interface;
+use line_model::packet::{Class, Packet, PacketKind};
 pub use line_model::route::Route;
 use line_model::state::{RState, Side, StateName};
 use line_model::table::{Action, table_n, table_t};
@@ -23,16 +26,30 @@ pub struct Restart {
     owed: bool,
     /// The trace began in the middle, and r1 was not left yet.
     joining: bool,
+    /// After a gap of all channels, in r1: a restart may have been missed.
+    adrift: bool,
+    /// The restart indication was owed as the interface came adrift.
+    owed_before: bool,
 }
 
 impl Model for Restart {
-    ghost use Rattle.line_model.specs.channels.RestartMachine.{LineState};
+    ghost use Rattle.line_model.specs.channels.GapRestart.{GapLine};
 
-    ghost Value = { LineState };
+    ghost Value = { GapLine };
 
-    ghost view = { λ r. record { state = r.state; owed = r.owed; joining = r.joining } };
+    ghost view = { λ r. record {
+      line = record { state = r.state; owed = r.owed; joining = r.joining };
+      adrift = r.adrift;
+      owed_before = r.owed_before;
+    } };
 
-    ghost inverse = { λ l. record { state = l.state; owed = l.owed; joining = l.joining } };
+    ghost inverse = { λ g. record {
+      state = g.line.state;
+      owed = g.line.owed;
+      joining = g.line.joining;
+      adrift = g.adrift;
+      owed_before = g.owed_before;
+    } };
 }
 
 /// The fault of a restart packet's format.
@@ -57,26 +74,37 @@ pub fn packet_channel(packet: &Packet) -> u16
     }
 }
 
+/// Whether a packet restarts the interface, or confirms that.
+fn is_of_restart(class: Class) -> bool
+    ensures { result ≡ is_of_restart class }
+{
+    matches!(class, Class::Restart | Class::RestartConfirm)
+}
+
 impl Restart {
     /// The machine before the first row.
-    pub fn new() -> Self
-        ensures { result ≡ line_in_r1 false }
+    pub fn first(interface: &Interface) -> Self
+        ensures { result ≡ (start interface.now).line }
+    {
+        Restart {
+            state: RState::R1,
+            owed: false,
+            joining: interface.join && !interface.gaps,
+            adrift: interface.join && interface.gaps,
+            owed_before: false,
+        }
+    }
+
+    /// The machine as it enters r1.
+    fn in_r1(adrift: bool, owed_before: bool) -> Self
+        ensures { result ≡ line_in_r1_with adrift owed_before }
     {
         Restart {
             state: RState::R1,
             owed: false,
             joining: false,
-        }
-    }
-
-    /// The machine before the first row of a trace that begins in the middle.
-    pub fn joined() -> Self
-        ensures { result ≡ line_in_r1 true }
-    {
-        Restart {
-            state: RState::R1,
-            owed: false,
-            joining: true,
+            adrift,
+            owed_before,
         }
     }
 
@@ -84,25 +112,29 @@ impl Restart {
     pub fn is_same(&self, other: &Restart) -> bool
         ensures { OnTrue result (self.now ≡ other.now) }
     {
-        self.state == other.state && self.owed == other.owed && self.joining == other.joining
+        self.state == other.state
+            && self.owed == other.owed
+            && self.joining == other.joining
+            && self.adrift == other.adrift
+            && self.owed_before == other.owed_before
     }
 
     /// The state of the machine.
     pub fn state(&self) -> RState
-        ensures { result ≡ self.now.state }
+        ensures { result ≡ self.now.line.state }
     {
         self.state
     }
 
-    /// Goes past one row, and returns where it goes.
-    pub fn step(&mut self, packet: &Packet, length: usize, side: Side) -> Route
-        ensures { record { route = result; after = self.new }
-            ≡ line_step self.old side (packet_class packet.now) length }
+    /// How an epoch begins with this machine.
+    pub fn start(&self) -> EpochStart
+        ensures { result ≡ start_by self.now }
     {
-        if self.hands_on(packet).is_some() {
-            return Route::ToChannel;
+        if self.adrift {
+            EpochStart::Drifting(self.owed_before)
+        } else {
+            EpochStart::Restarted
         }
-        self.step_by_table(packet.class(), length, side)
     }
 
     /// Fast path: the logical channel of a packet in r1, where each that is on one goes to it (X.25 clause 3).
@@ -111,7 +143,7 @@ impl Restart {
         ensures channel { IfSome result (λ channel. channel ≡ packet_channel packet.now) }
         ensures step { IfSome result (λ _. (side : AnySide) (length : ℕ)
             → record { route = ToChannel; after = self.now }
-            ≡ line_step self.now side (packet_class packet.now) length) }
+            ≡ routing_by (gap_of packet.now) self.now side (packet_class packet.now) length) }
     {
         match packet {
             Packet::Channel { channel, .. } if self.state == RState::R1 => Some(*channel),
@@ -119,10 +151,89 @@ impl Restart {
         }
     }
 
-    /// Goes past one row of a class, and returns where it goes.
-    pub(crate) fn step_by_table(&mut self, class: Class, length: usize, side: Side) -> Route
+    /// Goes past one row, and returns where it goes.
+    pub fn step(&mut self, packet: &Packet, length: usize, side: Side) -> Route
         ensures { record { route = result; after = self.new }
-            ≡ line_step self.old side class length }
+            ≡ routing_by (gap_of packet.now) self.old side (packet_class packet.now) length }
+    {
+        match packet {
+            Packet::GapOfAll => self.pass_gap(),
+            Packet::Channel {
+                kind: PacketKind::Gap,
+                ..
+            } => self.hand_on_gap(),
+            _ => self.step_by_class(packet.class(), length, side),
+        }
+    }
+
+    /// A gap of all channels: outside r1 the other packet of the restart may be in it.
+    fn pass_gap(&mut self) -> Route
+        ensures { record { route = result; after = self.new } ≡ gap_in self.old.line.state self.old }
+    {
+        match self.state {
+            RState::R1 => {
+                self.adrift = true;
+                return Route::Pass;
+            }
+            RState::R2 => *self = Restart::in_r1(true, false),
+            RState::R3 => *self = Restart::in_r1(true, self.owed),
+        }
+        Route::Enter
+    }
+
+    /// A gap of a channel, which is handed to it in r1.
+    fn hand_on_gap(&self) -> Route
+        ensures { record { route = result; after = self.now } ≡ gap_on self.now.line.state self.now }
+    {
+        match self.state {
+            RState::R1 => Route::ToChannel,
+            _ => Route::Pass,
+        }
+    }
+
+    /// Goes past one packet of a class, and returns where it goes.
+    fn step_by_class(&mut self, class: Class, length: usize, side: Side) -> Route
+        ensures { record { route = result; after = self.new }
+            ≡ gap_line_step self.old side class length }
+    {
+        if self.adrift && self.state == RState::R1 && is_of_restart(class) {
+            self.restart_adrift(class, length, side)
+        } else {
+            self.step_by_table(class, length, side)
+        }
+    }
+
+    /// A packet of a restart while the interface is adrift: none is a finding, and each shows that an epoch ended.
+    fn restart_adrift(&mut self, class: Class, length: usize, side: Side) -> Route
+        ensures { record { route = result; after = self.new }
+            ≡ adrift_restart side class (restart_fault class length) self.old }
+    {
+        match fault(class, length) {
+            Some(_) => Route::Pass,
+            None if class == Class::RestartConfirm => self.confirm_adrift(side),
+            None => {
+                *self = Restart::in_r1(true, false);
+                Route::Renew
+            }
+        }
+    }
+
+    /// A confirmation while the interface is adrift; one of the DCE may be in place of the indication that was owed.
+    fn confirm_adrift(&mut self, side: Side) -> Route
+        ensures { record { route = result; after = self.new } ≡ adrift_confirmation side self.old }
+    {
+        if side == Side::N && self.owed_before {
+            Route::Pass
+        } else {
+            *self = Restart::in_r1(false, false);
+            Route::Renew
+        }
+    }
+
+    /// Goes past one packet by the table of the restart machine.
+    fn step_by_table(&mut self, class: Class, length: usize, side: Side) -> Route
+        ensures { record { route = result; after = self.new }
+            ≡ line_takes self.old (line_step self.old.line side class length) }
     {
         let name = self.state.name();
         let action = match side {
@@ -143,7 +254,7 @@ impl Restart {
 
     /// Whether a packet confirms a restart before the trace.
     fn passes(&self, class: Class) -> bool
-        ensures { result ≡ passes_joining self.now class }
+        ensures { result ≡ passes_joining self.now.line class }
     {
         match class {
             Class::RestartConfirm => self.joining,
@@ -154,7 +265,7 @@ impl Restart {
     /// Does what an entry of the table says.
     fn act(&mut self, class: Class, length: usize, side: Side, action: Action) -> Route
         ensures { record { route = result; after = self.new }
-            ≡ restart_step self.old side class length action }
+            ≡ line_takes self.old (restart_step self.old.line side class length action) }
     {
         match action {
             Action::Move(state) => match fault(class, length) {
@@ -174,7 +285,7 @@ impl Restart {
     /// Moves to a state.
     fn enter(&mut self, state: StateName) -> Route
         ensures { record { route = result; after = self.new }
-            ≡ restart_move self.old.state state }
+            ≡ line_takes self.old (restart_move self.old.line.state state) }
     {
         let left = self.state == RState::R1;
         self.owed = false;
@@ -197,7 +308,7 @@ impl Restart {
     /// An error: the DTE's has the DCE restart.
     fn fail(&mut self, side: Side, code: u8) -> Route
         ensures { record { route = result; after = self.new }
-            ≡ restart_error self.old side code }
+            ≡ line_takes self.old (restart_error self.old.line side code) }
     {
         let state = self.state;
         if side == Side::N {

@@ -6,6 +6,7 @@ ghost use Rattle.std.specs.List.{flat_map};
 ghost use Rattle.restart_epochs.specs.OpenRows.{no_rows, rows_of, HasMore, IsTakenOut};
 ghost use Rattle.restart_epochs.specs.BlockCuts.{parts_of, AreAllOut};
 
+use crate::block_lane::BlockLane;
 use crate::channel_table::ChannelTable;
 use crate::parts::Part;
 use line_model::items::shared::SharedItems;
@@ -19,8 +20,8 @@ use std::marker::Model;
 #[derive(Drop)]
 pub struct RowsByChannel<A: Allocator = Global> {
     alloc: A,
-    table: ChannelTable<Items<A>, A>,
-    /// How many rows there are.
+    table: ChannelTable<BlockLane<A>, A>,
+    /// How many rows there are, but for gaps of all channels.
     count: usize,
     /// How many octets are kept of them.
     octets: usize,
@@ -70,35 +71,36 @@ impl<A: Allocator + Copy> RowsByChannel<A> {
     /// Appends the first row of a channel to its list, which is empty.
     fn push_first(
         &mut self,
+        gap: u32,
         channel: u16,
-        list: Box<Items<A>, A>,
+        list: Box<BlockLane<A>, A>,
         item: &ItemRef<'_>,
     ) -> Result<(), AllocError>
         requires none { rows_of self.old channel ≡ [] }
         requires empty { list.value ≡ [] }
-        ensures { OnOk result (HasMore channel item.now self.old self.new) }
+        ensures { OnOk result (HasMore gap channel item.now self.old self.new) }
     {
         let mut list = list;
-        list.push(item)?;
+        list.push(gap, item)?;
         self.table.list(channel)?;
         self.table.put(channel, list);
         Ok(())
     }
 
-    /// Appends a row of a channel. Where memory is refused the rows of the channel are lost.
-    pub fn push(&mut self, channel: u16, item: &ItemRef<'_>) -> Result<(), AllocError>
-        ensures { OnOk result (HasMore channel item.now self.old self.new) }
+    /// Appends a row of a channel behind the last gap of all channels. Where memory is refused the rows of the channel are lost.
+    pub fn push(&mut self, gap: u32, channel: u16, item: &ItemRef<'_>) -> Result<(), AllocError>
+        ensures { OnOk result (HasMore gap channel item.now self.old self.new) }
     {
         self.count = self.count.saturating_add(1);
         self.octets = self.octets.saturating_add(item.octets.len());
         let Some(mut list) = self.table.take(channel) else {
-            let list = Box::new(self.alloc, Items::new(self.alloc))?;
-            return self.push_first(channel, list, item);
+            let list = Box::new(self.alloc, BlockLane::new(self.alloc))?;
+            return self.push_first(gap, channel, list, item);
         };
         if list.is_empty() {
-            return self.push_first(channel, list, item);
+            return self.push_first(gap, channel, list, item);
         }
-        list.push(item)?;
+        list.push(gap, item)?;
         self.table.put(channel, list);
         Ok(())
     }
@@ -129,12 +131,21 @@ impl<A: Allocator + Copy> RowsByChannel<A> {
         };
         let Some(mut list) = list else {
             let items = rows.split_first(0)?;
-            return Ok(Some(Part { channel, items }));
+            return Ok(Some(Part {
+                channel,
+                items,
+                last: 0,
+            }));
         };
         let items = rows.split_first(list.len())?;
+        let last = list.last();
         list.clear();
         self.table.put(channel, list);
-        Ok(Some(Part { channel, items }))
+        Ok(Some(Part {
+            channel,
+            items,
+            last,
+        }))
     }
 
     /// Takes all rows out, those of a channel as one part, in ascending order of the channels. The parts lie in one list.

@@ -3,44 +3,34 @@
 ghost use Rattle.std.specs.Prelude.{◌≡◌, ℕ, ◌<◌, ◌+◌, ◌^◌, None, IfErr, IfOk, length};
 ghost use Rattle.line_model.specs.basics.Bounds.{IsPiece};
 ghost use Rattle.line_model.specs.declared.fault.Fault.TheVariants.{Memory};
-ghost use Rattle.restart_epochs.specs.OpenRows.{rows_of};
-ghost use Rattle.restart_epochs.specs.Cutting.{pieces_out};
+ghost use Rattle.restart_epochs.specs.Cutting.{items_out, pieces_out};
 
 use crate::channel_table::ChannelTable;
+use crate::ended_epoch::EndedEpoch;
 use crate::kept_rows::copy_rows;
+use crate::open_lane::OpenLane;
 use line_model::fault::Fault;
-use line_model::interface::Interface;
 use line_model::piece::Piece;
-use line_model::piece_items::PieceItems;
 use std::alloc::Allocator;
 
-/// Copies of the pieces of the open epoch, by their channels, with ids from `first` on and no end. It answers `Memory`
-/// alone.
+/// Copies of the pieces of an epoch, by their channels, with ids from `first` on. It answers `Memory` alone.
 pub fn copy_pieces<A: Allocator + Copy>(
     alloc: A,
-    interface: &Interface,
-    epoch: u32,
+    epoch: EndedEpoch,
     first: u32,
-    epoch_rows: &ChannelTable<PieceItems<A>, A>,
+    epoch_rows: &ChannelTable<OpenLane<A>, A>,
 ) -> Result<Vec<Piece<A>, A>, Fault>
     requires ids { first + length epoch_rows.now.channels < 2 ^ 32 }
-    requires pieces { (k : ℕ) → IsPiece interface.now k (rows_of epoch_rows.now k) }
+    requires pieces { (k : ℕ) → IsPiece epoch.interface k (items_out epoch.gap epoch_rows.now k) }
     ensures copied { IfOk result (λ pieces. pieces.items
-        ≡ pieces_out interface.now epoch None (rows_of epoch_rows.now) first epoch_rows.now.channels) }
+        ≡ pieces_out epoch.interface epoch.number epoch.start epoch.end (items_out epoch.gap epoch_rows.now) first epoch_rows.now.channels) }
     ensures memory { IfErr result (λ fault. fault ≡ Memory) }
 {
     let mut pieces = Vec::new(alloc);
     let mut id = first;
     for channel in epoch_rows.channels() {
-        let items = copy_rows(alloc, *channel, epoch_rows)?;
-        pieces.push(Piece {
-            id,
-            interface: *interface,
-            epoch,
-            channel: *channel,
-            items,
-            end: None,
-        })?;
+        let lane = copy_rows(alloc, *channel, epoch_rows)?;
+        pieces.push(lane.into_piece(epoch, id, *channel))?;
         id += 1;
     }
     Ok(pieces)

@@ -1,15 +1,17 @@
 //! The walk over the rows of a trace, but for what stands on the logical channels: the restart machine, the epoch, and
 //! what it found.
 
-ghost use Rattle.std.specs.Prelude.{option_to_list, ◌≡◌, ◌<◌, ◌+◌, ◌^◌, ◌++◌, IfOk, OnOk, OnErr};
-ghost use Rattle.line_model.specs.observer.Observer.{line_in_r1};
-ghost use Rattle.restart_epochs.specs.Walks.{epoch_after, route_finding, turn_of, HasJoined, HasRoom, IsAdvanced, IsFresh, IsFreshBlock, IsSameWalk, IsStep};
+ghost use Rattle.std.specs.Prelude.{option_to_list, ◌≡◌, ◌<◌, ◌+◌, ◌^◌, ◌++◌, IfOk, OnOk, OnErr, is_some};
+ghost use Rattle.line_model.specs.channels.GapRestart.{is_of_all};
+ghost use Rattle.line_model.specs.packets.Says.{gap_of};
+ghost use Rattle.restart_epochs.specs.Walks.{epoch_after, passed, route_finding, start_after, start_joined, turn_of, HasJoined, HasRoom, IsAdvanced, IsFresh, IsFreshBlock, IsSameWalk, IsStep};
 
 use crate::restart::{Restart, Route, packet_channel};
 use line_model::finding::{Code, Finding};
+use line_model::gap::EpochStart;
 use line_model::interface::Interface;
 use line_model::items::ItemRef;
-use line_model::packet::Packet;
+use line_model::packet::{Packet, PacketKind};
 use line_model::state::StateName;
 use std::alloc::{AllocError, Allocator, Global};
 
@@ -18,7 +20,9 @@ use std::alloc::{AllocError, Allocator, Global};
 pub enum Turn {
     /// It goes to one of them.
     ToChannel(u16),
-    /// It ends them all, since it leaves r1.
+    /// It is a gap of them all.
+    ToAll,
+    /// It ends them all, since it leaves r1 or begins the next epoch in it.
     Ends,
     /// It does nothing to them.
     Stays,
@@ -33,6 +37,8 @@ pub struct Step {
     pub epoch: u32,
     /// What the restart machine finds.
     pub finding: Option<Finding>,
+    /// Whether the row is a gap.
+    pub gap: bool,
     /// What it does to the logical channels.
     pub turn: Turn,
 }
@@ -46,8 +52,12 @@ pub struct EpochWalk<A: Allocator = Global> {
     pub machine: Restart,
     /// Which stretch between restarts goes on, counted from 1.
     pub epoch: u32,
+    /// How it began.
+    pub start: EpochStart,
     /// How many rows were taken.
     pub packets: u32,
+    /// How many of them are gaps.
+    pub gaps: u32,
     /// What the restart machine found.
     pub findings: Vec<Finding, A>,
 }
@@ -57,17 +67,20 @@ impl<A: Allocator> EpochWalk<A> {
     pub fn new(alloc: A, interface: &Interface) -> Self
         ensures { IsFresh interface.now result }
     {
+        let machine = Restart::first(interface);
         EpochWalk {
             interface: *interface,
-            machine: first_machine(interface.join),
+            machine,
             epoch: 1,
+            start: machine.start(),
             packets: 0,
+            gaps: 0,
             findings: Vec::new(alloc),
         }
     }
 
     /// A walk over the rows of a block alone, before the first one: the restart machine is this, and epochs are counted
-    /// from 0. It takes no memory.
+    /// from 0. How the first of them began is not known. It takes no memory.
     pub fn of_block(alloc: A, interface: &Interface, machine: Restart) -> Self
         ensures { IsFreshBlock machine result }
     {
@@ -75,7 +88,9 @@ impl<A: Allocator> EpochWalk<A> {
             interface: *interface,
             machine,
             epoch: 0,
+            start: machine.start(),
             packets: 0,
+            gaps: 0,
             findings: Vec::new(alloc),
         }
     }
@@ -84,13 +99,16 @@ impl<A: Allocator> EpochWalk<A> {
     pub fn join(&mut self, block: EpochWalk<A>) -> Result<(), AllocError>
         requires epochs { self.old.epoch + block.epoch < 2 ^ 32 }
         requires packets { self.old.packets + block.packets < 2 ^ 32 }
+        requires gaps { self.old.gaps + block.gaps < 2 ^ 32 }
         ensures { OnOk result (HasJoined block self.old self.new) }
     {
         let mut block = block;
         self.findings.append(&mut block.findings)?;
         self.machine = block.machine;
+        self.start = start_joined(block.epoch, self.start, block.start);
         self.epoch += block.epoch;
         self.packets += block.packets;
+        self.gaps += block.gaps;
         Ok(())
     }
 
@@ -108,15 +126,16 @@ impl<A: Allocator> EpochWalk<A> {
                 machine: self.machine,
                 epoch: self.epoch,
                 finding: None,
+                gap: is_gap(&item.packet),
                 turn: Turn::ToChannel(channel),
             });
         }
-        self.step_by_table(item)
+        self.step_by_machine(item)
     }
 
-    /// The step of a row by the table of the restart machine.
+    /// The step of a row by the restart machine.
     #[inline(always)]
-    fn step_by_table(&mut self, item: &ItemRef<'_>) -> Result<Step, AllocError>
+    fn step_by_machine(&mut self, item: &ItemRef<'_>) -> Result<Step, AllocError>
         requires epochs { self.old.epoch + 1 < 2 ^ 32 }
         ensures step { IfOk result (IsStep self.old.machine self.old.epoch item.now) }
         ensures same { IsSameWalk self.old self.new }
@@ -124,11 +143,12 @@ impl<A: Allocator> EpochWalk<A> {
     {
         self.findings.reserve(1)?;
         let mut machine = self.machine;
-        let route = machine.step_by_table(item.packet.class(), item.length, item.side);
+        let route = machine.step(&item.packet, item.length, item.side);
         Ok(Step {
             machine,
             epoch: next_epoch(self.epoch, route),
             finding: finding_of(route, item),
+            gap: is_gap(&item.packet),
             turn: turn_by(route, &item.packet),
         })
     }
@@ -138,26 +158,39 @@ impl<A: Allocator> EpochWalk<A> {
     pub fn advance(&mut self, step: Step)
         requires room { HasRoom self.old step }
         requires packets { self.old.packets + 1 < 2 ^ 32 }
+        requires gaps { self.old.gaps + 1 < 2 ^ 32 }
         ensures { IsAdvanced step self.old self.new }
     {
         if let Some(finding) = step.finding {
             self.findings.push_reserved(finding);
         }
+        self.start = self.start_with(&step);
         self.machine = step.machine;
         self.epoch = step.epoch;
         self.packets += 1;
+        if step.gap {
+            self.gaps += 1;
+        }
+    }
+
+    /// How the epoch after the row of a step began.
+    #[inline(always)]
+    fn start_with(&self, step: &Step) -> EpochStart
+        ensures { result ≡ start_after self.now.epoch self.now.start step.now.epoch step.now.machine }
+    {
+        if step.epoch == self.epoch {
+            self.start
+        } else {
+            step.machine.start()
+        }
     }
 }
 
-/// The restart machine before the first row.
-fn first_machine(join: bool) -> Restart
-    ensures { result ≡ line_in_r1 join }
+/// How the epoch began that is open after the rows of a block, in which so many began.
+pub fn start_joined(begun: u32, before: EpochStart, later: EpochStart) -> EpochStart
+    ensures { result ≡ start_joined begun before later }
 {
-    if join {
-        Restart::joined()
-    } else {
-        Restart::new()
-    }
+    if begun == 0 { before } else { later }
 }
 
 /// The epoch after a row, by its route.
@@ -166,8 +199,33 @@ fn next_epoch(epoch: u32, route: Route) -> u32
     ensures { result ≡ epoch_after epoch route }
 {
     match route {
-        Route::Enter => epoch + 1,
+        Route::Enter | Route::Renew => epoch + 1,
         _ => epoch,
+    }
+}
+
+/// Whether a row is a gap of a channel, or of all.
+#[inline(always)]
+fn is_gap(packet: &Packet) -> bool
+    ensures { result ≡ is_some (gap_of packet.now) }
+{
+    matches!(
+        packet,
+        Packet::GapOfAll
+            | Packet::Channel {
+                kind: PacketKind::Gap,
+                ..
+            }
+    )
+}
+
+/// What a row that is passed does to the logical channels.
+fn turn_passed(packet: &Packet) -> Turn
+    ensures { result ≡ passed (is_of_all (gap_of packet.now)) }
+{
+    match packet {
+        Packet::GapOfAll => Turn::ToAll,
+        _ => Turn::Stays,
     }
 }
 
@@ -177,8 +235,9 @@ fn turn_by(route: Route, packet: &Packet) -> Turn
 {
     match route {
         Route::ToChannel => Turn::ToChannel(packet_channel(packet)),
-        Route::Leave(_) => Turn::Ends,
-        _ => Turn::Stays,
+        Route::Leave(_) | Route::Renew => Turn::Ends,
+        Route::Pass => turn_passed(packet),
+        Route::Enter | Route::Found(..) => Turn::Stays,
     }
 }
 

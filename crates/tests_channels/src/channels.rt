@@ -10,11 +10,12 @@ use channel_machine::channel::PlainChannel;
 use channel_run::run::run_piece;
 use hex::decode as hex_decode;
 use line_model::finding::{Code, Finding, Xcode};
+use line_model::gap::EpochStart;
 use line_model::interface::Interface;
 use line_model::items::Items;
 use line_model::packet::Packet;
 use line_model::part_items::PartItems;
-use line_model::piece::{Piece, PieceReport};
+use line_model::piece::{Piece, PieceEnd, PieceReport};
 use line_model::piece_items::PieceItems;
 use line_model::row::Row;
 use line_model::state::{Side, StateName};
@@ -23,6 +24,7 @@ use std::alloc::{Allocator, Global};
 use std::process::Abort;
 use std::test::Fail;
 
+mod gaps;
 mod live;
 mod refused;
 mod steps;
@@ -62,6 +64,7 @@ fn add_item<A: Allocator + Copy>(
         number: *number,
         side: *side,
         octets: hex_decode(alloc, digits.as_bytes())?,
+        gap: None,
     };
     let packet = decode(interface, row.octets.as_slice());
     if row.octets.len() > 4200 || channel_of(&packet) != channel {
@@ -115,9 +118,11 @@ fn piece_of<A: Allocator + Copy>(
         id: 0,
         interface: *interface,
         epoch: 1,
+        start: EpochStart::Restarted,
         channel,
         items: PieceItems::of(PartItems::own(items)),
-        end,
+        last_gap: None,
+        end: end.map(|row| PieceEnd { row, missed: false }),
     })
 }
 
@@ -189,10 +194,10 @@ const MESSAGES: Case = Case {
 };
 
 #[test]
-fn messages_have_their_faults(rt: HostRuntime) -> Result<(), Fail> {
+fn pieces_have_their_faults(rt: HostRuntime) -> Result<(), Fail> {
     let counted = gives(&rt, rt.alloc(), &MESSAGES)?;
     assert!(rt; counted == (8, 4));
-    Ok(())
+    gaps::check_epochs(&rt, rt.alloc())
 }
 
 /// A PAD call, and messages with cut pairs.

@@ -2,6 +2,7 @@
 
 ghost use Rattle.std.specs.Prelude.{◌≡◌, None};
 
+mod gaps;
 mod refused;
 
 use line_model::address::Address;
@@ -15,6 +16,7 @@ use line_model::report::Report;
 use line_model::state::{Side, StateName};
 use report_merge::merging::merge;
 use report_merge::reports::{BundleReport, Reports};
+use report_merge::row_counts::RowCounts;
 use report_merge::text::write_report;
 use std::alloc::{AllocError, Allocator, Global};
 use std::process::Abort;
@@ -132,6 +134,12 @@ const PIECES: [(u32, u32, u16, u32); 12] = [
     (11, 3, 4, 16),
 ];
 
+/// The rows of three epochs, of which none is a gap.
+const ROWS: RowCounts = RowCounts {
+    packets: 16,
+    gaps: None,
+};
+
 /// The report of three epochs, parted by restarts in rows 5, 6, 11 and 12.
 const THREE_EPOCHS: &[u8] = b"F 1 T p1 20
 F 2 T p1 20
@@ -222,7 +230,7 @@ fn check_merged<T: Reports<Global> + Drop>(
     alloc: Global,
     reports: Vec<T>,
 ) -> Result<(), Fault> {
-    let report = merge(alloc, reports, Vec::new(alloc), 16, 12)?;
+    let report = merge(alloc, reports, Vec::new(alloc), ROWS, 12)?;
     check(rt, alloc, &report, THREE_EPOCHS)
 }
 
@@ -241,6 +249,7 @@ fn pieces_and_bundles_in_any_order_give_the_report_of_the_trace(
     for count in [2, 3, 5] {
         check_merged(&rt, rt.alloc(), dealt(rt.alloc(), count)?)?;
     }
+    gaps::check_counts(&rt, rt.alloc())?;
     Ok(())
 }
 
@@ -248,7 +257,7 @@ fn pieces_and_bundles_in_any_order_give_the_report_of_the_trace(
 /// the plan has so many pieces.
 fn refusal(alloc: Global, third: Option<u32>, pieces: u32) -> Result<Option<Fault>, AllocError> {
     let reports = three_epochs(alloc, third)?;
-    Ok(merge(alloc, reports, Vec::new(alloc), 16, pieces).err())
+    Ok(merge(alloc, reports, Vec::new(alloc), ROWS, pieces).err())
 }
 
 /// The ids of the piece 3, how many pieces the plan has, and why the reports are refused.
@@ -276,7 +285,7 @@ fn check_room(rt: &impl Abort, room: usize, report: &Report, wanted: Result<(), 
 #[test]
 fn a_sink_that_is_full_is_told(rt: HostRuntime) -> Result<(), Fail> {
     let reports = three_epochs(rt.alloc(), Some(3))?;
-    let report = merge(rt.alloc(), reports, Vec::new(rt.alloc()), 16, 12)?;
+    let report = merge(rt.alloc(), reports, Vec::new(rt.alloc()), ROWS, 12)?;
     check_room(&rt, THREE_EPOCHS.len(), &report, Ok(()));
     check_room(&rt, THREE_EPOCHS.len() - 1, &report, Err(Fault::Write));
     Ok(())

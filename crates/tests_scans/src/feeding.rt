@@ -134,7 +134,8 @@ const FED: [Fed; 5] = [
 fn is_fed(read: Option<Result<Read, Fault>>, fed: &Fed) -> bool {
     match read {
         Some(Ok(read)) => {
-            read.packets == fed.packets
+            read.counts.packets == fed.packets
+                && read.counts.gaps.is_none()
                 && read.pieces == fed.pieces
                 && read.interface_findings.len() == fed.findings
                 && read.interface.svc == 4
@@ -228,7 +229,7 @@ fn is_row(item: &ItemRef<'_>, channel: u16, row: &Row) -> bool {
 
 /// Whether this is the piece of an id, with these rows on its channel.
 fn is_piece(piece: &Piece, id: u32, end: Option<u32>, channel: u16, rows: &[Row]) -> bool {
-    if piece.id != id || piece.end != end || piece.channel != channel {
+    if piece.id != id || piece.end.map(|end| end.row) != end || piece.channel != channel {
         return false;
     }
     if piece.items.len() != rows.len() {

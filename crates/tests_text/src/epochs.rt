@@ -2,6 +2,8 @@
 
 ghost use Rattle.std.specs.Prelude.{◌≤◌, ◌∷◌, ◌^◌, All, IfOk, length, map, sum_by};
 ghost use Rattle.std.specs.List.Sorted.{IsStrictlyIncreasing};
+ghost use Rattle.line_model.specs.basics.Bounds.{AreRows};
+ghost use Rattle.line_model.specs.declared.interface.Interface.{Interface as AnyInterface};
 
 mod lists;
 mod refused;
@@ -41,6 +43,7 @@ fn push(cutter: &mut Cutter, side: Side, octets: &[u8], out: &mut Vec<Piece>) ->
         number: last + 1,
         side,
         octets: octets.to_vec(*out.allocator())?,
+        gap: None,
     };
     let packet = decode(&cutter.interface(), row.octets.as_slice());
     cutter.push(&row.item(packet), out)?;
@@ -56,7 +59,7 @@ fn shape(piece: &Piece) -> Shape {
         piece.epoch,
         piece.channel,
         piece.items.len(),
-        piece.end,
+        piece.end.map(|end| end.row),
     )
 }
 
@@ -147,6 +150,7 @@ fn rows_of<A: Allocator + Copy>(alloc: A, packets: &[(Side, &[u8])]) -> Result<V
         IsStrictlyIncreasing (0 ∷ map (λ r. r.number) rows.items)) }
     ensures numbers { IfOk result (λ rows. All (λ r. r.number ≤ 999999999) rows.items) }
     ensures octets { IfOk result (λ rows. sum_by (λ r. length r.octets) rows.items ≤ 2 ^ 31) }
+    ensures lawful { (i : AnyInterface) → IfOk result (λ rows. AreRows i rows.items) }
 {
     let mut rows = Vec::new(alloc);
     let mut number = 0;
@@ -159,6 +163,7 @@ fn rows_of<A: Allocator + Copy>(alloc: A, packets: &[(Side, &[u8])]) -> Result<V
             number,
             side: *side,
             octets: octets.to_vec(alloc)?,
+            gap: None,
         })?;
     }
     Ok(rows)

@@ -21,6 +21,7 @@ fn rows_of(alloc: Global, count: u32) -> Result<Vec<Row>, Fail> {
             number: at + 1,
             side: Side::T,
             octets: octets.to_vec(alloc)?,
+            gap: None,
         })?;
     }
     Ok(rows)

@@ -57,7 +57,7 @@ fn read_in_chunks(
 }
 
 /// Rows behind a header of one line, the line of the first that is faulty, its fault, and how many rows come before it.
-const FAULTY_ROWS: [(&[u8], u32, Kind, usize); 12] = [
+const FAULTY_ROWS: [(&[u8], u32, Kind, usize); 13] = [
     (b"5 T -\n5 T -\n", 3, Kind::Number, 1),
     (b"\n", 2, Kind::LineForm, 0),
     (b"1 T\n", 2, Kind::LineForm, 0),
@@ -67,6 +67,7 @@ const FAULTY_ROWS: [(&[u8], u32, Kind, usize); 12] = [
     (b"0 T -", 2, Kind::Number, 0),
     (b"1000000000 T -", 2, Kind::Number, 0),
     (b"1 T -\n# a comment\n2 X 100\n3 T 1", 4, Kind::Side, 1),
+    (b"1 ? *\n", 2, Kind::Side, 0),
     (b"1 T 100\n", 2, Kind::Hex, 0),
     (b"1 T 1g\n", 2, Kind::Hex, 0),
     (b"1 T 10\r\n", 2, Kind::Hex, 0),
@@ -94,10 +95,15 @@ fn is_wanted(row: &ReadRow<Global>, number: u32, side: Side, octets: &[u8]) -> b
     row.number == number && row.side == side && row.octets.as_slice() == octets
 }
 
-/// Appends a row of a number below 256: the number, the side, how many octets it has, and those that were read.
+/// Appends a row of a number below 256: the number, the side, how many octets it has, and those that were read. Of a gap
+/// its channel, or 0 for all, has the place of the side.
 fn tell(row: &ReadRow<Global>, told: &mut Vec<u8, Global>) -> Result<(), Fault> {
     told.push((row.number % 256) as u8)?;
-    told.push(if row.side == Side::T { b'T' } else { b'N' })?;
+    told.push(match row.gap {
+        Some(gap) => (gap.unwrap_or(0) % 256) as u8,
+        None if row.side == Side::T => b'T',
+        None => b'N',
+    })?;
     told.push((row.length % 256) as u8)?;
     told.extend_from_slice(row.octets.as_slice())?;
     Ok(())
@@ -130,6 +136,7 @@ fn blank(alloc: Global) -> ReadRow<Global> {
         side: Side::N,
         length: 0,
         octets: Vec::new(alloc),
+        gap: None,
     }
 }
 
@@ -164,8 +171,8 @@ fn take_rows(
 }
 
 /// Texts, their rows as they are read, and their faults. The second has rows that end with a chunk of 64 bytes. The third
-/// has data with Q 0 and with Q 1, and packets of each length around four octets.
-const ONE_BY_ONE: [(&[u8], &[u8], Option<Fault>); 8] = [
+/// has data with Q 0 and with Q 1, and packets of each length around four octets. The last have gaps.
+const ONE_BY_ONE: [(&[u8], &[u8], Option<Fault>); 18] = [
     (
         b"# first\nX25 1 MOD 8 WIN 2 SIZE 128 PVC 0 SVC 4\n1 T 10010b0000\n2 N 10010F\n# between\n3 T 100100deadBEEF\n7 N -\n# last\n12 N 10",
         b"\x01T\x05\x10\x01\x0b\x00\x00\x02N\x03\x10\x01\x0f\x03T\x07\x10\x01\x00\xde\x07N\x00\x0cN\x01\x10",
@@ -201,6 +208,56 @@ const ONE_BY_ONE: [(&[u8], &[u8], Option<Fault>); 8] = [
         b"X25 1 MOD 8 WIN 2 SIZE 128 PVC 0 SVC 4\n1 T 10010b0000\n2 n -",
         b"\x01T\x05\x10\x01\x0b\x00\x00",
         Some(Fault::Trace(3, Kind::Side)),
+    ),
+    (
+        b"X25 3 MOD 8 WIN 2 SIZE 128 PVC 0 IN 0 TWO 4 OUT 4\n1 T 10010B0000\n2 ? 4\n3 N 10010F\n4 ? *\n5 T -\n6 ? 1",
+        b"\x01T\x05\x10\x01\x0b\x00\x00\x02\x04\x00\x03N\x03\x10\x01\x0f\x04\x00\x00\x05T\x00\x06\x01\x00",
+        None,
+    ),
+    (
+        b"X25 2 MOD 8 WIN 2 SIZE 128 PVC 0 IN 0 TWO 4 OUT 4\n1 ? 1\n",
+        b"",
+        Some(Fault::Trace(2, Kind::Side)),
+    ),
+    (
+        b"X25 3 MOD 8 WIN 2 SIZE 128 PVC 0 IN 0 TWO 4 OUT 4\n2 ? 1\n1 ? 1\n",
+        b"\x02\x01\x00",
+        Some(Fault::Trace(3, Kind::Number)),
+    ),
+    (
+        b"X25 3 MOD 8 WIN 2 SIZE 128 PVC 0 IN 0 TWO 4 OUT 4\n9 T -\n9 ? *\n",
+        b"\x09T\x00",
+        Some(Fault::Trace(3, Kind::Number)),
+    ),
+    (
+        b"X25 3 MOD 8 WIN 2 SIZE 128 PVC 0 IN 0 TWO 4 OUT 4 JOIN\n1 ? 5\n",
+        b"",
+        Some(Fault::Trace(2, Kind::Hex)),
+    ),
+    (
+        b"X25 3 MOD 8 WIN 2 SIZE 128 PVC 0 IN 0 TWO 4 OUT 4\n1 ? 0\n",
+        b"",
+        Some(Fault::Trace(2, Kind::Hex)),
+    ),
+    (
+        b"X25 3 MOD 8 WIN 2 SIZE 128 PVC 0 IN 0 TWO 4 OUT 4\n1 ? 01\n",
+        b"",
+        Some(Fault::Trace(2, Kind::Hex)),
+    ),
+    (
+        b"X25 3 MOD 8 WIN 2 SIZE 128 PVC 0 IN 0 TWO 4 OUT 4\n1 ? -\n",
+        b"",
+        Some(Fault::Trace(2, Kind::Hex)),
+    ),
+    (
+        b"X25 3 MOD 8 WIN 2 SIZE 128 PVC 0 SVC 4\n",
+        b"",
+        Some(Fault::Trace(1, Kind::HeaderForm)),
+    ),
+    (
+        b"X25 4 MOD 8 WIN 2 SIZE 128 PVC 0 IN 0 TWO 4 OUT 4\n",
+        b"",
+        Some(Fault::Trace(1, Kind::HeaderForm)),
     ),
 ];
 
@@ -245,6 +302,7 @@ fn room_of_the_octets_is_used_again(rt: HostRuntime) -> Result<(), Fail> {
         side: Side::N,
         length: 0,
         octets: Vec::with_capacity(rt.alloc(), 16)?,
+        gap: None,
     };
     let mut lines = Lines::new(rt.alloc());
     assert!(rt; takes(&mut lines, &mut row, HEADER) == Ok(false));

@@ -15,6 +15,9 @@ use tests_devices::Cuts;
 /// A header.
 const HEADER: &str = "X25 1 MOD 8 WIN 2 SIZE 128 PVC 0 SVC 4\n";
 
+/// A header under which rows may be gap rows.
+const THIRD_HEADER: &str = "X25 3 MOD 8 WIN 2 SIZE 128 PVC 0 IN 0 TWO 4 OUT 4\n";
+
 #[test]
 fn the_status_follows_the_scan(rt: HostRuntime) -> Result<(), Fail> {
     let whole = Cuts::of_steps(usize::MAX, usize::MAX);
@@ -26,20 +29,36 @@ fn the_status_follows_the_scan(rt: HostRuntime) -> Result<(), Fail> {
         good_writes: 0,
         ..whole
     };
-    for (rows, cuts, status, report, told) in [
-        ("", whole, 0, "P 0 -\nZ 0 0 0 0 0\n", ""),
-        ("1 T -\n", whole, 1, "F 1 T - 38\nP 0 -\nZ 1 1 0 0 0\n", ""),
+    for (header, rows, cuts, status, report, told) in [
+        (HEADER, "", whole, 0, "P 0 -\nZ 0 0 0 0 0\n", ""),
         (
+            HEADER,
+            "1 T -\n",
+            whole,
+            1,
+            "F 1 T - 38\nP 0 -\nZ 1 1 0 0 0\n",
+            "",
+        ),
+        (
+            THIRD_HEADER,
+            "1 ? 1\n2 ? *\n3 T 100100AA\n",
+            whole,
+            0,
+            "P 0 -\nG 2\nZ 1 0 0 0 0\n",
+            "",
+        ),
+        (
+            HEADER,
             "5 T -\n5 T -\n",
             whole,
             2,
             "",
             "x25scan: line 3: kind 25\n  The row's number is 5, and that of the row before is 5: numbers rise.\n",
         ),
-        ("", unread, 3, "", "x25scan: read failed\n"),
-        ("", unwritten, 3, "", "x25scan: write failed\n"),
+        (HEADER, "", unread, 3, "", "x25scan: read failed\n"),
+        (HEADER, "", unwritten, 3, "", "x25scan: write failed\n"),
     ] {
-        let text = format!(in rt.alloc(); "{HEADER}{rows}")?;
+        let text = format!(in rt.alloc(); "{header}{rows}")?;
         for words in [
             ["x25scan"].as_slice(),
             ["x25scan", "--alone"].as_slice(),

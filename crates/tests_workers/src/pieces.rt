@@ -5,6 +5,7 @@ ghost use Rattle.line_model.specs.basics.Bounds.{IsItem, all_octets};
 
 use line_model::fault::Fault;
 use line_model::finding::{Code, Finding};
+use line_model::gap::EpochStart;
 use line_model::interface::Interface;
 use line_model::items::{ItemRef, Items};
 use line_model::packet::Packet;
@@ -38,8 +39,10 @@ pub(crate) fn piece(alloc: Global, id: u32) -> Piece
         id,
         interface: PLAIN,
         epoch: 1,
+        start: EpochStart::Restarted,
         channel: 1,
         items: PieceItems::new(alloc),
+        last_gap: None,
         end: None,
     }
 }
@@ -89,8 +92,10 @@ pub(crate) fn piece_of_rows(
         id,
         interface,
         epoch,
+        start: EpochStart::Restarted,
         channel: 0,
         items: PieceItems::of(PartItems::own(items)),
+        last_gap: None,
         end: None,
     })
 }

@@ -18,6 +18,7 @@ use Rattle.trace_scan.specs.declared.text_cutter.TextCutter.{TextCutter}
 use Rattle.trace_scan.specs.TextBlocks.{BlockView, IsReadAs}
 use Rattle.trace_scan.specs.TextCuts.{AreCut, HasCut, HasTaken, IsCutTo, given_in, known_pieces}
 use Rattle.live_report.specs.Observing.{AreItems}
+use Rattle.trace_text.proofs.RefusalLemmas.{head_stands}
 use Rattle.live_report.proofs.ChunkLemmas.{early_trace}
 use Rattle.trace_scan.proofs.Heads.{cut_of, known_under}
 use Rattle.trace_scan.proofs.Firsts.{appended_as}
@@ -54,7 +55,7 @@ passes text bytes start c lines after rows f t read is_lines is_cutter at pass =
       header = cut.header;
       passed = subst (λ l. HasPassed l after text bytes read.rows) is_lines there;
       before = cut.cut;
-      trace = subst (AreItems f.interface) (ap (items_of f.interface) there.rows_are ∙ items_more f.interface (early_rows text) read.rows) (early_trace f.interface (text ++ bytes) there.stands.sound);
+      trace = subst (AreItems f.interface) (ap (items_of f.interface) there.rows_are ∙ items_more f.interface (early_rows text) read.rows) (early_trace f.interface (text ++ bytes) there.stands.sound (sym (head_stands after (text ++ bytes) there.stands) ∙ there.interface ∙ ap (λ l. l.interface) is_lines ∙ cut.header));
       cut = subst (λ i. IsBlockCut f.cutter.line (items_of i read.rows) rows.cut) (sym at.interface)
           (subst (λ l. IsBlockCut l (items_of start.interface read.rows) rows.cut) (sym at.machine) read.cut);
     }

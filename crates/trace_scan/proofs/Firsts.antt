@@ -5,9 +5,10 @@ use Rattle.line_model.specs.declared.interface.Interface.{Interface}
 use Rattle.line_model.specs.basics.Records.{ReadRow, Piece}
 use Rattle.line_model.specs.packets.Says.{item_read, items_of}
 use Rattle.line_model.specs.text.Text.{early_head, early_rows, head}
+use Rattle.line_model.proofs.TextRows.{early_head_law}
 use Rattle.trace_text.specs.Progress.{Progress}
 use Rattle.trace_text.specs.StandsFor.{StandsFor, ReadsChunk}
-use Rattle.trace_text.proofs.Grows.{head_stays, no_rows}
+use Rattle.trace_text.proofs.Grows.{no_rows}
 use Rattle.trace_text.proofs.RefusalLemmas.{head_stands}
 use Rattle.restart_epochs.specs.Cutting.{HasAppended, given_of}
 use Rattle.restart_epochs.proofs.Listings.{nothing_cut}
@@ -73,7 +74,7 @@ known_head (Some j) i h = some_same j i (h j refl)
 
 -- the header that is known is that of the whole text
 pub whole_head : (lines : Progress) (text : List ℕ) (i : Interface) → StandsFor lines text → head text ≡ Some i → IfSome lines.interface (λ j. j ≡ i)
-whole_head lines text i s e = known_head lines.interface i (λ j h. sym (ap head (sym (append-nil text)) ∙ head_stays text [] j s.sound (sym (head_stands lines text s) ∙ h)) ∙ e)
+whole_head lines text i s e = known_head lines.interface i (λ j h. sym (ap head (sym (append-nil text)) ∙ early_head_law text [] j (sym (head_stands lines text s) ∙ h)) ∙ e)
 
 -- the pieces that are known whole, by the header of the whole text
 pub known_with : (lines : Progress) (text : List ℕ) (i : Interface) → StandsFor lines text → IfSome lines.interface (λ j. j ≡ i) → known_pieces text ≡ given_in i text

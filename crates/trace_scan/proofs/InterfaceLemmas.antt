@@ -39,4 +39,5 @@ same_interface a b h =
       two_way = eqb-true a.two_way b.two_way two_way.0 k;
       svc = eqb-true a.svc b.svc svc.0 k;
       join = beq_true a.join b.join joins.0 k;
+      gaps = beq_true a.gaps b.gaps joins.1 k;
     })

@@ -18,7 +18,7 @@ pub mod TrialLemmas
 pub mod WalkedLemmas
 pub mod TrialsLemmas
 pub mod TriedLemmas
-pub mod TrialLanes
+pub mod ChannelLemmas
 pub mod EventLemmas
 pub mod HeaderLemmas
 pub mod Lags

@@ -1,26 +1,28 @@
 -- What one more row does to the errors of the DTE that are watched.
 use Rattle.std.proofs.Common.{◌≡◌, ap, refl, ℕ, ◌+◌, ◌≤◌, ◌==◌, Bool, true, false, cond, List, [], ◌∷◌, ◌++◌, length, arith, nat_lt}
 use Rattle.line_model.specs.basics.Records.{Item}
-use Rattle.line_model.specs.channels.Channels.{Channel}
-use Rattle.line_model.specs.channels.RestartMachine.{LineState}
+use Rattle.line_model.specs.channels.Gaps.{GapChannel}
+use Rattle.line_model.specs.channels.GapRestart.{GapLine, routing}
 use Rattle.line_model.specs.declared.interface.Interface.{Interface}
 use Rattle.line_model.specs.declared.state.ChannelState.{ChannelState}
 use Rattle.line_model.specs.packets.Classes.{packet_class}
+use Rattle.line_model.specs.packets.Says.{gap_of}
 use Rattle.line_model.specs.observer.Machine.{Observer, after, walk}
-use Rattle.line_model.specs.observer.Observer.{start, routing, x25}
+use Rattle.line_model.specs.observer.Observer.{start, x25}
 use Rattle.restart_epochs.specs.Cutting.{observer}
 use Rattle.restart_epochs.specs.Walks.{turn_of}
 use Rattle.restart_epochs.specs.declared.walk.Turn.{Turn}
-use Rattle.restart_epochs.specs.declared.walk.Turn.TheVariants.{Ends as EndsEpoch, Stays, ToChannel}
-use Rattle.trace_scan.specs.Reactions.{awaits, epoch_ended, given_up, noted, nothing_watched, passed, reaction_by, reaction_on, settled, wait_in, watch_turn, watched, watched_from, watched_next, with_wait}
+use Rattle.restart_epochs.specs.declared.walk.Turn.TheVariants.{Ends as EndsEpoch, Stays, ToAll, ToChannel}
+use Rattle.trace_scan.specs.Reactions.{awaits, closed, epoch_ended, given_up, noted, nothing_watched, passed, reaction_by, reaction_on, seen_on_channel, settled, wait_in, watch_turn, watched, watched_from, watched_next, with_wait}
 use Rattle.trace_scan.specs.Watched.{IsRoomy, Watched}
 use Rattle.trace_scan.specs.declared.reactions.Reaction.{Reaction}
-use Rattle.trace_scan.specs.declared.reactions.Reaction.TheVariants.{Answers, Ends, Nothing, Owes, Passes, Unexplained}
+use Rattle.trace_scan.specs.declared.reactions.Reaction.TheVariants.{Answers, Ends, Hides, Nothing, Owes, Passes, Unexplained}
 
-pub reaction_same : (r : Item) (a b c d : Bool) (s t : ChannelState) → a ≡ b → c ≡ d → s ≡ t → reaction_by a c (awaits s (packet_class r.packet)) r ≡ reaction_by b d (awaits t (packet_class r.packet)) r
-reaction_same r a b c d s t before after state = λ j. reaction_by (before j) (after j) (awaits (state j) (packet_class r.packet)) r
+pub reaction_same : (r : Item) (x y a b c d : Bool) (s t : ChannelState) → x ≡ y → a ≡ b → c ≡ d → s ≡ t
+    → seen_on_channel (gap_of r.packet) x (reaction_by a c (awaits s (packet_class r.packet)) r) ≡ seen_on_channel (gap_of r.packet) y (reaction_by b d (awaits t (packet_class r.packet)) r)
+reaction_same r x y a b c d s t adrift before after state = λ j. seen_on_channel (gap_of r.packet) (adrift j) (reaction_by (before j) (after j) (awaits (state j) (packet_class r.packet)) r)
 
-from_more : (i : Interface) (o : Observer LineState Channel) (w : Watched) (rs : List Item) (r : Item) → watched_from i o w (rs ++ r ∷ []) ≡ watched_next i (walk (x25 i) o rs) r (watched_from i o w rs)
+from_more : (i : Interface) (o : Observer GapLine GapChannel) (w : Watched) (rs : List Item) (r : Item) → watched_from i o w (rs ++ r ∷ []) ≡ watched_next i (walk (x25 i) o rs) r (watched_from i o w rs)
 from_more i o w [] r = refl
 from_more i o w (x ∷ rs) r = from_more i (after (x25 i) o x) (watched_next i o x w) rs r
 
@@ -48,6 +50,13 @@ few_given_up k n w few = record {
   unexplained = omega (arith, few.unexplained);
 }
 
+few_closed : (k n : ℕ) (w : Watched) → AreFewWatched n w → AreFewWatched (n + 1) (closed k w)
+few_closed k n w few = record {
+  answered = omega (arith, few.answered);
+  unanswered = omega (arith, few.unanswered);
+  unexplained = omega (arith, few.unexplained);
+}
+
 few_passed : (k n wait : ℕ) (w : Watched) → AreFewWatched n w → AreFewWatched (n + 1) (passed k wait w)
 few_passed k n wait w few = at (nat_lt wait 8)
   where
@@ -63,6 +72,7 @@ few_settled k n wait Answers w few = record {
 }
 few_settled k n wait Ends w few = few_given_up k n w few
 few_settled k n wait Passes w few = few_passed k n wait w few
+few_settled k n wait Hides w few = few_closed k n w few
 few_settled k n wait _ w few = few_same n w few
 
 few_awaited : (b : Bool) (k n wait : ℕ) (x : Reaction) (w : Watched) → AreFewWatched n w → AreFewWatched (n + 1) (cond b w (settled x k wait w))
@@ -84,6 +94,7 @@ few_noted k n Nothing w few = few_same n w few
 few_noted k n Answers w few = few_awaited (wait_in k w == 0) k n (wait_in k w) Answers w few
 few_noted k n Ends w few = few_awaited (wait_in k w == 0) k n (wait_in k w) Ends w few
 few_noted k n Passes w few = few_awaited (wait_in k w == 0) k n (wait_in k w) Passes w few
+few_noted k n Hides w few = few_awaited (wait_in k w == 0) k n (wait_in k w) Hides w few
 
 few_ended : (n : ℕ) (w : Watched) → AreFewWatched n w → AreFewWatched n (epoch_ended w)
 few_ended n w few = record {
@@ -95,9 +106,14 @@ few_ended n w few = record {
 few_turn : (n : ℕ) (t : Turn) (x : Reaction) (w : Watched) → AreFewWatched n w → AreFewWatched (n + 1) (watch_turn t x w)
 few_turn n (ToChannel k) x w few = few_noted k n x w few
 few_turn n EndsEpoch x w few = few_noted 0 n x (epoch_ended w) (few_ended n w few)
+few_turn n ToAll x w few = record {
+  answered = omega (arith, few.answered);
+  unanswered = omega (arith, few.unanswered);
+  unexplained = omega (arith, few.unexplained);
+}
 few_turn n Stays x w few = few_noted 0 n x w few
 
-few_from : (n : ℕ) (i : Interface) (o : Observer LineState Channel) (w : Watched) (rs : List Item) → AreFewWatched n w → AreFewWatched (n + length rs) (watched_from i o w rs)
+few_from : (n : ℕ) (i : Interface) (o : Observer GapLine GapChannel) (w : Watched) (rs : List Item) → AreFewWatched n w → AreFewWatched (n + length rs) (watched_from i o w rs)
 few_from n i o w [] few = record {
   answered = omega (arith, few.answered);
   unanswered = omega (arith, few.unanswered);
@@ -105,7 +121,7 @@ few_from n i o w [] few = record {
 }
 few_from n i o w (r ∷ rs) few =
     let turn : Turn = turn_of r.packet (routing o.line r).route in
-    let x : Reaction = reaction_on turn i o.line.state (routing o.line r).after.state o.states r in
+    let x : Reaction = reaction_on turn i o.line (routing o.line r).after o.states r in
     let next : Watched = watched_next i o r w in
     let more = few_from (n + 1) i (after (x25 i) o r) next rs (few_turn n turn x w few) in
     record {

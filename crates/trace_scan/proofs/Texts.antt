@@ -1,5 +1,5 @@
 -- A text that is read and cut as it comes, and its plan.
-use Rattle.std.proofs.Common.{◌≡◌, ◌∙◌, sym, ap, subst, refl, ℕ, List, [], ◌∷◌, ◌++◌, length, Option, Some, None, append-nil}
+use Rattle.std.proofs.Common.{◌≡◌, ◌-◌, ◌∙◌, sym, ap, subst, refl, ℕ, List, [], ◌∷◌, ◌++◌, length, Option, Some, None, append-nil}
 use Rattle.std.specs.Prelude.{IfSome}
 use Rattle.line_model.specs.declared.interface.Interface.{Interface}
 use Rattle.line_model.specs.declared.fault.Kind.{Kind}
@@ -11,11 +11,12 @@ use Rattle.line_model.specs.basics.Records.{Row, Piece}
 use Rattle.line_model.specs.packets.Says.{items_of}
 use Rattle.line_model.specs.traces.Traces.{trace_plan}
 use Rattle.line_model.proofs.Saying.{items_more}
+use Rattle.line_model.specs.observer.Report.{gaps_among, gaps_of}
 use Rattle.line_model.specs.text.Text.{early, early_head, early_rows, fault, head, rows}
 use Rattle.restart_epochs.specs.Cutting.{given_of}
 use Rattle.restart_epochs.proofs.Heads.{given_first}
+use Rattle.line_model.proofs.TextRows.{early_head_law, early_rows_law}
 use Rattle.trace_text.specs.StandsFor.{IsFaultOf}
-use Rattle.trace_text.proofs.Grows.{head_stays, rows_first}
 use Rattle.workers.specs.Workers.{ArePlanned}
 use Rattle.trace_scan.specs.TextCuts.{IsPlanOf, known_of, known_pieces}
 use Rattle.trace_scan.specs.Readings.{IsCutOf, IsReadOf}
@@ -29,9 +30,9 @@ stands_first : (known : KnownPlan) (i : Interface) (given : List ℕ) (rs : List
     → IfSome known (λ ps. (rest : List Piece) × (given_of i (items_of i rs) ++ rest ≡ ps))
 stands_first None i given rs sound e same h = tt
 stands_first (Some ps) i given rs sound e same h =
-    let all = rows_first given h.0 sound in
+    let all = early_rows_law given h.0 in
     let first = given_first i (items_of i rs) (items_of i all.0) in
-    (first.0, first.1 ∙ ap (plan i) (sym (items_more i rs all.0)) ∙ ap (λ l. plan i (items_of i (l ++ all.0))) (sym same) ∙ ap (λ l. plan i (items_of i l)) (sym all.1) ∙ sym (plan_of_head (given ++ h.0) i (head_stays given h.0 i sound e)) ∙ sym h.1)
+    (first.0, first.1 ∙ ap (plan i) (sym (items_more i rs all.0)) ∙ ap (λ l. plan i (items_of i (l ++ all.0))) (sym same) ∙ ap (λ l. plan i (items_of i l)) (sym all.1) ∙ sym (plan_of_head (given ++ h.0) i (early_head_law given h.0 i e)) ∙ sym h.1)
 
 ends_with : (known : KnownPlan) (i : Interface) (text : List ℕ) (rs : List Row) → head text ≡ Some i → rows text ≡ rs → IfSome known (λ ps. ps ≡ trace_plan text) → IfSome known (λ ps. (rest : List Piece) × (given_of i (items_of i rs) ++ rest ≡ ps))
 ends_with None i text rs e same h = tt
@@ -53,7 +54,8 @@ read_of text i j rs fed r sound e same is cut =
         interface = refl;
         all = cut.all ∙ (λ k. plan (here k) (items_of (here k) (sym is k)));
         interface_findings = cut.interface_findings ∙ (λ k. line_findings (here k) (items_of (here k) (sym is k)));
-        packets = cut.packets ∙ (λ k. length (items_of (here k) (sym is k)));
+        packets = cut.packets ∙ (λ k. length (items_of (here k) (sym is k)) - gaps_of (items_of (here k) (sym is k)));
+        gaps = cut.gaps ∙ (λ k. gaps_among (here k).gaps (items_of (here k) (sym is k)));
         pieces = cut.pieces;
       };
     }

@@ -23,6 +23,7 @@ use Rattle.line_model.specs.work.Book.{KnownPlan, AreOf}
 use Rattle.line_model.proofs.Posts.{whole}
 use Rattle.line_model.proofs.TextLemmas.{early-nothing}
 use Rattle.line_model.proofs.BookTotals.{totals_law}
+use Rattle.line_model.proofs.TextRows.{rows_law}
 use Rattle.trace_text.proofs.DecidedLemmas.{all_sound}
 use Rattle.trace_text.proofs.RowsOfText.{text_rises}
 use Rattle.report_merge.specs.Merged.{IsOfWalk}
@@ -118,17 +119,18 @@ parts_are (Ok t) o g known ran workers before after asked failed fed both h m =
 
 -- the pieces that were fed are those of the plan, so the reports are those of the walk over what the rows of the text say
 pub of_walk : {A : Type 0} (known : KnownPlan) (ran : Piece → PieceReport → Type 0) (workers : ℕ) (text : List ℕ) (fed : List Piece) (read : Read A) (g : Gathered A (List PieceReport))
-    → IsReadOf text fed read → IsWhole known ran workers fed g → IsOfWalk read.interface (items_of read.interface (rows text)) (reports_of g) read.interface_findings.items read.packets read.pieces
+    → IsReadOf text fed read → IsWhole known ran workers fed g → IsOfWalk read.interface (items_of read.interface (rows text)) (reports_of g) read.interface_findings.items read.counts read.pieces
 of_walk known ran workers text fed read g r w =
     let items : List Item = items_of read.interface (rows text) in
     let of_fed : AreOf (Some (plan read.interface items)) (reports_of g) = subst (λ ps. AreOf (Some ps) (reports_of g)) r.cut.all w.of_fed in
     let count : length fed ≡ length (plan read.interface items) = ap (λ (ps : List Piece). length ps) r.cut.all in
     record {
-      said = all_said read.interface (rows text);
+      said = all_said read.interface (rows text) (rows_law text read.interface r.header);
       rising = subst (λ ns. IsStrictlyIncreasing (0 ∷ ns)) (sym (said_numbers read.interface (rows text))) (text_rises text r.sound);
       values = permuted_posts (plan read.interface items) (reports_of g) of_fed (w.number ∙ count);
       line_is = r.cut.interface_findings;
       packets_are = r.cut.packets;
+      gaps_are = r.cut.gaps;
       pieces_are = r.cut.pieces ∙ count;
     }
 
@@ -138,7 +140,7 @@ totals_are known ran workers text fed read g r w =
     let of_fed : AreOf (Some (plan read.interface items)) (reports_of g) = subst (λ ps. AreOf (Some ps) (reports_of g)) r.cut.all w.of_fed in
     w.sums
     ∙ whole (plan read.interface items) (reports_of g) of_fed (w.number ∙ ap (λ (ps : List Piece). length ps) r.cut.all)
-    ∙ totals_law read.interface items (all_said read.interface (rows text))
+    ∙ totals_law read.interface items (all_said read.interface (rows text) (rows_law text read.interface r.header))
     ∙ sym (ap (λ o. elim o as (λ _. Totals) [ None ↦ record { posts = 0; findings = 0; octets = 0; segments = 0 } | Some i ↦ channel_totals i (items_of i (rows text)) ]) r.header)
 
 pub runs_are : {A : Type 0} (known : KnownPlan) (ran : Piece → PieceReport → Type 0) (workers : ℕ) (text : List ℕ) (fed : List Piece) (read : Read A) (g : Gathered A (List PieceReport)) → IsReadOf text fed read → IsWhole known ran workers fed g → AreRuns ran text

@@ -3,7 +3,7 @@ use Rattle.std.proofs.Common.{◌≡◌, ◌≢◌, ◌∙◌, sym, ap, subst, r
 use Rattle.std.specs.Prelude.{IfErr, IfOk, IfSome, Result, Ok, Err}
 use Rattle.std.specs.List.Sorted.{IsNonDecreasingBy, IsPermutation}
 use Rattle.line_model.specs.declared.fault.Fault.{Fault}
-use Rattle.line_model.specs.declared.fault.Fault.TheVariants.{Memory, Trace, Write}
+use Rattle.line_model.specs.declared.fault.Fault.TheVariants.{Write}
 use Rattle.live_report.specs.Reports.{IsRefusal as IsReportRefusal, IsReportFault}
 use Rattle.trace_text.specs.Sources.{IsFedAll, IsRefusedBy}
 use Rattle.trace_scan.specs.Headers.{headers_tried}
@@ -19,7 +19,7 @@ use Rattle.line_model.specs.packets.Says.{items_of}
 use Rattle.line_model.specs.text.Text.{early_head, early_rows, rows}
 use Rattle.channel_run.specs.declared.run.Channel.{Ghosts as Machine}
 use Rattle.trace_text.specs.Progress.{Progress}
-use Rattle.trace_text.specs.StandsFor.{IsTextFault, StandsFor, ReadsChunk}
+use Rattle.trace_text.specs.StandsFor.{StandsFor, ReadsChunk}
 use Rattle.trace_scan.specs.Trials.{AreTrials, AreTried, HasTaken, IsTriedText, SaidRows}
 use Rattle.trace_scan.specs.declared.trials.Trials.{Trials}
 use Rattle.trace_scan.specs.declared.tried_text.TriedText.{TriedText}
@@ -73,27 +73,16 @@ course_end m text chunk rest t next c ends kept same =
 
 -- ---- what a refusal says, and what was written
 
-text_kind : (f : Fault) → IsTextFault f → IsReportFault f
-text_kind Memory h = tt
-text_kind (Trace line kind) h = tt
-text_kind _ h = absurd h
-
-pub end_kind : (f : Fault) → IsTextFault f → IsReportFault f
-end_kind f h = text_kind f h
-
-pub no_write : (f : Fault) → IsTextFault f → f ≡ Write → ⊥
-no_write f h w = subst IsTextFault w h
-
 -- the lines of a text whose trials are these
 pub lines_of_trials : {A C : Type 0} (m : Machine C A) (text : List ℕ) (ts : List (Trial A C)) (tried : List Tried) → (t : IsTriedText m text ts)
-    → ((is : List Interface) (items : SaidRows) → AreTrials m items is ts → IsPermutation (map (λ (h : Interface). tried_with h (items h)) is) tried)
+    → ((own : Interface) (is : List Interface) (items : SaidRows) → AreTrials m own items is ts → IsPermutation (map (λ (h : Interface). tried_with h (items h)) is) tried)
     → IsNonDecreasingBy rank tried → AreTriedLines text (tried_text tried) (fewest tried)
 lines_of_trials m text ts tried t all sorted = record {
   sound = t.sound;
   interface = t.interface;
   header = t.header;
   tried = tried;
-  all = all (headers_tried t.interface (rows text)) (λ i. items_of i (rows text)) t.trials;
+  all = all t.interface (headers_tried t.interface (rows text)) (λ i. items_of i (rows text)) t.trials;
   sorted = sorted;
   whole = refl;
   first = refl;

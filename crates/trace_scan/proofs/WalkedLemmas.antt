@@ -1,14 +1,15 @@
 -- A trial with one more row.
-use Rattle.std.proofs.Common.{◌≡◌, ◌≢◌, ◌∙◌, sym, ap, subst, refl, ℕ, ◌+◌, ◌≤◌, ◌^◌, Bool, true, false, eqb, List, [], ◌∷◌, ◌++◌, map, length, sum, sum_by, Option, arith, length-append, option_to_list}
+use Rattle.std.proofs.Common.{◌≡◌, ◌≢◌, ◌∙◌, ◌⊎◌, inl, inr, sym, ap, subst, refl, ℕ, ◌+◌, ◌≤◌, ◌^◌, Bool, true, false, List, [], ◌∷◌, ◌++◌, map, length, sum, sum_by, Option, arith, length-append, option_to_list}
 use Rattle.std.specs.Prelude.{All, slice_get}
-use Rattle.std.proofs.lemmas.Bool.{eqb-true, eqb-false}
+use Rattle.std.proofs.lemmas.Bool.{cases_eq, eq-eqb, ne_eqb}
 use Rattle.std.proofs.lemmas.List.Sums.{sum_by_push}
 use Rattle.std.proofs.lemmas.List.Elements.{All-head, All-tail}
 use Rattle.line_model.specs.declared.interface.Interface.{Interface}
 use Rattle.line_model.specs.declared.event.Event.{Event}
 use Rattle.line_model.specs.declared.finding.Finding.{Finding}
 use Rattle.line_model.specs.basics.Records.{Item}
-use Rattle.line_model.specs.channels.Channels.{Channel, fresh}
+use Rattle.line_model.specs.declared.gap.EpochStart.{EpochStart}
+use Rattle.line_model.specs.channels.Gaps.{GapChannel, fresh_at}
 use Rattle.line_model.specs.observer.Report.{findings_of}
 use Rattle.line_model.proofs.Rising.{RisesFrom, rises-from_index}
 use Rattle.channel_run.specs.Run.{row_events}
@@ -16,19 +17,19 @@ use Rattle.channel_run.specs.declared.run.Channel.{Ghosts as Machine}
 use Rattle.channel_run.proofs.LiveLemmas.{one_finding}
 use Rattle.live_report.proofs.FoundLemmas.{at_most_one}
 use Rattle.restart_epochs.specs.Cutting.{observer}
-use Rattle.restart_epochs.specs.OpenLanes.{OpenLanes, no_lanes, value_at}
+use Rattle.restart_epochs.specs.OpenLanes.{value_at}
 use Rattle.restart_epochs.specs.declared.walk.EpochWalk.{EpochWalk}
 use Rattle.restart_epochs.specs.declared.walk.Step.{Step}
 use Rattle.restart_epochs.specs.declared.walk.Turn.{Turn}
 use Rattle.restart_epochs.specs.declared.walk.Turn.TheVariants.{ToChannel}
 use Rattle.live_report.specs.Observing.{AreItems}
-use Rattle.trace_scan.specs.Tried.{AreLanesOf, HasWalked, IsFew, IsLaneOf, events_after, states_after, tally_of, uncounted_in}
+use Rattle.trace_scan.specs.Tried.{AreChannels, HasWalked, IsFew, IsLaneOf, events_after, no_channels, states_after, tally_of, uncounted_in}
 use Rattle.trace_scan.specs.declared.trial.Tally.{Tally}
 use Rattle.trace_scan.specs.declared.trial.Trial.{Trial}
-use Rattle.line_model.specs.observer.Observer.{routing}
-use Rattle.line_model.specs.declared.state.RState.{RState}
+use Rattle.trace_scan.specs.declared.tried_channels.TriedChannels.{TriedChannels}
+use Rattle.line_model.specs.channels.GapRestart.{GapLine, routing, start_by}
 use Rattle.trace_scan.specs.Watched.{Watched}
-use Rattle.restart_epochs.specs.Walks.{IsStep, turn_of}
+use Rattle.restart_epochs.specs.Walks.{IsStep, start_after, turn_of}
 use Rattle.trace_scan.specs.Reactions.{reaction_on, watch_turn, watched}
 use Rattle.trace_scan.proofs.ReactionLemmas.{watched_more}
 use Rattle.trace_scan.proofs.TrialLemmas.{Steps, count_more, few_uncounted, octets_more, one_uncounted, packets_more}
@@ -51,26 +52,33 @@ few_next i rs r t = let few = few_rows i (rs ++ r ∷ []) t in omega (arith, few
 pub few_octets : (i : Interface) (rs : List Item) (r : Item) → AreItems i (rs ++ r ∷ []) → sum_by (λ (x : Item). x.length) rs + r.length ≤ 2 ^ 31
 few_octets i rs r t = let few = t.octets in omega (arith, few, sum_by_push (λ (x : Item). x.length) rs r)
 
--- ---- the lanes
+-- ---- the channels
 
-fresh_lanes : {A C : Type 0} (m : Machine C A) (i : Interface) (e : ℕ) (states : ℕ → Channel) → ((k : ℕ) → states k ≡ fresh i e k) → AreLanesOf m i e states no_lanes
-fresh_lanes m i e states h k = h k
+-- where an epoch begins all of them are so
+fresh_channels : {A C : Type 0} (m : Machine C A) (i : Interface) (start : EpochStart) (e : ℕ) (states : ℕ → GapChannel) → ((k : ℕ) → states k ≡ fresh_at i start e k) → AreChannels {A = A} m i start e states no_channels
+fresh_channels m i start e states h = record { each = h; recorded = λ some. absurd (omega (arith, some)) }
 
-same_lanes : {A C : Type 0} (m : Machine C A) (i : Interface) (e : ℕ) (states after : ℕ → Channel) (lanes : OpenLanes C) → ((k : ℕ) → after k ≡ states k) → AreLanesOf m i e states lanes → AreLanesOf m i e after lanes
-same_lanes m i e states after lanes same h k = subst (λ c. IsLaneOf m i e k c (value_at lanes k)) (sym (same k)) (h k)
+same_channels : {A C : Type 0} (m : Machine C A) (i : Interface) (start : EpochStart) (e : ℕ) (states after : ℕ → GapChannel) (channels : TriedChannels A C) → ((k : ℕ) → after k ≡ states k) → AreChannels m i start e states channels → AreChannels m i start e after channels
+same_channels m i start e states after channels same h = record {
+  each = λ k. subst (λ g. IsLaneOf m i start e channels.gaps k g (value_at channels.lanes k)) (sym (same k)) (h.each k);
+  recorded = h.recorded;
+}
 
 -- ---- a row was taken
 
--- what becomes of a trial by the step of a row: `turned` has the lanes before a further epoch makes them fresh
-pub record Takes {A C : Type 0} (m : Machine C A) (states : ℕ → Channel) (r : Item) (step : Step) (before after : Trial A C) (turned : OpenLanes C) : Type 0 where
+-- what becomes of a trial by the step of a row: `turned` are the channels before a further epoch makes them fresh
+pub record Takes {A C : Type 0} (m : Machine C A) (states : ℕ → GapChannel) (r : Item) (step : Step) (before after : Trial A C) (turned : TriedChannels A C) : Type 0 where
   pub interface : after.walk.interface ≡ before.walk.interface
   pub line : after.walk.machine ≡ step.machine
   pub epoch : after.walk.epoch ≡ step.epoch
+  pub start : after.walk.start ≡ start_after before.walk.epoch before.walk.start step.epoch step.machine
   pub packets : after.walk.packets ≡ before.walk.packets + 1
-  pub lanes : AreLanesOf m before.walk.interface before.walk.epoch (states_after step.turn before.walk.interface states r) turned
-  pub same : step.epoch ≡ before.walk.epoch → after.lanes ≡ turned
-  pub renewed : step.epoch ≢ before.walk.epoch → after.lanes ≡ no_lanes
-  pub watch : (i : Interface) → before.walk.interface ≡ i → after.watch ≡ watch_turn step.turn (reaction_on step.turn i before.walk.machine.state step.machine.state states r) before.watch
+  pub gaps : after.walk.gaps ≤ before.walk.gaps + 1
+  pub channels : AreChannels m before.walk.interface before.walk.start before.walk.epoch (states_after step.turn before.walk.interface states r) turned
+  pub few : turned.gaps ≤ before.channels.gaps + 1
+  pub same : step.epoch ≡ before.walk.epoch → after.channels ≡ turned
+  pub renewed : step.epoch ≢ before.walk.epoch → after.channels ≡ no_channels
+  pub watch : (i : Interface) → before.walk.interface ≡ i → after.watch ≡ watch_turn step.turn (reaction_on step.turn i before.walk.machine step.machine states r) before.watch
 
 -- what is counted of a row with these events, if it has one finding at the most
 pub record Counts (i : Interface) (r : Item) (found : List Finding) (es : List Event) (before after : Tally) : Type 0 where
@@ -78,28 +86,37 @@ pub record Counts (i : Interface) (r : Item) (found : List Finding) (es : List E
   pub packets : after.packets ≡ before.packets + length (uncounted_in i r es)
   pub octets : after.octets ≡ before.octets + sum (uncounted_in i r es)
 
-pub lanes_after : {A C : Type 0} (m : Machine C A) (i : Interface) (rs : List Item) (r : Item) (step : Step) (before after : Trial A C) (turned : OpenLanes C) → HasWalked m i rs before → Steps i rs r step
-    → Takes m (observer i rs).states r step before after turned → AreLanesOf m i (observer i (rs ++ r ∷ [])).epoch (observer i (rs ++ r ∷ [])).states after.lanes
-lanes_after {A} {C} m i rs r step before after turned w s t = at (eqb step.epoch (observer i rs).epoch) refl
-  where
-    here : AreLanesOf m i (observer i rs).epoch (states_after step.turn i (observer i rs).states r) turned
-    here = subst (λ e. AreLanesOf m i e (states_after step.turn i (observer i rs).states r) turned) w.epoch
-        (subst (λ j. AreLanesOf m j before.walk.epoch (states_after step.turn j (observer i rs).states r) turned) w.interface t.lanes)
+-- how the epoch began that is open after a row
+start_kept : (e : ℕ) (start : EpochStart) (n : ℕ) (g : GapLine) → n ≡ e → start_after e start n g ≡ start
+start_kept e start n g same = ap (λ (b : Bool). elim b as (λ _. EpochStart) [ true ↦ start | false ↦ start_by g ]) (eq-eqb n e same)
 
-    at : (b : Bool) → eqb step.epoch (observer i rs).epoch ≡ b → AreLanesOf m i (observer i (rs ++ r ∷ [])).epoch (observer i (rs ++ r ∷ [])).states after.lanes
-    at true e =
-        let same : step.epoch ≡ (observer i rs).epoch = eqb-true step.epoch (observer i rs).epoch e in
-        subst (λ lanes. AreLanesOf m i (observer i (rs ++ r ∷ [])).epoch (observer i (rs ++ r ∷ [])).states lanes) (sym (t.same (same ∙ sym w.epoch)))
-        (subst (λ n. AreLanesOf m i n (observer i (rs ++ r ∷ [])).states turned) (sym (s.epoch ∙ same))
-        (same_lanes m i (observer i rs).epoch (states_after step.turn i (observer i rs).states r) (observer i (rs ++ r ∷ [])).states turned (s.states same) here))
-    at false e =
-        let other : step.epoch ≢ (observer i rs).epoch = eqb-false step.epoch (observer i rs).epoch e in
-        subst (λ lanes. AreLanesOf m i (observer i (rs ++ r ∷ [])).epoch (observer i (rs ++ r ∷ [])).states lanes) (sym (t.renewed (λ h. other (h ∙ w.epoch))))
-        (subst (λ n. AreLanesOf m i n (observer i (rs ++ r ∷ [])).states no_lanes) (sym s.epoch)
-        (fresh_lanes m i step.epoch (observer i (rs ++ r ∷ [])).states (s.renewed other)))
+start_renewed : (e : ℕ) (start : EpochStart) (n : ℕ) (g : GapLine) → n ≢ e → start_after e start n g ≡ start_by g
+start_renewed e start n g other = ap (λ (b : Bool). elim b as (λ _. EpochStart) [ true ↦ start | false ↦ start_by g ]) (ne_eqb n e other)
+
+pub channels_after : {A C : Type 0} (m : Machine C A) (i : Interface) (rs : List Item) (r : Item) (step : Step) (before after : Trial A C) (turned : TriedChannels A C) → HasWalked m i rs before → Steps i rs r step
+    → Takes m (observer i rs).states r step before after turned → AreChannels m i after.walk.start (observer i (rs ++ r ∷ [])).epoch (observer i (rs ++ r ∷ [])).states after.channels
+channels_after {A} {C} m i rs r step before after turned w s t = at (cases_eq step.epoch before.walk.epoch)
+  where
+    states : ℕ → GapChannel
+    states = (observer i (rs ++ r ∷ [])).states
+
+    here : AreChannels m i before.walk.start before.walk.epoch (states_after step.turn i (observer i rs).states r) turned
+    here = subst (λ j. AreChannels m j before.walk.start before.walk.epoch (states_after step.turn j (observer i rs).states r) turned) w.interface t.channels
+
+    at : (step.epoch ≡ before.walk.epoch) ⊎ (step.epoch ≡ before.walk.epoch → ⊥) → AreChannels m i after.walk.start (observer i (rs ++ r ∷ [])).epoch states after.channels
+    at (inl same) =
+        subst (λ n. AreChannels m i after.walk.start n states after.channels) (sym (s.epoch ∙ same))
+        (subst (λ b. AreChannels m i b before.walk.epoch states after.channels) (sym (t.start ∙ start_kept before.walk.epoch before.walk.start step.epoch step.machine same))
+        (subst (AreChannels m i before.walk.start before.walk.epoch states) (sym (t.same same))
+        (same_channels m i before.walk.start before.walk.epoch (states_after step.turn i (observer i rs).states r) states turned (s.states (same ∙ w.epoch)) here)))
+    at (inr other) =
+        subst (λ n. AreChannels m i after.walk.start n states after.channels) (sym s.epoch)
+        (subst (λ b. AreChannels m i b step.epoch states after.channels) (sym (t.start ∙ start_renewed before.walk.epoch before.walk.start step.epoch step.machine other))
+        (subst (AreChannels m i (start_by step.machine) step.epoch states) (sym (t.renewed other))
+        (fresh_channels m i (start_by step.machine) step.epoch states (s.renewed (λ h. other (h ∙ sym w.epoch))))))
 
 -- a row has one finding at the most
-one_of_channel : (i : Interface) (e k : ℕ) (c : Channel) (r : Item) → length (findings_of (row_events i e k c r)) ≤ 1
+one_of_channel : (i : Interface) (e k : ℕ) (c : GapChannel) (r : Item) → length (findings_of (row_events i e k c r)) ≤ 1
 one_of_channel i e k c r =
     let first : Option Finding = slice_get (findings_of (row_events i e k c r)) 0 in
     subst (λ (l : List Finding). length l ≤ 1) (one_finding i e k c r (row_events i e k c r) first refl refl) (at_most_one first)
@@ -125,32 +142,44 @@ tally_after i rs r step before after was s c =
     c.octets ∙ (λ j. (was j).octets + sym s.left.octets j) ∙ sym (octets_more i rs r) in
     λ j. record { findings = findings j; packets = packets j; octets = octets j }
 
-watch_same : (i : Interface) (states : ℕ → Channel) (r : Item) (t u : Turn) (a b c d : RState) (w v : Watched) → t ≡ u → a ≡ b → c ≡ d → w ≡ v → watch_turn t (reaction_on t i a c states r) w ≡ watch_turn u (reaction_on u i b d states r) v
+watch_same : (i : Interface) (states : ℕ → GapChannel) (r : Item) (t u : Turn) (a b c d : GapLine) (w v : Watched) → t ≡ u → a ≡ b → c ≡ d → w ≡ v → watch_turn t (reaction_on t i a c states r) w ≡ watch_turn u (reaction_on u i b d states r) v
 watch_same i states r t u a b c d w v turn before after same = λ j. watch_turn (turn j) (reaction_on (turn j) i (before j) (after j) states r) (same j)
 
 -- what is watched after a row
-pub watch_after : {A C : Type 0} (m : Machine C A) (i : Interface) (rs : List Item) (r : Item) (step : Step) (before after : Trial A C) (turned : OpenLanes C) → HasWalked m i rs before → IsStep before.walk.machine before.walk.epoch r step
+pub watch_after : {A C : Type 0} (m : Machine C A) (i : Interface) (rs : List Item) (r : Item) (step : Step) (before after : Trial A C) (turned : TriedChannels A C) → HasWalked m i rs before → IsStep before.walk.machine before.walk.epoch r step
     → Takes m (observer i rs).states r step before after turned → after.watch ≡ watched i (rs ++ r ∷ [])
 watch_after m i rs r step before after turned w is t =
     t.watch i w.interface
-    ∙ watch_same i (observer i rs).states r step.turn _ _ _ _ _ before.watch _ (is.turn ∙ ap (λ l. turn_of r.packet (routing l r).route) w.line) (ap (λ l. l.state) w.line)
-    (ap (λ l. l.state) is.machine ∙ ap (λ l. (routing l r).after.state) w.line) w.watch
+    ∙ watch_same i (observer i rs).states r step.turn _ _ _ _ _ before.watch _ (is.turn ∙ ap (λ l. turn_of r.packet (routing l r).route) w.line) w.line
+    (is.machine ∙ ap (λ l. (routing l r).after) w.line) w.watch
     ∙ sym (watched_more i rs r)
 
-pub few_after : (i : Interface) (rs : List Item) (r : Item) (found : List Finding) (es : List Event) (epoch packets next_epoch next_packets : ℕ) (before after : Tally) → IsFew rs epoch packets before → length (found ++ findings_of es) ≤ 1
-    → next_epoch ≤ epoch + 1 → next_packets ≡ packets + 1 → Counts i r found es before after → IsFew (rs ++ r ∷ []) next_epoch next_packets after
-few_after i rs r found es epoch packets next_epoch next_packets before after few one epochs rows c =
+gaps_after : {A C : Type 0} (m : Machine C A) (i : Interface) (rs : List Item) (r : Item) (step : Step) (before after : Trial A C) (turned : TriedChannels A C) → HasWalked m i rs before → Takes m (observer i rs).states r step before after turned → after.channels.gaps ≤ length rs + 1
+gaps_after m i rs r step before after turned w t = at (cases_eq step.epoch before.walk.epoch)
+  where
+    at : (step.epoch ≡ before.walk.epoch) ⊎ (step.epoch ≡ before.walk.epoch → ⊥) → after.channels.gaps ≤ length rs + 1
+    at (inl same) = omega (arith, ap (λ c. c.gaps) (t.same same), t.few, w.few.gaps_of_all)
+    at (inr other) = omega (arith, ap (λ c. c.gaps) (t.renewed other))
+
+few_after : {A C : Type 0} (m : Machine C A) (i : Interface) (rs : List Item) (r : Item) (step : Step) (before after : Trial A C) (turned : TriedChannels A C) (found : List Finding) (es : List Event) → HasWalked m i rs before → Takes m (observer i rs).states r step before after turned
+    → step.epoch ≤ (observer i rs).epoch + 1 → length (found ++ findings_of es) ≤ 1 → Counts i r found es before.tally after.tally → IsFew (rs ++ r ∷ []) after
+few_after m i rs r step before after turned found es w t next one c =
+    let few = w.few in
+    let more : length (rs ++ r ∷ []) ≡ length rs + 1 = length-append rs (r ∷ []) in
     let one_packet = one_uncounted i r es in
     let octets = few_uncounted i r es in
+    let gaps = gaps_after m i rs r step before after turned w t in
     record {
-      epochs = omega (arith, few.epochs, epochs, length-append rs (r ∷ []));
-      rows = omega (arith, few.rows, rows, length-append rs (r ∷ []));
-      findings = omega (arith, few.findings, c.findings, one, length-append rs (r ∷ []));
-      uncounted = omega (arith, few.uncounted, c.packets, one_packet, length-append rs (r ∷ []));
+      epochs = omega (arith, t.epoch, next, w.epoch, few.epochs, more);
+      rows = omega (arith, few.rows, t.packets, more);
+      gaps = omega (arith, few.gaps, t.gaps, more);
+      gaps_of_all = omega (arith, gaps, more);
+      findings = omega (arith, few.findings, c.findings, one, more);
+      uncounted = omega (arith, few.uncounted, c.packets, one_packet, more);
       octets = omega (arith, few.octets, c.octets, octets, sum_by_push (λ (x : Item). x.length) rs r);
     }
 
-pub walked_after : {A C : Type 0} (m : Machine C A) (i : Interface) (rs : List Item) (r : Item) (step : Step) (before after : Trial A C) (turned : OpenLanes C) → HasWalked m i rs before → Steps i rs r step
+pub walked_after : {A C : Type 0} (m : Machine C A) (i : Interface) (rs : List Item) (r : Item) (step : Step) (before after : Trial A C) (turned : TriedChannels A C) → HasWalked m i rs before → Steps i rs r step
     → length (option_to_list step.finding ++ findings_of (events_after step.turn i (observer i rs).epoch (observer i rs).states r)) ≤ 1
     → Takes m (observer i rs).states r step before after turned
     → Counts i r (option_to_list step.finding) (events_after step.turn i (observer i rs).epoch (observer i rs).states r) before.tally after.tally
@@ -159,23 +188,24 @@ walked_after m i rs r step before after turned w s one t c is = record {
   interface = t.interface ∙ w.interface;
   line = t.line ∙ sym s.line;
   epoch = t.epoch ∙ sym s.epoch;
-  lanes = lanes_after m i rs r step before after turned w s t;
+  channels = channels_after m i rs r step before after turned w s t;
   tally = tally_after i rs r step before.tally after.tally w.tally s c;
   watch = watch_after m i rs r step before after turned w is t;
-  few = few_after i rs r (option_to_list step.finding) (events_after step.turn i (observer i rs).epoch (observer i rs).states r) before.walk.epoch before.walk.packets after.walk.epoch after.walk.packets before.tally after.tally w.few one
-      (omega (arith, t.epoch, s.next, w.epoch)) t.packets c;
+  few = few_after m i rs r step before after turned (option_to_list step.finding) (events_after step.turn i (observer i rs).epoch (observer i rs).states r) w t s.next one c;
 }
 
 -- ---- as the calls of one row have it
 
-pub lanes_under : {A C : Type 0} (m : Machine C A) (i : Interface) (rs : List Item) (t : Trial A C) (v : EpochWalk A) → HasWalked m i rs t → v.interface ≡ t.walk.interface → v.epoch ≡ t.walk.epoch → AreLanesOf m v.interface v.epoch (observer i rs).states t.lanes
-lanes_under m i rs t v w interface epoch =
-    subst (λ j. AreLanesOf m j v.epoch (observer i rs).states t.lanes) (sym (interface ∙ w.interface))
-    (subst (λ e. AreLanesOf m i e (observer i rs).states t.lanes) (sym (epoch ∙ w.epoch)) w.lanes)
+pub channels_under : {A C : Type 0} (m : Machine C A) (i : Interface) (rs : List Item) (t : Trial A C) (v : EpochWalk A) → HasWalked m i rs t → v.interface ≡ t.walk.interface → v.start ≡ t.walk.start → v.epoch ≡ t.walk.epoch
+    → AreChannels m v.interface v.start v.epoch (observer i rs).states t.channels
+channels_under m i rs t v w interface start epoch =
+    subst (λ j. AreChannels m j v.start v.epoch (observer i rs).states t.channels) (sym (interface ∙ w.interface))
+    (subst (λ b. AreChannels m i b v.epoch (observer i rs).states t.channels) (sym start)
+    (subst (λ e. AreChannels m i t.walk.start e (observer i rs).states t.channels) (sym (epoch ∙ w.epoch)) w.channels))
 
-pub turned_under : {A C : Type 0} (m : Machine C A) (i j : Interface) (e f : ℕ) (turn : Turn) (states : ℕ → Channel) (r : Item) (turned : OpenLanes C) → i ≡ j → e ≡ f → AreLanesOf m i e (states_after turn i states r) turned → AreLanesOf m j f (states_after turn j states r) turned
-turned_under m i j e f turn states r turned interface epoch h =
-    subst (λ k. AreLanesOf m k f (states_after turn k states r) turned) interface (subst (λ n. AreLanesOf m i n (states_after turn i states r) turned) epoch h)
+pub turned_under : {A C : Type 0} (m : Machine C A) (i j : Interface) (a b : EpochStart) (e f : ℕ) (turn : Turn) (states : ℕ → GapChannel) (r : Item) (turned : TriedChannels A C) → i ≡ j → a ≡ b → e ≡ f → AreChannels m i a e (states_after turn i states r) turned → AreChannels m j b f (states_after turn j states r) turned
+turned_under m i j a b e f turn states r turned interface start epoch h =
+    subst (λ k. AreChannels m k b f (states_after turn k states r) turned) interface (subst (λ c. AreChannels m i c f (states_after turn i states r) turned) start (subst (λ n. AreChannels m i a n (states_after turn i states r) turned) epoch h))
 
 pub counts_under : (i j : Interface) (r : Item) (found : List Finding) (es fs : List Event) (before mid made after : Tally) → j ≡ i → fs ≡ es → mid ≡ before → after ≡ made → length (found ++ findings_of es) ≤ 1
     → (length (found ++ findings_of fs) ≤ 1 → made.findings ≡ mid.findings + length (found ++ findings_of fs)) → made.packets ≡ mid.packets + length (uncounted_in j r fs) → made.octets ≡ mid.octets + sum (uncounted_in j r fs)

@@ -1,5 +1,5 @@
 -- The headers that are tried on the rows of a trace.
-use Rattle.std.specs.Prelude.{ℕ, Bool, true, false, ◌==◌, nat_lt, List, [], ◌∷◌, filter, filter_map, flat_map, length, Option, if◌then◌else◌}
+use Rattle.std.specs.Prelude.{◌≡◌, ℕ, Bool, true, false, ◌==◌, nat_lt, List, [], ◌∷◌, filter, filter_map, flat_map, length, Option, if◌then◌else◌}
 use Rattle.line_model.specs.basics.Limits.{packet_sizes}
 use Rattle.line_model.specs.basics.Octets.{octet, bits}
 use Rattle.line_model.specs.basics.Records.{Row}
@@ -23,7 +23,13 @@ with_numbers i modulus window size = interface_with (record {
   two_way = i.two_way;
   svc = i.svc;
   join = i.join;
+  gaps = i.gaps;
 })
+
+-- an interface with the channels of another, and with gap rows where that has them
+pub record IsLike (own i : Interface) : Type 0 where
+  pub svc : i.svc ≡ own.svc
+  pub gaps : i.gaps ≡ own.gaps
 
 -- an interface with each packet size
 abbrev pub headers_with : Interface → (modulus window : ℕ) → List Interface

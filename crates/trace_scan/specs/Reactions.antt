@@ -1,10 +1,9 @@
 -- How the DCE reacts to what rows are under a header: whether it answers the errors that the DTE makes.
-use Rattle.std.specs.Prelude.{ℕ, ◌+◌, ◌-◌, ◌==◌, nat_lt, Bool, true, false, ◌&&◌, List, [], ◌∷◌, ◌++◌, get_or, length, replicate, set, if◌then◌else◌}
+use Rattle.std.specs.Prelude.{ℕ, ◌+◌, ◌-◌, ◌==◌, nat_lt, Bool, true, false, ◌&&◌, List, [], ◌∷◌, ◌++◌, Option, Some, None, get_or, length, replicate, set, if◌then◌else◌}
 use Rattle.line_model.specs.basics.Octets.{octet}
 use Rattle.line_model.specs.basics.Records.{Item}
-use Rattle.line_model.specs.channels.Channels.{Channel}
-use Rattle.line_model.specs.channels.ChannelStep.{channel_step}
-use Rattle.line_model.specs.channels.RestartMachine.{LineState}
+use Rattle.line_model.specs.channels.Gaps.{GapChannel}
+use Rattle.line_model.specs.channels.GapRestart.{GapLine, routing}
 use Rattle.line_model.specs.declared.interface.Interface.{Interface}
 use Rattle.line_model.specs.declared.packet.Class.{Class}
 use Rattle.line_model.specs.declared.packet.Class.TheVariants.{Clear, Reset, Restart}
@@ -17,14 +16,16 @@ use Rattle.line_model.specs.declared.state.RState.TheVariants.{R3}
 use Rattle.line_model.specs.declared.state.Side.{Side}
 use Rattle.line_model.specs.declared.state.Side.TheVariants.{N}
 use Rattle.line_model.specs.observer.Machine.{Observer, after}
-use Rattle.line_model.specs.observer.Observer.{routing, start, x25}
+use Rattle.line_model.specs.observer.Observer.{row_step, start, x25}
 use Rattle.line_model.specs.packets.Classes.{packet_class}
+use Rattle.line_model.specs.packets.Says.{gap_of}
+use Rattle.channel_run.specs.Views.{is_adrift}
 use Rattle.restart_epochs.specs.Walks.{turn_of}
 use Rattle.restart_epochs.specs.declared.walk.Turn.{Turn}
-use Rattle.restart_epochs.specs.declared.walk.Turn.TheVariants.{Ends as EndsEpoch, Stays, ToChannel}
+use Rattle.restart_epochs.specs.declared.walk.Turn.TheVariants.{Ends as EndsEpoch, Stays, ToAll, ToChannel}
 use Rattle.trace_scan.specs.Watched.{Watched}
 use Rattle.trace_scan.specs.declared.reactions.Reaction.{Reaction}
-use Rattle.trace_scan.specs.declared.reactions.Reaction.TheVariants.{Answers, Ends, Nothing, Owes, Passes, Unexplained}
+use Rattle.trace_scan.specs.declared.reactions.Reaction.TheVariants.{Answers, Ends, Hides, Nothing, Owes, Passes, Unexplained}
 use Rattle.trace_scan.specs.declared.reactions.Reactions.{Reactions}
 
 -- ---- what one row does
@@ -61,9 +62,21 @@ reaction_by true false is_awaited r = if is_awaited && is_from_dce r.side then A
 reaction_by true true is_awaited r = if is_from_dce r.side then Passes else Nothing
 reaction_by false false is_awaited r = if blames r then Unexplained else Nothing
 
+-- what a missing packet could explain says nothing of a header
+abbrev pub unless_adrift : (is_adrift : Bool) → Reaction → Reaction
+unless_adrift true reaction = Nothing
+unless_adrift false reaction = reaction
+
+-- what a row does that may be a gap of its logical channel, in which the indication may have come
+abbrev pub seen_on_channel : (gap : Option (Option ℕ)) → (is_adrift : Bool) → Reaction → Reaction
+seen_on_channel None adrift reaction = unless_adrift adrift reaction
+seen_on_channel (Some c) adrift reaction = Hides
+
 -- what a row does on its logical channel
-abbrev pub channel_reaction : Interface → (channel : ℕ) → Channel → Item → Reaction
-channel_reaction i k c r = reaction_by c.owed (channel_step i k c r).after.owed (awaits c.state (packet_class r.packet)) r
+abbrev pub channel_reaction : Interface → (channel : ℕ) → GapChannel → Item → Reaction
+channel_reaction i k g r =
+    seen_on_channel (gap_of r.packet) (is_adrift g.certainty)
+    (reaction_by g.channel.owed (row_step i k g r).after.channel.owed (awaits g.channel.state (packet_class r.packet)) r)
 
 -- the state in which the DCE owes a restart indication, where an error of the DTE led to it
 abbrev pub is_r3 : RState → Bool
@@ -84,11 +97,18 @@ reaction_by_r3 false true false r = Owes
 reaction_by_r3 false false false r = Nothing
 reaction_by_r3 false after true r = if blames r then Unexplained else Nothing
 
-abbrev pub restart_reaction : (before after : RState) → Item → Reaction
-restart_reaction before after r = reaction_by_r3 (is_r3 before) (is_r3 after) (is_from_dce r.side) r
+-- what a row does that may be a gap: in one of all channels the restart indication may have come
+abbrev pub seen_on_interface : (gap : Option (Option ℕ)) → (is_adrift : Bool) → Reaction → Reaction
+seen_on_interface None adrift reaction = unless_adrift adrift reaction
+seen_on_interface (Some None) adrift reaction = Hides
+seen_on_interface (Some (Some c)) adrift reaction = Nothing
+
+abbrev pub restart_reaction : (before after : GapLine) → Item → Reaction
+restart_reaction before after r =
+    seen_on_interface (gap_of r.packet) before.adrift (reaction_by_r3 (is_r3 before.line.state) (is_r3 after.line.state) (is_from_dce r.side) r)
 
 -- what a row does, by where it goes
-abbrev pub reaction_on : Turn → Interface → (before after : RState) → (ℕ → Channel) → Item → Reaction
+abbrev pub reaction_on : Turn → Interface → (before after : GapLine) → (ℕ → GapChannel) → Item → Reaction
 reaction_on (ToChannel k) i before after states r = channel_reaction i k (states k) r
 reaction_on _ i before after states r = restart_reaction before after r
 
@@ -141,9 +161,10 @@ abbrev pub settled : Reaction → (slot wait : ℕ) → Watched → Watched
 settled Answers k n w = answered k w
 settled Ends k n w = given_up k w
 settled Passes k n w = passed k n w
+settled Hides k n w = closed k w
 settled _ k n w = w
 
--- what a row does in a slot: only where an indication is awaited it can be answered, end, or be passed
+-- what a row does in a slot: only where an indication is awaited it can be answered, end, be passed or be hidden
 abbrev pub noted : (slot : ℕ) → Reaction → Watched → Watched
 noted k Owes w = begun k w
 noted k Unexplained w = record w { unexplained = w.unexplained + 1 }
@@ -154,20 +175,25 @@ noted k reaction w = if wait_in k w == 0 then w else settled reaction k (wait_in
 abbrev pub epoch_ended : Watched → Watched
 epoch_ended w = record w { unanswered = w.unanswered + w.pending; pending = 0; waits = [] }
 
+-- a gap of all channels hides whether any came that is awaited
+abbrev pub all_hidden : Watched → Watched
+all_hidden w = record w { pending = 0; waits = [] }
+
 -- what a row does, by where it goes
 abbrev pub watch_turn : Turn → Reaction → Watched → Watched
 watch_turn (ToChannel k) reaction w = noted k reaction w
 watch_turn EndsEpoch reaction w = noted 0 reaction (epoch_ended w)
+watch_turn ToAll reaction w = all_hidden w
 watch_turn Stays reaction w = noted 0 reaction w
 
 -- ---- what some rows do
 
-abbrev pub watched_next : Interface → Observer LineState Channel → Item → Watched → Watched
+abbrev pub watched_next : Interface → Observer GapLine GapChannel → Item → Watched → Watched
 watched_next i o r w =
     let turn : Turn = turn_of r.packet (routing o.line r).route in
-    watch_turn turn (reaction_on turn i o.line.state (routing o.line r).after.state o.states r) w
+    watch_turn turn (reaction_on turn i o.line (routing o.line r).after o.states r) w
 
-abbrev pub watched_from : Interface → Observer LineState Channel → Watched → List Item → Watched
+abbrev pub watched_from : Interface → Observer GapLine GapChannel → Watched → List Item → Watched
 watched_from i o w [] = w
 watched_from i o w (r ∷ rs) = watched_from i (after (x25 i) o r) (watched_next i o r w) rs
 
@@ -176,6 +202,7 @@ abbrev pub watched : Interface → List Item → Watched
 watched i rs = watched_from i (start i) nothing_watched rs
 
 -- the errors of the DTE that the DCE answers: the indication that it owes comes; those that it does not answer, since what it
--- owes ends in another way or 8 of its packets pass before; and the indications of a local procedure error that it does not owe
+-- owes ends in another way or 8 of its packets pass before; and the indications of a local procedure error that it does not owe.
+-- None of them is counted whose indication a gap may hide
 abbrev pub reactions_of : Interface → List Item → Reactions
 reactions_of i rs = reactions_in (watched i rs)

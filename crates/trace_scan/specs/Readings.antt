@@ -1,7 +1,8 @@
 -- What was read of a source.
-use Rattle.std.specs.Prelude.{◌≡◌, ℕ, ◌+◌, ◌*◌, ◌≤◌, ◌^◌, ◌⊎◌, List, [], length, take, Option, Some, None, Result, Err, IfOk, IfErr, IfSome, MatchOption}
+use Rattle.std.specs.Prelude.{◌≡◌, ℕ, ◌+◌, ◌-◌, ◌*◌, ◌≤◌, ◌^◌, ◌⊎◌, List, [], length, take, Option, Some, None, Result, Err, IfOk, IfErr, IfSome, MatchOption}
 use Rattle.line_model.specs.basics.Records.{Item, Piece}
 use Rattle.line_model.specs.declared.interface.Interface.{Interface}
+use Rattle.line_model.specs.observer.Report.{gaps_among, gaps_of}
 use Rattle.line_model.specs.text.Text.{early, fault, head, rows}
 use Rattle.line_model.specs.pieces.Plans.{plan, line_findings}
 use Rattle.line_model.specs.packets.Says.{items_of}
@@ -26,7 +27,8 @@ pub record IsCutOf {A : Type 0} (i : Interface) (rs : List Item) (fed : List Pie
   pub interface : r.interface ≡ i
   pub all : fed ≡ plan i rs
   pub interface_findings : r.interface_findings.items ≡ line_findings i rs
-  pub packets : r.packets ≡ length rs
+  pub packets : r.counts.packets ≡ length rs - gaps_of rs
+  pub gaps : r.counts.gaps ≡ gaps_among i.gaps rs
   pub pieces : r.pieces ≡ length fed
 
 -- the text has no fault, this was read of it, and its pieces were fed

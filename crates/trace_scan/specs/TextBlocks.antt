@@ -1,7 +1,7 @@
 -- Blocks of a text that are read apart.
 use Rattle.std.specs.Prelude.{◌≡◌, ℕ, ◌≤◌, List, ◌++◌, length, not, Option, IfSome}
 use Rattle.line_model.specs.basics.Records.{Row}
-use Rattle.line_model.specs.channels.RestartMachine.{LineState}
+use Rattle.line_model.specs.channels.GapRestart.{GapLine}
 use Rattle.line_model.specs.packets.Says.{items_of}
 use Rattle.line_model.specs.pieces.Plan.{has_some}
 use Rattle.line_model.specs.text.Text.{early_rows}
@@ -45,12 +45,12 @@ pub record IsReadAs {A : Type 0} (start : Start) (bytes : List ℕ) (r : BlockRo
   pub cut : IsBlockCut start.machine (items_of start.interface rows) r.cut
 
 -- these rows were read, and are cut as a restart machine takes them
-pub record AreRead {A : Type 0} (l : LineState) (rs : List Row) (r : RowsSoFar A) : Type 0 where
+pub record AreRead {A : Type 0} (l : GapLine) (rs : List Row) (r : RowsSoFar A) : Type 0 where
   pub empty : r.is_empty ≡ not (has_some rs)
   pub first : r.first ≡ first_number rs
   pub cut : IsCutSoFar l (items_of r.interface rs) r.cutter
 
 -- a text was read so far, and the rows of the lines that an LF ended
-pub record HasReadTo {A : Type 0} (l : LineState) (text : List ℕ) (lines : Progress) (r : RowsSoFar A) : Type 0 where
+pub record HasReadTo {A : Type 0} (l : GapLine) (text : List ℕ) (lines : Progress) (r : RowsSoFar A) : Type 0 where
   pub reads : StandsFor lines text
   pub rows : AreRead l (early_rows text) r

@@ -1,25 +1,27 @@
 -- What the rows of a trace count under a header.
-use Rattle.std.specs.Prelude.{◌≡◌, ℕ, ◌≤◌, ◌+◌, not, ◌&&◌, List, [], ◌∷◌, ◌++◌, length, sum_by, Option, Some, None, if◌then◌else◌}
+use Rattle.std.specs.Prelude.{◌≡◌, ℕ, ◌<◌, ◌≤◌, ◌+◌, nat_lt, Bool, true, false, not, ◌&&◌, List, [], ◌∷◌, ◌++◌, length, sum_by, Option, Some, None, if◌then◌else◌}
 use Rattle.line_model.specs.basics.Records.{Item, ReadRow}
-use Rattle.line_model.specs.channels.ChannelStep.{channel_step}
-use Rattle.line_model.specs.channels.Channels.{Channel, fresh}
+use Rattle.line_model.specs.declared.gap.EpochStart.{EpochStart}
+use Rattle.line_model.specs.channels.Gaps.{GapChannel, fresh_at, gap_step}
 use Rattle.line_model.specs.declared.event.Event.{Event}
 use Rattle.line_model.specs.declared.interface.Interface.{Interface}
 use Rattle.line_model.specs.observer.Machine.{with_state}
-use Rattle.line_model.specs.observer.Observer.{start}
+use Rattle.line_model.specs.observer.Observer.{row_step, start}
 use Rattle.line_model.specs.observer.Report.{report_of}
 use Rattle.line_model.specs.packets.Says.{item_read}
 use Rattle.channel_run.specs.Run.{row_events}
 use Rattle.channel_run.specs.declared.run.Channel.{Ghosts as Machine}
 use Rattle.restart_epochs.specs.Cutting.{observer}
-use Rattle.restart_epochs.specs.OpenLanes.{OpenLanes, value_at}
+use Rattle.restart_epochs.specs.OpenLanes.{no_lanes, value_at}
 use Rattle.restart_epochs.specs.declared.walk.Turn.{Turn}
-use Rattle.restart_epochs.specs.declared.walk.Turn.TheVariants.{ToChannel}
+use Rattle.restart_epochs.specs.declared.walk.Turn.TheVariants.{ToAll, ToChannel}
 use Rattle.live_report.specs.Observing.{AreItems}
 use Rattle.live_report.specs.Uncounted.{counts_data, is_data, left_out, user_octets}
 use Rattle.trace_scan.specs.Reactions.{watched}
 use Rattle.trace_scan.specs.declared.trial.Tally.{Tally}
 use Rattle.trace_scan.specs.declared.trial.Trial.{Trial}
+use Rattle.trace_scan.specs.declared.tried_channels.TriedChannel.{TriedChannel}
+use Rattle.trace_scan.specs.declared.tried_channels.TriedChannels.{TriedChannels}
 
 -- ---- the definition
 
@@ -33,22 +35,49 @@ tally_of i rs = record {
 
 -- ---- what a trial keeps
 
--- what lies in the lane of a logical channel represents it: where nothing does, it is fresh
-abbrev pub IsLaneOf : {A C : Type 0} → Machine C A → Interface → (epoch channel : ℕ) → Channel → Option C → Type 0
-IsLaneOf m i e k state None = state ≡ fresh i e k
-IsLaneOf m i e k state (Some c) = (m.interface_of c ≡ i) × (m.number_of c ≡ k) × m.stands_for c state
+-- no logical channel has rows, and no gap of all channels came
+abbrev pub no_channels : {A C : Type 0} → TriedChannels A C
+no_channels = record { lanes = no_lanes; gaps = 0 }
+
+-- a logical channel once it takes the gaps of all channels that it has not taken: several do what one does
+abbrev pub caught_up : Interface → (channel : ℕ) → (is_behind : Bool) → GapChannel → GapChannel
+caught_up i k true g = gap_step i k true g
+caught_up i k false g = g
+
+-- of so many gaps of all channels a logical channel took all, and represents this state
+pub record IsCaughtUp {A C : Type 0} (m : Machine C A) (i : Interface) (gaps channel : ℕ) (state : GapChannel) (c : TriedChannel C) : Type 0 where
+  pub interface : m.interface_of c.machine ≡ i
+  pub number : m.number_of c.machine ≡ channel
+  pub taken : c.gaps ≡ gaps
+  pub stands : m.stands_for c.machine state
+
+-- it represents this state once it takes those that it has not taken
+pub record IsChannel {A C : Type 0} (m : Machine C A) (i : Interface) (gaps channel : ℕ) (state : GapChannel) (c : TriedChannel C) : Type 0 where
+  pub interface : m.interface_of c.machine ≡ i
+  pub number : m.number_of c.machine ≡ channel
+  pub taken : c.gaps ≤ gaps
+  pub before : GapChannel
+  pub stands : m.stands_for c.machine before
+  pub state_is : state ≡ caught_up i channel (nat_lt c.gaps gaps) before
+
+-- what lies in the lane of a logical channel represents it; where nothing does, it has no rows in its epoch
+abbrev pub IsLaneOf : {A C : Type 0} → Machine C A → Interface → EpochStart → (epoch gaps channel : ℕ) → GapChannel → Option (TriedChannel C) → Type 0
+IsLaneOf m i start e gaps k state None = state ≡ caught_up i k (nat_lt 0 gaps) (fresh_at i start e k)
+IsLaneOf m i start e gaps k state (Some c) = IsChannel m i gaps k state c
 
 -- the lanes of an epoch represent the states of its logical channels
-abbrev pub AreLanesOf : {A C : Type 0} → Machine C A → Interface → (epoch : ℕ) → (states : ℕ → Channel) → OpenLanes C → Type 0
-AreLanesOf m i e states lanes = (k : ℕ) → IsLaneOf m i e k (states k) (value_at lanes k)
+pub record AreChannels {A C : Type 0} (m : Machine C A) (i : Interface) (start : EpochStart) (epoch : ℕ) (states : ℕ → GapChannel) (channels : TriedChannels A C) : Type 0 where
+  pub each : (k : ℕ) → IsLaneOf m i start epoch channels.gaps k (states k) (value_at channels.lanes k)
+  pub recorded : 0 < channels.gaps → i.gaps ≡ true
 
 -- the states of the logical channels after a row
-abbrev pub states_after : Turn → Interface → (ℕ → Channel) → Item → ℕ → Channel
-states_after (ToChannel k) i states r = with_state states k (channel_step i k (states k) r).after
+abbrev pub states_after : Turn → Interface → (ℕ → GapChannel) → Item → ℕ → GapChannel
+states_after (ToChannel k) i states r = with_state states k (row_step i k (states k) r).after
+states_after ToAll i states r = λ k. gap_step i k true (states k)
 states_after _ i states r = states
 
 -- the events of the logical channel that takes a row
-abbrev pub events_after : Turn → Interface → (epoch : ℕ) → (ℕ → Channel) → Item → List Event
+abbrev pub events_after : Turn → Interface → (epoch : ℕ) → (ℕ → GapChannel) → Item → List Event
 events_after (ToChannel k) i e states r = row_events i e k (states k) r
 events_after _ i e states r = []
 
@@ -57,22 +86,24 @@ abbrev pub uncounted_in : Interface → Item → List Event → List ℕ
 uncounted_in i r es = if is_data r.packet && not (counts_data es) then user_octets i r.length ∷ [] else []
 
 -- its numbers stay within their types
-pub record IsFew (rs : List Item) (epoch packets : ℕ) (tally : Tally) : Type 0 where
-  pub epochs : epoch ≤ length rs + 1
-  pub rows : packets ≤ length rs
-  pub findings : tally.findings ≤ length rs
-  pub uncounted : tally.packets ≤ length rs
-  pub octets : tally.octets ≤ sum_by (λ r. r.length) rs
+pub record IsFew {A C : Type 0} (rs : List Item) (t : Trial A C) : Type 0 where
+  pub epochs : t.walk.epoch ≤ length rs + 1
+  pub rows : t.walk.packets ≤ length rs
+  pub gaps : t.walk.gaps ≤ length rs
+  pub gaps_of_all : t.channels.gaps ≤ length rs
+  pub findings : t.tally.findings ≤ length rs
+  pub uncounted : t.tally.packets ≤ length rs
+  pub octets : t.tally.octets ≤ sum_by (λ r. r.length) rs
 
 -- a trial walked what some rows say under a header: it is where the observer is, and counted what the walk does
 pub record HasWalked {A C : Type 0} (m : Machine C A) (i : Interface) (rs : List Item) (t : Trial A C) : Type 0 where
   pub interface : t.walk.interface ≡ i
   pub line : t.walk.machine ≡ (observer i rs).line
   pub epoch : t.walk.epoch ≡ (observer i rs).epoch
-  pub lanes : AreLanesOf m i (observer i rs).epoch (observer i rs).states t.lanes
+  pub channels : AreChannels m i t.walk.start (observer i rs).epoch (observer i rs).states t.channels
   pub tally : t.tally ≡ tally_of i rs
   pub watch : t.watch ≡ watched i rs
-  pub few : IsFew rs t.walk.epoch t.walk.packets t.tally
+  pub few : IsFew rs t
 
 -- it walked other rows, and this one may come after them
 abbrev pub MayWalk : {A C : Type 0} → Machine C A → ReadRow → Trial A C → Type 0

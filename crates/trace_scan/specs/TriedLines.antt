@@ -17,15 +17,15 @@ use Rattle.trace_scan.specs.declared.tried_lines.Tried.{Tried}
 
 -- ---- a header
 
--- a header without one-way logical channels, whose trace doesn't begin in the middle, has the first form
+-- a header without one-way logical channels, whose trace has no gap rows and doesn't begin in the middle, has the first form
 abbrev pub is_first_form : Interface → Bool
-is_first_form i = (i.incoming == i.pvc) && ((i.two_way == i.svc) && not i.join)
+is_first_form i = (i.incoming == i.pvc) && ((i.two_way == i.svc) && (not i.join && not i.gaps))
 
 -- a name, and its number
 abbrev pub named : (name : List ℕ) → ℕ → List ℕ
 named name n = name ++ decimal n
 
--- what both forms say first
+-- what all forms say first
 abbrev pub first_numbers : Interface → List ℕ
 first_numbers i = named (codes " MOD ") i.modulus ++ (named (codes " WIN ") i.window ++ (named (codes " SIZE ") i.size ++ named (codes " PVC ") i.pvc))
 
@@ -33,14 +33,19 @@ first_numbers i = named (codes " MOD ") i.modulus ++ (named (codes " WIN ") i.wi
 abbrev pub ranges : Interface → List ℕ
 ranges i = named (codes " IN ") i.incoming ++ (named (codes " TWO ") i.two_way ++ named (codes " OUT ") i.svc)
 
--- how the second form ends
+-- how a form with ranges begins: the third has gap rows
+abbrev pub form_word : (gaps : Bool) → List ℕ
+form_word true = codes "X25 3"
+form_word false = codes "X25 2"
+
+-- how it ends
 abbrev pub joining : (join : Bool) → List ℕ
 joining true = codes " JOIN\n"
 joining false = codes "\n"
 
 abbrev pub form_of : (is_first : Bool) → Interface → List ℕ
 form_of true i = codes "X25 1" ++ (first_numbers i ++ (named (codes " SVC ") i.svc ++ codes "\n"))
-form_of false i = codes "X25 2" ++ (first_numbers i ++ (ranges i ++ joining i.join))
+form_of false i = form_word i.gaps ++ (first_numbers i ++ (ranges i ++ joining i.join))
 
 -- the header line of an interface
 abbrev pub header_line : Interface → List ℕ

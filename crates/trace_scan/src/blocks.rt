@@ -1,7 +1,7 @@
 //! Blocks of a text: whole lines that any thread reads.
 
 ghost use Rattle.std.specs.Prelude.{◌≡◌, ◌++◌, ◌∷◌, [], List, ℕ, IfSome, OnOk, cond};
-ghost use Rattle.line_model.specs.channels.RestartMachine.{LineState};
+ghost use Rattle.line_model.specs.channels.GapRestart.{GapLine};
 ghost use Rattle.line_model.specs.basics.Records as records;
 ghost use Rattle.line_model.specs.packets.Says.{read_row};
 ghost use Rattle.trace_scan.specs.TextBlocks.{AreRead, HasReadTo, IsReadAs};
@@ -123,7 +123,7 @@ impl<A: Allocator + Copy> RowsSoFar<A> {
     /// Adds a row.
     fn add(&mut self, row: &ReadRow<A>) -> Result<(), AllocError>
         ensures interface { self.new.interface ≡ self.old.interface }
-        ensures added { (l : LineState) (rows : List records.Row) (next : records.Row)
+        ensures added { (l : GapLine) (rows : List records.Row) (next : records.Row)
             → AreRead l rows self.old → row.now ≡ read_row next
             → OnOk result (AreRead l (rows ++ next ∷ []) self.new) }
     {
@@ -141,7 +141,7 @@ impl<A: Allocator + Copy> RowsSoFar<A> {
         row: &mut ReadRow<A>,
     ) -> Result<(), Fault>
         ensures interface { self.new.interface ≡ self.old.interface }
-        ensures added { (l : LineState) (text : List ℕ) → HasReadTo l text lines.old self.old
+        ensures added { (l : GapLine) (text : List ℕ) → HasReadTo l text lines.old self.old
             → OnOk result (HasReadTo l (text ++ bytes.now) lines.new self.new) }
     {
         let mut rest = bytes;
@@ -171,6 +171,7 @@ fn rows_of<A: Allocator + Copy>(
         side: Side::T,
         length: 0,
         octets: Vec::new(alloc),
+        gap: None,
     };
     rows.add_lines(bytes, &mut lines, &mut row).ok()?;
     let span = lines.end_block(rows.first)?;

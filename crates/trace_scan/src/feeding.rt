@@ -27,6 +27,7 @@ use line_model::finding::Finding;
 use line_model::interface::Interface;
 use line_model::piece::Plan;
 use memchr::memrchr;
+use report_merge::row_counts::RowCounts;
 use restart_epochs::cutter::Cut;
 use shared_work::queue::{FeederPass, Work};
 use std::alloc::{Allocator, Global};
@@ -36,12 +37,13 @@ use streams::room_source::RoomSource;
 use trace_text::lines::{LINE_LIMIT, TEXT_LIMIT};
 use workers::{Feed, feed_pieces};
 
-/// What was read: the header of the trace, the findings of the restart machine, and how many rows and pieces there are.
+/// What was read: the header of the trace, the findings of the restart machine, and how many packets, gaps and pieces there
+/// are.
 #[derive(Drop)]
 pub struct Read<A: Allocator = Global> {
     pub interface: Interface,
     pub interface_findings: Vec<Finding, A>,
-    pub packets: u32,
+    pub counts: RowCounts,
     pub pieces: u32,
 }
 
@@ -71,13 +73,14 @@ fn feed_open_epoch<P: Plan, A: Allocator + Copy, R: Wait + Clock>(
         pieces,
         interface_findings,
         packets,
+        gaps,
     } = cutter.end()?;
     let all = given + pieces.len();
     feed_pieces(rt, work, pieces, pass);
     Ok(Read {
         interface,
         interface_findings,
-        packets,
+        counts: RowCounts { packets, gaps },
         pieces: all as u32,
     })
 }

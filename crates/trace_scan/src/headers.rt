@@ -1,9 +1,9 @@
 //! The headers that are tried on the rows of a trace.
 
-ghost use Rattle.std.specs.Prelude.{◌≡◌, ◌==◌};
+ghost use Rattle.std.specs.Prelude.{◌≡◌, ◌==◌, IfSome};
 ghost use Rattle.std.specs.List.{list_any};
 ghost use Rattle.line_model.specs.basics.Limits.{is_numbering, packet_sizes};
-ghost use Rattle.trace_scan.specs.Headers.{windows, with_numbers};
+ghost use Rattle.trace_scan.specs.Headers.{IsLike, windows, with_numbers};
 
 use line_model::interface::Interface;
 
@@ -35,7 +35,8 @@ fn is_packet_size(size: u16) -> bool
 
 /// The interface with other numbers in its header, which are in their ranges.
 pub fn with_numbers(own: &Interface, modulus: u8, window: u8, size: u16) -> Option<Interface>
-    ensures { result ≡ with_numbers own.now modulus window size }
+    ensures numbers { result ≡ with_numbers own.now modulus window size }
+    ensures like { IfSome result (IsLike own.now) }
 {
     if !is_numbered(modulus, window) || !is_packet_size(size) {
         return None;
@@ -49,6 +50,6 @@ pub fn with_numbers(own: &Interface, modulus: u8, window: u8, size: u16) -> Opti
         two_way: own.two_way,
         svc: own.svc,
         join: own.join,
-        gaps: false,
+        gaps: own.gaps,
     })
 }

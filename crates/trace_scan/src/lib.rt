@@ -17,6 +17,7 @@ pub mod text_cutter;
 pub mod threaded;
 mod trial;
 mod trials;
+mod tried_channels;
 mod tried_lines;
 mod tried_text;
 pub mod trying;

@@ -4,13 +4,17 @@ ghost use Rattle.std.specs.Prelude.{◌≡◌, ◌+◌, ◌<◌, ◌^◌, IfErr,
 ghost use Rattle.line_model.specs.basics.Octets.{octet};
 ghost use Rattle.line_model.specs.declared.fault.Fault.TheVariants.{Memory};
 ghost use Rattle.line_model.specs.packets.Classes.{packet_class};
-ghost use Rattle.trace_scan.specs.Reactions.{answered, awaits, begun, blames, closed, epoch_ended, given_up, is_from_dce, is_r3, names_local_error, no_reactions, noted, nothing_watched, passed, reaction_by, reaction_in_r3, reactions_in, restart_reaction, settled, wait_in, watch_turn, with_wait};
+ghost use Rattle.line_model.specs.packets.Says.{gap_of};
+ghost use Rattle.trace_scan.specs.Reactions.{all_hidden, answered, awaits, begun, blames, closed, epoch_ended, given_up, is_from_dce, is_r3, names_local_error, no_reactions, noted, nothing_watched, passed, reaction_by, reaction_by_r3, reaction_in_r3, reactions_in, restart_reaction, seen_on_channel, seen_on_interface, settled, unless_adrift, wait_in, watch_turn, with_wait};
 ghost use Rattle.trace_scan.specs.Watched.{IsRoomy};
 
+use channel_run::run::View;
 use line_model::fault::Fault;
+use line_model::gap::EpochStart;
 use line_model::items::ItemRef;
-use line_model::packet::{Class, Packet};
+use line_model::packet::{Class, Packet, PacketKind};
 use line_model::state::{ChannelState, RState, Side};
+use restart_epochs::restart::Restart;
 use restart_epochs::walk::Turn;
 use std::alloc::Allocator;
 use std::marker::Model;
@@ -42,6 +46,8 @@ pub enum Reaction {
     Passes,
     /// An indication of a local procedure error where none is owed.
     Unexplained,
+    /// A gap, in which the indication may have come that is owed.
+    Hides,
     /// Nothing of this.
     Nothing,
 }
@@ -117,16 +123,38 @@ fn reaction_by(before: bool, after: bool, is_awaited: bool, item: &ItemRef<'_>) 
     }
 }
 
-/// What a row does to the indication of its logical channel, whose state it had before.
-pub(crate) fn channel_reaction(
-    state: ChannelState,
-    before: bool,
-    after: bool,
-    item: &ItemRef<'_>,
-) -> Reaction
-    ensures { result ≡ reaction_by before after (awaits state (packet_class item.now.packet)) item.now }
+/// What a row says of a header: nothing, where a missing packet could explain it.
+fn unless_adrift(is_adrift: bool, reaction: Reaction) -> Reaction
+    ensures { result ≡ unless_adrift is_adrift reaction }
 {
-    reaction_by(before, after, awaits(state, item.packet.class()), item)
+    if is_adrift {
+        Reaction::Nothing
+    } else {
+        reaction
+    }
+}
+
+/// What a row does to the indication of its logical channel, which was as this view has it before; an indication is owed
+/// after it, or not.
+pub(crate) fn channel_reaction(before: &View, owed: bool, item: &ItemRef<'_>) -> Reaction
+    ensures { result ≡ seen_on_channel (gap_of item.now.packet) before.now.adrift
+        (reaction_by before.now.owed owed
+        (awaits before.now.state (packet_class item.now.packet)) item.now) }
+{
+    match &item.packet {
+        Packet::GapOfAll
+        | Packet::Channel {
+            kind: PacketKind::Gap,
+            ..
+        } => Reaction::Hides,
+        _ => {
+            let is_awaited = awaits(before.state, item.packet.class());
+            unless_adrift(
+                before.adrift,
+                reaction_by(before.owed, owed, is_awaited, item),
+            )
+        }
+    }
 }
 
 /// Whether the restart machine waits for the DTE after an indication, or owes it after an error of the DTE.
@@ -147,9 +175,10 @@ fn reaction_in_r3(item: &ItemRef<'_>) -> Reaction
     }
 }
 
-/// What a row that goes to no logical channel does, by the states of the restart machine before and after it.
-pub(crate) fn restart_reaction(before: RState, after: RState, item: &ItemRef<'_>) -> Reaction
-    ensures { result ≡ restart_reaction before after item.now }
+/// What a row does in the states of the restart machine before and after it.
+fn reaction_by_r3(before: RState, after: RState, item: &ItemRef<'_>) -> Reaction
+    ensures { result ≡ reaction_by_r3 (is_r3 before) (is_r3 after)
+        (is_from_dce item.now.side) item.now }
 {
     match (is_r3(before), is_r3(after), is_from_dce(item.side)) {
         (true, false, _) => Reaction::Ends,
@@ -161,6 +190,30 @@ pub(crate) fn restart_reaction(before: RState, after: RState, item: &ItemRef<'_>
             Reaction::Nothing
         },
         _ => Reaction::Nothing,
+    }
+}
+
+/// Whether a gap of all channels left open if the interface restarts.
+fn is_adrift(machine: &Restart) -> bool
+    ensures { result ≡ machine.now.adrift }
+{
+    matches!(machine.start(), EpochStart::Drifting(_))
+}
+
+/// What a row does that goes to no logical channel alone, by the restart machine before and after it.
+pub(crate) fn restart_reaction(before: &Restart, after: &Restart, item: &ItemRef<'_>) -> Reaction
+    ensures { result ≡ restart_reaction before.now after.now item.now }
+{
+    match &item.packet {
+        Packet::GapOfAll => Reaction::Hides,
+        Packet::Channel {
+            kind: PacketKind::Gap,
+            ..
+        } => Reaction::Nothing,
+        _ => {
+            let reaction = reaction_by_r3(before.state(), after.state(), item);
+            unless_adrift(is_adrift(before), reaction)
+        }
     }
 }
 
@@ -313,6 +366,7 @@ impl<A: Allocator + Copy> Watch<A> {
             Reaction::Answers => self.answer(slot),
             Reaction::Ends => self.give_up(slot),
             Reaction::Passes => self.pass(slot, wait),
+            Reaction::Hides => self.close(slot),
             _ => Ok(()),
         }
     }
@@ -350,6 +404,14 @@ impl<A: Allocator + Copy> Watch<A> {
         self.waits.clear();
     }
 
+    /// A gap of all channels: it is unknown whether an indication came that was awaited.
+    fn hide_all(&mut self)
+        ensures { self.new ≡ all_hidden self.old }
+    {
+        self.pending = 0;
+        self.waits.clear();
+    }
+
     /// Takes what the next row does. Fails only when memory is refused.
     pub(crate) fn take(&mut self, turn: Turn, reaction: Reaction) -> Result<(), Fault>
         requires { IsRoomy self.old }
@@ -361,6 +423,10 @@ impl<A: Allocator + Copy> Watch<A> {
             Turn::Ends => {
                 self.end_epoch();
                 self.note(0, reaction)
+            }
+            Turn::ToAll => {
+                self.hide_all();
+                Ok(())
             }
             Turn::Stays => self.note(0, reaction),
         }

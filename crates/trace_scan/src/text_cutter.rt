@@ -187,6 +187,7 @@ impl<A: Allocator + Copy> TextCutter<A> {
                 side: Side::T,
                 length: 0,
                 octets: Vec::new(alloc),
+                gap: None,
             },
             row_cutter: None,
             refused: None,

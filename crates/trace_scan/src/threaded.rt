@@ -226,7 +226,7 @@ pub fn scan_with<
         alloc,
         reports,
         read.interface_findings,
-        read.packets,
+        read.counts,
         read.pieces,
     )?;
     write_report(&report, sink)?;

@@ -1,40 +1,35 @@
 //! The rows of a trace under one header: what they count, and no more.
 
-ghost use Rattle.std.specs.Prelude.{◌≡◌, ◌≢◌, ℕ, ◌+◌, ◌<◌, ◌≤◌, ◌^◌, ◌++◌, ◌∷◌, [], List, Some, IfErr, IfOk, IfSome, OnOk, length, option_to_list, sum, if◌then◌else◌};
+ghost use Rattle.std.specs.Prelude.{◌≡◌, ◌≢◌, ℕ, ◌+◌, ◌<◌, ◌≤◌, ◌^◌, ◌++◌, ◌∷◌, [], List, IfErr, IfOk, IfSome, OnOk, length, option_to_list, sum, if◌then◌else◌, true};
 ghost use Rattle.line_model.specs.basics.Bounds.{IsItem};
 ghost use Rattle.line_model.specs.basics.Records as records;
-ghost use Rattle.line_model.specs.channels.Channels as channels;
-ghost use Rattle.line_model.specs.channels.ChannelStep.{channel_step};
+ghost use Rattle.line_model.specs.channels.Gaps.{GapChannel};
 ghost use Rattle.line_model.specs.declared.fault.Fault.TheVariants.{Memory};
 ghost use Rattle.line_model.specs.declared.interface.Interface.{Interface as AnyInterface};
-ghost use Rattle.line_model.specs.observer.Machine.{with_state};
 ghost use Rattle.line_model.specs.observer.Report.{findings_of};
 ghost use Rattle.line_model.specs.packets.Says.{item_read};
 ghost use Rattle.line_model.specs.pieces.Plan.{has_some};
-ghost use Rattle.channel_run.specs.Run.{row_events};
-ghost use Rattle.restart_epochs.specs.OpenLanes.{no_lanes, value_at};
 ghost use Rattle.restart_epochs.specs.Walks.{channel_in};
+ghost use Rattle.restart_epochs.specs.declared.walk.Turn.TheVariants.{ToAll};
 ghost use Rattle.live_report.specs.Observing.{AreItems};
-ghost use Rattle.trace_scan.specs.Reactions.{channel_reaction, reaction_on, reactions_in};
-ghost use Rattle.trace_scan.specs.Tried.{AreLanesOf, HasWalked, IsLaneOf, MayWalk, events_after, states_after, uncounted_in};
+ghost use Rattle.trace_scan.specs.Reactions.{reaction_on, reactions_in};
+ghost use Rattle.trace_scan.specs.Tried.{AreChannels, HasWalked, MayWalk, events_after, no_channels, states_after, uncounted_in};
 
 use crate::reactions::{self, Reaction, Reactions, Watch};
 use crate::text_cutter::item_of_row;
+use crate::tried_channels::TriedChannels;
 use channel_run::run::Channel;
-use channel_run::status_word::view_in;
 use line_model::event::Event;
 use line_model::fault::Fault;
 use line_model::finding::Finding;
 use line_model::interface::Interface;
 use line_model::items::ItemRef;
 use line_model::row::ReadRow;
-use line_model::state::RState;
 use live_report::uncounted;
 use packet_decode::decode::header_length;
-use restart_epochs::channel_table::ChannelTable;
+use restart_epochs::restart::Restart;
 use restart_epochs::walk::{EpochWalk, Turn};
 use std::alloc::Allocator;
-use std::boxed::Box;
 
 /// What the rows count.
 #[derive(Clone, Copy)]
@@ -133,76 +128,13 @@ fn octets_left_out(interface: &Interface, item: &ItemRef<'_>, events: &[Event]) 
     None
 }
 
-/// Removes the channel from the lane of a logical channel, and returns it; a fresh channel where the lane is empty. Fails
-/// only when memory is refused.
-fn take_out<A: Allocator + Copy, C: Channel<A>>(
-    alloc: A,
-    interface: &Interface,
-    epoch: u32,
-    channel: u16,
-    lanes: &mut ChannelTable<C, A>,
-) -> Result<Box<C, A>, Fault>
-    ensures out { (states : ℕ → channels.Channel)
-        → AreLanesOf C.Channel interface.now epoch states lanes.old → IfOk result (λ c.
-        IsLaneOf C.Channel interface.now epoch channel (states channel) (Some c.value)) }
-    ensures others { (states : ℕ → channels.Channel)
-        → AreLanesOf C.Channel interface.now epoch states lanes.old
-        → OnOk result ((k : ℕ) → k ≢ channel
-        → IsLaneOf C.Channel interface.now epoch k (states k) (value_at lanes.new k)) }
-    ensures room { OnOk result (channel < length lanes.new.lanes) }
-    ensures memory { IfErr result (λ fault. fault ≡ Memory) }
-{
-    if let Some(machine) = lanes.take(channel) {
-        return Ok(machine);
-    }
-    lanes.list(channel)?;
-    let machine = Box::new(alloc, C::fresh(alloc, interface, channel, epoch))?;
-    Ok(machine)
-}
-
-/// Steps the logical channel of a row, appends its events, and returns what the row does there to an indication that is
-/// owed. Fails only when memory is refused.
-fn step_lane<A: Allocator + Copy, C: Channel<A>>(
-    walk: &EpochWalk<A>,
-    channel: u16,
-    item: &ItemRef<'_>,
-    events: &mut Vec<Event, A>,
-    lanes: &mut ChannelTable<C, A>,
-) -> Result<Reaction, Fault>
-    requires item { IsItem walk.now.interface channel item.now }
-    requires lanes { (states : ℕ → channels.Channel)
-        × AreLanesOf C.Channel walk.now.interface walk.now.epoch states lanes.old }
-    ensures lanes { (states : ℕ → channels.Channel)
-        → AreLanesOf C.Channel walk.now.interface walk.now.epoch states lanes.old
-        → OnOk result (AreLanesOf C.Channel walk.now.interface walk.now.epoch
-        (with_state states channel
-        (channel_step walk.now.interface channel (states channel) item.now).after) lanes.new) }
-    ensures events { (states : ℕ → channels.Channel)
-        → AreLanesOf C.Channel walk.now.interface walk.now.epoch states lanes.old
-        → OnOk result (events.new.items ≡ events.old.items
-        ++ row_events walk.now.interface walk.now.epoch channel (states channel) item.now) }
-    ensures reaction { (states : ℕ → channels.Channel)
-        → AreLanesOf C.Channel walk.now.interface walk.now.epoch states lanes.old
-        → IfOk result (λ reaction. reaction
-        ≡ channel_reaction walk.now.interface channel (states channel) item.now) }
-    ensures memory { IfErr result (λ fault. fault ≡ Memory) }
-{
-    let alloc = *events.allocator();
-    let mut machine = take_out(alloc, &walk.interface, walk.epoch, channel, lanes)?;
-    let before = view_in(&machine.word());
-    machine.step(walk.epoch, item, events)?;
-    let after = view_in(&machine.word());
-    lanes.put(channel, machine);
-    Ok(reactions::channel_reaction(before.state, before.owed, after.owed, item))
-}
-
 /// The rows of a trace so far, under one header. It keeps what the logical channels are and what was counted, so it takes
 /// no memory for a finding or a call.
 #[derive(Drop)]
 pub struct Trial<A: Allocator, C: Channel<A>> {
     walk: EpochWalk<A>,
     /// The logical channels that have rows in the epoch that goes on.
-    lanes: ChannelTable<C, A>,
+    channels: TriedChannels<A, C>,
     pub tally: Tally,
     watch: Watch<A>,
 }
@@ -214,7 +146,7 @@ impl<A: Allocator + Copy, C: Channel<A>> Trial<A, C> {
     {
         Trial {
             walk: EpochWalk::new(alloc, header),
-            lanes: ChannelTable::new(alloc),
+            channels: TriedChannels::new(alloc),
             tally: Tally::none(),
             watch: Watch::new(alloc),
         }
@@ -234,43 +166,51 @@ impl<A: Allocator + Copy, C: Channel<A>> Trial<A, C> {
         self.watch.reactions()
     }
 
-    /// Steps the logical channel that a row goes to, and returns what the row does to an indication that is owed: there, or
-    /// by the restart machine, whose state is `after` then. The caller lends the list `events`, which has the events of the
-    /// row afterwards.
+    /// Steps the logical channels that a row goes to, and returns what the row does to an indication that is owed: there, or
+    /// by the restart machine, which is `after` then. The caller lends the list `events`, which has the events of the row
+    /// afterwards.
     fn turn(
         &mut self,
         turn: Turn,
-        after: RState,
+        after: &Restart,
         item: &ItemRef<'_>,
         events: &mut Vec<Event, A>,
     ) -> Result<Reaction, Fault>
         requires item { IfSome (channel_in turn) (λ k. IsItem self.old.walk.interface k item.now) }
-        requires lanes { (states : ℕ → channels.Channel)
-            × AreLanesOf C.Channel self.old.walk.interface self.old.walk.epoch states
-            self.old.lanes }
+        requires gap { turn ≡ ToAll → self.old.walk.interface.gaps ≡ true }
+        requires gaps { self.old.channels.gaps + 1 < 2 ^ 32 }
+        requires channels { (states : ℕ → GapChannel)
+            × AreChannels C.Channel self.old.walk.interface self.old.walk.start
+            self.old.walk.epoch states self.old.channels }
         ensures walk { self.new.walk ≡ self.old.walk }
         ensures tally { self.new.tally ≡ self.old.tally }
         ensures watch { self.new.watch ≡ self.old.watch }
-        ensures lanes { (states : ℕ → channels.Channel)
-            → AreLanesOf C.Channel self.old.walk.interface self.old.walk.epoch states self.old.lanes
-            → OnOk result (AreLanesOf C.Channel self.old.walk.interface self.old.walk.epoch
-            (states_after turn self.old.walk.interface states item.now) self.new.lanes) }
-        ensures events { (states : ℕ → channels.Channel)
-            → AreLanesOf C.Channel self.old.walk.interface self.old.walk.epoch states self.old.lanes
+        ensures gaps { self.new.channels.gaps ≤ self.old.channels.gaps + 1 }
+        ensures channels { (states : ℕ → GapChannel)
+            → AreChannels C.Channel self.old.walk.interface self.old.walk.start
+            self.old.walk.epoch states self.old.channels
+            → OnOk result (AreChannels C.Channel self.old.walk.interface self.old.walk.start
+            self.old.walk.epoch (states_after turn self.old.walk.interface states item.now) self.new.channels) }
+        ensures events { (states : ℕ → GapChannel)
+            → AreChannels C.Channel self.old.walk.interface self.old.walk.start
+            self.old.walk.epoch states self.old.channels
             → OnOk result (events.new.items ≡ events_after turn self.old.walk.interface
             self.old.walk.epoch states item.now) }
-        ensures reaction { (states : ℕ → channels.Channel)
-            → AreLanesOf C.Channel self.old.walk.interface self.old.walk.epoch states self.old.lanes
+        ensures reaction { (states : ℕ → GapChannel)
+            → AreChannels C.Channel self.old.walk.interface self.old.walk.start
+            self.old.walk.epoch states self.old.channels
             → IfOk result (λ reaction. reaction ≡ reaction_on turn self.old.walk.interface
-            self.old.walk.machine.state after states item.now) }
+            self.old.walk.machine after.now states item.now) }
         ensures memory { IfErr result (λ fault. fault ≡ Memory) }
     {
         events.clear();
         match turn {
-            Turn::ToChannel(channel) => {
-                step_lane(&self.walk, channel, item, events, &mut self.lanes)
+            Turn::ToChannel(channel) => self.channels.step(&self.walk, channel, item, events),
+            Turn::ToAll => {
+                self.channels.take_gap();
+                Ok(reactions::restart_reaction(&self.walk.machine, after, item))
             }
-            _ => Ok(reactions::restart_reaction(self.walk.machine.state(), after, item)),
+            _ => Ok(reactions::restart_reaction(&self.walk.machine, after, item)),
         }
     }
 
@@ -279,11 +219,11 @@ impl<A: Allocator + Copy, C: Channel<A>> Trial<A, C> {
         ensures walk { self.new.walk ≡ self.old.walk }
         ensures tally { self.new.tally ≡ self.old.tally }
         ensures watch { self.new.watch ≡ self.old.watch }
-        ensures same { epoch ≡ self.old.walk.epoch → self.new.lanes ≡ self.old.lanes }
-        ensures renewed { epoch ≢ self.old.walk.epoch → self.new.lanes ≡ no_lanes }
+        ensures same { epoch ≡ self.old.walk.epoch → self.new.channels ≡ self.old.channels }
+        ensures renewed { epoch ≢ self.old.walk.epoch → self.new.channels ≡ no_channels }
     {
         if epoch != self.walk.epoch {
-            self.lanes = ChannelTable::new(*self.walk.findings.allocator());
+            self.channels = TriedChannels::new(*self.walk.findings.allocator());
         }
     }
 
@@ -297,7 +237,7 @@ impl<A: Allocator + Copy, C: Channel<A>> Trial<A, C> {
     {
         let item = item_of_row(&self.walk.interface, row);
         let step = self.walk.step(&item)?;
-        let reaction = self.turn(step.turn, step.machine.state(), &item, events)?;
+        let reaction = self.turn(step.turn, &step.machine, &item, events)?;
         self.tally.count(&self.walk.interface, &item, step.finding, events.as_slice());
         self.watch.take(step.turn, reaction)?;
         self.renew(step.epoch);

@@ -26,8 +26,8 @@ fn push_header<A: Allocator + Copy, C: Channel<A>>(
     size: u16,
     trials: &mut Vec<Trial<A, C>, A>,
 ) -> Result<(), Fault>
-    ensures trials { (headers : List AnyInterface) → AreTrials C.Channel (λ _. []) headers trials.old.items
-        → OnOk result (AreTrials C.Channel (λ _. [])
+    ensures trials { (headers : List AnyInterface) → AreTrials C.Channel own.now (λ _. []) headers trials.old.items
+        → OnOk result (AreTrials C.Channel own.now (λ _. [])
         (headers ++ option_to_list (with_numbers own.now modulus window size)) trials.new.items) }
     ensures memory { IfErr result (λ fault. fault ≡ Memory) }
 {
@@ -48,8 +48,8 @@ fn push_sizes<A: Allocator + Copy, C: Channel<A>>(
     window: u8,
     trials: &mut Vec<Trial<A, C>, A>,
 ) -> Result<(), Fault>
-    ensures trials { (headers : List AnyInterface) → AreTrials C.Channel (λ _. []) headers trials.old.items
-        → OnOk result (AreTrials C.Channel (λ _. [])
+    ensures trials { (headers : List AnyInterface) → AreTrials C.Channel own.now (λ _. []) headers trials.old.items
+        → OnOk result (AreTrials C.Channel own.now (λ _. [])
         (headers ++ headers_with own.now modulus window) trials.new.items) }
     ensures memory { IfErr result (λ fault. fault ≡ Memory) }
 {
@@ -66,7 +66,7 @@ fn trials_of<A: Allocator + Copy, C: Channel<A>>(
     modulus: u8,
 ) -> Result<Vec<Trial<A, C>, A>, Fault>
     ensures trials { IfOk result (λ trials.
-        AreTrials C.Channel (λ _. []) (headers_of own.now modulus) trials.items) }
+        AreTrials C.Channel own.now (λ _. []) (headers_of own.now modulus) trials.items) }
     ensures memory { IfErr result (λ fault. fault ≡ Memory) }
 {
     let mut trials = Vec::new(alloc);
@@ -83,9 +83,10 @@ fn take_all<A: Allocator + Copy, C: Channel<A>>(
     events: &mut Vec<Event, A>,
 ) -> Result<(), Fault>
     requires next { MayWalkAll C.Channel row.now trials.old.items }
-    ensures trials { (headers : List AnyInterface) (items : SaidRows)
-        → AreTrials C.Channel items headers trials.old.items → AreSound (with_row items row.now)
-        → OnOk result (AreTrials C.Channel (with_row items row.now) headers trials.new.items) }
+    ensures trials { (own : AnyInterface) (headers : List AnyInterface) (items : SaidRows)
+        → AreTrials C.Channel own items headers trials.old.items
+        → AreSound own (with_row items row.now)
+        → OnOk result (AreTrials C.Channel own (with_row items row.now) headers trials.new.items) }
     ensures memory { IfErr result (λ fault. fault ≡ Memory) }
 {
     for trial in trials.iter_mut() {
@@ -183,7 +184,7 @@ impl<A: Allocator + Copy, C: Channel<A>> Trials<A, C> {
         requires next { MayTry C.Channel row.now self.old }
         ensures trying { (i : AnyInterface) (rows : List records.Row) (next : records.Row)
             → IsTrying C.Channel i rows self.old → row.now ≡ read_row next
-            → IsTrace (rows ++ next ∷ [])
+            → IsTrace i (rows ++ next ∷ [])
             → OnOk result (IsTrying C.Channel i (rows ++ next ∷ []) self.new) }
         ensures memory { IfErr result (λ fault. fault ≡ Memory) }
     {
@@ -196,7 +197,7 @@ impl<A: Allocator + Copy, C: Channel<A>> Trials<A, C> {
     /// The trials with the modulus that the rows have.
     pub fn chosen(self) -> Vec<Trial<A, C>, A>
         ensures { (i : AnyInterface) (rows : List records.Row) → IsTrying C.Channel i rows self
-            → AreTrials C.Channel (λ j. items_of j rows) (headers_tried i rows) result.items }
+            → AreTrials C.Channel i (λ j. items_of j rows) (headers_tried i rows) result.items }
     {
         if self.formats.is_modulo_8(self.own) {
             self.of_8

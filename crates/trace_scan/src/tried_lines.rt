@@ -6,7 +6,7 @@ ghost use Rattle.std.specs.List.Sorted.{IsNonDecreasingBy, IsPermutation};
 ghost use Rattle.line_model.specs.basics.Written.{PutsTo, TakesAll, TakesFront};
 ghost use Rattle.line_model.specs.declared.fault.Fault.TheVariants.{Memory};
 ghost use Rattle.line_model.specs.declared.interface.Interface.{Interface as AnyInterface};
-ghost use Rattle.trace_scan.specs.TriedLines.{column, fewest, first_numbers, header_line, is_first_form, joining, named, ranges, rank, reaction_columns, reaction_rank, tally_columns, tally_rank, tried_by, tried_line, tried_text, tried_with};
+ghost use Rattle.trace_scan.specs.TriedLines.{column, fewest, first_numbers, form_word, header_line, is_first_form, joining, named, ranges, rank, reaction_columns, reaction_rank, tally_columns, tally_rank, tried_by, tried_line, tried_text, tried_with};
 ghost use Rattle.trace_scan.specs.Trials.{AreTrials, SaidRows};
 
 use crate::reactions::Reactions;
@@ -100,8 +100,8 @@ pub fn best_first<A: Allocator + Copy, C: Channel<A>>(
     alloc: A,
     trials: &[Trial<A, C>],
 ) -> Result<Vec<Tried, A>, Fault>
-    ensures all { (headers : List AnyInterface) (items : SaidRows)
-        → AreTrials C.Channel items headers trials.now
+    ensures all { (own : AnyInterface) (headers : List AnyInterface) (items : SaidRows)
+        → AreTrials C.Channel own items headers trials.now
         → IfOk result (λ tried. IsPermutation
         (map (λ h. tried_with h (items h)) headers) tried.items) }
     ensures sorted { IfOk result (λ tried. IsNonDecreasingBy rank tried.items) }
@@ -159,7 +159,7 @@ fn put_tally<W: Sink>(out: &mut WriteBuffer, sink: &mut W, tally: Tally)
     put_column(out, sink, 11, tally.octets);
 }
 
-/// Puts what both forms of a header say first.
+/// Puts what all forms of a header say first.
 fn put_first_numbers<W: Sink>(out: &mut WriteBuffer, sink: &mut W, header: &Interface)
     ensures { PutsTo W.Sink sink.old sink.new out.old out.new (first_numbers header.now) }
 {
@@ -178,7 +178,14 @@ fn put_ranges<W: Sink>(out: &mut WriteBuffer, sink: &mut W, header: &Interface)
     put_number(out, sink, b" OUT ", header.svc);
 }
 
-/// How the second form of a header ends.
+/// How a header with ranges begins.
+fn form_word(gaps: bool) -> &'static [u8]
+    ensures { result.now ≡ form_word gaps }
+{
+    if gaps { b"X25 3" } else { b"X25 2" }
+}
+
+/// How a header with ranges ends.
 fn joining(join: bool) -> &'static [u8]
     ensures { result.now ≡ joining join }
 {
@@ -189,7 +196,7 @@ fn joining(join: bool) -> &'static [u8]
 fn is_first_form(header: &Interface) -> bool
     ensures { result ≡ is_first_form header.now }
 {
-    header.incoming == header.pvc && header.two_way == header.svc && !header.join
+    header.incoming == header.pvc && header.two_way == header.svc && !header.join && !header.gaps
 }
 
 /// Puts a header line.
@@ -204,7 +211,7 @@ fn put_header<W: Sink>(out: &mut WriteBuffer, sink: &mut W, header: &Interface)
             out.put(sink, b"\n");
         }
         false => {
-            out.put(sink, b"X25 2");
+            out.put(sink, form_word(header.gaps));
             put_first_numbers(out, sink, header);
             put_ranges(out, sink, header);
             out.put(sink, joining(header.join));

@@ -11,7 +11,7 @@ ghost use Rattle.trace_text.specs.FedBytes.{fed_length};
 ghost use Rattle.trace_text.specs.Progress.{bytes_fed};
 ghost use Rattle.trace_text.specs.StandsFor.{IsFaultOf, IsTextFault, last_row};
 ghost use Rattle.line_model.specs.packets.Says.{read_row};
-ghost use Rattle.trace_scan.specs.Trials.{AreTried, HasTaken, IsTrace, IsTriedText, IsTrying};
+ghost use Rattle.trace_scan.specs.Trials.{AreTried, HasTaken, IsTrace, IsTraceUnder, IsTriedText, IsTrying};
 
 use crate::trial::Trial;
 use crate::trials::Trials;
@@ -50,10 +50,10 @@ fn take_last<A: Allocator + Copy, C: Channel<A>>(
 ) -> Result<(), Fault>
     requires next { (i : AnyInterface) × (rows : List records.Row) × (last : records.Row)
         × IsTrying C.Channel i rows trials.old × (has_row ≡ true → row.now ≡ read_row last)
-        × IsTrace (rows ++ last_row has_row last) }
+        × IsTrace i (rows ++ last_row has_row last) }
     ensures trying { (i : AnyInterface) (rows : List records.Row) (last : records.Row)
         → IsTrying C.Channel i rows trials.old → (has_row ≡ true → row.now ≡ read_row last)
-        → IsTrace (rows ++ last_row has_row last)
+        → IsTrace i (rows ++ last_row has_row last)
         → OnOk result (IsTrying C.Channel i (rows ++ last_row has_row last) trials.new) }
     ensures memory { IfErr result (λ fault. fault ≡ Memory) }
 {
@@ -85,6 +85,7 @@ impl<A: Allocator + Copy, C: Channel<A>> TriedText<A, C> {
                 side: Side::T,
                 length: 0,
                 octets: Vec::new(alloc),
+                gap: None,
             },
             trials: None,
         }
@@ -95,11 +96,13 @@ impl<A: Allocator + Copy, C: Channel<A>> TriedText<A, C> {
         requires headed { is_some self.old.lines.interface ≡ true }
         requires next { (rows : List records.Row) × (next : records.Row)
             × AreTried C.Channel rows self.old.lines.interface self.old.trials
-            × (self.old.row ≡ read_row next) × IsTrace (rows ++ next ∷ []) }
+            × (self.old.row ≡ read_row next)
+            × IsTraceUnder self.old.lines.interface (rows ++ next ∷ []) }
         ensures lines { self.new.lines ≡ self.old.lines }
         ensures tried { (rows : List records.Row) (next : records.Row)
             → AreTried C.Channel rows self.old.lines.interface self.old.trials
-            → self.old.row ≡ read_row next → IsTrace (rows ++ next ∷ [])
+            → self.old.row ≡ read_row next
+            → IsTraceUnder self.old.lines.interface (rows ++ next ∷ [])
             → OnOk result (AreTried C.Channel (rows ++ next ∷ [])
             self.old.lines.interface self.new.trials) }
         ensures memory { IfErr result (λ fault. fault ≡ Memory) }

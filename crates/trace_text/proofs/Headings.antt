@@ -13,7 +13,7 @@ use Rattle.line_model.specs.basics.Limits.{is_channels, is_numbering, packet_siz
 use Rattle.line_model.specs.declared.interface.Interface.{Interface}
 use Rattle.line_model.specs.text.Header.{header_numbers, interface_of, interface_with, number_of, numbers_in, words_of}
 use Rattle.line_model.specs.text.Text.{Line, begun_line, content_of, contents_kind, early, early_rows, ended_lines, first_fault, form_kind, has_header, head_in, head_of, header_kind, is_comment, is_some_line, last_number, last_or, line_kind, row_number, rows_in, size_of}
-use Rattle.line_model.proofs.LineLemmas.{size_kind-zero}
+use Rattle.line_model.proofs.LineLemmas.{no_content, size_kind-zero}
 use Rattle.line_model.specs.text.RowLine.{row_of}
 use Rattle.line_model.proofs.TextLemmas.{HasNoLf, begun-lf, begun-more, ended-lf, ended-more, size_of-ended}
 use Rattle.trace_text.specs.Blocks.{IsAtRows, IsHeading}
@@ -95,9 +95,14 @@ abbrev joined : Bool → List (List ℕ)
 joined true = codes "JOIN" ∷ []
 joined false = []
 
+-- where gaps are rows the version is another one
+abbrev version : (gaps : Bool) → List ℕ
+version true = codes "3"
+version false = codes "2"
+
 abbrev later_words : Interface → List (List ℕ)
 later_words i =
-    codes "2" ∷ codes "MOD" ∷ decimal i.modulus ∷ codes "WIN" ∷ decimal i.window ∷ codes "SIZE" ∷ decimal i.size ∷ codes "PVC" ∷ decimal i.pvc
+    version i.gaps ∷ codes "MOD" ∷ decimal i.modulus ∷ codes "WIN" ∷ decimal i.window ∷ codes "SIZE" ∷ decimal i.size ∷ codes "PVC" ∷ decimal i.pvc
     ∷ codes "IN" ∷ decimal i.incoming ∷ codes "TWO" ∷ decimal i.two_way ∷ codes "OUT" ∷ decimal i.svc ∷ joined i.join
 
 abbrev header_words : Interface → List (List ℕ)
@@ -150,16 +155,22 @@ joined_words : (join : Bool) → AreWords (joined join)
 joined_words true = (name (codes "JOIN") refl refl refl, tt)
 joined_words false = tt
 
+version_word : (gaps : Bool) → IsWord (version gaps)
+version_word true = name (codes "3") refl refl refl
+version_word false = name (codes "2") refl refl refl
+
 are_words : (i : Interface) → IsSmall i → AreWords (header_words i)
 are_words i s =
-    (name (codes "X25") refl refl refl, (name (codes "2") refl refl refl, (name (codes "MOD") refl refl refl, (decimal_word i.modulus s.modulus, (name (codes "WIN") refl refl refl, (decimal_word i.window s.window, (name (codes "SIZE") refl refl refl, (decimal_word i.size s.size, (name (codes "PVC") refl refl refl, (decimal_word i.pvc s.pvc, (name (codes "IN") refl refl refl, (decimal_word i.incoming s.incoming, (name (codes "TWO") refl refl refl, (decimal_word i.two_way s.two_way, (name (codes "OUT") refl refl refl, (decimal_word i.svc s.svc, joined_words i.join))))))))))))))))
+    (name (codes "X25") refl refl refl, (version_word i.gaps, (name (codes "MOD") refl refl refl, (decimal_word i.modulus s.modulus, (name (codes "WIN") refl refl refl, (decimal_word i.window s.window, (name (codes "SIZE") refl refl refl, (decimal_word i.size s.size, (name (codes "PVC") refl refl refl, (decimal_word i.pvc s.pvc, (name (codes "IN") refl refl refl, (decimal_word i.incoming s.incoming, (name (codes "TWO") refl refl refl, (decimal_word i.two_way s.two_way, (name (codes "OUT") refl refl refl, (decimal_word i.svc s.svc, joined_words i.join))))))))))))))))
 
-words_numbers : (m w s p a t o : List ℕ) (modulus window size pvc incoming two_way svc : ℕ) (join : Bool)
+words_numbers : (m w s p a t o : List ℕ) (modulus window size pvc incoming two_way svc : ℕ) (join gaps : Bool)
     → number_of m ≡ Some modulus → number_of w ≡ Some window → number_of s ≡ Some size → number_of p ≡ Some pvc → number_of a ≡ Some incoming → number_of t ≡ Some two_way → number_of o ≡ Some svc
-    → numbers_in (codes "X25" ∷ codes "2" ∷ codes "MOD" ∷ m ∷ codes "WIN" ∷ w ∷ codes "SIZE" ∷ s ∷ codes "PVC" ∷ p ∷ codes "IN" ∷ a ∷ codes "TWO" ∷ t ∷ codes "OUT" ∷ o ∷ joined join)
-    ≡ Some (record { modulus = modulus; window = window; size = size; pvc = pvc; incoming = incoming; two_way = two_way; svc = svc; join = join })
-words_numbers m w s p a t o modulus window size pvc incoming two_way svc true hm hw hs hp ha ht ho = rw (hm, hw, hs, hp, ha, ht, ho) refl
-words_numbers m w s p a t o modulus window size pvc incoming two_way svc false hm hw hs hp ha ht ho = rw (hm, hw, hs, hp, ha, ht, ho) refl
+    → numbers_in (codes "X25" ∷ version gaps ∷ codes "MOD" ∷ m ∷ codes "WIN" ∷ w ∷ codes "SIZE" ∷ s ∷ codes "PVC" ∷ p ∷ codes "IN" ∷ a ∷ codes "TWO" ∷ t ∷ codes "OUT" ∷ o ∷ joined join)
+    ≡ Some (record { modulus = modulus; window = window; size = size; pvc = pvc; incoming = incoming; two_way = two_way; svc = svc; join = join; gaps = gaps })
+words_numbers m w s p a t o modulus window size pvc incoming two_way svc true true hm hw hs hp ha ht ho = rw (hm, hw, hs, hp, ha, ht, ho) refl
+words_numbers m w s p a t o modulus window size pvc incoming two_way svc true false hm hw hs hp ha ht ho = rw (hm, hw, hs, hp, ha, ht, ho) refl
+words_numbers m w s p a t o modulus window size pvc incoming two_way svc false true hm hw hs hp ha ht ho = rw (hm, hw, hs, hp, ha, ht, ho) refl
+words_numbers m w s p a t o modulus window size pvc incoming two_way svc false false hm hw hs hp ha ht ho = rw (hm, hw, hs, hp, ha, ht, ho) refl
 
 abbrev header_of : Interface → List ℕ
 header_of i = line_of (header_words i)
@@ -168,7 +179,7 @@ header_says : (i : Interface) → IsSmall i → header_numbers (header_of i) ≡
 unfolding header_numbers
 header_says i s =
     ap numbers_in (line_words (codes "X25") (later_words i) (are_words i s))
-    ∙ words_numbers (decimal i.modulus) (decimal i.window) (decimal i.size) (decimal i.pvc) (decimal i.incoming) (decimal i.two_way) (decimal i.svc) i.modulus i.window i.size i.pvc i.incoming i.two_way i.svc i.join
+    ∙ words_numbers (decimal i.modulus) (decimal i.window) (decimal i.size) (decimal i.pvc) (decimal i.incoming) (decimal i.two_way) (decimal i.svc) i.modulus i.window i.size i.pvc i.incoming i.two_way i.svc i.join i.gaps
     (decimal_number i.modulus s.modulus) (decimal_number i.window s.window) (decimal_number i.size s.size) (decimal_number i.pvc s.pvc) (decimal_number i.incoming s.incoming) (decimal_number i.two_way s.two_way) (decimal_number i.svc s.svc)
 
 header_interface : (i : Interface) → IsSmall i → interface_of (header_of i) ≡ Some i
@@ -218,8 +229,8 @@ heading_bytes i s =
     length-replicate (suc n) = omega (arith, length-replicate n)
 
 first_form_sound : (es : List Line) (l : Line) → has_header es ≡ false → is_comment l ≡ false → header_kind l ≡ None → form_kind es l ≡ None
-unfolding contents_kind
-first_form_sound es l none plain h = rw (plain, none) h
+unfolding contents_kind head_of
+first_form_sound es l none plain h = rw (plain, no_content es none) h
 
 judged_first : (es : List Line) (l : Line) → length l ≤ 8500 → size_of es + length l + 1 ≤ 1073741824 → form_kind es l ≡ None → line_kind es 1 l ≡ None
 judged_first es l few room form = rw (fits (size_of es) (length l) few room) form
@@ -234,7 +245,7 @@ heading_sound i s =
     let h = header_of i in
     let short = header_short i s in
     let bytes : length (comment_of i) + length (header_of i) ≡ 198 = omega (arith, heading_bytes i s, length-append (comment_of i ++ 10 ∷ []) (header_of i ++ 10 ∷ []), length-append (comment_of i) (10 ∷ []), length-append (header_of i) (10 ∷ [])) in
-    let first : line_kind [] 1 (comment_of i) ≡ None = judged_first [] (comment_of i) (omega (arith, bytes)) (omega (arith, bytes)) (comment_sound (has_header []) (last_number []) (comment_of i) refl) in
+    let first : line_kind [] 1 (comment_of i) ≡ None = judged_first [] (comment_of i) (omega (arith, bytes)) (omega (arith, bytes)) (comment_sound (head_of []) (last_number []) (comment_of i) refl) in
     let second : line_kind (comment_of i ∷ []) 1 (header_of i) ≡ None = judged_first (comment_of i ∷ []) (header_of i) (omega (arith, bytes)) (omega (arith, bytes)) (first_form_sound (comment_of i ∷ []) (header_of i) (comment_alone (comment_of i) refl) refl (header_sound i s)) in
     early-none (heading_of i)
     (ap (first_fault []) (heading_lines i s) ∙ first_sound [] (comment_of i) (header_of i ∷ []) first (first_sound (comment_of i ∷ []) (header_of i) [] second refl))
@@ -251,7 +262,7 @@ heading i s = record {
   bytes = heading_bytes i s;
 }
 
-heading_head : (i : Interface) (h : List ℕ) (is : IsHeading i h) → head_of (ended_lines h) ≡ Some i
+pub heading_head : (i : Interface) (h : List ℕ) (is : IsHeading i h) → head_of (ended_lines h) ≡ Some i
 unfolding head_of
 heading_head i h is = ap head_in is.content ∙ is.interface
 

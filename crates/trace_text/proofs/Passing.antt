@@ -14,31 +14,31 @@ use Rattle.trace_text.specs.StandsFor.{StandsFor}
 use Rattle.trace_text.specs.declared.lines.block.BlockSpan.{BlockSpan}
 use Rattle.trace_text.proofs.BlockLemmas.{AreRows, Follows, WritesRow, are_rows, follows, rebased, seam, second_none}
 use Rattle.trace_text.proofs.FeedLemmas.{early-none, no_fault, rows-sound, size-sound}
-use Rattle.trace_text.proofs.Headings.{heading_header, heading_last, heading_rows}
+use Rattle.trace_text.proofs.Headings.{heading_head, heading_last, heading_rows}
 use Rattle.trace_text.proofs.NumberLemmas.{both}
 use Rattle.trace_text.proofs.StepLemmas.{no_bytes}
 
 -- the lines of a block that was read after a heading
-record IsRead (heading block : List ℕ) (rows : List Row) : Type 0 where
-  are : AreRows 0 (ended_lines block) rows
+record IsRead (i : Interface) (heading block : List ℕ) (rows : List Row) : Type 0 where
+  are : AreRows i 0 (ended_lines block) rows
   rows_are : early_rows (heading ++ block) ≡ rows
   last : last_number (ended_lines (heading ++ block)) ≡ last_of rows
 
-is_read : (i : Interface) (heading block : List ℕ) → IsHeading i heading → early (heading ++ block) ≡ None → IsRead heading block (early_rows (heading ++ block))
+is_read : (i : Interface) (heading block : List ℕ) → IsHeading i heading → early (heading ++ block) ≡ None → IsRead i heading block (early_rows (heading ++ block))
 is_read i heading block is sound =
     let hs = ended_lines heading in
     let bs = ended_lines block in
     let lines = (seam heading block is.whole).lines in
     let all : first_fault [] (ended_lines heading ++ ended_lines block) ≡ None = ap (first_fault []) (sym lines) ∙ no_fault (heading ++ block) sound in
     let later : first_fault (ended_lines heading) (ended_lines block) ≡ None = second_none (first_fault [] (ended_lines heading)) (first_fault (ended_lines heading) (ended_lines block)) (sym (first_fault-append [] (ended_lines heading) (ended_lines block)) ∙ all) in
-    let header = heading_header i heading is in
+    let head = heading_head i heading is in
     let room = (size_kind-none (size_of (ended_lines (heading ++ block))) 0 (length (begun_line (heading ++ block))) (size-sound (heading ++ block) sound)).1 in
-    let found : (rows : List Row) × AreRows (last_number (ended_lines heading)) (ended_lines block) rows = are_rows (ended_lines heading) (ended_lines block) header later in
-    let f : Follows (ended_lines heading) (ended_lines block) found.0 = follows (ended_lines heading) (ended_lines block) found.0 header (omega (arith, room, ap size_of lines, size_of-append (ended_lines heading) (ended_lines block))) found.1 in
+    let found : (rows : List Row) × AreRows i (last_number (ended_lines heading)) (ended_lines block) rows = are_rows i (ended_lines heading) (ended_lines block) head later in
+    let f : Follows (ended_lines heading) (ended_lines block) found.0 = follows i (ended_lines heading) (ended_lines block) found.0 head (omega (arith, room, ap size_of lines, size_of-append (ended_lines heading) (ended_lines block))) found.1 in
     let rows : early_rows (heading ++ block) ≡ found.0 = rows-sound (heading ++ block) sound ∙ ap rows_in lines ∙ f.rows_are ∙ ap (λ rs. rs ++ found.0) (heading_rows i heading is) in
     let last : last_number (ended_lines (heading ++ block)) ≡ last_of found.0 = ap last_number lines ∙ f.last ∙ ap (λ n. last_or n (map (λ (r : Row). r.number) found.0)) (heading_last i heading is) in
     record {
-      are = subst (λ rs. AreRows 0 (ended_lines block) rs) (sym rows) (subst (λ n. AreRows n (ended_lines block) found.0) (heading_last i heading is) found.1);
+      are = subst (λ rs. AreRows i 0 (ended_lines block) rs) (sym rows) (subst (λ n. AreRows i n (ended_lines block) found.0) (heading_last i heading is) found.1);
       rows_are = refl;
       last = last ∙ ap last_of (sym rows);
     }
@@ -77,9 +77,10 @@ passes i text block rows reader after span may s headed is of e =
     let bytes : size_of (ended_lines block) ≡ length block = omega (arith, size_of-ended block, ap (λ (l : List ℕ). length l) is.whole) in
     let all : size_of (ended_lines text) + size_of (ended_lines block) ≤ 1073741824 = omega (arith, bytes, room, s.start, of.bytes) in
     let header : has_header (ended_lines text) ≡ true = sym s.header ∙ between.0 in
-    let are : AreRows 0 (ended_lines block) rows = subst (λ rs. AreRows 0 (ended_lines block) rs) is.rows_are read.are in
+    let head : head_of (ended_lines text) ≡ Some i = sym s.interface ∙ headed in
+    let are : AreRows i 0 (ended_lines block) rows = subst (λ rs. AreRows i 0 (ended_lines block) rs) is.rows_are read.are in
     let follow : may_follow (last_number (ended_lines text)) (first_number rows) ≡ true = subst (λ n. may_follow n (first_number rows) ≡ true) s.last (subst (λ n. may_follow reader.last n ≡ true) of.first fits.0) in
-    let f : Follows (ended_lines text) (ended_lines block) rows = follows (ended_lines text) (ended_lines block) rows header all (rebased 0 (last_number (ended_lines text)) (ended_lines block) rows follow are) in
+    let f : Follows (ended_lines text) (ended_lines block) rows = follows i (ended_lines text) (ended_lines block) rows head all (rebased i 0 (last_number (ended_lines text)) (ended_lines block) rows follow are) in
     let sound : early (text ++ block) ≡ None = early-none (text ++ block)
     (ap (first_fault []) at.lines ∙ first_fault-append [] (ended_lines text) (ended_lines block) ∙ ap (λ o. option_or o (first_fault (ended_lines text) (ended_lines block))) (no_fault text s.sound) ∙ f.sound)
     (rw (at.begun, is.whole) (size_kind-zero (size_of (ended_lines (text ++ block))) (omega (arith, all, ap size_of at.lines, size_of-append (ended_lines text) (ended_lines block))))) in
@@ -111,11 +112,11 @@ passes_rows i text block rows reader after span may s headed is of some e =
     let next : ℕ → Progress = λ n. record { ended = reader.ended + span.lines; start = reader.start + span.bytes; interface = reader.interface; last = n; begun = reader.begun; refused = reader.refused } in
     passes i text block rows reader after span may s headed is of (e ∙ ap next last)
 
-are_none : (ls : List Line) (rows : List Row) → AreRows 0 ls rows → first_number rows ≡ 0 → rows ≡ []
-are_none [] rows h none = h
-are_none (l ∷ ls) rows h none = by (λ k. are_none ls rows k none) h.1
+are_none : (i : Interface) (ls : List Line) (rows : List Row) → AreRows i 0 ls rows → first_number rows ≡ 0 → rows ≡ []
+are_none i [] rows h none = h
+are_none i (l ∷ ls) rows h none = by (λ k. are_none i ls rows k none) h.1
   where
-    by : (AreRows 0 ls rows → rows ≡ []) → ((is_comment l ≡ true) × AreRows 0 ls rows) ⊎ ((row : Row) × (rest : List Row) × WritesRow l row × (0 < row.number) × (rows ≡ row ∷ rest) × AreRows row.number ls rest) → rows ≡ []
+    by : (AreRows i 0 ls rows → rows ≡ []) → ((is_comment l ≡ true) × AreRows i 0 ls rows) ⊎ ((row : Row) × (rest : List Row) × WritesRow i l row × (0 < row.number) × (rows ≡ row ∷ rest) × AreRows i row.number ls rest) → rows ≡ []
     by later (inl c) = later c.1
     by later (inr r) = let above = r.3 in absurd (omega (arith, above, ap first_number r.4, none))
 
@@ -124,6 +125,6 @@ pub passes_none : (i : Interface) (text block : List ℕ) (rows : List Row) (rea
     → after ≡ record { ended = reader.ended + span.lines; start = reader.start + span.bytes; interface = reader.interface; last = reader.last; begun = reader.begun; refused = reader.refused } → HasPassed reader after text block rows
 passes_none i text block rows reader after span may s headed is of none e =
     let read = is_read i is.heading block is.is is.sound in
-    let no_rows : rows ≡ [] = are_none (ended_lines block) rows (subst (λ rs. AreRows 0 (ended_lines block) rs) is.rows_are read.are) (sym of.first ∙ none) in
+    let no_rows : rows ≡ [] = are_none i (ended_lines block) rows (subst (λ rs. AreRows i 0 (ended_lines block) rs) is.rows_are read.are) (sym of.first ∙ none) in
     let next : ℕ → Progress = λ n. record { ended = reader.ended + span.lines; start = reader.start + span.bytes; interface = reader.interface; last = n; begun = reader.begun; refused = reader.refused } in
     passes i text block rows reader after span may s headed is of (e ∙ ap (λ rs. next (last_after reader.last rs)) (sym no_rows))

@@ -11,7 +11,6 @@ use Rattle.line_model.specs.declared.interface.Interface.{Interface}
 use Rattle.line_model.specs.text.RowLine.{row_of}
 use Rattle.line_model.specs.text.Text.{Line, is_lf, is_comment, content_of, early, early_head, early_rows, head_in, head_of, ended_lines, begun_line, first_fault, good_lines, line_kind, rows_in}
 use Rattle.line_model.specs.declared.fault.Kind.{Kind}
-use Rattle.line_model.specs.declared.fault.Kind.TheVariants.{HeaderMissing}
 use Rattle.line_model.specs.declared.fault.Fault.{Fault}
 use Rattle.line_model.specs.declared.fault.Fault.TheVariants.{Memory, Trace, Read, Write, Start, Double, Stranger, Missing}
 use Rattle.line_model.proofs.TextLemmas.{ended-lf, ended-more, first_fault-append}
@@ -51,14 +50,14 @@ more_rows xs ys =
     (both.0, ap (λ ls. filter_map row_of (drop 1 ls)) (content_of-append xs ys) ∙ both.1)
 
 -- a fault among the lines after the first n
-abbrev pub IsAfter : ℕ → Option (ℕ × Kind) → Type 0
+abbrev IsAfter : ℕ → Option (ℕ × Kind) → Type 0
 IsAfter n None = Unit {0}
 IsAfter n (Some at) = n < at.0
 
 take_more : (xs ys : List Line) (n : ℕ) → length xs ≤ n → take n (xs ++ ys) ≡ xs ++ take (n - length xs) ys
 take_more xs ys n h = let e : n ≡ length xs + (n - length xs) = omega (arith, h) in ap (λ m. take m (xs ++ ys)) e ∙ take-append-add xs ys (n - length xs)
 
-pub good_more : (at : Option (ℕ × Kind)) (xs ys : List Line) → IsAfter (length xs) at → (more : List Row) × (rows_in (good_lines at (xs ++ ys)) ≡ rows_in xs ++ more)
+good_more : (at : Option (ℕ × Kind)) (xs ys : List Line) → IsAfter (length xs) at → (more : List Row) × (rows_in (good_lines at (xs ++ ys)) ≡ rows_in xs ++ more)
 good_more None xs ys h = more_rows xs ys
 good_more (Some at) xs ys h =
     let both = more_rows xs (take (at.0 - 1 - length xs) ys) in
@@ -75,26 +74,22 @@ after_less : (n m : ℕ) (p : Option (ℕ × Kind)) → n ≤ m → IsAfter m p 
 after_less n m None h i = tt
 after_less n m (Some at) h i = omega (arith, i)
 
-pub first_fault-after : (before xs : List Line) → IsAfter (length before) (first_fault before xs)
+first_fault-after : (before xs : List Line) → IsAfter (length before) (first_fault before xs)
 first_fault-after before [] = tt
 first_fault-after before (x ∷ xs) =
     found_after (line_kind before 1 x) (length before) (length before + 1) _ (omega arith)
     (after_less (length before) (length (before ++ x ∷ [])) _ (omega (arith, length-append before (x ∷ []))) (first_fault-after (before ++ x ∷ []) xs))
 
-pub or_after : (n : ℕ) (o p : Option (ℕ × Kind)) → IsAfter n o → IsAfter n p → IsAfter n (option_or o p)
+or_after : (n : ℕ) (o p : Option (ℕ × Kind)) → IsAfter n o → IsAfter n p → IsAfter n (option_or o p)
 or_after n None p h i = i
 or_after n (Some at) p h i = h
 
-pub at_line : (n line : ℕ) (o : Option Kind) → n < line → IsAfter n (option_map (λ kind. (line, kind)) o)
+at_line : (n line : ℕ) (o : Option Kind) → n < line → IsAfter n (option_map (λ kind. (line, kind)) o)
 at_line n line None h = tt
 at_line n line (Some k) h = h
 
-pub missing_after : (ls : List Line) (n line : ℕ) → n < line → IsAfter n (elim ls as (λ _. Option (ℕ × Kind)) [ [] ↦ Some (line, HeaderMissing) | m ∷ ms ↦ None ])
-missing_after [] n line h = h
-missing_after (l ∷ ls) n line h = tt
-
 -- where nothing is faulty so far, the fault of more text lies in later lines
-pub early-after : (text more : List ℕ) → early text ≡ None → IsAfter (length (ended_lines text)) (early (text ++ more))
+early-after : (text more : List ℕ) → early text ≡ None → IsAfter (length (ended_lines text)) (early (text ++ more))
 unfolding early
 early-after text more h =
     let lines = more_lines text more in
@@ -172,7 +167,7 @@ head_more None xs ys h = head_stays xs ys
 head_more (Some at) xs ys h =
     rw (take_more xs ys (at.0 - 1) (omega arith)) (head_stays xs (take (at.0 - 1 - length xs) ys))
 
-head_grows : (text more : List ℕ) → early text ≡ None → (head_of (ended_lines text) ≡ None) ⊎ (head_of (ended_lines text) ≡ early_head (text ++ more))
+pub head_grows : (text more : List ℕ) → early text ≡ None → (head_of (ended_lines text) ≡ None) ⊎ (head_of (ended_lines text) ≡ early_head (text ++ more))
 unfolding early_head
 head_grows text more h =
     let lines = more_lines text more in

@@ -14,8 +14,10 @@ use Rattle.std.proofs.lemmas.List.Folds.{list_any_none}
 use Rattle.hex.specs.Hex.{decode_of, is_hex_digit}
 use Rattle.hex.proofs.HexLemmas.{decode_of-ok}
 use Rattle.line_model.specs.text.Header.{number_of, is_number, words_of}
-use Rattle.line_model.specs.text.RowLine.{RowWords, octets_of, rising_number, row_kind, row_of, row_words, side_of, words_kind}
+use Rattle.line_model.specs.text.RowLine.{RowWords, gap_kind, kind_behind, octets_of, packet_kind, rising_number, row_kind, row_numbered, row_of, row_words, side_of, words_kind}
 use Rattle.line_model.specs.declared.fault.Kind.{Kind}
+use Rattle.line_model.specs.declared.interface.Interface.{Interface}
+use Rattle.line_model.proofs.TextRows.{no_gap_word, packet_written}
 use Rattle.line_model.specs.declared.fault.Kind.TheVariants.{LineForm, Number, Side as SideKind, Hex}
 use Rattle.line_model.specs.declared.state.Side.{Side}
 use Rattle.trace_text.specs.Cuts.{Lacks}
@@ -92,29 +94,36 @@ front_words last number side line digits octets b n h =
     ∙ ap (λ ws. b.word ∷ ws) (words-found 32 (b.letter ∷ []) digits b.no_space ∙ ap (λ ws. (b.letter ∷ []) ∷ ws) (words-none 32 digits (digits_lack 32 digits octets refl h))) in
     rw (words, word, hex) refl
 
-abbrev judged : Option ℕ → Option Side → Option (List ℕ) → Option Kind
-judged number side octets = if is_none number then Some Number else if is_none side then Some SideKind else if is_none octets then Some Hex else None
+abbrev judged : Option Side → Option (List ℕ) → Option Kind
+judged side octets = if is_none side then Some SideKind else if is_none octets then Some Hex else None
 
-words_right : (last number : ℕ) (side : Side) (octets : List ℕ) (words : RowWords) → rising_number last words.number ≡ Some number → side_of words.side ≡ Some side → octets_of words.hex ≡ Some octets → words_kind last words ≡ None
-words_right last number side octets words n s o =
-    ap (λ r. judged r (side_of words.side) (octets_of words.hex)) n ∙ ap (λ r. judged (Some number) r (octets_of words.hex)) s ∙ ap (λ r. judged (Some number) (Some side) r) o
+words_right : (i : Interface) (last number : ℕ) (side : Side) (octets : List ℕ) (words : RowWords) → rising_number last words.number ≡ Some number → side_of words.side ≡ Some side → octets_of words.hex ≡ Some octets → words_kind i last words ≡ None
+words_right i last number side octets words n s o =
+    ap (λ r. if is_none r then Some Number else kind_behind i words) n ∙ ap (λ b. elim b as (λ _. Option Kind) [ true ↦ gap_kind i.svc words | false ↦ packet_kind words ]) (and_no i.gaps (no_gap_word words.side side s))
+    ∙ ap (λ r. judged r (octets_of words.hex)) s ∙ ap (λ r. judged (Some side) r) o
+  where
+    and_no : (g : Bool) {b : Bool} → b ≡ false → (g && b) ≡ false
+    and_no true e = e
+    and_no false e = refl
 
-front_kind : (last number : ℕ) (side : Side) (line digits octets : List ℕ) → BeginsRow last line number side digits → 0 < length digits → length digits ≤ 8400 → length digits % 2 ≡ 0 → decode_of digits ≡ Ok octets → row_kind last line ≡ None
+front_kind : (last number : ℕ) (side : Side) (line digits octets : List ℕ) → BeginsRow last line number side digits → 0 < length digits → length digits ≤ 8400 → length digits % 2 ≡ 0 → decode_of digits ≡ Ok octets → (i : Interface) → row_kind i last line ≡ None
 unfolding row_kind
-front_kind last number side line digits octets b n most even h =
+front_kind last number side line digits octets b n most even h i =
     let words = front_words last number side line digits octets b n h in
     let octets_are = octets_of-ok digits octets (not_dash digits even) most h in
-    ap (λ (ws : Option RowWords). elim ws as (λ _. Option Kind) [ None ↦ Some LineForm | Some w ↦ words_kind last w ]) words
-    ∙ words_right last number side octets (record { number = b.word; side = b.letter ∷ []; hex = digits }) b.rises b.names octets_are
+    ap (λ (ws : Option RowWords). elim ws as (λ _. Option Kind) [ None ↦ Some LineForm | Some w ↦ words_kind i last w ]) words
+    ∙ words_right i last number side octets (record { number = b.word; side = b.letter ∷ []; hex = digits }) b.rises b.names octets_are
 
 front_row : (last number : ℕ) (side : Side) (line digits octets : List ℕ) → BeginsRow last line number side digits → 0 < length digits → length digits ≤ 8400 → length digits % 2 ≡ 0 → decode_of digits ≡ Ok octets →
-    row_of line ≡ Some (record { number = number; side = side; octets = octets })
+    row_of line ≡ Some (record { number = number; side = side; octets = octets; gap = None })
 unfolding row_of
 front_row last number side line digits octets b n most even h =
     let words = front_words last number side line digits octets b n h in
     let octets_are = octets_of-ok digits octets (not_dash digits even) most h in
     let number_is = rises_is (number_of b.word) last number b.rises in
-    rw (words, number_is, b.names, octets_are) refl
+    let own : RowWords = record { number = b.word; side = b.letter ∷ []; hex = digits } in
+    ap (λ (ws : Option RowWords). option_and_then (λ w. option_and_then (row_numbered w) (number_of w.number)) ws) words
+    ∙ ap (λ (n : Option ℕ). option_and_then (row_numbered own) n) number_is ∙ packet_written own number side octets b.names octets_are
 
 pub lacks-append : (byte : ℕ) (xs ys : List ℕ) → Lacks byte xs → Lacks byte ys → Lacks byte (xs ++ ys)
 lacks-append byte [] ys h k = k
@@ -129,7 +138,7 @@ not_comment [] rest n h = absurd (omega (arith, n))
 not_comment (b ∷ bs) rest n h = (or_parts (b == 35) (list_any (λ b. b == 35) bs) h).0
 
 -- a row's front and the digits after it, which write these octets, are a line
-pub decoded-line : (last number : ℕ) (side : Side) (text after digits octets rest : List ℕ) → BeginsRow last text number side after → after ≡ digits ++ 10 ∷ rest → decode_of digits ≡ Ok octets → 0 < length octets → length octets ≤ 4200 → BeginsLine last text (record { number = number; side = side; octets = octets }) rest
+pub decoded-line : (last number : ℕ) (side : Side) (text after digits octets rest : List ℕ) → BeginsRow last text number side after → after ≡ digits ++ 10 ∷ rest → decode_of digits ≡ Ok octets → 0 < length octets → length octets ≤ 4200 → BeginsLine last text (record { number = number; side = side; octets = octets; gap = None }) rest
 decoded-line last number side text after digits octets rest b whole decoded some most =
     let tail : List ℕ = 32 ∷ b.letter ∷ 32 ∷ digits in
     let line : List ℕ = b.word ++ tail in
@@ -150,7 +159,7 @@ decoded-line last number side text after digits octets rest b whole decoded some
     }
 
 -- a row's front and the digits after it are a line
-pub front-line : (last number : ℕ) (side : Side) (size : ℕ) (text after rest : List ℕ) → BeginsRow last text number side after → (w : BeginsOctets after size rest) → BeginsLine last text (record { number = number; side = side; octets = w.octets }) rest
+pub front-line : (last number : ℕ) (side : Side) (size : ℕ) (text after rest : List ℕ) → BeginsRow last text number side after → (w : BeginsOctets after size rest) → BeginsLine last text (record { number = number; side = side; octets = w.octets; gap = None }) rest
 front-line last number side size text after rest b w =
     let three = w.some in
     let most = w.few in

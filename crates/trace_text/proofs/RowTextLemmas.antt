@@ -1,5 +1,5 @@
 -- The line that writes a row, as it is read.
-use Rattle.std.proofs.Common.{◌≡◌, ◌∙◌, sym, ap, refl, ℕ, ◌+◌, ◌*◌, ◌-◌, ◌^◌, ◌<◌, ◌≤◌, true, List, [], ◌∷◌, ◌++◌, length, length-append, take, take_all, get_or, Some, None, arith, inl, inr}
+use Rattle.std.proofs.Common.{◌≡◌, ◌∙◌, sym, subst, ap, refl, ℕ, ◌+◌, ◌*◌, ◌-◌, ◌^◌, ◌<◌, ◌≤◌, true, List, [], ◌∷◌, ◌++◌, length, length-append, take, take_all, get_or, Some, None, arith, inl, inr}
 use Rattle.std.specs.Prelude.{decimal, is_some, nat_lt, if◌then◌else◌}
 use Rattle.std.specs.Char.{is_ascii_digit}
 use Rattle.std.specs.List.{list_all}
@@ -98,10 +98,11 @@ some_octets : (os : List ℕ) → 0 < length os → octets_word os ≡ encode_up
 some_octets [] h = absurd (omega (arith, h))
 some_octets (o ∷ os) h = refl
 
-row_line : (last : ℕ) (row : Row) → last < row.number → row.number < 1000000000 → IsBytes row.octets → 0 < length row.octets → length row.octets ≤ 4200 → BeginsLine last (row_text row) row []
-row_line last row more small bytes some few =
-    decoded-line last row.number row.side (row_text row) (octets_word row.octets ++ 10 ∷ []) (encode_upper row.octets) row.octets [] (begins last row more small)
-    (ap (λ (ds : List ℕ). ds ++ 10 ∷ []) (some_octets row.octets some)) (decode_of-encode_upper row.octets bytes) some few
+row_line : (last : ℕ) (row : Row) → row.gap ≡ None → last < row.number → row.number < 1000000000 → IsBytes row.octets → 0 < length row.octets → length row.octets ≤ 4200 → BeginsLine last (row_text row) row []
+row_line last row plain more small bytes some few =
+    subst (λ g. BeginsLine last (row_text row) (record row { gap = g }) []) (sym plain)
+    (decoded-line last row.number row.side (row_text row) (octets_word row.octets ++ 10 ∷ []) (encode_upper row.octets) row.octets [] (begins last row more small)
+    (ap (λ (ds : List ℕ). ds ++ 10 ∷ []) (some_octets row.octets some)) (decode_of-encode_upper row.octets bytes) some few)
 
 row_length : (row : Row) → 0 < length row.octets → length (row_text row) ≡ length (decimal row.number) + 3 + 2 * length row.octets + 1
 row_length row some =
@@ -109,10 +110,10 @@ row_length row some =
     omega (arith, length-append (decimal row.number) (32 ∷ side_letter row.side ∷ 32 ∷ (octets_word row.octets ++ 10 ∷ [])), length-append (octets_word row.octets) (10 ∷ []), word)
 
 -- a reader that goes past the line of a row has read it
-pub passes_row : (v after : Progress) (row : Row) → is_some v.interface ≡ true → length v.begun ≡ 0 → v.last < row.number → row.number < 1000000000 → IsBytes row.octets → 0 < length row.octets → length row.octets ≤ 4200
+pub passes_row : (v after : Progress) (row : Row) → row.gap ≡ None → is_some v.interface ≡ true → length v.begun ≡ 0 → v.last < row.number → row.number < 1000000000 → IsBytes row.octets → 0 < length row.octets → length row.octets ≤ 4200
     → size_kind v.start 1 (length (decimal row.number) + 3 + 2 * length row.octets) ≡ None → after ≡ after_line (length (decimal row.number) + 3 + 2 * length row.octets) (record v { last = row.number }) → TakesRow v after (row_text row) [] row
-passes_row v after row headed none more small bytes some few fits e =
+passes_row v after row plain headed none more small bytes some few fits e =
     let size : length (row_text row) - 0 - 1 ≡ length (decimal row.number) + 3 + 2 * length row.octets = omega (arith, row_length row some) in
     let line : TakesLine v after (row_text row) [] row =
-    takes-first v after (row_text row) [] row (row_line v.last row more small bytes some few) headed none (ap (size_kind v.start 1) size ∙ fits) (e ∙ ap (λ n. after_line n (record v { last = row.number })) (sym size)) in
+    takes-first v after (row_text row) [] row (row_line v.last row plain more small bytes some few) headed none (ap (size_kind v.start 1) size ∙ fits) (e ∙ ap (λ n. after_line n (record v { last = row.number })) (sym size)) in
     takes-row v v after row (row_text row) (row_text row) line.front [] (passed-none v (row_text row)) line.whole line.one_line line.ends

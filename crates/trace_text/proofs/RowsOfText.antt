@@ -1,6 +1,6 @@
 -- The rows of lines without a fault: their numbers rise, and they have no more octets than the lines have bytes.
-use Rattle.std.proofs.Common.{◌≡◌, sym, ap, subst, refl, ℕ, ◌+◌, ◌<◌, ◌≤◌, ◌^◌, Bool, true, false, cond, List, [], ◌∷◌, ◌++◌, map, length, Option, Some, None, Result, Ok, Err, append_assoc, append-nil, length-append, arith}
-use Rattle.std.specs.Prelude.{All, sum_by, codes, nat_le, nat_lt, is_none, if◌then◌else◌}
+use Rattle.std.proofs.Common.{◌≡◌, ◌∙◌, sym, ap, subst, refl, ◌⊎◌, inl, inr, ℕ, ◌+◌, ◌<◌, ◌≤◌, ◌^◌, Bool, true, false, cond, List, [], ◌∷◌, ◌++◌, map, length, Option, Some, None, Result, Ok, Err, append_assoc, append-nil, length-append, arith}
+use Rattle.std.specs.Prelude.{All, sum_by, codes, nat_le, nat_lt, is_none, is_some, if◌then◌else◌}
 use Rattle.std.specs.List.{join_with_byte}
 use Rattle.std.specs.List.Sorted.{IsStrictlyIncreasing}
 use Rattle.std.specs.Option.{option_and_then}
@@ -13,15 +13,16 @@ use Rattle.std.proofs.lemmas.Str.Parse.{digits_value_short, numerals_by_value, t
 use Rattle.hex.specs.Hex.{decode_of}
 use Rattle.hex.specs.declared.error.FromHexError.{FromHexError}
 use Rattle.hex.proofs.HexLemmas.{decode_of-ok}
-use Rattle.line_model.specs.declared.state.Side.{Side}
+use Rattle.line_model.specs.declared.interface.Interface.{Interface}
 use Rattle.line_model.specs.declared.fault.Kind.{Kind}
-use Rattle.line_model.specs.declared.fault.Kind.TheVariants.{LineForm, Number, Side as SideKind, Hex}
-use Rattle.line_model.specs.text.Header.{is_number, number_of, words_of}
+use Rattle.line_model.specs.declared.fault.Kind.TheVariants.{HeaderForm, HeaderRange, LineForm, Number}
+use Rattle.line_model.specs.text.Header.{HeaderNumbers, header_numbers, interface_of, is_number, number_of, words_of}
 use Rattle.line_model.specs.basics.Records.{Row}
-use Rattle.line_model.specs.text.RowLine.{RowWords, is_row_words, row_words_in, row_words, rising_number, side_of, octets_of, words_kind, row_kind, row_of}
-use Rattle.line_model.specs.text.Text.{Line, is_comment, has_header, last_number, rows_in, size_of, size_kind, contents_kind, header_kind, form_kind, line_kind, first_fault, begun_kind, end_kind, ended_lines, begun_line, line_or_none, lines_of, early, early_rows, fault, rows}
-use Rattle.line_model.proofs.LineLemmas.{last_number-comment, rows_in-comment, last_number-first, rows_in-first, last_number-later, rows_in-later}
+use Rattle.line_model.specs.text.RowLine.{RowWords, is_row_words, kind_behind, octets_of, rising_number, row_kind, row_numbered, row_of, row_words, row_words_in, words_kind}
+use Rattle.line_model.specs.text.Text.{Line, is_comment, has_header, head_of, last_number, rows_in, size_of, size_kind, contents_kind, header_kind, form_kind, line_kind, first_fault, begun_kind, end_kind, ended_lines, begun_line, line_or_none, lines_of, early, early_rows, fault, rows}
+use Rattle.line_model.proofs.LineLemmas.{has_header-comment, has_header-line, head-comment, head-first, head-later, last_number-comment, rows_in-comment, last_number-first, rows_in-first, last_number-later, rows_in-later}
 use Rattle.line_model.proofs.TextLemmas.{size_of-append, size_kind-none}
+use Rattle.line_model.proofs.TextRows.{row_there}
 use Rattle.line_model.proofs.RowsSoFar.{RowsTo, rows_none, rows_push, rows_rise, rows_below}
 use Rattle.trace_text.proofs.FeedLemmas.{no_fault, rows-sound, map_none}
 use Rattle.trace_text.proofs.NumberLemmas.{number_parts}
@@ -76,36 +77,35 @@ words_within : (line : Line) (w : RowWords) → row_words line ≡ Some w → le
 unfolding row_words
 words_within line w h = subst (λ l. length w.hex ≤ length l) (join_with_byte-slice_split 32 line) (hex_within (words_of line) w h)
 
--- no rule is broken
-pub parts_there : (a : Option ℕ) (b : Option Side) (c : Option (List ℕ))
-    → (if is_none a then Some Number else if is_none b then Some SideKind else if is_none c then Some Hex else None) ≡ None
-    → (n : ℕ) × (s : Side) × (xs : List ℕ) × (a ≡ Some n) × (b ≡ Some s) × (c ≡ Some xs)
-parts_there None b c h = absurd (cc)
-parts_there (Some n) None c h = absurd (cc)
-parts_there (Some n) (Some s) None h = absurd (cc)
-parts_there (Some n) (Some s) (Some xs) h = (n, s, xs, refl, refl, refl)
+octets_few : (line : Line) (w : RowWords) (row : Row) → row_words line ≡ Some w → (row.octets ≡ []) ⊎ (octets_of w.hex ≡ Some row.octets) → length row.octets ≤ length line
+octets_few line w row e (inl none) = omega (arith, ap (λ (l : List ℕ). length l) none)
+octets_few line w row e (inr some) = omega (arith, octets_length w.hex row.octets some, words_within line w e)
 
-is_written : (line : Line) (w : RowWords) (n : ℕ) (x : Side) (xs : List ℕ) → row_words line ≡ Some w → number_of w.number ≡ Some n → side_of w.side ≡ Some x → octets_of w.hex ≡ Some xs
-    → row_of line ≡ Some (record { number = n; side = x; octets = xs })
-unfolding row_of
-is_written line w n x xs e number side octets = rw (e, number, side, octets) refl
-
-pub writes_row : (last : ℕ) (line : Line) → row_kind last line ≡ None → WritesRow last line
-unfolding row_kind
-writes_row last line h = at (row_words line) refl h
+pub writes_row : (i : Interface) (last : ℕ) (line : Line) → row_kind i last line ≡ None → WritesRow last line
+unfolding row_kind row_of
+writes_row i last line h = at (row_words line) refl h
   where
-    at : (o : Option RowWords) → row_words line ≡ o → (elim o as (λ _. Option Kind) [ None ↦ Some LineForm | Some words ↦ words_kind last words ]) ≡ None → WritesRow last line
-    at None e h = absurd (cc)
-    at (Some w) e h =
-        let p = parts_there (rising_number last w.number) (side_of w.side) (octets_of w.hex) h in
-        let number = rising_parts last p.0 (number_of w.number) p.3 in
+    is_written : (w : RowWords) (n : ℕ) (row : Row) → row_words line ≡ Some w → number_of w.number ≡ Some n → row_numbered w n ≡ Some row → option_and_then (λ w. option_and_then (row_numbered w) (number_of w.number)) (row_words line) ≡ Some row
+    is_written w n row e number is =
+        ap (λ (ws : Option RowWords). option_and_then (λ w. option_and_then (row_numbered w) (number_of w.number)) ws) e ∙ ap (λ (m : Option ℕ). option_and_then (row_numbered w) m) number ∙ is
+
+    numbered : (w : RowWords) (o : Option ℕ) → row_words line ≡ Some w → rising_number last w.number ≡ o → (if is_none o then Some Number else kind_behind i w) ≡ None → WritesRow last line
+    numbered w None e r k = cc
+    numbered w (Some n) e r k =
+        let number = rising_parts last n (number_of w.number) r in
+        let there = row_there i w n k in
+        let same = there.number in
         record {
-          row = record { number = p.0; side = p.1; octets = p.2 };
-          is = is_written line w p.0 p.1 p.2 e number.0 p.4 p.5;
-          above = number.1;
-          few = number_few w.number p.0 number.0;
-          octets = omega (arith, octets_length w.hex p.2 p.5, words_within line w e);
+          row = there.row;
+          is = is_written w n there.row e number.0 there.is;
+          above = omega (arith, number.1, same);
+          few = omega (arith, number_few w.number n number.0, same);
+          octets = octets_few line w there.row e there.octets;
         }
+
+    at : (o : Option RowWords) → row_words line ≡ o → (elim o as (λ _. Option Kind) [ None ↦ Some LineForm | Some words ↦ words_kind i last words ]) ≡ None → WritesRow last line
+    at None e h = absurd (cc)
+    at (Some w) e h = numbered w (rising_number last w.number) e refl h
 
 -- ---- lines without a fault
 
@@ -113,10 +113,11 @@ record Sound (ls : List Line) : Type 0 where
   pub rows : RowsTo (last_number ls) (size_of ls) (rows_in ls)
   pub last : last_number ls ≤ 999999999
   pub size : size_of ls ≤ 2 ^ 30 + 1
+  pub head : is_some (head_of ls) ≡ has_header ls
 
 sound_nothing : Sound []
-unfolding last_number rows_in
-sound_nothing = record { rows = rows_none 0 0; last = omega arith; size = omega arith }
+unfolding last_number rows_in head_of has_header
+sound_nothing = record { rows = rows_none 0 0; last = omega arith; size = omega arith; head = refl }
 
 more_rows : (last most more : ℕ) (rs : List Row) → RowsTo last most rs → most ≤ more → RowsTo last more rs
 more_rows last most more rs h le = let octets = h.octets in record { rising = h.rising; below = h.below; octets = omega (arith, octets, le) }
@@ -124,10 +125,19 @@ more_rows last most more rs h le = let octets = h.octets in record { rising = h.
 moved : (a b most : ℕ) (xs ys : List Row) → a ≡ b → xs ≡ ys → RowsTo b most ys → RowsTo a most xs
 moved a b most xs ys e h r = subst (λ l. RowsTo a most l) (sym h) (subst (λ n. RowsTo n most ys) (sym e) r)
 
+-- a header without a fault sets up an interface
+header_there : (l : Line) → header_kind l ≡ None → is_some (interface_of l) ≡ true
+unfolding header_kind
+header_there l h = at (header_numbers l) (interface_of l) h
+  where
+    at : (o : Option HeaderNumbers) (p : Option Interface) → (if is_none o then Some HeaderForm else if is_none p then Some HeaderRange else None) ≡ None → is_some p ≡ true
+    at None p e = cc
+    at (Some n) None e = cc
+    at (Some n) (Some i) e = refl
+
 sound_line : (es : List Line) (l : Line) (lf : ℕ) → Sound es → line_kind es lf l ≡ None → Sound (es ++ l ∷ [])
 unfolding contents_kind
-sound_line es l lf s h =
-    at (is_comment l) refl (has_header es) refl parts.1
+sound_line es l lf s h = at (is_comment l) refl (head_of es) refl parts.1
   where
     parts : (size_kind (size_of es) lf (length l) ≡ None) × (form_kind es l ≡ None)
     parts = both_none (size_kind (size_of es) lf (length l)) (form_kind es l) h
@@ -138,19 +148,26 @@ sound_line es l lf s h =
     fits : size_of (es ++ l ∷ []) ≤ 2 ^ 30 + 1
     fits = omega (arith, grown, (size_kind-none (size_of es) lf (length l) parts.0).1)
 
-    same : rows_in (es ++ l ∷ []) ≡ rows_in es → last_number (es ++ l ∷ []) ≡ last_number es → Sound (es ++ l ∷ [])
-    same of_lines number = record {
+    same : rows_in (es ++ l ∷ []) ≡ rows_in es → last_number (es ++ l ∷ []) ≡ last_number es → is_some (head_of (es ++ l ∷ [])) ≡ has_header (es ++ l ∷ []) → Sound (es ++ l ∷ [])
+    same of_lines number head = record {
       rows = more_rows (last_number (es ++ l ∷ [])) (size_of es) (size_of (es ++ l ∷ [])) (rows_in (es ++ l ∷ []))
           (moved (last_number (es ++ l ∷ [])) (last_number es) (size_of es) (rows_in (es ++ l ∷ [])) (rows_in es) number of_lines s.rows) (omega (arith, grown));
       last = omega (arith, number, s.last);
       size = fits;
+      head = head;
     }
 
-    at : (c : Bool) → is_comment l ≡ c → (after : Bool) → has_header es ≡ after → (if c then None else if after then row_kind (last_number es) l else header_kind l) ≡ None → Sound (es ++ l ∷ [])
-    at true c after a h = same (rows_in-comment es l c) (last_number-comment es l c)
-    at false c false a h = same (rows_in-first es l c a) (last_number-first es l c a)
-    at false c true a h =
-        let w = writes_row (last_number es) l h in
+    after_header : (b : Bool) → is_some (head_of es) ≡ b → has_header es ≡ b
+    after_header b e = sym s.head ∙ e
+
+    at : (c : Bool) → is_comment l ≡ c → (head : Option Interface) → head_of es ≡ head → (if c then None else elim head as (λ _. Option Kind) [ None ↦ header_kind l | Some i ↦ row_kind i (last_number es) l ]) ≡ None → Sound (es ++ l ∷ [])
+    at true c head e h = same (rows_in-comment es l c) (last_number-comment es l c) (ap (λ (o : Option Interface). is_some o) (head-comment es l c) ∙ s.head ∙ sym (has_header-comment es l c))
+    at false c None e h =
+        let a = after_header false (ap (λ (o : Option Interface). is_some o) e) in
+        same (rows_in-first es l c a) (last_number-first es l c a) (ap (λ (o : Option Interface). is_some o) (head-first es l c a) ∙ header_there l h ∙ sym (has_header-line es l c))
+    at false c (Some i) e h =
+        let a = after_header true (ap (λ (o : Option Interface). is_some o) e) in
+        let w = writes_row i (last_number es) l h in
         let number = last_number-later es l w.row c a w.is in
         let few = w.octets in
         record {
@@ -160,6 +177,7 @@ sound_line es l lf s h =
               (omega (arith, grown, few));
           last = omega (arith, number, w.few);
           size = fits;
+          head = ap (λ (o : Option Interface). is_some o) (head-later es l c a ∙ e) ∙ sym (has_header-line es l c);
         }
 
 sound_ended : (before ls : List Line) → Sound before → first_fault before ls ≡ None → Sound (before ++ ls)

@@ -4,6 +4,7 @@ use Rattle.line_model.specs.text.Header.{interface_of}
 use Rattle.line_model.specs.text.RowLine.{rising_number, row_kind, row_of, side_of}
 use Rattle.line_model.specs.text.Text.{is_comment}
 use Rattle.line_model.specs.declared.fault.Kind.{Kind}
+use Rattle.line_model.specs.declared.interface.Interface.{Interface}
 use Rattle.line_model.specs.basics.Records.{ReadRow, Row}
 use Rattle.line_model.specs.packets.Says.{read_octets}
 use Rattle.line_model.specs.declared.state.Side.{Side}
@@ -15,7 +16,7 @@ use Rattle.trace_text.specs.declared.content.LineFault.TheVariants.{Memory, Brok
 
 -- the row that has these octets
 abbrev pub whole_row : ReadRow → Row
-whole_row r = record { number = r.number; side = r.side; octets = r.octets }
+whole_row r = record { number = r.number; side = r.side; octets = r.octets; gap = r.gap }
 
 -- a row with all its octets, or as it is read
 abbrev pub kept_row : Bool → Row → ReadRow
@@ -24,6 +25,7 @@ kept_row whole r = record {
   side = r.side;
   length = length r.octets;
   octets = if whole then r.octets else read_octets r.octets;
+  gap = r.gap;
 }
 
 -- what a line without a fault says, and the row that it writes, if it does
@@ -53,5 +55,5 @@ pub record BeginsLine (last : ℕ) (text : List ℕ) (row : Row) (rest : List �
   pub whole : text ≡ line ++ 10 ∷ rest
   pub one_line : Lacks 10 line
   pub no_comment : is_comment line ≡ false
-  pub sound : row_kind last line ≡ None
+  pub sound : (i : Interface) → row_kind i last line ≡ None
   pub writes : row_of line ≡ Some row

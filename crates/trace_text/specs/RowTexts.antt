@@ -15,6 +15,6 @@ abbrev pub octets_word : List ℕ → List ℕ
 octets_word [] = 45 ∷ []
 octets_word (o ∷ os) = encode_upper (o ∷ os)
 
--- the line that writes a row, with its LF
+-- the line that writes the row of a packet, with its LF
 abbrev pub row_text : Row → List ℕ
 row_text r = decimal r.number ++ 32 ∷ side_letter r.side ∷ 32 ∷ (octets_word r.octets ++ 10 ∷ [])

@@ -20,7 +20,7 @@ RefusedBy kind line _ = ⊥
 
 -- the rule that the line begun breaks if it ends here
 abbrev pub ended_kind : ℕ → Progress → Option Kind
-ended_kind lf v = option_or (size_kind v.start lf (length v.begun)) (contents_kind (is_some v.interface) v.last v.begun)
+ended_kind lf v = option_or (size_kind v.start lf (length v.begun)) (contents_kind v.interface v.last v.begun)
 
 -- the row of a line, if it writes one
 abbrev pub rows_of : Content → Row → List Row

@@ -1,4 +1,5 @@
-//! The header line: `X25 1 MOD m WIN w SIZE s PVC p SVC q`, or `X25 2 .. IN i TWO t OUT o` with ` JOIN` after it or not.
+//! The header line: `X25 1 MOD m WIN w SIZE s PVC p SVC q`, or `X25 2 .. IN i TWO t OUT o` with ` JOIN` after it or not; with 3
+//! in place of 2 gaps are rows.
 
 ghost use Rattle.std.specs.Prelude.{◌≡◌, ◌==◌, None, Some, MatchResult, MatchOption};
 ghost use Rattle.line_model.specs.text.Header.{HeaderNumbers, named, defaults_in, join_in, first_form, second_form, header_numbers, interface_of, interface_with};
@@ -23,6 +24,7 @@ struct Numbers {
     two_way: u32,
     svc: u32,
     join: bool,
+    gaps: bool,
 }
 
 impl Model for Numbers {
@@ -30,10 +32,10 @@ impl Model for Numbers {
 
     ghost Value = { HeaderNumbers };
 
-    ghost view = { λ n. record { modulus = n.modulus; window = n.window; size = n.size; pvc = n.pvc; incoming = n.incoming; two_way = n.two_way; svc = n.svc; join = n.join } };
+    ghost view = { λ n. record { modulus = n.modulus; window = n.window; size = n.size; pvc = n.pvc; incoming = n.incoming; two_way = n.two_way; svc = n.svc; join = n.join; gaps = n.gaps } };
 }
 
-/// What both forms of a header say first.
+/// What all forms of a header say first.
 #[derive(Drop)]
 struct Defaults {
     modulus: u32,
@@ -63,7 +65,7 @@ fn next_number(words: &mut Words<'_>, name: &[u8]) -> Option<u32>
     read_number(number)
 }
 
-/// What both forms say first.
+/// What all forms say first.
 fn next_defaults(words: &mut Words<'_>) -> Option<Defaults>
     ensures { MatchOption result (defaults_in words.old ≡ None) (λ d. defaults_in words.old
         ≡ Some (d, words.new)) }
@@ -114,14 +116,15 @@ fn read_first(words: &mut Words<'_>) -> Option<Numbers>
             two_way: svc,
             svc,
             join: false,
+            gaps: false,
         }),
         Some(_) => None,
     }
 }
 
-/// The second form of a header, behind its version.
-fn read_second(words: &mut Words<'_>) -> Option<Numbers>
-    ensures { result ≡ second_form words.old }
+/// The second form of a header, and the third where gaps are rows, behind their versions.
+fn read_second(words: &mut Words<'_>, gaps: bool) -> Option<Numbers>
+    ensures { result ≡ second_form gaps words.old }
 {
     let Defaults {
         modulus,
@@ -142,6 +145,7 @@ fn read_second(words: &mut Words<'_>) -> Option<Numbers>
         two_way,
         svc,
         join,
+        gaps,
     })
 }
 
@@ -157,7 +161,9 @@ fn read_numbers(line: &[u8]) -> Option<Numbers>
     } else if version == b"1".as_slice() {
         read_first(&mut words)
     } else if version == b"2".as_slice() {
-        read_second(&mut words)
+        read_second(&mut words, false)
+    } else if version == b"3".as_slice() {
+        read_second(&mut words, true)
     } else {
         None
     }
@@ -194,6 +200,7 @@ fn interface_with_numbers(numbers: Numbers) -> Option<Interface>
         two_way,
         svc,
         join,
+        gaps,
     } = numbers;
     if !is_numbered(modulus, window)
         || !is_packet_size(size)
@@ -210,7 +217,7 @@ fn interface_with_numbers(numbers: Numbers) -> Option<Interface>
         two_way: two_way as u16,
         svc: svc as u16,
         join,
-        gaps: false,
+        gaps,
     })
 }
 

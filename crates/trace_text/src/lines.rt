@@ -77,6 +77,7 @@ fn blank_row<A: Allocator + Clone>(alloc: &A) -> Result<ReadRow<A>, AllocError> 
         side: Side::T,
         length: 0,
         octets: Vec::new(alloc.clone()?),
+        gap: None,
     })
 }
 
@@ -88,6 +89,7 @@ fn whole_row<A: Allocator>(row: ReadRow<A>) -> Row<A>
         number: row.number,
         side: row.side,
         octets: row.octets,
+        gap: row.gap,
     }
 }
 
@@ -225,7 +227,7 @@ impl<A: Allocator> Lines<A> {
         if let Some(kind) = size_fault(self.start, lf, line.len()) {
             return Err(Fault::Trace(self.ended + 1, kind));
         }
-        match read_line(self.interface.is_some(), self.last, line, row) {
+        match read_line(&self.interface, self.last, line, row) {
             Ok(content) => Ok(content),
             Err(LineFault::Memory) => Err(Fault::Memory),
             Err(LineFault::Broken(kind)) => Err(Fault::Trace(self.ended + 1, kind)),
@@ -315,6 +317,7 @@ impl<A: Allocator> Lines<A> {
         row.number = number;
         row.side = side;
         row.length = length;
+        row.gap = None;
         self.last = number;
         self.count_line(chunk.len() - rest.len());
         Some(rest)

@@ -1,12 +1,13 @@
 //! What one line says after those before it: a comment, the header, or a row.
 
-ghost use Rattle.std.specs.Prelude.{◌≡◌, None, MatchResult};
+ghost use Rattle.std.specs.Prelude.{◌≡◌, None, MatchResult, is_some};
 ghost use Rattle.line_model.specs.text.Text.{contents_kind, is_comment};
 ghost use Rattle.trace_text.specs.Reads.{ReadsAs, Breaks, whole_row};
 
 use crate::content::{Content, LineFault};
 use crate::header::read_header;
 use crate::row_line::read_row;
+use line_model::interface::Interface;
 use line_model::row::ReadRow;
 use std::alloc::Allocator;
 
@@ -19,24 +20,24 @@ fn is_comment_line(line: &[u8]) -> bool
     }
 }
 
-/// What a line says that stands before the header, or after it and after a row of the number `last`. A row is put in the
+/// What a line says that stands before the header, or after that of an interface and after a row of the number `last`. A row is put in the
 /// place of another, as `read_row` does.
 #[tactic(auto, unfolding(line_model::specs::text::Text::contents_kind))]
 pub fn read_line<A: Allocator>(
-    after_header: bool,
+    head: &Option<Interface>,
     last: u32,
     line: &[u8],
     row: &mut ReadRow<A>,
 ) -> Result<Content, LineFault>
     ensures { MatchResult result
-        (λ content. (contents_kind after_header last line.now ≡ None) × ReadsAs after_header last line.now content (whole_row row.new))
-        (Breaks (contents_kind after_header last line.now)) }
+        (λ content. (contents_kind head.now last line.now ≡ None) × ReadsAs (is_some head.now) last line.now content (whole_row row.new))
+        (Breaks (contents_kind head.now last line.now)) }
 {
     if is_comment_line(line) {
         return Ok(Content::Comment);
     }
-    if after_header {
-        read_row(last, line, row)?;
+    if let Some(interface) = head {
+        read_row(interface, last, line, row)?;
         return Ok(Content::Packet);
     }
     match read_header(line) {

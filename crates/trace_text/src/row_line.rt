@@ -1,9 +1,9 @@
-//! The line of a row: `number side hex`.
+//! The line of a row: `number side hex`, or a gap's `number ? channel` or `number ? *`.
 
 ghost use Rattle.std.specs.Prelude.{◌≡◌, None, Some, MatchResult, ◌⊎◌};
 ghost use Rattle.line_model.specs.declared.fault.Kind.TheVariants.{Hex};
 ghost use Rattle.trace_text.specs.declared.content.LineFault.TheVariants.{Memory, Broken};
-ghost use Rattle.line_model.specs.text.RowLine.{RowWords, octets_of, row_kind, row_of, row_words, side_of, rising_number};
+ghost use Rattle.line_model.specs.text.RowLine.{RowWords, gap_kind, gap_row, gap_within, octets_of, packet_kind, packet_row, rising_number, row_kind, row_of, row_words, side_of};
 ghost use Rattle.trace_text.specs.Reads.{Breaks, whole_row};
 
 use crate::content::LineFault;
@@ -11,6 +11,7 @@ use crate::number::read_number;
 use crate::words::Words;
 use hex::decode_to_slice;
 use line_model::fault::Kind;
+use line_model::interface::Interface;
 use line_model::row::ReadRow;
 use line_model::state::Side;
 use std::alloc::Allocator;
@@ -93,12 +94,69 @@ fn read_octets<A: Allocator>(word: &[u8], octets: &mut Vec<u8, A>) -> Result<(),
     }
 }
 
+/// The channel that a word names, or all.
+fn read_gap(svc: u16, word: &[u8]) -> Option<Option<u16>>
+    ensures { result ≡ gap_within svc word.now }
+{
+    if word == b"*".as_slice() {
+        return Some(None);
+    }
+    match read_number(word) {
+        Some(channel) if 1 <= channel && channel <= svc as u32 => Some(Some(channel as u16)),
+        _ => None,
+    }
+}
+
+/// Puts the row of a packet with a number in the place of another.
+fn read_packet<A: Allocator>(
+    number: u32,
+    fields: &Fields<'_>,
+    row: &mut ReadRow<A>,
+) -> Result<(), LineFault>
+    ensures { MatchResult result (λ _. (packet_kind fields.now ≡ None)
+        × (packet_row fields.now number ≡ Some (whole_row row.new))) (Breaks (packet_kind fields.now)) }
+{
+    let Some(side) = read_side(fields.side) else {
+        return Err(LineFault::Broken(Kind::Side));
+    };
+    read_octets(fields.hex, &mut row.octets)?;
+    row.number = number;
+    row.side = side;
+    row.gap = None;
+    Ok(())
+}
+
+/// Puts the row of a gap with a number in the place of another.
+fn read_gap_row<A: Allocator>(
+    number: u32,
+    svc: u16,
+    fields: &Fields<'_>,
+    row: &mut ReadRow<A>,
+) -> Result<(), LineFault>
+    ensures { MatchResult result (λ _. (gap_kind svc fields.now ≡ None)
+        × (gap_row fields.now number ≡ Some (whole_row row.new))) (Breaks (gap_kind svc fields.now)) }
+{
+    let Some(gap) = read_gap(svc, fields.hex) else {
+        return Err(LineFault::Broken(Kind::Hex));
+    };
+    row.octets.clear();
+    row.number = number;
+    row.side = Side::T;
+    row.gap = Some(gap);
+    Ok(())
+}
+
 /// Puts the row that a line writes after one of the number `last`, with all its octets, in the place of another, whose
 /// length is not set. Fails with the rule that the line breaks, or when memory is refused; then the row has no meaning.
 #[tactic(auto, unfolding(line_model::specs::text::RowLine::row_kind, line_model::specs::text::RowLine::row_of))]
-pub fn read_row<A: Allocator>(last: u32, line: &[u8], row: &mut ReadRow<A>) -> Result<(), LineFault>
-    ensures { MatchResult result (λ _. (row_kind last line.now ≡ None)
-        × (row_of line.now ≡ Some (whole_row row.new))) (Breaks (row_kind last line.now)) }
+pub fn read_row<A: Allocator>(
+    interface: &Interface,
+    last: u32,
+    line: &[u8],
+    row: &mut ReadRow<A>,
+) -> Result<(), LineFault>
+    ensures { MatchResult result (λ _. (row_kind interface.now last line.now ≡ None)
+        × (row_of line.now ≡ Some (whole_row row.new))) (Breaks (row_kind interface.now last line.now)) }
 {
     let Some(fields) = split_fields(line) else {
         return Err(LineFault::Broken(Kind::LineForm));
@@ -106,11 +164,8 @@ pub fn read_row<A: Allocator>(last: u32, line: &[u8], row: &mut ReadRow<A>) -> R
     let Some(number) = read_rising(last, fields.number) else {
         return Err(LineFault::Broken(Kind::Number));
     };
-    let Some(side) = read_side(fields.side) else {
-        return Err(LineFault::Broken(Kind::Side));
-    };
-    read_octets(fields.hex, &mut row.octets)?;
-    row.number = number;
-    row.side = side;
-    Ok(())
+    if interface.gaps && fields.side == b"?".as_slice() {
+        return read_gap_row(number, interface.svc, &fields, row);
+    }
+    read_packet(number, &fields, row)
 }

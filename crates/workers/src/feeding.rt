@@ -100,6 +100,12 @@ const ENOUGH_ROWS: usize = 400;
 /// The pieces of a list with no more pieces go through the queue one by one, so that each worker has work of a short trace.
 const FEW_PIECES: usize = 64;
 
+/// How many rows a piece has. A gap of all channels after the others is one.
+fn row_count<A: Allocator>(piece: &Piece<A>) -> usize {
+    let last_gap = usize::from(piece.last_gap.is_some());
+    piece.items.len().saturating_add(last_gap)
+}
+
 /// Pieces that are to go through the queue together, and how many rows they have.
 #[derive(Drop)]
 struct Waiting<A: Allocator> {
@@ -116,7 +122,7 @@ impl<A: Allocator> Waiting<A> {
             Some(last) => last.epoch != piece.epoch,
             None => false,
         };
-        let rows = self.rows.saturating_add(piece.items.len());
+        let rows = self.rows.saturating_add(row_count(piece));
         self.one_by_one || rows > MOST_ROWS || (is_next_epoch && self.rows >= ENOUGH_ROWS)
     }
 }
@@ -160,7 +166,7 @@ fn push_waiting<P: Plan, A: Allocator + Copy, R: Wait + Clock>(
     ensures fed { FeedsFirst pass.old (waiting.pieces.items ++ piece ∷ []) result.pieces.items pass.new }
 {
     let mut waiting = waiting;
-    waiting.rows = waiting.rows.saturating_add(piece.items.len());
+    waiting.rows = waiting.rows.saturating_add(row_count(&piece));
     match waiting.pieces.push(piece) {
         Ok(()) => waiting,
         Err(refused) => {

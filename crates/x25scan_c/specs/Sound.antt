@@ -4,7 +4,7 @@ use Rattle.channel_run.specs.declared.run.Channel.{Ghosts as Machine}
 use Rattle.live_report.specs.Lives.{IsFed}
 use Rattle.x25scan_c.specs.declared.reading.Reading.{Reading}
 use Rattle.std_heap.specs.declared.Global.{Global}
-use Rattle.channel_machine.specs.declared.channel.StatusChannel.{StatusChannel}
+use Rattle.channel_machine.specs.declared.gaps.channel.GapChannel.{GapChannel}
 use Rattle.channel_machine.specs.declared.packed.PackedStatus.{PackedStatus}
 use Rattle.x25scan_c.specs.declared.scanning.Scanning.{Scanning}
 use Rattle.x25scan_c.specs.declared.reading.Reading.TheVariants.{Report, Rows, Ended}
@@ -16,6 +16,6 @@ IsSound m (Rows text) = Unit {0}
 IsSound m Ended = Unit {0}
 
 -- so is what a scan holds
-abbrev pub IsSoundScan : Machine (StatusChannel Global PackedStatus) Global → Option Scanning → Type 0
+abbrev pub IsSoundScan : Machine (GapChannel Global PackedStatus) Global → Option Scanning → Type 0
 IsSoundScan m (Some s) = IsSound m s.reading
 IsSoundScan m None = Unit {0}

@@ -15,11 +15,11 @@ from collections.abc import Iterator
 from pathlib import Path
 
 from x25scan._library import Scan, ScanError, TraceError, words_of
-from x25scan._rows import Account, Call, CallFacts, Finding, Object, Peak, Row, Setting, Sums, Uncounted, object_of
+from x25scan._rows import Account, Call, CallFacts, Finding, Gap, Gaps, Object, Peak, Row, Setting, Sums, Uncounted, object_of
 
 __all__ = [
-    "Account", "Call", "CallFacts", "Finding", "Object", "Observer", "Peak", "Row", "ScanError", "Setting", "Sums", "TraceError",
-    "Uncounted", "open_capture", "rows", "scan", "words_of",
+    "Account", "Call", "CallFacts", "Finding", "Gap", "Gaps", "Object", "Observer", "Peak", "Row", "ScanError", "Setting", "Sums",
+    "TraceError", "Uncounted", "open_capture", "rows", "scan", "words_of",
 ]
 
 _PIECE = 1 << 20
@@ -47,7 +47,7 @@ def scan(source: str | os.PathLike[str] | bytes, *, form: str = "lines") -> str:
 
 
 def rows(source: str | os.PathLike[str] | bytes) -> Iterator[Object]:
-    """The objects of a trace: a Row for each packet, and then the Finding, Call, Setting, Account, Peak and Sums of its report.
+    """The objects of a trace: a Row for each packet and a Gap for each gap row, and then the Finding, Call, Setting, Account, Peak, Gaps and Sums of its report.
 
     Raises as `scan`, before the first object.
     """

@@ -42,6 +42,16 @@ class Row:
 
 
 @dataclass(slots=True)
+class Gap:
+    """Packets of a logical channel may not have been recorded, or of any, where `channel` is None; `time` and `frame` where they are known."""
+
+    packet: int
+    channel: int | None
+    time: float | None = None
+    frame: int | None = None
+
+
+@dataclass(slots=True)
 class Call:
     """A call: its logical channel, its addresses, the packets that opened and ended it, its data of both sides, and its segments of 64 octets."""
 
@@ -91,6 +101,13 @@ class Peak:
 
 
 @dataclass(slots=True)
+class Gaps:
+    """How many gap rows there are, where the header has the third form."""
+
+    gaps: int
+
+
+@dataclass(slots=True)
 class Sums:
     """The sums of a report."""
 
@@ -118,7 +135,7 @@ class CallFacts:
     members: dict[str, Any]
 
 
-Object = Union[Row, Finding, Call, Setting, Account, Peak, Sums, Uncounted, CallFacts]
+Object = Union[Row, Gap, Finding, Call, Setting, Account, Peak, Gaps, Sums, Uncounted, CallFacts]
 
 
 # The members that the proof of the rows names; they come first.
@@ -137,11 +154,13 @@ def _fields(kind: Callable[..., Object]) -> Callable[[dict[str, Any]], Object]:
 
 
 _KINDS: dict[str, Callable[[dict[str, Any]], Object]] = {
+    "gap": _fields(Gap),
     "finding": _fields(Finding),
     "call": _fields(Call),
     "setting": _fields(Setting),
     "account": _fields(Account),
     "peak": _fields(Peak),
+    "gaps": _fields(Gaps),
     "sums": _fields(Sums),
     "not_counted": _fields(Uncounted),
     "call_facts": lambda members: CallFacts(members["call"], members),

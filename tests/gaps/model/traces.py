@@ -1,10 +1,12 @@
-"""Reads the text of a trace. Of the refusals it has those of the header's form, of rows and of gap rows."""
+"""Reads and writes the text of a trace. It refuses what has no header, or a header, row or gap row of another form."""
 from __future__ import annotations
 
+import string
 from dataclasses import dataclass
 
 from model.packets import GapRow, Interface, PacketRow, Row, Side, decode
 
+NO_HEADER = 21
 NOT_A_HEADER = 22
 NOT_A_ROW = 24
 BAD_NUMBER = 25
@@ -12,6 +14,7 @@ BAD_SIDE = 26
 BAD_OCTETS = 27
 GAPS_FORM = 3
 MOST_DIGITS = 9
+MOST_OCTETS = 4200
 FIRST_NAMES = ["MOD", "WIN", "SIZE", "PVC", "SVC"]
 LATER_NAMES = ["MOD", "WIN", "SIZE", "PVC", "IN", "TWO", "OUT"]
 
@@ -19,10 +22,10 @@ LATER_NAMES = ["MOD", "WIN", "SIZE", "PVC", "IN", "TWO", "OUT"]
 class Refused(Exception):
     """A line that is refused, and the kind of its fault."""
 
-    def __init__(self, kind: int) -> None:
-        super().__init__(kind)
+    def __init__(self, kind: int, line: int = 0) -> None:
+        super().__init__(kind, line)
         self.kind = kind
-        self.line = 0
+        self.line = line
 
 
 @dataclass(frozen=True)
@@ -70,6 +73,15 @@ def read_gap(interface: Interface, number: int, word: str) -> GapRow:
     return GapRow(number, channel)
 
 
+def read_octets(word: str) -> bytes:
+    """Reads the octets of a packet."""
+    if word == "-":
+        return b""
+    if len(word) % 2 or len(word) > 2 * MOST_OCTETS or not set(word) <= set(string.hexdigits):
+        raise Refused(BAD_OCTETS)
+    return bytes.fromhex(word)
+
+
 def read_row(interface: Interface, last_number: int, line: str) -> Row:
     """Reads the row after that of `last_number`."""
     words = line.split(" ")
@@ -82,10 +94,7 @@ def read_row(interface: Interface, last_number: int, line: str) -> Row:
         return read_gap(interface, number, words[2])
     if words[1] not in ("T", "N"):
         raise Refused(BAD_SIDE)
-    try:
-        octets = b"" if words[2] == "-" else bytes.fromhex(words[2])
-    except ValueError:
-        raise Refused(BAD_OCTETS) from None
+    octets = read_octets(words[2])
     return PacketRow(number, Side(words[1]), octets, decode(interface, octets))
 
 
@@ -93,7 +102,8 @@ def read_trace(text: str) -> Trace:
     """Reads a trace. Fails with the first line that is refused."""
     interface: Interface | None = None
     rows: list[Row] = []
-    for number, line in enumerate(text.removesuffix("\n").split("\n"), 1):
+    lines = text.removesuffix("\n").split("\n") if text else []
+    for number, line in enumerate(lines, 1):
         if line[:1] == "#":
             continue
         try:
@@ -105,5 +115,25 @@ def read_trace(text: str) -> Trace:
             refused.line = number
             raise
     if interface is None:
-        raise Refused(NOT_A_HEADER)
+        raise Refused(NO_HEADER, len(lines) + 1)
     return Trace(interface, tuple(rows))
+
+
+def header_of(interface: Interface) -> str:
+    """The header of an interface, in the second or the third form."""
+    one = interface
+    numbers = [one.modulus, one.window, one.size, one.permanent, one.incoming, one.two_way, one.channels]
+    words = [f"{name} {number}" for name, number in zip(LATER_NAMES, numbers)]
+    return " ".join(["X25", str(one.form), *words] + ["JOIN"] * one.joined)
+
+
+def row_line(row: Row) -> str:
+    """The line of a row."""
+    if isinstance(row, GapRow):
+        return f"{row.number} ? {row.channel or '*'}"
+    return f"{row.number} {row.side} {row.octets.hex() or '-'}"
+
+
+def text_of(trace: Trace) -> str:
+    """The text of a trace of the second or the third form."""
+    return "".join(f"{line}\n" for line in [header_of(trace.interface), *map(row_line, trace.rows)])

@@ -17,7 +17,8 @@ function callOfKey(key) {
 
 // The rows of a ladder with the restart that ended its call, which stands in the ladder of the interface.
 function entries(key) {
-  const found = (facts.ladders[key] || []).map((it) => (Array.isArray(it) ? { row: rowOf(it) } : { run: it }));
+  const found = (facts.ladders[key] || []).map((it) => (Array.isArray(it) ? { row: rowOf(it) }
+    : it.missing ? { missing: it } : { run: it }));
   const call = callOfKey(key);
   if (call && call.how === "restart") {
     const ending = (facts.ladders.interface || []).find((it) => Array.isArray(it) && it[0] === call.ended);
@@ -69,7 +70,8 @@ function drawLadder() {
   const parts = [[[stateChip(state, at.left, 14), stateChip(state, at.right, 14), ...lifelines(at, 0, 30, state)], 30]];
   let y = 30;
   for (const item of items) {
-    const [part, height] = item.row ? drawRow(item.row, at, y, begun) : drawGap(item, at, y, state);
+    const [part, height] = item.row ? drawRow(item.row, at, y, begun)
+      : item.missing ? drawMissing(item.missing, at, y) : drawGap(item, at, y, state);
     state = item.row ? item.row.after : state;
     parts.push([part, height]);
     y += height;
@@ -134,7 +136,7 @@ function callFacts(call) {
     call.seconds !== null && fact("length", length(call.seconds)),
     fact("data of the DTE", `${count(call.dataT)} (${plural(call.octetsT, "octet")})`),
     fact("data of the DCE", `${count(call.dataN)} (${plural(call.octetsN, "octet")})`),
-    fact("segments", count(call.segments)), fact("pays", call.payer ?? "-", ` (the ${call.pays} side)`),
+    fact("segments", count(call.segments)), call.gaps > 0 && fact("gaps", count(call.gaps)), fact("pays", call.payer ?? "-", ` (the ${call.pays} side)`),
     fact("end", ...howEnded(call)),
     settings.length > 0 && fact("PAD settings", settings.map(([, side, parameter, how, value]) => [
       make("div", {}, `${SIDES[LETTERS.indexOf(side)]}: parameter `, word("parameter", String(parameter)),

@@ -9,7 +9,8 @@ function sideCard(side) {
   const most = Math.max(1, ...facts.codes.map((code) => Math.max(...code[3])));
   const rows = facts.codes.filter((code) => code[3][side]).map((code) => codeLine(code, side, most));
   const none = facts.half_counts === null ? "The trace has no packet of it." : "None of its packets was recorded.";
-  const kept = facts.rows_of[side] ? "None of its packets breaks the protocol." : none;
+  const whole = "None of its packets breaks the protocol.";
+  const kept = !facts.rows_of[side] ? none : facts.half_counts === null ? whole : "No recorded packet of it breaks the protocol.";
   const half = facts.half_counts?.[side];
   const missing = half ? make("p", { class: "muted" }, `Of these, ${count(half)} ${half === 1 ? "is" : "are"} where only `,
     `the ${SIDES[side]} was recorded, and may come from packets of the ${SIDES[1 - side]} that were not.`) : "";

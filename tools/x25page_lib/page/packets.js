@@ -8,7 +8,9 @@ function everyPacket() {
   if (list.all) return list.all;
   list.all = [];
   for (const [key, items] of Object.entries(facts.ladders)) {
-    for (const item of items) list.all.push({ number: Array.isArray(item) ? item[0] : item.first, key, item });
+    for (const item of items.filter((it) => !it.missing)) {
+      list.all.push({ number: Array.isArray(item) ? item[0] : item.first, key, item });
+    }
   }
   list.all.sort((a, b) => a.number - b.number);
   return list.all;

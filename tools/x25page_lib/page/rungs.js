@@ -177,6 +177,7 @@ function runText(run) {
     at) => (run.data[at] ? `${side}: ${count(run.data[at])} data, ${plural(run.octets[at], "octet")}` : null));
   const other = run.packets - run.data[0] - run.data[1];
   if (other) parts.push(plural(other, "other"));
+  if (run.gaps) parts.push(plural(run.gaps, "gap"));
   return parts.filter(Boolean).join(" \u00b7 ");
 }
 
@@ -212,6 +213,18 @@ function drawGap(item, at, y, state) {
   return [draw("g", attributes, ...lifelines(at, y, height, state),
     draw("rect", { class: "gap-room", x: at.dte + 14, y: y + 4, width: inner, height: height - 8, rx: 8 }),
     [...first, ...second].map(line)), height];
+}
+
+// The drawing of a gap in the recording, and how high it is: a break in both lifelines, with what is missing.
+function drawMissing(gap, at, y) {
+  const inner = at.dce - at.dte - 28;
+  const text = gapName(gap.missing, gap.channel, frameOf(gap.missing, gap.frame));
+  const lines = wrapped(text, Math.floor((inner - 12) / LETTER));
+  const height = 20 + LINE * lines.length;
+  const breaks = [at.dte, at.dce].map((x) => draw("path", { class: "missing-break",
+    d: `M${x - 7} ${y + 9}l14 -6M${x - 7} ${y + height - 3}l14 -6` }));
+  return [draw("g", { class: "missing" }, breaks, lines.map((line, place) => draw("text",
+    { x: (at.dte + at.dce) / 2, y: y + 18 + place * LINE, "text-anchor": "middle" }, line))), height];
 }
 
 function ladderHead(at) {

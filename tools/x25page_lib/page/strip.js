@@ -1,4 +1,5 @@
-// The strip: a lane for each channel over the whole trace, calls as bars, findings as marks, restarts as lines.
+// The strip: a lane for each channel over the whole trace, calls as bars, findings as marks, restarts as lines, gaps as
+// breaks in the lanes.
 
 const AXIS = 34;
 const NEAR = 7;
@@ -105,6 +106,19 @@ function restartsPath() {
   return path;
 }
 
+// A break in the lane of a gap, or in all lanes.
+function gapsPath() {
+  let path = "";
+  for (const [packet, channel] of facts.gaps) {
+    const x = across(packet);
+    const lane = channel === null ? 0 : laneOf(channel);
+    if (x < strip.labels || x > strip.width || lane === undefined) continue;
+    const [from, high] = channel === null ? [0, strip.height] : [lane * strip.lane, strip.lane];
+    path += `M${(x - 1.5).toFixed(1)} ${from}h3v${high}h-3z`;
+  }
+  return path;
+}
+
 function laneName(name) {
   if (name === "interface") return strip.width < NARROW ? "line" : name;
   return strip.width < NARROW ? `ch. ${name}` : `channel ${name}`;
@@ -158,6 +172,7 @@ function lanes() {
     draw("path", { class: "lane-line", d: lanesPath() }),
     draw("path", { class: "bar-good", d: barsPath(good) }),
     draw("path", { class: "bar-found", d: barsPath(found) }),
+    draw("path", { class: "gap-break", d: gapsPath() }),
     draw("path", { class: "restart-line", d: restartsPath() }),
     draw("path", { class: "mark-found", d: marksPath() }),
     laneNames(), barNames(), draw("rect", { class: "chosen-range", height: strip.height, y: 0, width: 0 }),
@@ -174,19 +189,25 @@ function under(event) {
     if (laneOf(mark[2]) === lane && distance < far) [best, far] = [{ mark }, distance];
   }
   if (best) return { ...best, x };
-  far = NEAR;
+  for (const gap of facts.gaps) {
+    const distance = Math.abs(across(gap[0]) - x);
+    if ((gap[1] === null || laneOf(gap[1]) === lane) && distance < Math.min(far, NEAR / 2)) [best, far] = [gap, distance];
+  }
+  const missing = best ? { gap: best } : {};
+  [best, far] = [null, NEAR];
   for (const call of calls) {
     if (laneOf(call.channel) !== lane) continue;
     const distance = Math.max(across(call.opened) - x, x - across(lastPacket(call)), 0);
     if (distance < far) [best, far] = [{ call }, distance];
   }
   const channel = [...strip.lanes.keys()][lane];
-  return { ...(best || {}), channel, x };
+  return { ...(best || {}), ...missing, channel, x };
 }
 
-function underText({ mark, call, restart, packet }) {
+function underText({ mark, call, restart, packet, gap }) {
   if (restart !== undefined) return `${upper(packetName(packet))} of the ${SIDES[restart]}: a restart`;
   if (mark) return `${upper(packetName(mark[0]))} of the ${SIDES[mark[1]]}: code ${mark[3]}. ${mark[5]}`;
+  if (gap) return gapName(...gap);
   if (!call) return "";
   const found = call.findings ? `; ${plural(call.findings, "finding")}` : "";
   const ends = `${call.calling ?? "-"} to ${call.called ?? "-"}`;
@@ -258,7 +279,8 @@ function showStrip() {
   if (!facts.channels.length && !facts.restarts.length && !facts.marks.length) return;
   const legend = make("p", { class: "legend" },
     make("span", { class: "key good" }, "call"), make("span", { class: "key found" }, "call with findings"),
-    make("span", { class: "key mark" }, "finding"), make("span", { class: "key restart" }, "restart"));
+    make("span", { class: "key mark" }, "finding"), make("span", { class: "key restart" }, "restart"),
+    facts.gaps.length > 0 && make("span", { class: "key missing" }, "gap: packets may be missing"));
   const lanesRoom = make("div", { id: "lanes", tabindex: 0, role: "application", "aria-describedby": "under",
     "aria-label": "Channels over the trace", pointerdown: press, pointermove: move, pointerup: release,
     keydown: stripKey, focus: reachFirst, blur: leaveBars });

@@ -169,12 +169,12 @@ function faultOf([at, wrong]) {
 function callOf(array) {
   const [call, epoch, channel, direction, called, calling, opened, up, ended, how, dataT, octetsT, dataN, octetsN,
     segments,
-    pays, payer, clearedBy, cause, diagnostic, codes, start, seconds] = array;
+    pays, payer, clearedBy, cause, diagnostic, codes, start, seconds, gaps] = array;
   let findings = 0;
   for (const code in codes) findings += codes[code];
   return { call, epoch, channel, direction, called, calling, opened, up, ended, how, dataT, octetsT, dataN, octetsN,
     segments,
-    pays, payer, clearedBy, cause, diagnostic, codes, start, seconds, findings, data: dataT + dataN };
+    pays, payer, clearedBy, cause, diagnostic, codes, start, seconds, gaps, findings, data: dataT + dataN };
 }
 
 const calls = facts.calls.map(callOf);
@@ -190,6 +190,12 @@ function keyName(key) {
   const permanent = facts.numbers.find(([name]) => name === "PVC");
   const isPermanent = permanent && number <= Number(permanent[1]);
   return `Channel ${number}, ${isPermanent ? "a permanent circuit" : "outside of calls"}`;
+}
+
+// What a gap is: of which channel packets may be missing, and the frame that shows it, or its row.
+function gapName(row, channel, frame = frameOf(row)) {
+  const where = channel === null ? "any channel" : `channel ${channel}`;
+  return `Packets on ${where} may be missing here (${frame ? `frame ${count(frame)}` : `row ${count(row)}`}).`;
 }
 
 // The same in few letters.

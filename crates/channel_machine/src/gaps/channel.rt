@@ -1,19 +1,20 @@
-//! A logical channel of a recording with gaps.
+//! A logical channel, and what is certain of it.
 
-ghost use Rattle.std.specs.Prelude.{◌≡◌, ◌||◌};
+ghost use Rattle.std.specs.Prelude.{◌≡◌, ◌||◌, false};
 ghost use Rattle.line_model.specs.channels.Gaps as gaps;
-ghost use Rattle.line_model.specs.channels.Gaps.{fresh_by, gap_step};
-ghost use Rattle.channel_machine.specs.GapChannels.{Represents, interface_of, number_of};
+ghost use Rattle.line_model.specs.channels.Channels.{fresh_state};
+ghost use Rattle.line_model.specs.channels.Gaps.{fresh_at, gap_step, restart_indication};
+ghost use Rattle.channel_run.specs.Views.{is_adrift};
+ghost use Rattle.channel_machine.specs.GapChannels.{Represents, certainty_of, interface_of, number_of};
 
 use crate::channel::StatusChannel;
 use crate::gaps::carried::WhileAdrift;
 use crate::gaps::settled::SettledNumbers;
-use crate::packed::PackedStatus;
 use crate::status::StatusStore;
 use line_model::gap::{EpochStart, Owed};
 use line_model::interface::Interface;
 use line_model::state::{ChannelState, DState, PState};
-use std::alloc::{Allocator, Global};
+use std::alloc::Allocator;
 use std::boxed::Box;
 use std::marker::Model;
 
@@ -28,17 +29,13 @@ pub(crate) enum Certainty<A: Allocator> {
     Settled(Box<SettledNumbers<A>, A>),
 }
 
-/// A logical channel of a recording with gaps (profile). A gap takes no memory; where nothing is in doubt the channel
-/// steps as one without gaps does.
+/// A logical channel (profile). A gap takes no memory; where nothing is in doubt the channel steps as if there were no gaps.
 #[derive(Drop)]
 pub struct GapChannel<A: Allocator, S: StatusStore> {
     pub(crate) channel: StatusChannel<A, S>,
     pub(crate) restarting: bool,
     pub(crate) certainty: Certainty<A>,
 }
-
-/// The channel that keeps its status in one word.
-pub type PackedGapChannel<A = Global> = GapChannel<A, PackedStatus>;
 
 impl<A: Allocator, S: StatusStore> Model for GapChannel<A, S> {
     ghost use Rattle.channel_machine.specs.GapChannels.{GapKnown};
@@ -50,30 +47,50 @@ impl<A: Allocator, S: StatusStore> Model for GapChannel<A, S> {
 }
 
 impl<A: Allocator + Clone, S: StatusStore> GapChannel<A, S> {
-    /// A channel without a call as an epoch begins. It takes no memory.
-    pub fn fresh(alloc: A, interface: &Interface, channel: u16, start: EpochStart) -> Self
+    /// A channel of an epoch as it begins. It takes no memory.
+    pub(crate) fn begun(
+        alloc: A,
+        interface: &Interface,
+        channel: u16,
+        epoch: u32,
+        start: EpochStart,
+    ) -> Self
         ensures interface { interface_of result ≡ interface.now }
         ensures number { number_of result ≡ channel }
-        ensures represents { Represents result (fresh_by start interface.now channel) }
+        ensures represents { Represents result (fresh_at interface.now start epoch channel) }
     {
-        let is_certain = matches!(start, EpochStart::Restarted);
-        let owed = match start {
-            EpochStart::Drifting(true) => Owed::RestartIndication,
-            _ => Owed::NoIndication,
-        };
-        let state = if interface.is_permanent(channel) {
-            ChannelState::Transfer(DState::D1)
-        } else {
-            ChannelState::Setup(PState::P1)
-        };
-        GapChannel {
-            channel: StatusChannel::in_state(alloc, interface, channel, state),
-            restarting: !is_certain,
-            certainty: if is_certain {
-                Certainty::Certain
-            } else {
-                Certainty::Adrift(WhileAdrift::new(owed, false))
+        match start {
+            EpochStart::Restarted => GapChannel {
+                channel: StatusChannel::in_state(
+                    alloc,
+                    interface,
+                    channel,
+                    interface.fresh_state(epoch, channel),
+                ),
+                restarting: false,
+                certainty: Certainty::Certain,
             },
+            EpochStart::Drifting(owed) => GapChannel {
+                channel: StatusChannel::in_state(
+                    alloc,
+                    interface,
+                    channel,
+                    known_state(interface.is_permanent(channel)),
+                ),
+                restarting: true,
+                certainty: Certainty::Adrift(WhileAdrift::new(restart_indication(owed), false)),
+            },
+        }
+    }
+
+    /// Whether a gap left open in which state the channel is.
+    pub(crate) fn is_adrift(&self) -> bool
+        ensures { result ≡ is_adrift (certainty_of self.now.certainty) }
+    {
+        match &self.certainty {
+            Certainty::Adrift(_) => true,
+            Certainty::Certain => false,
+            Certainty::Settled(_) => false,
         }
     }
 
@@ -101,6 +118,28 @@ impl<A: Allocator + Clone, S: StatusStore> GapChannel<A, S> {
             Certainty::Certain => self.channel.owed(),
             Certainty::Settled(_) => self.channel.owed(),
         }
+    }
+}
+
+/// The state of a channel without a call.
+fn known_state(permanent: bool) -> ChannelState
+    ensures { result ≡ fresh_state false permanent }
+{
+    if permanent {
+        ChannelState::Transfer(DState::D1)
+    } else {
+        ChannelState::Setup(PState::P1)
+    }
+}
+
+/// The restart indication, where it is owed.
+fn restart_indication(owed: bool) -> Owed
+    ensures { result ≡ restart_indication owed }
+{
+    if owed {
+        Owed::RestartIndication
+    } else {
+        Owed::NoIndication
     }
 }
 

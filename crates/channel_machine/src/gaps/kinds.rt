@@ -1,12 +1,27 @@
 //! What gaps leave open of a channel, as far as a word says it.
 
-ghost use Rattle.std.specs.Prelude.{◌≡◌};
+ghost use Rattle.std.specs.Prelude.{◌≡◌, is_none, option_map};
 ghost use Rattle.line_model.specs.channels.Gaps.{indication_of, is_nothing_owed};
 ghost use Rattle.line_model.specs.channels.GapStep.{adrift_entry, of_call, owed_after};
+ghost use Rattle.line_model.specs.packets.Says.{gap_of};
 
 use line_model::gap::{AdriftEntry, Owed};
-use line_model::packet::Class;
+use line_model::packet::{Class, Packet, PacketKind};
 use line_model::state::{ChannelState, DState, PState, Side};
+
+/// Whether a gap is one of all channels; none where a packet is no gap.
+pub(crate) fn gap_in(packet: &Packet) -> Option<bool>
+    ensures { result ≡ option_map (λ c. is_none c) (gap_of packet.now) }
+{
+    match packet {
+        Packet::GapOfAll => Some(true),
+        Packet::Channel {
+            kind: PacketKind::Gap,
+            ..
+        } => Some(false),
+        _ => None,
+    }
+}
 
 /// What a packet of a class does on a channel adrift, which is a permanent circuit or not.
 pub(crate) fn adrift_entry(permanent: bool, class: Class) -> AdriftEntry

@@ -1,9 +1,12 @@
 //! What a row does to a channel of a recording with gaps.
 
-ghost use Rattle.std.specs.Prelude.{◌≡◌, IfOk, OnSome};
+ghost use Rattle.std.specs.Prelude.{◌≡◌, IfOk, None, OnSome};
+ghost use Rattle.std.specs.Bool.{OnTrue};
 ghost use Rattle.line_model.specs.basics.Bounds.{IsSaid};
 ghost use Rattle.line_model.specs.channels.Gaps as gaps;
 ghost use Rattle.line_model.specs.channels.GapStep.{gap_channel_step};
+ghost use Rattle.line_model.specs.observer.Observer.{row_step};
+ghost use Rattle.line_model.specs.packets.Says.{gap_of};
 ghost use Rattle.channel_machine.specs.Channels.{IsMemory};
 ghost use Rattle.channel_machine.specs.Events.{origin_at};
 ghost use Rattle.channel_machine.specs.GapChannels.{GapDoes, GapDoesApart, IsGapUnchanged, Represents, interface_of, number_of};
@@ -11,19 +14,22 @@ ghost use Rattle.channel_machine.specs.GapView.{InDoubt};
 ghost use Rattle.channel_machine.specs.GapView.KnownCertainty.{Settled};
 
 use crate::gaps::channel::{Certainty, GapChannel};
+use crate::gaps::kinds::gap_in;
 use crate::gaps::rows::GapRow;
 use crate::status::StatusStore;
 use crate::step::listed;
 use line_model::event::Event;
 use line_model::fault::Fault;
 use line_model::items::ItemRef;
+use line_model::packet::{Packet, PacketKind};
 use std::alloc::Allocator;
 
 impl<A: Allocator + Clone, S: StatusStore> GapChannel<A, S> {
-    /// Steps the channel by what a row says in an epoch, and appends the events of the row, except that of a data packet
-    /// with Q 0 in d1 where nothing is in doubt: it returns that packet's octets of user data instead. Fails only when memory
-    /// is refused, and nothing has changed then.
-    pub fn advance(
+    /// Steps the channel by a row in an epoch, and appends the events of the row, except that of a data packet with Q 0 in
+    /// d1 where nothing is in doubt: it returns that packet's octets of user data instead. Fails only when memory is refused,
+    /// and nothing has changed then.
+    #[inline(always)]
+    pub(crate) fn handle(
         &mut self,
         epoch: u32,
         item: &ItemRef<'_>,
@@ -33,17 +39,50 @@ impl<A: Allocator + Clone, S: StatusStore> GapChannel<A, S> {
         ensures does { (g : gaps.GapChannel) → Represents self.old g
             → IfOk result (λ accepted. GapDoesApart (origin_at epoch (number_of self.old) item.now)
             item.now.side self.old self.new events.old.items events.new.items accepted
-            (gap_channel_step (interface_of self.old) (number_of self.old) g item.now)) }
+            (row_step (interface_of self.old) (number_of self.old) g item.now)) }
         ensures apart { IfOk result (λ accepted. OnSome accepted (events.new ≡ events.old)) }
         ensures unchanged { IsGapUnchanged result self.old self.new events.old.items events.new.items }
         ensures memory { IsMemory result }
     {
+        match &self.certainty {
+            Certainty::Certain => {
+                if is_common(&item.packet) {
+                    self.channel.handle(epoch, item, events)
+                } else {
+                    self.handle_rarely(epoch, item, events)
+                }
+            }
+            _ => self.handle_rarely(epoch, item, events),
+        }
+    }
+
+    /// Steps the channel as `handle` does, where the row is not one of the common ones, or something is in doubt.
+    #[inline(never)]
+    fn handle_rarely(
+        &mut self,
+        epoch: u32,
+        item: &ItemRef<'_>,
+        events: &mut Vec<Event, A>,
+    ) -> Result<Option<u32>, Fault>
+        requires said { IsSaid (interface_of self.old) item.now }
+        ensures does { (g : gaps.GapChannel) → Represents self.old g
+            → IfOk result (λ accepted. GapDoesApart (origin_at epoch (number_of self.old) item.now)
+            item.now.side self.old self.new events.old.items events.new.items accepted
+            (row_step (interface_of self.old) (number_of self.old) g item.now)) }
+        ensures apart { IfOk result (λ accepted. OnSome accepted (events.new ≡ events.old)) }
+        ensures unchanged { IsGapUnchanged result self.old self.new events.old.items events.new.items }
+        ensures memory { IsMemory result }
+    {
+        if let Some(all_channels) = gap_in(&item.packet) {
+            self.gap(all_channels);
+            return Ok(None);
+        }
         let row = GapRow {
             origin: self.channel.origin(epoch, item),
             side: item.side,
         };
         match &self.certainty {
-            Certainty::Certain => self.channel.handle(epoch, item, events),
+            Certainty::Certain => self.channel.handle_by_table(epoch, item, events),
             Certainty::Adrift(adrift) => {
                 let adrift = *adrift;
                 listed(self.step_adrift(&row, adrift, item, events))
@@ -79,5 +118,23 @@ impl<A: Allocator + Clone, S: StatusStore> GapChannel<A, S> {
             }
             _ => Ok(()),
         }
+    }
+}
+
+/// Whether a packet is data or RR, which are the most of all packets.
+#[inline(always)]
+fn is_common(packet: &Packet) -> bool
+    ensures { OnTrue result (gap_of packet.now ≡ None) }
+{
+    match packet {
+        Packet::Channel {
+            kind: PacketKind::Data(_),
+            ..
+        } => true,
+        Packet::Channel {
+            kind: PacketKind::Rr(_),
+            ..
+        } => true,
+        _ => false,
     }
 }

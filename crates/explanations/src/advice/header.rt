@@ -13,7 +13,7 @@ const HEADER: &str = "X25 1 MOD 8 WIN 2 SIZE 128 PVC 0 SVC 4";
 /// The names of the numbers in a header of the first form.
 pub const FIRST_FORM: [&str; 5] = ["MOD", "WIN", "SIZE", "PVC", "SVC"];
 
-/// The names of the numbers in a header of the second form.
+/// The names of the numbers in a header of the second and the third form.
 pub const SECOND_FORM: [&str; 7] = ["MOD", "WIN", "SIZE", "PVC", "IN", "TWO", "OUT"];
 
 /// The words of a line that are left.
@@ -178,8 +178,8 @@ fn words_advice(alloc: Global, line: &[u8]) -> Result<Option<String>, AllocError
 fn form_advice(alloc: Global, words: &mut WordsLeft<'_>) -> Result<Option<String>, AllocError> {
     match words.next() {
         Some([b'1']) => numbers_advice(alloc, words, FIRST_FORM.as_slice(), false),
-        Some([b'2']) => numbers_advice(alloc, words, SECOND_FORM.as_slice(), true),
-        _ => fixed_sentence(alloc, "After X25 comes the form of the header: 1 or 2."),
+        Some([b'2' | b'3']) => numbers_advice(alloc, words, SECOND_FORM.as_slice(), true),
+        _ => fixed_sentence(alloc, "After X25 comes the form of the header: 1, 2 or 3."),
     }
 }
 

@@ -12,6 +12,12 @@ use std::alloc::{AllocError, Global};
 /// The octets that a row may have.
 const OCTET_LIMIT: usize = 4200;
 
+/// The greatest number of a logical channel.
+const CHANNELS: u32 = 4095;
+
+/// The place of the last logical channel among the words of a header with directions.
+const LAST_CHANNEL: usize = 15;
+
 /// The three words of a row.
 #[derive(Clone, Copy)]
 struct RowWords<'a> {
@@ -34,6 +40,23 @@ fn row_words(line: &[u8]) -> Option<RowWords<'_>> {
         _ => None,
     }
 }
+
+/// Whether these are the words of a gap row.
+fn is_gap(row: RowWords<'_>) -> bool {
+    row.side == b"?".as_slice()
+}
+
+/// Whether a line has the words of a gap row.
+fn is_gap_line(line: &[u8]) -> bool {
+    match row_words(line) {
+        Some(row) => is_gap(row),
+        None => false,
+    }
+}
+
+/// What is said of a gap row whose third word is wrong by a header that is not known.
+const GAP_CHANNEL: &str =
+    "The third word of a gap row is a logical channel from 1 to the header's OUT, or * for all.";
 
 /// What is said of a header among the rows.
 const SECOND_HEADER: &str =
@@ -99,9 +122,11 @@ fn rise_advice(
     }
 }
 
-fn side_advice(alloc: Global, word: &[u8]) -> Result<Option<String>, AllocError> {
+/// What is wrong with a side, if it is wrong. Where rows may be gap rows a `?` is right.
+fn side_advice(alloc: Global, word: &[u8], may_be_gap: bool) -> Result<Option<String>, AllocError> {
     match word {
         [b'T'] | [b'N'] => Ok(None),
+        [b'?'] if may_be_gap => Ok(None),
         [b't'] => fixed_sentence(alloc, "The side t is written T."),
         [b'n'] => fixed_sentence(alloc, "The side n is written N."),
         _ => quoting_sentence(
@@ -110,6 +135,22 @@ fn side_advice(alloc: Global, word: &[u8]) -> Result<Option<String>, AllocError>
             word,
             ": T for the DTE or N for the DCE belongs there.",
         ),
+    }
+}
+
+/// What is wrong with the third word of a gap row, if it is wrong.
+fn gap_advice(alloc: Global, word: &[u8], last: u32) -> Result<Option<String>, AllocError> {
+    if word == b"*".as_slice() {
+        return Ok(None);
+    }
+    match number_in(word) {
+        Some(channel) if 1 <= channel && channel <= last => Ok(None),
+        _ => {
+            let word = quoted(alloc, word)?;
+            some_sentence(format!(in alloc;
+                "The gap's logical channel is {word}: 1 to {last} without a leading zero belongs there, or * for all."
+            ))
+        }
     }
 }
 
@@ -157,16 +198,50 @@ fn count_advice(alloc: Global, count: usize, front: usize) -> Result<Option<Stri
     Ok(None)
 }
 
+/// What the header says of gap rows.
+#[derive(Clone, Copy)]
+struct GapRules {
+    /// The header is known.
+    are_known: bool,
+    /// Rows may be gap rows.
+    may_be: bool,
+    /// The last logical channel.
+    last: u32,
+}
+
+impl GapRules {
+    /// The header is not known.
+    const UNKNOWN: GapRules = GapRules {
+        are_known: false,
+        may_be: true,
+        last: CHANNELS,
+    };
+
+    /// Those of a header.
+    fn of_header(line: &[u8]) -> Self {
+        let last = match line.split(|byte| *byte == b' ').nth(LAST_CHANNEL) {
+            Some(word) => number_in(word).unwrap_or(CHANNELS),
+            None => CHANNELS,
+        };
+        GapRules {
+            are_known: true,
+            may_be: line.starts_with(b"X25 3 "),
+            last,
+        }
+    }
+}
+
 /// What is wrong with the words of a row by a rule, if it breaks that rule.
 fn words_advice(
     alloc: Global,
     kind: Kind,
     row: RowWords<'_>,
-    before: Option<u32>,
+    place: Place<'_>,
 ) -> Result<Option<String>, AllocError> {
     match kind {
-        Kind::Number => number_advice(alloc, row.number, before),
-        Kind::Side => side_advice(alloc, row.side),
+        Kind::Number => number_advice(alloc, row.number, place.before),
+        Kind::Side => side_advice(alloc, row.side, place.gaps.may_be),
+        Kind::Hex if is_gap(row) => gap_advice(alloc, row.octets, place.gaps.last),
         Kind::Hex => {
             let front = row.number.len().saturating_add(row.side.len());
             octets_advice(alloc, row.octets, front.saturating_add(2))
@@ -183,12 +258,13 @@ struct Place<'a> {
     before: Option<u32>,
     /// The bytes after it.
     after: &'a [u8],
+    gaps: GapRules,
 }
 
 /// What is wrong with a row by a rule, if it breaks that rule.
 fn row_advice(alloc: Global, kind: Kind, place: Place<'_>) -> Result<Option<String>, AllocError> {
     match row_words(place.line) {
-        Some(row) => words_advice(alloc, kind, row, place.before),
+        Some(row) => words_advice(alloc, kind, row, place),
         None if kind == Kind::LineForm => form_advice(alloc, place.line, place.after),
         None => Ok(None),
     }
@@ -212,6 +288,9 @@ struct LinesSeen {
     row_came: bool,
     /// A line like a header came before all rows.
     may_have_header: bool,
+    /// A row like a gap row came.
+    gap_came: bool,
+    gaps: GapRules,
 }
 
 impl LinesSeen {
@@ -222,6 +301,8 @@ impl LinesSeen {
             line_began: begins_line(beginning),
             row_came: begins_line(beginning),
             may_have_header: false,
+            gap_came: false,
+            gaps: GapRules::UNKNOWN,
         }
     }
 
@@ -230,9 +311,13 @@ impl LinesSeen {
         let may_be_header = self.line_began && !self.row_came && is_like_header(line);
         let is_other = line.starts_with(b"#") || may_be_header;
         let is_row = self.line_began && self.header_came && !is_other;
+        if !self.header_came && !is_other {
+            self.gaps = GapRules::of_header(line);
+        }
         self.header_came = self.header_came || !is_other;
         self.line_began = true;
         self.row_came = self.row_came || is_row;
+        self.gap_came = self.gap_came || (is_row && is_gap_line(line));
         self.may_have_header = self.may_have_header || may_be_header;
         is_row
     }
@@ -268,6 +353,7 @@ pub fn rows_advice(
                 line,
                 before,
                 after,
+                gaps: seen.gaps,
             };
             match row_advice(alloc, kind, place) {
                 Ok(None) => before = row_number(line),
@@ -276,8 +362,16 @@ pub fn rows_advice(
         }
         end = end.saturating_add(1);
     }
-    if seen.may_have_header && kind == Kind::LineForm {
-        return fixed_sentence(alloc, SECOND_HEADER);
+    seen_advice(alloc, kind, &seen)
+}
+
+/// What is wrong with lines of which none shows it alone, if something is.
+fn seen_advice(alloc: Global, kind: Kind, seen: &LinesSeen) -> Result<Option<String>, AllocError> {
+    let may_be_gap = seen.gap_came && !seen.gaps.are_known;
+    match kind {
+        Kind::LineForm if seen.may_have_header => fixed_sentence(alloc, SECOND_HEADER),
+        Kind::Side if may_be_gap => side_advice(alloc, b"?", false),
+        Kind::Hex if may_be_gap => fixed_sentence(alloc, GAP_CHANNEL),
+        _ => Ok(None),
     }
-    Ok(None)
 }

@@ -1,24 +1,41 @@
 -- How large the parts of a trace may be.
-use Rattle.std.specs.Prelude.{◌≡◌, ◌≤◌, ℕ, ◌+◌, ◌^◌, List, length, sum_by, All}
+use Rattle.std.specs.Prelude.{◌≡◌, ◌≤◌, ℕ, ◌+◌, ◌^◌, ◌⊎◌, true, Option, Some, None, IfSome, List, [], length, sum_by, All}
 use Rattle.std.specs.List.{AllByRecursion}
 use Rattle.line_model.specs.declared.interface.Interface.{Interface}
+use Rattle.line_model.specs.declared.state.Side.TheVariants.{T}
 use Rattle.line_model.specs.declared.finding.Finding.{Finding}
 use Rattle.line_model.specs.basics.Records.{Row, Item, CallRecord}
-use Rattle.line_model.specs.packets.Says.{item_of, packet_channel}
+use Rattle.line_model.specs.packets.Says.{gap_of, item_of, packet_channel}
+
+-- a gap row: where gaps are rows, of a channel of the interface or of all, without a side of its own and without octets
+pub record IsGapRow (i : Interface) (row : Row) (gap : Option ℕ) : Type 0 where
+  pub recorded : i.gaps ≡ true
+  pub within : IfSome gap (λ k. (1 ≤ k) × (k ≤ i.svc))
+  pub side : row.side ≡ T
+  pub octets : row.octets ≡ []
+
+-- a row of an interface
+abbrev pub IsRow : Interface → Row → Type 0
+IsRow i row = IfSome row.gap (IsGapRow i row)
+
+-- rows of an interface
+abbrev pub AreRows : Interface → List Row → Type 0
+AreRows i rows = AllByRecursion (IsRow i) rows
 
 -- what a row of an interface says
 pub record IsSaid (i : Interface) (item : Item) : Type 0 where
   pub row : Row
+  pub lawful : IsRow i row
   pub says : item ≡ item_of i row
 
 -- what rows of an interface say
 abbrev pub AreSaid : Interface → List Item → Type 0
 AreSaid i items = AllByRecursion (IsSaid i) items
 
--- what a row of channel k says
+-- what a row says that steps channel k: one of its own, or a gap of all channels
 pub record IsItem (i : Interface) (k : ℕ) (item : Item) : Type 0 where
   pub said : IsSaid i item
-  pub channel : packet_channel item.packet ≡ k
+  pub channel : (packet_channel item.packet ≡ k) ⊎ (gap_of item.packet ≡ Some None)
 
 -- the octets of some rows, all together
 abbrev pub all_octets : List Item → ℕ

@@ -4,17 +4,20 @@ use Rattle.line_model.specs.declared.interface.Interface.{Interface}
 use Rattle.line_model.specs.declared.state.Side.{Side}
 use Rattle.line_model.specs.declared.packet.Packet.{Packet}
 use Rattle.line_model.specs.declared.finding.Finding.{Finding}
+use Rattle.line_model.specs.declared.gap.EpochStart.{EpochStart}
+use Rattle.line_model.specs.declared.piece.PieceEnd.{PieceEnd}
 use Rattle.line_model.specs.declared.event.How.{How}
 use Rattle.line_model.specs.declared.call.SettingRecord.{SettingRecord}
 use Rattle.line_model.specs.declared.call.Account.{Account}
 use Rattle.line_model.specs.declared.report.Peak.{Peak}
 use Rattle.line_model.specs.declared.totals.Summary.{Summary}
 
--- a row of a trace
+-- a row of a trace: of a packet its octets, or a gap of a channel, or of all, in which packets may not have been recorded
 pub record Row : Type 0 where
   pub number : ℕ
   pub side : Side
   pub octets : List ℕ
+  pub gap : Option (Option ℕ)
 
 -- what a row says (X.25 clause 5): its packet, how many octets it has, and those octets that say more than that
 pub record Item : Type 0 where
@@ -30,15 +33,18 @@ pub record ReadRow : Type 0 where
   pub side : Side
   pub length : ℕ
   pub octets : List ℕ
+  pub gap : Option (Option ℕ)
 
--- the rows of one channel in one epoch, and the row that left r1, if one did
+-- the rows of one channel in one epoch with the gaps of all channels among them, how the epoch began, and the row that ended
+-- it, if one did
 pub record Piece : Type 0 where
   pub id : ℕ
   pub interface : Interface
   pub epoch : ℕ
+  pub start : EpochStart
   pub channel : ℕ
   pub items : List Item
-  pub end : Option ℕ
+  pub end : Option PieceEnd
 
 -- a call, by its `Open` event and the events that belong to it
 pub record CallRecord : Type 0 where
@@ -69,10 +75,11 @@ pub record PieceReport : Type 0 where
   pub octets : ℕ
   pub segments : ℕ
 
--- the lists of a report, each in the order of its lines
+-- the lists of a report, each in the order of its lines, and how many gaps there are, where gaps are rows
 pub record Report : Type 0 where
   pub findings : List Finding
   pub calls : List CallRecord
   pub accounts : List Account
   pub peak : Peak
+  pub gaps : Option ℕ
   pub summary : Summary

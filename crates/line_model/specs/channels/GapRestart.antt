@@ -10,11 +10,11 @@ use Rattle.line_model.specs.declared.route.Route.{Route}
 use Rattle.line_model.specs.declared.route.Route as route
 use Rattle.line_model.specs.declared.gap.EpochStart.{EpochStart}
 use Rattle.line_model.specs.declared.gap.EpochStart.TheVariants.{Restarted, Drifting}
+use Rattle.line_model.specs.basics.Records.{Item}
 use Rattle.line_model.specs.packets.Classes.{packet_class}
+use Rattle.line_model.specs.packets.Says.{gap_of}
 use Rattle.line_model.specs.channels.FlowControl.{is_side}
-use Rattle.line_model.specs.channels.RestartMachine.{LineState, Routing, line_step, restart_fault}
-use Rattle.line_model.specs.channels.GapRows.{RecordedRow}
-use Rattle.line_model.specs.channels.GapRows.RecordedRow.{OfPacket, OfGap}
+use Rattle.line_model.specs.channels.RestartMachine.{LineState, Routing, line_in_r1, line_step, restart_fault}
 
 -- the state of the restart machine, whether the interface is adrift, which it is in r1 alone, and whether the restart
 -- indication was owed as it came adrift
@@ -23,31 +23,26 @@ pub record GapLine : Type 0 where
   pub adrift : Bool
   pub owed_before : Bool
 
--- what a row does to the interface: what it does without gaps; or a new epoch begins in r1 at once
-pub data GapRoute : Type 0 where
-  Takes : Route → GapRoute
-  Renews : GapRoute
-
 -- where a row goes, and the restart machine after it
 pub record GapRouting : Type 0 where
-  pub route : GapRoute
+  pub route : Route
   pub after : GapLine
 
 -- r1, adrift or not
 abbrev pub line_in_r1_with : (adrift owed_before : Bool) → GapLine
-line_in_r1_with adrift owed_before = record {
-  line = record { state = restart.TheVariants.R1; owed = false; joining = false };
-  adrift = adrift;
-  owed_before = owed_before;
-}
+line_in_r1_with adrift owed_before = record { line = line_in_r1 false; adrift = adrift; owed_before = owed_before }
+
+-- in r1 the rows of channels step their channels
+abbrev pub is_ready : GapLine → Bool
+is_ready g = elim g.line.state [ restart.TheVariants.R1 ↦ true | _ ↦ false ]
 
 -- nothing happens
 abbrev pub line_stays : GapLine → GapRouting
-line_stays g = record { route = Takes route.TheVariants.Pass; after = g }
+line_stays g = record { route = route.TheVariants.Pass; after = g }
 
 -- what the restart machine does without gaps
 abbrev pub line_takes : GapLine → Routing → GapRouting
-line_takes g r = record { route = Takes r.route; after = record g { line = r.after } }
+line_takes g r = record { route = r.route; after = record g { line = r.after } }
 
 -- whether a packet restarts the interface, or confirms that
 abbrev pub is_of_restart : Class → Bool
@@ -59,31 +54,31 @@ is_of_restart k = false
 abbrev pub adrift_confirmation : Side → GapLine → GapRouting
 adrift_confirmation x g = elim (is_side N x && g.owed_before) [
   | true ↦ line_stays g
-  | false ↦ record { route = Renews; after = line_in_r1_with false false }
+  | false ↦ record { route = route.TheVariants.Renew; after = line_in_r1_with false false }
 ]
 
 -- a packet of a restart while the interface is adrift: none is a finding
 abbrev pub adrift_restart : Side → Class → (fault : Option ℕ) → GapLine → GapRouting
 adrift_restart x k (Some f) g = line_stays g
 adrift_restart x RestartConfirm None g = adrift_confirmation x g
-adrift_restart x k None g = record { route = Renews; after = line_in_r1_with true false }
+adrift_restart x k None g = record { route = route.TheVariants.Renew; after = line_in_r1_with true false }
 
 -- a packet of a class and a length, from a side
 abbrev pub gap_line_step : GapLine → Side → Class → (length : ℕ) → GapRouting
-gap_line_step g x k n = elim (g.adrift && is_of_restart k) [
+gap_line_step g x k n = elim (g.adrift && is_ready g && is_of_restart k) [
   | true ↦ adrift_restart x k (restart_fault k n) g
   | false ↦ line_takes g (line_step g.line x k n)
 ]
 
 -- a gap of all channels in a state: outside r1 the other packet of the restart may be in the gap
 abbrev pub gap_in : RState → GapLine → GapRouting
-gap_in restart.TheVariants.R1 g = record { route = Takes route.TheVariants.Pass; after = record g { adrift = true } }
-gap_in restart.TheVariants.R2 g = record { route = Takes route.TheVariants.Enter; after = line_in_r1_with true false }
-gap_in restart.TheVariants.R3 g = record { route = Takes route.TheVariants.Enter; after = line_in_r1_with true g.line.owed }
+gap_in restart.TheVariants.R1 g = record { route = route.TheVariants.Pass; after = record g { adrift = true } }
+gap_in restart.TheVariants.R2 g = record { route = route.TheVariants.Enter; after = line_in_r1_with true false }
+gap_in restart.TheVariants.R3 g = record { route = route.TheVariants.Enter; after = line_in_r1_with true g.line.owed }
 
 -- a gap of a channel is handed to it in r1
 abbrev pub gap_on : RState → GapLine → GapRouting
-gap_on restart.TheVariants.R1 g = record { route = Takes route.TheVariants.ToChannel; after = g }
+gap_on restart.TheVariants.R1 g = record { route = route.TheVariants.ToChannel; after = g }
 gap_on s g = line_stays g
 
 -- a gap of a channel, or of all
@@ -91,10 +86,23 @@ abbrev pub gap_routing : Option ℕ → GapLine → GapRouting
 gap_routing None g = gap_in g.line.state g
 gap_routing (Some c) g = gap_on g.line.state g
 
+-- what the restart machine does with a gap, or with a packet of a class and a length, from a side
+abbrev pub routing_by : Option (Option ℕ) → GapLine → Side → Class → (length : ℕ) → GapRouting
+routing_by None g x k n = gap_line_step g x k n
+routing_by (Some c) g x k n = gap_routing c g
+
 -- what the restart machine does with a row
-abbrev pub recorded_routing : GapLine → RecordedRow → GapRouting
-recorded_routing g (OfPacket r) = gap_line_step g r.side (packet_class r.packet) r.length
-recorded_routing g (OfGap n c) = gap_routing c g
+abbrev pub routing : GapLine → Item → GapRouting
+routing g r = routing_by (gap_of r.packet) g r.side (packet_class r.packet) r.length
+
+-- whether a gap is one of all channels
+abbrev pub is_of_all : Option (Option ℕ) → Bool
+is_of_all (Some None) = true
+is_of_all _ = false
+
+-- whether a row is a gap of all channels
+abbrev pub is_gap_of_all : Item → Bool
+is_gap_of_all r = is_of_all (gap_of r.packet)
 
 -- how an epoch begins
 abbrev pub start_with : (adrift owed_before : Bool) → EpochStart

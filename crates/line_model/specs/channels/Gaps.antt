@@ -14,7 +14,7 @@ use Rattle.line_model.specs.declared.gap.Owed.TheVariants.{NoIndication, ClearIn
 use Rattle.line_model.specs.declared.gap.LastData.{LastData}
 use Rattle.line_model.specs.declared.gap.EpochStart.{EpochStart}
 use Rattle.line_model.specs.declared.gap.EpochStart.TheVariants.{Restarted, Drifting}
-use Rattle.line_model.specs.channels.Channels.{Channel, Opening, Sides, channel_in, fresh_state, is_in_transfer, is_open, is_permanent}
+use Rattle.line_model.specs.channels.Channels.{Channel, Opening, Sides, channel_in, fresh, fresh_state, is_in_transfer, is_open, is_permanent}
 use Rattle.line_model.specs.channels.ChannelStep.{entering}
 
 -- whether no indication was owed
@@ -123,10 +123,10 @@ abbrev pub restart_indication : Bool → Owed
 restart_indication true = RestartIndication
 restart_indication false = NoIndication
 
--- a channel without a call as an epoch begins
-abbrev pub fresh_by : EpochStart → Interface → (channel : ℕ) → GapChannel
-fresh_by Restarted i n = certain (channel_in (fresh_state false (is_permanent i n)))
-fresh_by (Drifting w) i n = record {
+-- a channel of an epoch as it begins: fresh, or adrift without a call
+abbrev pub fresh_at : Interface → EpochStart → (epoch channel : ℕ) → GapChannel
+fresh_at i Restarted e n = certain (fresh i e n)
+fresh_at i (Drifting w) e n = record {
   channel = channel_in (fresh_state false (is_permanent i n));
   restarting = true;
   certainty = drifting (restart_indication w) false;

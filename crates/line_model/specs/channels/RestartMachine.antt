@@ -23,6 +23,10 @@ pub record LineState : Type 0 where
   -- the trace began in the middle, and r1 was not left yet
   pub joining : Bool
 
+-- r1 with nothing owed
+abbrev pub line_in_r1 : (joining : Bool) → LineState
+line_in_r1 joining = record { state = restart.TheVariants.R1; owed = false; joining = joining }
+
 -- where a row goes, and the restart machine after it
 pub record Routing : Type 0 where
   pub route : Route
@@ -51,7 +55,7 @@ restart_fault _ n = None
 
 -- a move: r1 is entered, or left without a finding, or neither
 abbrev pub restart_move : RState → StateName → Routing
-restart_move s R1 = record { route = route.TheVariants.Enter; after = record { state = restart.TheVariants.R1; owed = false; joining = false } }
+restart_move s R1 = record { route = route.TheVariants.Enter; after = line_in_r1 false }
 restart_move restart.TheVariants.R1 R2 =
     record { route = route.TheVariants.Leave None; after = record { state = restart.TheVariants.R2; owed = false; joining = false } }
 restart_move restart.TheVariants.R1 t =

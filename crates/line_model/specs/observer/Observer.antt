@@ -1,40 +1,29 @@
 -- The observer of an interface: the restart machine is its line part, and each channel has a state of its own
 -- (X.25 clauses 3 to 6, by the tables of Annexes B and C).
-use Rattle.std.specs.Prelude.{ℕ, Bool, true, false, ◌&&◌, not, List, [], ◌∷◌, map, Option, Some, None}
+use Rattle.std.specs.Prelude.{ℕ, Bool, true, false, ◌&&◌, not, List, [], ◌∷◌, map, Option, Some, None, is_none}
 use Rattle.std.specs.List.{range_with_len}
 use Rattle.std.specs.Option.{option_map_or}
 use Rattle.line_model.specs.declared.interface.Interface.{Interface}
-use Rattle.line_model.specs.declared.state.RState as restart
 use Rattle.line_model.specs.declared.state.StateName.TheVariants.{R1}
 use Rattle.line_model.specs.declared.route.Route.{Route}
 use Rattle.line_model.specs.declared.route.Route as route
 use Rattle.line_model.specs.declared.finding.Code.TheVariants.{Number}
-use Rattle.line_model.specs.declared.gap.EpochStart.TheVariants.{Restarted}
-use Rattle.line_model.specs.declared.event.How.TheVariants.{Restart}
+use Rattle.line_model.specs.declared.event.How.{How}
+use Rattle.line_model.specs.declared.event.How as how
 use Rattle.line_model.specs.declared.event.What.{What}
 use Rattle.line_model.specs.declared.event.What.TheVariants.{Found, End}
 use Rattle.line_model.specs.declared.event.Event.{Event}
 use Rattle.line_model.specs.basics.Records.{Item}
 use Rattle.line_model.specs.packets.Classes.{packet_class}
-use Rattle.line_model.specs.packets.Says.{packet_channel}
-use Rattle.line_model.specs.channels.RestartMachine.{LineState, Routing, line_step}
-use Rattle.line_model.specs.channels.Channels.{Channel, fresh, is_permanent, is_open, is_in_transfer}
-use Rattle.line_model.specs.channels.ChannelStep.{channel_step}
+use Rattle.line_model.specs.packets.Says.{gap_of, packet_channel}
+use Rattle.line_model.specs.channels.RestartMachine.{is_confirm, line_in_r1}
+use Rattle.line_model.specs.channels.GapRestart.{GapLine, is_gap_of_all, is_ready, line_in_r1_with, routing, start_by}
+use Rattle.line_model.specs.channels.Channels.{is_permanent, is_open, is_in_transfer}
+use Rattle.line_model.specs.channels.Gaps.{GapChannel, fresh_at, gap_step}
+use Rattle.line_model.specs.channels.GapStep.{GapOutcome, gap_channel_step}
 use Rattle.line_model.specs.observer.Machine.{Machine, Observer}
 use Rattle.line_model.specs.observer.MachineEvents.{RowEvent, walk_events}
 use Rattle.line_model.specs.observer.Peak.{counts, highest}
-
--- what the restart machine does with a row
-abbrev pub routing : LineState → Item → Routing
-routing l r = line_step l r.side (packet_class r.packet) r.length
-
--- in r1 the rows of channels step their channels
-abbrev pub is_ready : LineState → Bool
-is_ready l = elim l.state [ restart.TheVariants.R1 ↦ true | _ ↦ false ]
-
--- r1 with nothing owed
-abbrev pub line_in_r1 : (joining : Bool) → LineState
-line_in_r1 joining = record { state = restart.TheVariants.R1; owed = false; joining = joining }
 
 -- the channel that a route hands a row to, if it does
 abbrev pub handed : Route → (channel : ℕ) → Option ℕ
@@ -43,7 +32,7 @@ handed _ k = None
 
 -- the channel that a row is handed to in r1
 abbrev pub channel_in_r1 : Item → Option ℕ
-channel_in_r1 r = handed (routing (line_in_r1 false) r).route (packet_channel r.packet)
+channel_in_r1 r = handed (routing (line_in_r1_with false false) r).route (packet_channel r.packet)
 
 -- the finding of the restart machine
 abbrev pub route_found : Item → Route → List What
@@ -51,35 +40,63 @@ route_found r (route.TheVariants.Found s n) = Found r.side s (Number n) ∷ []
 route_found r (route.TheVariants.Leave (Some n)) = Found r.side R1 (Number n) ∷ []
 route_found r _ = []
 
--- the end of a call that is open where r1 is left
-abbrev pub restart_end_if : (open_call : Bool) → List What
-restart_end_if true = End Restart ∷ []
-restart_end_if false = []
+-- whether a route ends an epoch and begins the next one at once
+abbrev pub is_renewal : Route → Bool
+is_renewal route.TheVariants.Renew = true
+is_renewal _ = false
 
--- the end of the call of a channel where r1 is left
-abbrev pub restart_end : Channel → List What
-restart_end s = restart_end_if (is_open s)
+-- what a row does to its channel: a gap, or a packet
+abbrev pub step_by : Option (Option ℕ) → Interface → (channel : ℕ) → GapChannel → Item → GapOutcome
+step_by None i k g r = gap_channel_step i k g r
+step_by (Some c) i k g r = record { reported = []; after = gap_step i k (is_none c) g }
 
--- the machine of an interface: entering r1 makes all channels fresh and begins the next epoch, leaving it ends the open calls
-abbrev pub x25 : Interface → Machine Item LineState Channel What
+-- the same by the row alone
+abbrev pub row_step : Interface → (channel : ℕ) → GapChannel → Item → GapOutcome
+row_step i k g r = step_by (gap_of r.packet) i k g r
+
+-- whether a row confirms a restart
+abbrev pub is_confirmation : Item → Bool
+is_confirmation r = is_confirm (packet_class r.packet)
+
+-- how the calls of an epoch end with it: a confirmation in an interface adrift shows that their restart was missed
+abbrev pub end_of_epoch : (missed : Bool) → How
+end_of_epoch true = how.TheVariants.Gap
+end_of_epoch false = how.TheVariants.Restart
+
+-- the end of the call of a channel, if one is open
+abbrev pub epoch_end_if : (open_call : Bool) → How → List What
+epoch_end_if true h = End h ∷ []
+epoch_end_if false h = []
+
+-- the end of the call of a channel at the row that ends the epoch
+abbrev pub epoch_end : GapChannel → Item → List What
+epoch_end g r = epoch_end_if (is_open g.channel) (end_of_epoch (g.restarting && is_confirmation r))
+
+-- the machine of an interface: entering r1 makes all channels fresh and begins the next epoch, leaving it ends the open calls;
+-- a gap of all channels reaches each of them
+abbrev pub x25 : Interface → Machine Item GapLine GapChannel What
 x25 i = record {
   channel = channel_in_r1;
-  for_all = λ r. false;
+  for_all = is_gap_of_all;
   ready = is_ready;
-  line_after = λ l r. (routing l r).after;
-  line_events = λ e l r. route_found r (routing l r).route;
-  renews = λ l r. false;
-  start_of = λ l. Restarted;
-  fresh = λ b. fresh i;
-  channel_after = λ e k s r. (channel_step i k s r).after;
-  channel_events = λ e k s r. (channel_step i k s r).reported;
-  closing_events = λ e k s r. restart_end s;
+  line_after = λ g r. (routing g r).after;
+  line_events = λ e g r. route_found r (routing g r).route;
+  renews = λ g r. is_renewal (routing g r).route;
+  start_of = start_by;
+  fresh = fresh_at i;
+  channel_after = λ e k s r. (row_step i k s r).after;
+  channel_events = λ e k s r. (row_step i k s r).reported;
+  closing_events = λ e k s r. epoch_end s r;
   channels = range_with_len 1 i.svc;
 }
 
+-- the restart machine before the first row: where gaps are recorded, a recording that begins in the middle begins with one
+abbrev pub first_line : Interface → GapLine
+first_line i = record { line = line_in_r1 (i.join && not i.gaps); adrift = i.join && i.gaps; owed_before = false }
+
 -- the observer before the first row
-abbrev pub start : Interface → Observer LineState Channel
-start i = record { epoch = 1; line = line_in_r1 i.join; states = fresh i 1 }
+abbrev pub start : Interface → Observer GapLine GapChannel
+start i = record { epoch = 1; line = first_line i; states = fresh_at i (start_by (first_line i)) 1 }
 
 -- an event with the number of its row; those of the restart machine have channel 0
 abbrev pub event_by : {X : Type 0} → (X → ℕ) → RowEvent X What → Event
@@ -94,8 +111,8 @@ abbrev pub events : Interface → List Item → List Event
 events i rs = map event_of (walk_events (x25 i) (start i) rs)
 
 -- whether a virtual channel is in p4
-abbrev pub is_up : Interface → ℕ → Channel → Bool
-is_up i k s = not (is_permanent i k) && is_in_transfer s
+abbrev pub is_up : Interface → ℕ → GapChannel → Bool
+is_up i k g = not (is_permanent i k) && is_in_transfer g.channel
 
 -- the greatest number of virtual channels in p4 after any row, and the first such row (profile)
 abbrev pub peak : Interface → List Item → ℕ × Option ℕ

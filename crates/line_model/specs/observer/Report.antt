@@ -1,5 +1,5 @@
 -- The report of a walk and its text (profile).
-use Rattle.std.specs.Prelude.{ℕ, Bool, true, false, List, [], ◌∷◌, ◌++◌, filter_map, flat_map, length, sum, Option, Some, None, codes, decimal}
+use Rattle.std.specs.Prelude.{ℕ, ◌-◌, Bool, true, false, List, [], ◌∷◌, ◌++◌, filter, filter_map, flat_map, length, sum, Option, Some, None, is_some, codes, decimal}
 use Rattle.std.specs.List.{enumerate_from}
 use Rattle.line_model.specs.declared.interface.Interface.{Interface}
 use Rattle.line_model.specs.declared.state.Side.{Side}
@@ -24,6 +24,7 @@ use Rattle.line_model.specs.declared.call.SettingRecord.{SettingRecord}
 use Rattle.line_model.specs.declared.call.Account.{Account}
 use Rattle.line_model.specs.declared.totals.Summary.{Summary}
 use Rattle.line_model.specs.basics.Records.{Item}
+use Rattle.line_model.specs.packets.Says.{gap_of}
 use Rattle.line_model.specs.observer.Observer.{events, peak}
 use Rattle.line_model.specs.observer.Calls.{calls_of, all_lengths, segments_of}
 use Rattle.line_model.specs.observer.Accounts.{accounts_of}
@@ -54,7 +55,16 @@ summary_of n es = record {
 abbrev pub no_summary : Summary
 no_summary = record { packets = 0; findings = 0; calls = 0; octets = 0; segments = 0 }
 
--- the report of the walk over a trace
+-- how many gaps there are
+abbrev pub gaps_of : List Item → ℕ
+gaps_of rs = length (filter (λ r. is_some (gap_of r.packet)) rs)
+
+-- the same, where gaps are rows
+abbrev pub gaps_among : (has_gaps : Bool) → List Item → Option ℕ
+gaps_among true rs = Some (gaps_of rs)
+gaps_among false rs = None
+
+-- the report of the walk over a trace: the sums count packets, and a gap is none
 abbrev pub report_of : Interface → List Item → Report
 report_of i rs =
     let es : List Event = events i rs in
@@ -63,7 +73,8 @@ report_of i rs =
       calls = calls_of es;
       accounts = accounts_of (calls_of es);
       peak = record { count = (peak i rs).0; packet = (peak i rs).1 };
-      summary = summary_of (length rs) es;
+      gaps = gaps_among i.gaps rs;
+      summary = summary_of (length rs - gaps_of rs) es;
     }
 
 -- words with single spaces between them, and a line feed
@@ -176,6 +187,11 @@ abbrev pub summary_line : Summary → List ℕ
 summary_line s =
     line (codes "Z" ∷ decimal s.packets ∷ decimal s.findings ∷ decimal s.calls ∷ decimal s.octets ∷ decimal s.segments ∷ [])
 
+-- the line of the gaps, where they are rows
+abbrev pub gap_lines : Option ℕ → List ℕ
+gap_lines (Some n) = line (codes "G" ∷ decimal n ∷ [])
+gap_lines None = []
+
 -- the text of a report; calls count from 1
 abbrev pub text_of : Report → List ℕ
 text_of r =
@@ -184,6 +200,7 @@ text_of r =
     ++ flat_map setting_lines (enumerate_from 1 r.calls)
     ++ flat_map account_line r.accounts
     ++ peak_line r.peak
+    ++ gap_lines r.gaps
     ++ summary_line r.summary
 
 -- the text of the report of a trace

@@ -1,6 +1,7 @@
 -- What the octets of a row say (X.25 clause 5).
-use Rattle.std.specs.Prelude.{ℕ, Bool, ◌==◌, ◌&&◌, List, [], length, take, map, Option, None, if◌then◌else◌}
+use Rattle.std.specs.Prelude.{ℕ, Bool, ◌==◌, ◌&&◌, List, [], ◌∷◌, length, take, map, Option, Some, None, if◌then◌else◌}
 use Rattle.line_model.specs.declared.interface.Interface.{Interface}
+use Rattle.line_model.specs.declared.state.Side.TheVariants.{T}
 use Rattle.line_model.specs.declared.packet.DataHeader.{DataHeader}
 use Rattle.line_model.specs.declared.packet.Packet.{Packet}
 use Rattle.line_model.specs.declared.packet.Packet as packet
@@ -18,12 +19,22 @@ is_unqualified xs = bits 1 1 (octet 3 xs) == 0 && bits 8 8 (octet 1 xs) == 0
 abbrev pub said_octets : List ℕ → List ℕ
 said_octets xs = if is_unqualified xs then [] else xs
 
+-- what stands in place of the packet in a gap of a channel, or of all
+abbrev pub gap_packet : Option ℕ → Packet
+gap_packet None = packet.TheVariants.GapOfAll
+gap_packet (Some c) = packet.TheVariants.Channel c kind.TheVariants.Gap
+
+-- the packet of a row, or the gap that it is
+abbrev pub packet_or_gap : Option (Option ℕ) → Packet → Packet
+packet_or_gap None p = p
+packet_or_gap (Some gap) p = gap_packet gap
+
 -- what a row says
 abbrev pub item_of : Interface → Row → Item
 item_of i r = record {
   number = r.number;
   side = r.side;
-  packet = packet_of i r.octets;
+  packet = packet_or_gap r.gap (packet_of i r.octets);
   length = length r.octets;
   octets = said_octets r.octets;
 }
@@ -31,6 +42,15 @@ item_of i r = record {
 -- what rows say
 abbrev pub items_of : Interface → List Row → List Item
 items_of i rs = map (item_of i) rs
+
+-- what a gap of all channels says, by its number
+abbrev pub gap_item : ℕ → Item
+gap_item n = record { number = n; side = T; packet = packet.TheVariants.GapOfAll; length = 0; octets = [] }
+
+-- the same, if there is a gap
+abbrev pub gap_items : Option ℕ → List Item
+gap_items None = []
+gap_items (Some n) = gap_item n ∷ []
 
 -- the octets of a row that are read
 abbrev pub read_octets : List ℕ → List ℕ
@@ -43,6 +63,7 @@ read_row r = record {
   side = r.side;
   length = length r.octets;
   octets = read_octets r.octets;
+  gap = r.gap;
 }
 
 -- what a row says, as it was read
@@ -50,7 +71,7 @@ abbrev pub item_read : Interface → ReadRow → Item
 item_read i r = record {
   number = r.number;
   side = r.side;
-  packet = packet_of i r.octets;
+  packet = packet_or_gap r.gap (packet_of i r.octets);
   length = r.length;
   octets = said_octets r.octets;
 }
@@ -70,3 +91,9 @@ receive_in p = None
 abbrev pub packet_channel : Packet → ℕ
 packet_channel (packet.TheVariants.Channel c k) = c
 packet_channel p = 0
+
+-- the gap that a row is, in place of a packet (profile): of a channel, or of all
+abbrev pub gap_of : Packet → Option (Option ℕ)
+gap_of (packet.TheVariants.Channel c kind.TheVariants.Gap) = Some (Some c)
+gap_of packet.TheVariants.GapOfAll = Some None
+gap_of p = None

@@ -1,5 +1,5 @@
 -- The plan of a trace: its pieces, and what each is worth (profile).
-use Rattle.std.specs.Prelude.{ℕ, List, [], map, filter, sum, option_map, not, length}
+use Rattle.std.specs.Prelude.{ℕ, Bool, true, false, ◌&&◌, List, [], ◌∷◌, map, filter, sum, option_map, not, length}
 use Rattle.std.specs.List.{enumerate_from}
 use Rattle.line_model.specs.declared.interface.Interface.{Interface}
 use Rattle.line_model.specs.declared.state.Side.TheVariants.{T}
@@ -7,13 +7,16 @@ use Rattle.line_model.specs.declared.event.Event.{Event}
 use Rattle.line_model.specs.declared.finding.Finding.{Finding}
 use Rattle.line_model.specs.declared.totals.Totals.{Totals}
 use Rattle.line_model.specs.basics.Records.{Item, Piece, PieceReport}
-use Rattle.line_model.specs.declared.packet.Packet.TheVariants.{Short}
-use Rattle.line_model.specs.pieces.Pieces.{Placed, placed, piece_rows, piece_end, piece_value}
+use Rattle.line_model.specs.declared.packet.Packet.{Packet}
+use Rattle.line_model.specs.declared.packet.Packet.TheVariants.{RestartConfirm, Short}
+use Rattle.line_model.specs.declared.piece.PieceEnd.{PieceEnd}
+use Rattle.line_model.specs.pieces.Pieces.{Placed, placed, piece_start, piece_end, piece_value, step_rows}
 use Rattle.line_model.specs.pieces.Plan.{plan_of}
 use Rattle.line_model.specs.observer.MachineEvents.{walk_events}
 use Rattle.line_model.specs.pieces.Merge.{is_line}
-use Rattle.line_model.specs.channels.Channels.{fresh}
-use Rattle.line_model.specs.observer.Observer.{x25, start, event_of}
+use Rattle.line_model.specs.channels.Gaps.{fresh_at}
+use Rattle.line_model.specs.channels.GapRestart.{is_gap_of_all}
+use Rattle.line_model.specs.observer.Observer.{x25, start, event_of, is_confirmation}
 use Rattle.line_model.specs.observer.Calls.{calls_of, all_lengths, segments_of}
 use Rattle.line_model.specs.observer.Report.{findings_of}
 
@@ -21,30 +24,50 @@ use Rattle.line_model.specs.observer.Report.{findings_of}
 abbrev pub line_findings : Interface → List Item → List Finding
 line_findings i rs = findings_of (map event_of (filter is_line (walk_events (x25 i) (start i) rs)))
 
--- the piece of an epoch and a channel, among the rows of the walk
+-- what is known of the row that ended an epoch
+abbrev pub end_at : Item → PieceEnd
+end_at r = record { row = r.number; missed = is_confirmation r }
+
+-- whether rows begin with a gap of all channels
+abbrev pub begins_with_gap : List Item → Bool
+begins_with_gap [] = false
+begins_with_gap (r ∷ rs) = is_gap_of_all r
+
+-- rows, of several gaps of all channels with no other row between them only the last one: it leaves no more open than they do
+abbrev pub single_gaps : List Item → List Item
+single_gaps [] = []
+single_gaps (r ∷ rs) = elim (is_gap_of_all r && begins_with_gap rs) [ true ↦ single_gaps rs | false ↦ r ∷ single_gaps rs ]
+
+-- the piece of an epoch and a channel, among the rows of the walk: its own rows, and the gaps of all channels
 abbrev pub piece_of : Interface → List (Placed Item) → ℕ × (ℕ × ℕ) → Piece
 piece_of i ps p = record {
   id = p.0;
   interface = i;
   epoch = p.1.0;
+  start = piece_start p.1.0 ps;
   channel = p.1.1;
-  items = piece_rows p.1.0 p.1.1 ps;
-  end = option_map (λ r. r.number) (piece_end p.1.0 ps);
+  items = single_gaps (step_rows (x25 i) p.1.0 p.1.1 ps);
+  end = option_map end_at (piece_end p.1.0 ps);
 }
 
 -- the pieces that have rows, by epoch and then by channel; they count from 0
 abbrev pub plan : Interface → List Item → List Piece
 plan i rs = map (piece_of i (placed (x25 i) (start i) rs)) (enumerate_from 0 (plan_of (x25 i) (start i) rs))
 
--- a row of which nothing but the number is known: that which left r1
-abbrev pub row_numbered : ℕ → Item
-row_numbered n = record { number = n; side = T; packet = Short; length = 0; octets = [] }
+-- a packet that confirms a restart, or one that does not
+abbrev pub end_packet : (missed : Bool) → Packet
+end_packet true = RestartConfirm
+end_packet false = Short
 
--- the events of the steps over the rows of a piece alone, from the fresh channel
+-- a row of which nothing else is known
+abbrev pub row_of_end : PieceEnd → Item
+row_of_end e = record { number = e.row; side = T; packet = end_packet e.missed; length = 0; octets = [] }
+
+-- the events of the steps over the rows of a piece alone, from its channel as the epoch begins
 abbrev pub piece_events : Piece → List Event
 piece_events p =
     map event_of
-    (piece_value (x25 p.interface) p.epoch p.channel (fresh p.interface p.epoch p.channel) p.items (option_map row_numbered p.end))
+    (piece_value (x25 p.interface) p.epoch p.channel (fresh_at p.interface p.start p.epoch p.channel) p.items (option_map row_of_end p.end))
 
 -- what the events of a piece are worth
 abbrev pub report_on : (id epoch channel : ℕ) → List Event → PieceReport

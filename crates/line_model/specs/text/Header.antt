@@ -1,5 +1,5 @@
 -- The header line of a trace: `X25 1 MOD m WIN w SIZE s PVC p SVC q`, or
--- `X25 2 MOD m WIN w SIZE s PVC p IN i TWO t OUT o`, with ` JOIN` after it or not.
+-- `X25 2 MOD m WIN w SIZE s PVC p IN i TWO t OUT o`, with ` JOIN` after it or not; with 3 in place of 2 gaps are rows (profile).
 use Rattle.std.specs.Prelude.{◌≡◌, ℕ, Bool, true, false, ◌==◌, ◌&&◌, ◌||◌, nat_le, not, List, [], ◌∷◌, length, Option, Some, None, refl, option_map, codes, slice_index, if◌then◌else◌}
 use Rattle.std.specs.Char.{is_ascii_digit}
 use Rattle.std.specs.List.{slice_split, list_all}
@@ -35,6 +35,7 @@ pub record HeaderNumbers : Type 0 where
   pub two_way : ℕ
   pub svc : ℕ
   pub join : Bool
+  pub gaps : Bool
 
 -- a word that has to be there, and the number behind it
 abbrev pub named_number : List ℕ → List ℕ → List ℕ → Option ℕ
@@ -45,7 +46,7 @@ abbrev pub named : List ℕ → List (List ℕ) → Option (ℕ × List (List �
 named name (word ∷ number ∷ words) = option_map (λ n. (n, words)) (named_number name word number)
 named name _ = None
 
--- what both forms say first: MOD, WIN, SIZE, PVC
+-- what all forms say first: MOD, WIN, SIZE, PVC
 pub record Defaults : Type 0 where
   pub modulus : ℕ
   pub window : ℕ
@@ -72,24 +73,25 @@ join_in _ = None
 
 -- without ranges the channels behind the permanent ones are two-way
 abbrev pub all_two_way : Defaults → ℕ → HeaderNumbers
-all_two_way d q = record { modulus = d.modulus; window = d.window; size = d.size; pvc = d.pvc; incoming = d.pvc; two_way = q; svc = q; join = false }
+all_two_way d q = record { modulus = d.modulus; window = d.window; size = d.size; pvc = d.pvc; incoming = d.pvc; two_way = q; svc = q; join = false; gaps = false }
 
 -- the first form, behind its version
 abbrev pub first_form : List (List ℕ) → Option HeaderNumbers
 first_form words = option_and_then (λ d. option_and_then (λ q. ending (all_two_way d.0 q.0) q.1) (named (codes "SVC") d.1)) (defaults_in words)
 
--- the second form, behind its version
-abbrev pub second_form : List (List ℕ) → Option HeaderNumbers
-second_form words =
+-- the second form, and the third where gaps are rows, behind their versions
+abbrev pub second_form : (gaps : Bool) → List (List ℕ) → Option HeaderNumbers
+second_form gaps words =
     option_and_then (λ d. option_and_then (λ i. option_and_then (λ t. option_and_then (λ o. option_and_then (λ join.
-    Some (record { modulus = d.0.modulus; window = d.0.window; size = d.0.size; pvc = d.0.pvc; incoming = i.0; two_way = t.0; svc = o.0; join = join }))
+    Some (record { modulus = d.0.modulus; window = d.0.window; size = d.0.size; pvc = d.0.pvc; incoming = i.0; two_way = t.0; svc = o.0; join = join; gaps = gaps }))
     (join_in o.1)) (named (codes "OUT") t.1)) (named (codes "TWO") i.1)) (named (codes "IN") d.1)) (defaults_in words)
 
 -- a version has its form
 abbrev pub form_of : (version : List ℕ) → List (List ℕ) → Option HeaderNumbers
 form_of version words =
     if bytes_eq version (codes "1") then first_form words else
-    if bytes_eq version (codes "2") then second_form words else None
+    if bytes_eq version (codes "2") then second_form false words else
+    if bytes_eq version (codes "3") then second_form true words else None
 
 -- what the words of a header say
 abbrev pub numbers_in : List (List ℕ) → Option HeaderNumbers
@@ -109,7 +111,7 @@ unfoldable pub interface_with : HeaderNumbers → Option Interface
 interface_with n =
     let make : (b : Bool) → is_lawful n ≡ b → Option Interface =
     λ b. elim b as (λ v. is_lawful n ≡ v → Option Interface) [
-      | true ↦ λ e. Some (record { modulus = n.modulus; window = n.window; size = n.size; pvc = n.pvc; incoming = n.incoming; two_way = n.two_way; svc = n.svc; join = n.join; gaps = false; lawful = e; whole = refl })
+      | true ↦ λ e. Some (record { modulus = n.modulus; window = n.window; size = n.size; pvc = n.pvc; incoming = n.incoming; two_way = n.two_way; svc = n.svc; join = n.join; gaps = n.gaps; lawful = e })
       | false ↦ λ e. None
     ] in
     make (is_lawful n) refl

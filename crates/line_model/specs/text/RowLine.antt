@@ -1,10 +1,11 @@
--- A row's line: `number side hex`.
-use Rattle.std.specs.Prelude.{ℕ, Bool, ◌==◌, ◌&&◌, nat_le, nat_lt, not, List, [], ◌∷◌, length, Option, Some, None, codes, if◌then◌else◌, is_none}
-use Rattle.std.specs.Option.{option_and_then}
+-- A row's line: `number side hex`, or a gap's `number ? channel` or `number ? *` (profile).
+use Rattle.std.specs.Prelude.{ℕ, Bool, true, false, ◌==◌, ◌&&◌, nat_le, nat_lt, not, List, [], ◌∷◌, length, Option, Some, None, codes, if◌then◌else◌, is_none}
+use Rattle.std.specs.Option.{option_and_then, option_map}
 use Rattle.std.specs.Result.{result_ok}
 use Rattle.std.specs.Str.{bytes_eq}
 use Rattle.hex.specs.Hex.{decode_of}
 use Rattle.line_model.specs.text.Header.{words_of, number_of}
+use Rattle.line_model.specs.declared.interface.Interface.{Interface}
 use Rattle.line_model.specs.declared.state.Side.{Side}
 use Rattle.line_model.specs.declared.state.Side.TheVariants.{T, N}
 use Rattle.line_model.specs.declared.fault.Kind.{Kind}
@@ -44,21 +45,59 @@ octets_of word =
     if bytes_eq word (codes "-") then Some []
     else option_and_then (λ octets. if nat_le (length octets) 4200 then Some octets else None) (result_ok (decode_of word))
 
--- the first rule that the words break, after a row with the number `last`, or 0
-abbrev pub words_kind : ℕ → RowWords → Option Kind
-words_kind last words =
-    if is_none (rising_number last words.number) then Some Number
-    else if is_none (side_of words.side) then Some SideKind
+-- whether the second word of a row says that it is a gap
+abbrev pub is_gap_word : List ℕ → Bool
+is_gap_word word = bytes_eq word (codes "?")
+
+-- the channel that the third word of a gap row names, or all
+abbrev pub gap_in : List ℕ → Option (Option ℕ)
+gap_in word = if bytes_eq word (codes "*") then Some None else option_map (λ n. Some n) (number_of word)
+
+-- whether a gap is one of all channels, or of one that an interface with `svc` channels has
+abbrev pub is_within : (svc : ℕ) → Option ℕ → Bool
+is_within svc None = true
+is_within svc (Some n) = nat_le 1 n && nat_le n svc
+
+-- the same, where the interface has the channel
+abbrev pub gap_within : (svc : ℕ) → List ℕ → Option (Option ℕ)
+gap_within svc word = option_and_then (λ gap. if is_within svc gap then Some gap else None) (gap_in word)
+
+-- the first rule that the words of a packet break behind its number
+abbrev pub packet_kind : RowWords → Option Kind
+packet_kind words =
+    if is_none (side_of words.side) then Some SideKind
     else if is_none (octets_of words.hex) then Some Hex
     else None
 
+-- the rule that the words of a gap break behind its number
+abbrev pub gap_kind : (svc : ℕ) → RowWords → Option Kind
+gap_kind svc words = if is_none (gap_within svc words.hex) then Some Hex else None
+
+-- the same of each row: gaps are rows only where the interface says so
+abbrev pub kind_behind : Interface → RowWords → Option Kind
+kind_behind i words = elim (i.gaps && is_gap_word words.side) [ true ↦ gap_kind i.svc words | false ↦ packet_kind words ]
+
+-- the first rule that the words break, after a row with the number `last`, or 0
+abbrev pub words_kind : Interface → ℕ → RowWords → Option Kind
+words_kind i last words = if is_none (rising_number last words.number) then Some Number else kind_behind i words
+
 -- the first rule that a row's line breaks, after a row with the number `last`, or 0
-unfoldable pub row_kind : ℕ → List ℕ → Option Kind
-row_kind last line = elim (row_words line) [ None ↦ Some LineForm | Some words ↦ words_kind last words ]
+unfoldable pub row_kind : Interface → ℕ → List ℕ → Option Kind
+row_kind i last line = elim (row_words line) [ None ↦ Some LineForm | Some words ↦ words_kind i last words ]
+
+-- the row of a packet with a number
+abbrev pub packet_row : RowWords → (number : ℕ) → Option Row
+packet_row words number =
+    option_and_then (λ side. option_map (λ octets. record { number = number; side = side; octets = octets; gap = None }) (octets_of words.hex)) (side_of words.side)
+
+-- the row of a gap with a number
+abbrev pub gap_row : RowWords → (number : ℕ) → Option Row
+gap_row words number = option_map (λ gap. record { number = number; side = T; octets = []; gap = Some gap }) (gap_in words.hex)
+
+-- the row of a number
+abbrev pub row_numbered : RowWords → (number : ℕ) → Option Row
+row_numbered words number = elim (is_gap_word words.side) [ true ↦ gap_row words number | false ↦ packet_row words number ]
 
 -- the row that a line without a fault writes
 unfoldable pub row_of : List ℕ → Option Row
-row_of line =
-    option_and_then (λ words. option_and_then (λ number. option_and_then (λ side. option_and_then (λ octets.
-    Some (record { number = number; side = side; octets = octets }))
-    (octets_of words.hex)) (side_of words.side)) (number_of words.number)) (row_words line)
+row_of line = option_and_then (λ words. option_and_then (row_numbered words) (number_of words.number)) (row_words line)

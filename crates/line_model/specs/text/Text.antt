@@ -108,12 +108,11 @@ header_kind line =
     else if is_none (interface_of line) then Some HeaderRange
     else None
 
--- the rule that the contents of a line break, where a header stands before it or not
-unfoldable pub contents_kind : Bool → ℕ → Line → Option Kind
-contents_kind after_header last line =
+-- the rule that the contents of a line break, behind the header of an interface or not
+unfoldable pub contents_kind : Option Interface → ℕ → Line → Option Kind
+contents_kind head last line =
     if is_comment line then None
-    else if after_header then row_kind last line
-    else header_kind line
+    else elim head [ None ↦ header_kind line | Some i ↦ row_kind i last line ]
 
 -- whether there is a line
 abbrev pub is_some_line : List Line → Bool
@@ -126,7 +125,7 @@ has_header ls = is_some_line (content_of ls)
 
 -- the rule on its contents that a line breaks after these lines
 abbrev pub form_kind : List Line → Line → Option Kind
-form_kind before line = contents_kind (has_header before) (last_number before) line
+form_kind before line = contents_kind (head_of before) (last_number before) line
 
 -- the rule that a line breaks after these lines
 abbrev pub line_kind : List Line → ℕ → Line → Option Kind

@@ -2,9 +2,8 @@
 -- tools/worked_gap_traces.py writes this file from tests/gaps/traces.
 use Rattle.std.specs.Prelude.{◌≡◌, ℕ, List, [], ◌∷◌, codes, Some}
 use Rattle.line_model.specs.declared.fault.Kind.TheVariants.{Number, Side, Hex}
-use Rattle.line_model.specs.text.GapText.{recorded_fault}
-use Rattle.line_model.specs.traces.Traces.{text}
-use Rattle.line_model.specs.traces.GapTraces.{IsRecorded}
+use Rattle.line_model.specs.text.Text.{fault}
+use Rattle.line_model.specs.traces.Traces.{IsReported, text}
 
 abbrev pub all_channels-text : List ℕ
 all_channels-text =
@@ -193,13 +192,13 @@ settled_by_an_acknowledgement-report =
     [])
 
 pub record WorkedGapTraces : Type 0 where
-  pub all_channels : IsRecorded all_channels-text all_channels-report
-  pub begins_in_the_middle : IsRecorded begins_in_the_middle-text begins_in_the_middle-report
-  pub call_after_a_gap : IsRecorded call_after_a_gap-text call_after_a_gap-report
-  pub gap_in_the_second_form : recorded_fault gap_in_the_second_form-text ≡ Some (2, Side)
-  pub gap_number_falls : recorded_fault gap_number_falls-text ≡ Some (3, Number)
-  pub gap_on_channel_0 : recorded_fault gap_on_channel_0-text ≡ Some (2, Hex)
-  pub no_gap : IsRecorded no_gap-text no_gap-report
-  pub restart_of_both_sides : IsRecorded restart_of_both_sides-text restart_of_both_sides-report
-  pub restart_owed_at_the_gap : IsRecorded restart_owed_at_the_gap-text restart_owed_at_the_gap-report
-  pub settled_by_an_acknowledgement : IsRecorded settled_by_an_acknowledgement-text settled_by_an_acknowledgement-report
+  pub all_channels : IsReported all_channels-text all_channels-report
+  pub begins_in_the_middle : IsReported begins_in_the_middle-text begins_in_the_middle-report
+  pub call_after_a_gap : IsReported call_after_a_gap-text call_after_a_gap-report
+  pub gap_in_the_second_form : fault gap_in_the_second_form-text ≡ Some (2, Side)
+  pub gap_number_falls : fault gap_number_falls-text ≡ Some (3, Number)
+  pub gap_on_channel_0 : fault gap_on_channel_0-text ≡ Some (2, Hex)
+  pub no_gap : IsReported no_gap-text no_gap-report
+  pub restart_of_both_sides : IsReported restart_of_both_sides-text restart_of_both_sides-report
+  pub restart_owed_at_the_gap : IsReported restart_owed_at_the_gap-text restart_owed_at_the_gap-report
+  pub settled_by_an_acknowledgement : IsReported settled_by_an_acknowledgement-text settled_by_an_acknowledgement-report

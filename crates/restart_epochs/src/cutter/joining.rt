@@ -11,6 +11,7 @@ ghost use Rattle.restart_epochs.specs.BlockStates.{IsBlockCut};
 use crate::block_cut::BlockCut;
 use crate::cutter::Cutter;
 use crate::kept_rows::keep_parts;
+use crate::parts::gap_joined;
 use crate::restart::Restart;
 use line_model::fault::Fault;
 use line_model::piece::Piece;
@@ -44,11 +45,18 @@ impl<A: Allocator + Copy> Cutter<A> {
             walk: later,
             ended,
             tail,
+            gap,
             octets: more,
             ..
         } = block;
         pieces.end_epochs(&walk, ended, out)?;
-        keep_parts(*walk.findings.allocator(), tail, &mut pieces.rows)?;
+        keep_parts(
+            *walk.findings.allocator(),
+            pieces.gap,
+            tail,
+            &mut pieces.rows,
+        )?;
+        pieces.gap = gap_joined(pieces.gap, gap);
         walk.join(later)?;
         Ok(Cutter {
             walk,

@@ -46,8 +46,14 @@ fn followed<A: Allocator + Copy, C: Channel<A>>(
     events: &mut Vec<Event, A>,
     told: &mut Vec<Told, A>,
 ) -> Result<PieceReport<A>, Fault> {
-    let mut live = LiveChannel::<A, C>::fresh(alloc, &piece.interface, piece.channel, piece.epoch)?;
-    for item in piece.items.iter() {
+    let mut live = LiveChannel::<A, C>::fresh(
+        alloc,
+        &piece.interface,
+        piece.channel,
+        piece.epoch,
+        piece.start,
+    )?;
+    for item in piece.rows() {
         let taken = live.take(&item, events)?;
         told.push(told_of(&live, alloc, piece.id, taken.finding)?)?;
     }

@@ -2,7 +2,7 @@
 
 ghost use Rattle.std.specs.Prelude.{◌≡◌, All, OnOk};
 ghost use Rattle.line_model.specs.basics.Bounds.{IsItem};
-ghost use Rattle.line_model.specs.channels.Channels as channels;
+ghost use Rattle.line_model.specs.channels.Gaps as gaps;
 
 use crate::channels::{CUT_PAIRS, INTERFACE, items};
 use crate::checks::holds_at;
@@ -10,6 +10,7 @@ use channel_machine::channel::{PackedChannel, PlainChannel};
 use channel_run::run::Channel;
 use line_model::event::Event;
 use line_model::fault::Fault;
+use line_model::gap::EpochStart;
 use line_model::interface::Interface;
 use line_model::items::{ItemRef, Items};
 use line_model::state::{ChannelState, DState};
@@ -39,9 +40,9 @@ fn step_until_taken<'a, C: Channel<&'a Scarce<Global>>>(
     events: &mut Vec<Event, &'a Scarce<Global>>,
 ) -> Result<u64, Fail>
     requires item { IsItem (C.interface_of channel.old) (C.number_of channel.old) item.now }
-    ensures interface { (c : channels.Channel) → C.stands_for channel.old c → OnOk result (C.interface_of channel.new ≡ C.interface_of channel.old) }
-    ensures number { (c : channels.Channel) → C.stands_for channel.old c → OnOk result (C.number_of channel.new ≡ C.number_of channel.old) }
-    ensures stands { (c : channels.Channel) → C.stands_for channel.old c → OnOk result ((d : channels.Channel) × C.stands_for channel.new d) }
+    ensures interface { (g : gaps.GapChannel) → C.stands_for channel.old g → OnOk result (C.interface_of channel.new ≡ C.interface_of channel.old) }
+    ensures number { (g : gaps.GapChannel) → C.stands_for channel.old g → OnOk result (C.number_of channel.new ≡ C.number_of channel.old) }
+    ensures stands { (g : gaps.GapChannel) → C.stands_for channel.old g → OnOk result ((h : gaps.GapChannel) × C.stands_for channel.new h) }
 {
     let before = seen_of(channel, events.len());
     for good in 0..GROWTHS {
@@ -71,7 +72,7 @@ fn step_through<'a, C: Channel<&'a Scarce<Global>>>(
 ) -> Result<(u64, Seen), Fail>
     requires items { All (IsItem interface.now 1) items.now }
 {
-    let mut channel = C::fresh(heap, interface, 1, 1);
+    let mut channel = C::fresh(heap, interface, 1, 1, EpochStart::Restarted);
     let mut events = Vec::new(heap);
     let mut refused = 0u64;
     for item in items.iter() {

@@ -7,6 +7,7 @@ use line_model::piece::PieceReport;
 use line_model::report::Report;
 use line_model::state::{Side, StateName};
 use report_merge::merging::merge;
+use report_merge::row_counts::RowCounts;
 use std::alloc::{AllocError, Global};
 use std::process::Abort;
 use std::test::Fail;
@@ -82,7 +83,11 @@ fn holds_at(rt: &impl Abort, holds: bool, good: u64) {
 fn check_growth(rt: &impl Abort, heap: &Scarce<Global>, good: u64) -> Result<bool, AllocError> {
     let reports = two(heap)?;
     heap.refuse_one(good);
-    let merged = merge(heap, reports, Vec::new(heap), 2, 2);
+    let rows = RowCounts {
+        packets: 2,
+        gaps: None,
+    };
+    let merged = merge(heap, reports, Vec::new(heap), rows, 2);
     let refused = good < heap.asked();
     heap.grant_all();
     holds_at(rt, is_right(merged, refused), good);

@@ -61,6 +61,7 @@ fn push(
         number: last + 1,
         side,
         octets: octets.to_vec(*pieces.allocator())?,
+        gap: None,
     };
     let packet = decode(&cutter.interface(), row.octets.as_slice());
     cutter.push(&row.item(packet), pieces)

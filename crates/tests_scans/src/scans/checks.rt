@@ -145,6 +145,7 @@ pub fn check_tables<R: Threads + Wait + Clock + Sync + Abort>(rt: &R, alloc: Glo
     for table in [
         Table::Channels,
         Table::Epochs,
+        Table::Gaps,
         Table::Messages,
         Table::Refused,
     ] {

@@ -41,7 +41,7 @@ impl<A: Allocator + Copy> Parts<A> {
     pub fn write<K: Sink>(self, alloc: A, sink: &mut K) -> Result<Scan<A>, Fault> {
         let Read {
             interface_findings,
-            packets,
+            counts,
             pieces,
             ..
         } = self.read;
@@ -50,7 +50,7 @@ impl<A: Allocator + Copy> Parts<A> {
             shares,
             reports,
         } = self.gathered;
-        let report = merge(alloc, reports, interface_findings, packets, pieces)?;
+        let report = merge(alloc, reports, interface_findings, counts, pieces)?;
         write_report(&report, sink)?;
         Ok(Scan {
             summary: report.summary,

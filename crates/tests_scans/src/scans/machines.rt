@@ -131,7 +131,7 @@ fn check_long_machines<R: Threads + Wait + Clock + Sync + Abort>(
 /// Runs the pieces of all worked traces, and says how many there are.
 fn check_all_machines<R: Threads + Wait + Clock + Sync + Abort>(rt: &R, alloc: Global) -> u64 {
     let tally = Tally::new();
-    for table in [Table::Channels, Table::Epochs, Table::Messages] {
+    for table in [Table::Channels, Table::Epochs, Table::Gaps, Table::Messages] {
         for worked in traces(table) {
             check_machines(rt, alloc, &tally, worked);
         }
@@ -145,5 +145,5 @@ fn check_all_machines<R: Threads + Wait + Clock + Sync + Abort>(rt: &R, alloc: G
 #[test]
 fn pieces_have_one_report_by_both_machines(rt: HostRuntime) {
     let pieces = check_all_machines(&rt, rt.alloc());
-    assert_eq!(rt; pieces, 78);
+    assert_eq!(rt; pieces, 100);
 }

@@ -2,12 +2,14 @@
 
 pub mod channels;
 pub mod epochs;
+pub mod gaps;
 pub mod long;
 pub mod messages;
 pub mod refused;
 
 use crate::scans::worked::channels::CHANNELS;
 use crate::scans::worked::epochs::EPOCHS;
+use crate::scans::worked::gaps::GAPS;
 use crate::scans::worked::messages::MESSAGES;
 use crate::scans::worked::refused::REFUSED;
 use line_model::fault::Fault;
@@ -28,6 +30,7 @@ pub struct Worked<'a> {
 pub enum Table {
     Channels,
     Epochs,
+    Gaps,
     Messages,
     Refused,
 }
@@ -37,6 +40,7 @@ pub fn traces(table: Table) -> &'static [Worked<'static>] {
     match table {
         Table::Channels => CHANNELS.as_slice(),
         Table::Epochs => EPOCHS.as_slice(),
+        Table::Gaps => GAPS.as_slice(),
         Table::Messages => MESSAGES.as_slice(),
         Table::Refused => REFUSED.as_slice(),
     }

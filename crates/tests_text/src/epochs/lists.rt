@@ -16,7 +16,7 @@ fn cut<'a>(
     rows: &[Row<&'a Scarce<Global>>],
     lists: RowsByChannel<&'a Scarce<Global>>,
 ) -> Result<RowsByChannel<&'a Scarce<Global>>, Fail> {
-    let mut cutter = BlockCutter::new(heap, &PLAIN, Restart::joined(), lists);
+    let mut cutter = BlockCutter::new(heap, &PLAIN, Restart::first(&PLAIN), lists);
     for row in rows {
         let packet = decode(&PLAIN, row.octets.as_slice());
         cutter.push(&row.item(packet))?;

@@ -1,6 +1,6 @@
 //! The line of a row whose octets are known, and which is not read.
 
-ghost use Rattle.std.specs.Prelude.{◌≡◌, [], true, false, length};
+ghost use Rattle.std.specs.Prelude.{◌≡◌, [], None, true, false, length};
 ghost use Rattle.hex.specs.Hex.{IsBytes};
 ghost use Rattle.line_model.specs.basics.Records as records;
 ghost use Rattle.trace_text.specs.RowTexts.{row_text};
@@ -16,8 +16,8 @@ impl<A: Allocator> Lines<A> {
     /// has changed, and the line is to be fed.
     #[inline(always)]
     pub fn pass_row(&mut self, number: u32, octets: usize) -> bool
-        ensures passed { (row : records.Row) → row.number ≡ number → length row.octets ≡ octets
-            → IsBytes row.octets → result ≡ true
+        ensures passed { (row : records.Row) → row.gap ≡ None → row.number ≡ number
+            → length row.octets ≡ octets → IsBytes row.octets → result ≡ true
             → TakesRow self.old self.new (row_text row) [] row }
         ensures same { result ≡ false → self.new ≡ self.old }
         ensures interface { self.new.interface ≡ self.old.interface }

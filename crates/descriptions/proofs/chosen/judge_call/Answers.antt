@@ -1,9 +1,9 @@
-use Rattle.std.proofs.Common.{◌≡◌, ◌∙◌, ◌++◌, ◌∷◌, [], Some, subst, sym, ap}
+use Rattle.std.proofs.Common.{◌≡◌, ◌∙◌, ◌++◌, ◌∷◌, ◌&&◌, [], false, refl, Some, subst, sym, ap}
 use Rattle.line_model.specs.observer.Machine.{routed}
 use Rattle.line_model.specs.observer.Observer.{events, x25}
 use Rattle.restart_epochs.specs.Cutting.{observer}
 use Rattle.live_report.proofs.LastLemmas.{taker_is}
-use Rattle.descriptions.specs.CallRows.{Hears}
+use Rattle.descriptions.specs.CallRows.{Hears, is_in}
 use Rattle.descriptions.proofs.FollowLemmas.{all_of_epoch, channel_follows, events_on_channel, heard_so_far, judged_off, judged_on, line_follows, same_epoch}
 use Rattle.descriptions.proofs.chosen.judge_call.Goals as goal
 
@@ -26,8 +26,23 @@ returns-in-Some-clause-follows g c i before r f walked last =
     channel_follows i before r k c.apply_row.new.self to
     (subst (λ l. Hears (observer i before).epoch l c.apply_row.new.self) (ap (λ fs. events i before ++ fs) came ∙ sym (events_on_channel i before r k to)) (subst (λ e. Hears e (events i before ++ c.events.result.now) c.apply_row.new.self) epoch heard))
 
-pub returns-in-None-clause-told : goal.returns-in-None-clause-told
-returns-in-None-clause-told g c i before r f walked last = judged_off i before r c.args.call.now.number (sym (taker_is i (routed (x25 i) (observer i before).line r) (observer i before) (observer i (before ++ r ∷ [])) c.args.last.now.judge last.judge) ∙ sym c.channel.ensures ∙ c.in-None.is)
+pub returns-then-reaches_each-clause-told : goal.returns-then-reaches_each-clause-told
+returns-then-reaches_each-clause-told g c i before r f walked last =
+    let none = sym c.channel.ensures ∙ c.in-None.is in
+    let e = c.epoch-then-reaches_each.result in
+    judged_off i before r c.args.call.now e c.reaches_each.result c.is_open_in.result (sym (taker_is i (routed (x25 i) (observer i before).line r) (observer i before) (observer i (before ++ r ∷ [])) c.args.last.now.judge last.judge) ∙ none) f
+    (c.reaches_each.ensures i before r _ none last) (c.epoch-then-reaches_each.ensures.walked i (before ++ r ∷ []) walked)
+    (c.is_open_in.ensures ∙ (λ t. sym c.if-reaches_each.true t && is_in e c.args.call.now.place))
 
-pub returns-in-None-clause-follows : goal.returns-in-None-clause-follows
-returns-in-None-clause-follows g c i before r f walked last = line_follows i before r c.args.call.now (sym (taker_is i (routed (x25 i) (observer i before).line r) (observer i before) (observer i (before ++ r ∷ [])) c.args.last.now.judge last.judge) ∙ sym c.channel.ensures ∙ c.in-None.is) f
+pub returns-else-reaches_each-clause-told : goal.returns-else-reaches_each-clause-told
+returns-else-reaches_each-clause-told g c i before r f walked last =
+    let none = sym c.channel.ensures ∙ c.in-None.is in
+    let e = (observer i (before ++ r ∷ [])).epoch in
+    judged_off i before r c.args.call.now e c.reaches_each.result c.reaches_each.result (sym (taker_is i (routed (x25 i) (observer i before).line r) (observer i before) (observer i (before ++ r ∷ [])) c.args.last.now.judge last.judge) ∙ none) f
+    (c.reaches_each.ensures i before r _ none last) refl (c.if-reaches_each.false ∙ (λ t. sym c.if-reaches_each.false t && is_in e c.args.call.now.place))
+
+pub returns-then-reaches_each-clause-follows : goal.returns-then-reaches_each-clause-follows
+returns-then-reaches_each-clause-follows g c i before r f walked last = line_follows i before r c.args.call.now (sym (taker_is i (routed (x25 i) (observer i before).line r) (observer i before) (observer i (before ++ r ∷ [])) c.args.last.now.judge last.judge) ∙ sym c.channel.ensures ∙ c.in-None.is) f
+
+pub returns-else-reaches_each-clause-follows : goal.returns-else-reaches_each-clause-follows
+returns-else-reaches_each-clause-follows g c i before r f walked last = line_follows i before r c.args.call.now (sym (taker_is i (routed (x25 i) (observer i before).line r) (observer i before) (observer i (before ++ r ∷ [])) c.args.last.now.judge last.judge) ∙ sym c.channel.ensures ∙ c.in-None.is) f

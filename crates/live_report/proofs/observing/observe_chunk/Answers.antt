@@ -11,7 +11,7 @@ use Rattle.trace_text.specs.StandsFor.{IsFaultOf, ReadsChunk}
 use Rattle.live_report.specs.Found.{IsFoundBy, IsFoundUpTo, found_at}
 use Rattle.live_report.proofs.FollowLemmas.{fed_few}
 use Rattle.live_report.proofs.FoundLemmas.{at_most_one}
-use Rattle.live_report.proofs.ChunkLemmas.{ReadsRow, course_begun, course_done, course_end, course_found, course_kept, course_last, course_refused, course_row, course_stopped, course_text, next_rows}
+use Rattle.live_report.proofs.ChunkLemmas.{ReadsRow, course_begun, course_done, course_end, course_found, course_kept, course_last, course_refused, course_row, course_stopped, course_text, header_stays, next_rows}
 use Rattle.live_report.proofs.observing.observe_chunk.Goals as goal
 
 pub loop-rest-init : goal.loop-rest-init
@@ -33,7 +33,8 @@ take-requires g c =
         room.0,
         items_of room.0 (early_rows (room.1 ++ course.read)),
         course.observing.observes,
-        next_rows room.0 c.loop-rest.lines c.next_row.new.self (room.1 ++ course.read) c.loop-rest.rest.now c.in-Some.after.now c.next_row.new.row course.observing.reads row,
+        next_rows room.0 c.loop-rest.lines c.next_row.new.self (room.1 ++ course.read) c.loop-rest.rest.now c.in-Some.after.now c.next_row.new.row course.observing.reads row
+            (header_stays c.loop-rest.lines c.next_row.new.self (room.1 ++ course.read) c.loop-rest.rest.now room.0 course.observing.reads course.observing.header (c.in_ok-after.ensures.header (room.1 ++ course.read) course.observing.reads)),
       );
     }
 
@@ -56,7 +57,8 @@ loop-rest-preserved g c =
           c.args.found.now.items c.loop-rest.found.items c.append_finding.new.findings.items (option_to_list finding)
           course row (c.in_ok-after.ensures.header (text ++ course.read) course.observing.reads)
           (c.in_ok-take.ensures.stands i (items_of i (early_rows (text ++ course.read))) course.observing.observes
-          (next_rows i c.loop-rest.lines c.next_row.new.self (text ++ course.read) c.loop-rest.rest.now c.in-Some.after.now c.next_row.new.row course.observing.reads row))
+          (next_rows i c.loop-rest.lines c.next_row.new.self (text ++ course.read) c.loop-rest.rest.now c.in-Some.after.now c.next_row.new.row course.observing.reads row
+          (header_stays c.loop-rest.lines c.next_row.new.self (text ++ course.read) c.loop-rest.rest.now i course.observing.reads course.observing.header (c.in_ok-after.ensures.header (text ++ course.read) course.observing.reads))))
           noted (c.in_ok-take.ensures.finding i (items_of i (early_rows (text ++ course.read))) course.observing.observes)) (λ keeps. c.keep_next.ensures keeps);
     }
 

@@ -2,7 +2,7 @@ use Rattle.std.specs.Prelude.{IfErr}
 use Rattle.std.proofs.lemmas.Grind.{elements}
 use Rattle.std.proofs.lemmas.Result.{IfOk-from_err, err_from_is_err_and}
 use Rattle.line_model.specs.declared.fault.Fault.TheVariants.{Memory}
-use Rattle.std.proofs.Common.{◌≡◌, ◌∙◌, ◌++◌, ◌∷◌, ◌<◌, ◌≤◌, length-append, ap, subst, sym, List, [], length, true, arith, rules}
+use Rattle.std.proofs.Common.{◌≡◌, ◌∙◌, ◌++◌, ◌∷◌, ◌-◌, ◌<◌, ◌≤◌, length-append, ap, subst, sym, List, [], length, true, arith, rules}
 use Rattle.std.specs.List.{zip}
 use Rattle.std.specs.Iterator.Adapters.{zip_first, zip_second}
 use Rattle.std.specs.Vec.Iter.{into_iter_items, into_iter_len}
@@ -11,6 +11,7 @@ use Rattle.std.proofs.lemmas.List.Sums.{sum_by-cons}
 use Rattle.std.proofs.lemmas.Iterator.{YieldsList-from_zip}
 use Rattle.std.proofs.lemmas.Iterator.Adapters.{YieldsList-from_vec}
 use Rattle.std.proofs.lemmas.Iterator.Consumers.{YieldsList-end}
+use Rattle.line_model.specs.observer.Report.{gaps_among, gaps_of}
 use Rattle.line_model.specs.packets.Says.{item_of, items_of}
 use Rattle.line_model.specs.pieces.Plans.{plan, line_findings}
 use Rattle.line_model.specs.basics.Records.{Row, Item, Piece}
@@ -36,7 +37,7 @@ loop-row-init g c = record {
   stands = c.new-cutter.ensures.stands;
   given = c.new-pieces.ensures.items ∙ sym (given_pieces c.args.interface.now [] true ends_nothing);
   left = subst (MayCome c.new-cutter.result) (sym (rows_left g c))
-      (all_may_come c.new-cutter.result c.args.rows.items c.new-cutter.ensures.last c.new-cutter.ensures.octets c.requires.rising c.requires.numbers c.requires.octets);
+      (all_may_come c.args.interface.now c.new-cutter.result c.args.rows.items c.new-cutter.ensures.stands.interface c.requires.lawful c.new-cutter.ensures.last c.new-cutter.ensures.octets c.requires.rising c.requires.numbers c.requires.octets);
   decoded = packets_left g c ∙ ap (packets c.args.interface.now) (sym (rows_left g c));
 }
 
@@ -46,8 +47,10 @@ push-requires-clause-said g c =
     let steps = c.in-Some.ensures.steps in
     let next = next_is c.args.interface.now c.in-Some.row c.in-Some.packet (into_iter_items (zip_first c.next.new.self)) (into_iter_items (zip_first c.loop-row.row-iterator))
     (into_iter_items (zip_second c.next.new.self)) (into_iter_items (zip_second c.loop-row.row-iterator)) inv.decoded steps.0.0 steps.1.0 in
+    let left : MayCome c.loop-row.cutter (c.in-Some.row ∷ into_iter_items (zip_first c.next.new.self)) = subst (MayCome c.loop-row.cutter) steps.0.0 inv.left in
     record {
       row = c.in-Some.row;
+      lawful = left.lawful.0;
       says = said_by c.args.interface.now c.in-Some.row c.in-Some.packet _ c.item.ensures next.0 ∙ ap (λ i. item_of i c.in-Some.row) (sym inv.stands.interface);
     }
 
@@ -120,12 +123,27 @@ returns-clause-interface_findings g c =
 
 pub returns-clause-packets : goal.returns-clause-packets
 returns-clause-packets g c =
-    c.in_ok-open.ensures.packets c.args.interface.now (said c.args.interface.now c.loop-row.yielded) c.loop-row.invariant.stands ∙ ap (λ (rs : List Item). length rs) (all_yielded g c) ∙ length-map c.args.rows.items (item_of c.args.interface.now)
+    let items = items_of c.args.interface.now c.args.rows.items in
+    c.in_ok-open.ensures.packets c.args.interface.now (said c.args.interface.now c.loop-row.yielded) c.loop-row.invariant.stands ∙ ap (λ (rs : List Item). length rs - gaps_of rs) (all_yielded g c)
+    ∙ ap (λ n. n - gaps_of items) (length-map c.args.rows.items (item_of c.args.interface.now))
+
+pub returns-clause-gaps : goal.returns-clause-gaps
+returns-clause-gaps g c =
+    let i = c.args.interface.now in
+    c.in_ok-open.ensures.gaps i (said i c.loop-row.yielded) c.loop-row.invariant.stands ∙ ap (gaps_among i.gaps) (all_yielded g c)
 
 pub returns-clause-few : goal.returns-clause-few
 returns-clause-few g c =
     let all = ap (λ (l : List Piece). length l) (appended g c) ∙ length-append (given_of c.args.interface.now (said c.args.interface.now c.loop-row.yielded)) c.in_ok-open.field-0.pieces.items in
     omega (arith, all, c.in_ok-open.ensures.few c.args.interface.now (said c.args.interface.now c.loop-row.yielded) c.loop-row.invariant.stands)
+
+pub returns-clause-of_rows : goal.returns-clause-of_rows
+returns-clause-of_rows g c =
+    let i = c.args.interface.now in
+    let rows = said i c.loop-row.yielded in
+    let all = ap (λ (l : List Piece). length l) (appended g c) ∙ length-append (given_of i rows) c.in_ok-open.field-0.pieces.items in
+    let count = ap (λ (rs : List Item). length rs) (all_yielded g c) ∙ length-map c.args.rows.items (item_of i) in
+    omega (arith, all, c.in_ok-open.ensures.of_rows i rows c.loop-row.invariant.stands, count)
 
 pub loop-row-init-derived : goal.loop-row-init-derived
 loop-row-init-derived g c = grind (arith, elements) steps 2000000
@@ -139,8 +157,14 @@ returns-in_err-packets-clause-interface_findings g c = IfOk-from_err _ _ c.from_
 pub returns-in_err-packets-clause-packets : goal.returns-in_err-packets-clause-packets
 returns-in_err-packets-clause-packets g c = IfOk-from_err _ _ c.from_residual.ensures.0
 
+pub returns-in_err-packets-clause-gaps : goal.returns-in_err-packets-clause-gaps
+returns-in_err-packets-clause-gaps g c = IfOk-from_err _ _ c.from_residual.ensures.0
+
 pub returns-in_err-packets-clause-few : goal.returns-in_err-packets-clause-few
 returns-in_err-packets-clause-few g c = IfOk-from_err _ _ c.from_residual.ensures.0
+
+pub returns-in_err-packets-clause-of_rows : goal.returns-in_err-packets-clause-of_rows
+returns-in_err-packets-clause-of_rows g c = IfOk-from_err _ _ c.from_residual.ensures.0
 
 pub returns-in_err-packets-clause-refused : goal.returns-in_err-packets-clause-refused
 returns-in_err-packets-clause-refused g c =
@@ -156,8 +180,14 @@ returns-in_err-push-clause-interface_findings g c = IfOk-from_err _ _ c.from_res
 pub returns-in_err-push-clause-packets : goal.returns-in_err-push-clause-packets
 returns-in_err-push-clause-packets g c = IfOk-from_err _ _ c.from_residual-in_err-push.ensures.0
 
+pub returns-in_err-push-clause-gaps : goal.returns-in_err-push-clause-gaps
+returns-in_err-push-clause-gaps g c = IfOk-from_err _ _ c.from_residual-in_err-push.ensures.0
+
 pub returns-in_err-push-clause-few : goal.returns-in_err-push-clause-few
 returns-in_err-push-clause-few g c = IfOk-from_err _ _ c.from_residual-in_err-push.ensures.0
+
+pub returns-in_err-push-clause-of_rows : goal.returns-in_err-push-clause-of_rows
+returns-in_err-push-clause-of_rows g c = IfOk-from_err _ _ c.from_residual-in_err-push.ensures.0
 
 pub returns-in_err-push-clause-refused : goal.returns-in_err-push-clause-refused
 returns-in_err-push-clause-refused g c =
@@ -173,8 +203,14 @@ returns-in_err-open-clause-interface_findings g c = IfOk-from_err _ _ c.from_res
 pub returns-in_err-open-clause-packets : goal.returns-in_err-open-clause-packets
 returns-in_err-open-clause-packets g c = IfOk-from_err _ _ c.from_residual-in_err-open.ensures.0
 
+pub returns-in_err-open-clause-gaps : goal.returns-in_err-open-clause-gaps
+returns-in_err-open-clause-gaps g c = IfOk-from_err _ _ c.from_residual-in_err-open.ensures.0
+
 pub returns-in_err-open-clause-few : goal.returns-in_err-open-clause-few
 returns-in_err-open-clause-few g c = IfOk-from_err _ _ c.from_residual-in_err-open.ensures.0
+
+pub returns-in_err-open-clause-of_rows : goal.returns-in_err-open-clause-of_rows
+returns-in_err-open-clause-of_rows g c = IfOk-from_err _ _ c.from_residual-in_err-open.ensures.0
 
 pub returns-in_err-open-clause-refused : goal.returns-in_err-open-clause-refused
 returns-in_err-open-clause-refused g c =
@@ -190,8 +226,14 @@ returns-in_err-append-clause-interface_findings g c = IfOk-from_err _ _ c.from_r
 pub returns-in_err-append-clause-packets : goal.returns-in_err-append-clause-packets
 returns-in_err-append-clause-packets g c = IfOk-from_err _ _ c.from_residual-in_err-append.ensures.0
 
+pub returns-in_err-append-clause-gaps : goal.returns-in_err-append-clause-gaps
+returns-in_err-append-clause-gaps g c = IfOk-from_err _ _ c.from_residual-in_err-append.ensures.0
+
 pub returns-in_err-append-clause-few : goal.returns-in_err-append-clause-few
 returns-in_err-append-clause-few g c = IfOk-from_err _ _ c.from_residual-in_err-append.ensures.0
+
+pub returns-in_err-append-clause-of_rows : goal.returns-in_err-append-clause-of_rows
+returns-in_err-append-clause-of_rows g c = IfOk-from_err _ _ c.from_residual-in_err-append.ensures.0
 
 pub returns-in_err-append-clause-refused : goal.returns-in_err-append-clause-refused
 returns-in_err-append-clause-refused g c =

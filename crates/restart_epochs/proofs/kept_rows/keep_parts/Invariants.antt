@@ -4,4 +4,4 @@ use Rattle.restart_epochs.specs.BlockCuts.{AreAdded}
 use Rattle.restart_epochs.proofs.kept_rows.keep_parts.Given as goal
 
 abbrev pub invariant-loop-part : goal.invariant-loop-part
-invariant-loop-part g l = (after : OpenRows) → AreAdded (into_iter_items l.part-iterator) l.rows after → AreAdded l.fn.parts.items l.fn.rows after
+invariant-loop-part g l = (after : OpenRows) → AreAdded l.gap (into_iter_items l.part-iterator) l.rows after → AreAdded l.gap l.fn.parts.items l.fn.rows after

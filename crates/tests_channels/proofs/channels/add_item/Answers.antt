@@ -1,4 +1,4 @@
-use Rattle.std.proofs.Common.{◌≡◌, ◌∙◌, ap, length, subst, sym}
+use Rattle.std.proofs.Common.{◌≡◌, ◌∙◌, None, ap, inl, length, subst, sym}
 use Rattle.std.specs.Prelude.{All}
 use Rattle.std.proofs.lemmas.List.Elements.{All-push}
 use Rattle.line_model.specs.basics.Bounds.{IsItem}
@@ -16,8 +16,9 @@ returns-clause-of_channel g c h =
     subst (λ l. All (IsItem i c.args.channel) l) (sym c.in_ok-push.ensures.ok)
     (All-push (IsItem i c.args.channel) c.args.items.now c.item.result h (record {
       said = record {
-        row = record { number = line.0; side = line.1; octets = xs };
+        row = record { number = line.0; side = line.1; octets = xs; gap = None };
+        lawful = tt;
         says = c.item.ensures ∙ (λ j. record { number = line.0; side = line.1; packet = packet j; length = length xs; octets = said_octets xs });
       };
-      channel = ap (λ (x : Item). packet_channel x.packet) c.item.ensures ∙ sym c.channel_of.ensures ∙ c.if-channel_of-channel.false;
+      channel = inl (ap (λ (x : Item). packet_channel x.packet) c.item.ensures ∙ sym c.channel_of.ensures ∙ c.if-channel_of-channel.false);
     }))

@@ -39,5 +39,6 @@ returns-clause-cut g c items h fed =
       all = all;
       interface_findings = c.in_ok-pieces.ensures.interface_findings i items h.stands;
       packets = c.in_ok-pieces.ensures.packets i items h.stands;
+      gaps = c.in_ok-pieces.ensures.gaps i items h.stands;
       pieces = omega (arith, c.len.ensures, c.in_ok-pieces.field-0.pieces.ok.0, whole, c.given-given.ensures i items h.stands);
     }

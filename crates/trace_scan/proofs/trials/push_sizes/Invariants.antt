@@ -8,5 +8,5 @@ use Rattle.trace_scan.proofs.trials.push_sizes.Given as goal
 
 abbrev pub invariant-loop-size : goal.invariant-loop-size
 invariant-loop-size g l =
-    (headers : List Interface) → AreTrials g.C.Channel (λ _. []) headers l.fn.trials.items
-    → AreTrials g.C.Channel (λ _. []) (headers ++ filter_map (with_numbers l.own l.modulus l.window) (take l.size-index packet_sizes)) l.trials.items
+    (headers : List Interface) → AreTrials g.C.Channel l.own (λ _. []) headers l.fn.trials.items
+    → AreTrials g.C.Channel l.own (λ _. []) (headers ++ filter_map (with_numbers l.own l.modulus l.window) (take l.size-index packet_sizes)) l.trials.items

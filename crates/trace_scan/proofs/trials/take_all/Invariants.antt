@@ -6,5 +6,5 @@ use Rattle.trace_scan.proofs.trials.take_all.Given as goal
 
 abbrev pub invariant-loop-trial : goal.invariant-loop-trial
 invariant-loop-trial g l =
-    (headers : List Interface) (items : SaidRows) → AreTrials g.C.Channel items headers l.fn.trials.items → AreSound (with_row items l.row)
-    → AreOnWay g.C.Channel l.trial-index items (with_row items l.row) headers l.trial-items
+    (own : Interface) (headers : List Interface) (items : SaidRows) → AreTrials g.C.Channel own items headers l.fn.trials.items → AreSound own (with_row items l.row)
+    → AreOnWay g.C.Channel l.trial-index own items (with_row items l.row) headers l.trial-items

@@ -6,4 +6,4 @@ use Rattle.trace_scan.proofs.tried_text.take_last.Goals as goal
 pub take-requires : goal.take-requires
 take-requires g c =
     let next = c.requires.next in
-    record { next = (next.0, next.1, next.2, next.3, next.4 c.if-has_row.true, subst (λ has. IsTrace (next.1 ++ last_row has next.2)) c.if-has_row.true next.5) }
+    record { next = (next.0, next.1, next.2, next.3, next.4 c.if-has_row.true, subst (λ has. IsTrace next.0 (next.1 ++ last_row has next.2)) c.if-has_row.true next.5) }

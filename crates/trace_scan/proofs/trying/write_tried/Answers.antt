@@ -9,7 +9,7 @@ use Rattle.trace_scan.proofs.trying.write_tried.Goals as goal
 pub returns-clause-tried : goal.returns-clause-tried
 returns-clause-tried g c x h =
     let tried = c.in_ok-tried.tried.items in
-    let lines = lines_of_trials g.C.Channel x c.in_ok-trials.trials.items tried (c.in_ok-trials.ensures.tried x h) (λ is rs all. c.in_ok-tried.ensures.all is rs (subst (AreTrials g.C.Channel rs is) (sym c.as_slice.ensures.value) all)) c.in_ok-tried.ensures.sorted in
+    let lines = lines_of_trials g.C.Channel x c.in_ok-trials.trials.items tried (c.in_ok-trials.ensures.tried x h) (λ own is rs all. c.in_ok-tried.ensures.all own is rs (subst (AreTrials g.C.Channel own rs is) (sym c.as_slice.ensures.value) all)) c.in_ok-tried.ensures.sorted in
     record {
       bytes = tried_text tried;
       lines = subst (λ n. AreTriedLines x (tried_text tried) n) (sym (c.fewest_findings.ensures ∙ ap fewest c.as_slice-3.ensures.value)) lines;
@@ -22,6 +22,6 @@ returns-in_err-write_lines-clause-part g c x h e =
     record {
       bytes = tried_text tried;
       findings = fewest tried;
-      lines = lines_of_trials g.C.Channel x c.in_ok-trials.trials.items tried (c.in_ok-trials.ensures.tried x h) (λ is rs all. c.in_ok-tried.ensures.all is rs (subst (AreTrials g.C.Channel rs is) (sym c.as_slice.ensures.value) all)) c.in_ok-tried.ensures.sorted;
+      lines = lines_of_trials g.C.Channel x c.in_ok-trials.trials.items tried (c.in_ok-trials.ensures.tried x h) (λ own is rs all. c.in_ok-tried.ensures.all own is rs (subst (AreTrials g.C.Channel own rs is) (sym c.as_slice.ensures.value) all)) c.in_ok-tried.ensures.sorted;
       part = subst (λ l. HasFront (g.K.Sink.taken c.args.sink.now) (g.K.Sink.taken c.write_lines.new.sink) (tried_text l)) c.as_slice-2.ensures.value c.in_err-write_lines.ensures.part;
     }

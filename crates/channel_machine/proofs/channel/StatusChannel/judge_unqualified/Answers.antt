@@ -11,6 +11,10 @@ use Rattle.channel_machine.proofs.CommonRows.{fine_data, long_data}
 use Rattle.channel_machine.proofs.InForce.{size_stands}
 use Rattle.channel_machine.proofs.channel.StatusChannel.judge_unqualified.Goals as goal
 
+pub user_data_length-requires : goal.user_data_length-requires
+user_data_length-requires g c =
+    record { whole = (data_said c.args.self.now.terms.interface c.args.item.now c.args.header.now c.requires.said c.requires.class c.requires.header).whole }
+
 pub accept_unqualified-requires-clause-said : goal.accept_unqualified-requires-clause-said
 accept_unqualified-requires-clause-said g c =
     data_said c.args.self.now.terms.interface c.args.item.now c.args.header.now c.requires.said c.requires.class c.requires.header

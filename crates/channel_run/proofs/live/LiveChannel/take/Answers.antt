@@ -5,8 +5,8 @@ use Rattle.line_model.specs.declared.event.Event.{Event}
 use Rattle.line_model.specs.declared.event.What.TheVariants as what
 use Rattle.line_model.specs.basics.Records.{Item}
 use Rattle.line_model.specs.basics.Bounds.{IsItem}
-use Rattle.line_model.specs.channels.Channels.{Channel, fresh}
-use Rattle.line_model.specs.channels.ChannelStep.{channel_step}
+use Rattle.line_model.specs.channels.Gaps.{GapChannel, fresh_at}
+use Rattle.line_model.specs.observer.Observer.{row_step}
 use Rattle.line_model.specs.observer.Report.{findings_of}
 use Rattle.line_model.specs.pieces.Plans.{piece_events}
 use Rattle.call_accounts.specs.Counted.{IsCountable}
@@ -36,7 +36,7 @@ returns-in-Some-clause-apart g c = data_alone c.in-Some.octets c.in_ok-octets.fi
 
 pub returns-in-Some-clause-events : goal.returns-in-Some-clause-events
 returns-in-Some-clause-events g c = λ p s.
-    let before : Channel = channel_so_far p in
+    let before : GapChannel = channel_so_far p in
     sym (ap (λ o. c.advance.new.events.items ++ data_events p.epoch p.channel c.args.item.now o) c.in-Some.is)
     ∙ events_are c.clear.new.self.items c.advance.new.events.items before c.args.item.now c.in_ok-octets.field-0 (c.in_ok-octets.ensures.events before s.machine) c.clear.ensures.items s.interface s.epoch s.number
 
@@ -48,7 +48,7 @@ returns-in-Some-clause-finding g c = λ p s.
 pub returns-in-Some-clause-stands : goal.returns-in-Some-clause-stands
 returns-in-Some-clause-stands g c = λ p s small.
     let item : Item = c.args.item.now in
-    let before : Channel = channel_so_far p in
+    let before : GapChannel = channel_so_far p in
     let n = c.in-Some.octets in
     let step = c.in_ok-octets.ensures in
     let es : List Event = piece_events (so_far p) in
@@ -68,19 +68,19 @@ returns-in-Some-clause-stands g c = λ p s small.
       epoch = s.epoch;
       machine =
           subst (g.C.Channel.stands_for c.advance.new.self)
-          ((λ j. (channel_step (s.interface j) (s.number j) before item).after) ∙ sym (channel_more p.interface p.channel (fresh p.interface p.epoch p.channel) p.items item)) (step.stands before s.machine);
+          ((λ j. (row_step (s.interface j) (s.number j) before item).after) ∙ sym (channel_more p.interface p.channel (fresh_at p.interface p.start p.epoch p.channel) p.items item)) (step.stands before s.machine);
       counted = subst counts (sym (piece_more p item)) (subst (λ (l : List Event). counts (es ++ l)) (sym events) counted);
     }
 
 pub returns-in_ok-finding-in-None-clause-events : goal.returns-in_ok-finding-in-None-clause-events
 returns-in_ok-finding-in-None-clause-events g c = λ p s.
-    let before : Channel = channel_so_far p in
+    let before : GapChannel = channel_so_far p in
     sym (ap (λ o. c.advance.new.events.items ++ data_events p.epoch p.channel c.args.item.now o) c.in-None.is)
     ∙ events_are c.clear.new.self.items c.advance.new.events.items before c.args.item.now c.in_ok-octets.field-0 (c.in_ok-octets.ensures.events before s.machine) c.clear.ensures.items s.interface s.epoch s.number
 
 pub returns-in_ok-finding-in-None-clause-finding : goal.returns-in_ok-finding-in-None-clause-finding
 returns-in_ok-finding-in-None-clause-finding g c = λ p s.
-    let before : Channel = channel_so_far p in
+    let before : GapChannel = channel_so_far p in
     let listed : c.as_slice.result.now ≡ row_events p.interface p.epoch p.channel before c.args.item.now =
     c.as_slice.ensures.value ∙ sym (append-nil c.advance.new.events.items) ∙ returns-in_ok-finding-in-None-clause-events g c p s in
     one_finding p.interface p.epoch p.channel before c.args.item.now c.as_slice.result.now c.in_ok-finding-in-None.finding listed c.in_ok-finding-in-None.ensures.found
@@ -88,7 +88,7 @@ returns-in_ok-finding-in-None-clause-finding g c = λ p s.
 pub returns-in_ok-finding-in-None-clause-stands : goal.returns-in_ok-finding-in-None-clause-stands
 returns-in_ok-finding-in-None-clause-stands g c = λ p s small.
     let item : Item = c.args.item.now in
-    let before : Channel = channel_so_far p in
+    let before : GapChannel = channel_so_far p in
     let step = c.in_ok-octets.ensures in
     let es : List Event = piece_events (so_far p) in
     let events : List Event = row_events p.interface p.epoch p.channel before item in
@@ -105,6 +105,6 @@ returns-in_ok-finding-in-None-clause-stands g c = λ p s small.
       epoch = s.epoch;
       machine =
           subst (g.C.Channel.stands_for c.advance.new.self)
-          ((λ j. (channel_step (s.interface j) (s.number j) before item).after) ∙ sym (channel_more p.interface p.channel (fresh p.interface p.epoch p.channel) p.items item)) (step.stands before s.machine);
+          ((λ j. (row_step (s.interface j) (s.number j) before item).after) ∙ sym (channel_more p.interface p.channel (fresh_at p.interface p.start p.epoch p.channel) p.items item)) (step.stands before s.machine);
       counted = subst counts (sym (piece_more p item)) counted;
     }

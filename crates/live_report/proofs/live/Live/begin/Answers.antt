@@ -55,7 +55,7 @@ take-requires g c =
     let room = c.requires.fed in
     let none = nothing_seen g.C.Channel.interface_of g.C.Channel.number_of g.C.Channel.stands_for c.args.self.now room.0 room.1 c.requires.bare in
     let row : ReadsRow c.args.self.now.lines c.next_row.new.self c.args.chunk.now c.in-Some.rest.now c.next_row.new.row = rw c.in-Some.is at c.in_ok-rest.ensures.ok in
-    record { room = (c.in-Some-interface.interface, [], c.new-observer.ensures.walked, first_rows c.in-Some-interface.interface c.args.self.now.lines c.next_row.new.self room.0 c.args.chunk.now c.in-Some.rest.now c.next_row.new.row room.1.reads none row) }
+    record { room = (c.in-Some-interface.interface, [], c.new-observer.ensures.walked, first_rows c.in-Some-interface.interface c.args.self.now.lines c.next_row.new.self room.0 c.args.chunk.now c.in-Some.rest.now c.next_row.new.row room.1.reads none row (c.in-Some-interface.ensures.kept ∙ ap (λ v. v.lines.interface) c.self.view_is)) }
 
 pub observe_chunk-requires : goal.observe_chunk-requires
 observe_chunk-requires g c =
@@ -63,7 +63,7 @@ observe_chunk-requires g c =
     let none = nothing_seen g.C.Channel.interface_of g.C.Channel.number_of g.C.Channel.stands_for c.args.self.now room.0 room.1 c.requires.bare in
     let row : ReadsRow c.args.self.now.lines c.next_row.new.self c.args.chunk.now c.in-Some.rest.now c.next_row.new.row = rw c.in-Some.is at c.in_ok-rest.ensures.ok in
     let observed = first_observed g.C.Channel.interface_of g.C.Channel.number_of g.C.Channel.stands_for c.in-Some-interface.interface room.0 c.args.chunk.now c.in-Some.rest.now c.next_row.new.row c.args.self.now.lines c.next_row.new.self c.take.new.self room.1.reads none row (c.in-Some-interface.ensures.kept ∙ ap (λ v. v.lines.interface) c.self.view_is)
-    (c.in_ok-first.ensures.stands c.in-Some-interface.interface [] c.new-observer.ensures.walked (first_rows c.in-Some-interface.interface c.args.self.now.lines c.next_row.new.self room.0 c.args.chunk.now c.in-Some.rest.now c.next_row.new.row room.1.reads none row)) in
+    (c.in_ok-first.ensures.stands c.in-Some-interface.interface [] c.new-observer.ensures.walked (first_rows c.in-Some-interface.interface c.args.self.now.lines c.next_row.new.self room.0 c.args.chunk.now c.in-Some.rest.now c.next_row.new.row room.1.reads none row (c.in-Some-interface.ensures.kept ∙ ap (λ v. v.lines.interface) c.self.view_is))) in
     (c.in-Some-interface.interface, room.0 ++ row.1.taken, observed)
 
 pub returns-clause-stands : goal.returns-clause-stands
@@ -71,7 +71,7 @@ returns-clause-stands g c text s =
     let none = nothing_seen g.C.Channel.interface_of g.C.Channel.number_of g.C.Channel.stands_for c.args.self.now text s c.requires.bare in
     let row : ReadsRow c.args.self.now.lines c.next_row.new.self c.args.chunk.now c.in-Some.rest.now c.next_row.new.row = rw c.in-Some.is at c.in_ok-rest.ensures.ok in
     let observed = first_observed g.C.Channel.interface_of g.C.Channel.number_of g.C.Channel.stands_for c.in-Some-interface.interface text c.args.chunk.now c.in-Some.rest.now c.next_row.new.row c.args.self.now.lines c.next_row.new.self c.take.new.self s.reads none row (c.in-Some-interface.ensures.kept ∙ ap (λ v. v.lines.interface) c.self.view_is)
-    (c.in_ok-first.ensures.stands c.in-Some-interface.interface [] c.new-observer.ensures.walked (first_rows c.in-Some-interface.interface c.args.self.now.lines c.next_row.new.self text c.args.chunk.now c.in-Some.rest.now c.next_row.new.row s.reads none row)) in
+    (c.in_ok-first.ensures.stands c.in-Some-interface.interface [] c.new-observer.ensures.walked (first_rows c.in-Some-interface.interface c.args.self.now.lines c.next_row.new.self text c.args.chunk.now c.in-Some.rest.now c.next_row.new.row s.reads none row (c.in-Some-interface.ensures.kept ∙ ap (λ v. v.lines.interface) c.self.view_is))) in
     stands_observing g.C.Channel.interface_of g.C.Channel.number_of g.C.Channel.stands_for c.in-Some-interface.interface _ (text ++ c.args.chunk.now) c.observe_chunk.new.observer
     (subst (λ x. IsObserving g.C.Channel.interface_of g.C.Channel.number_of g.C.Channel.stands_for c.in-Some-interface.interface x c.observe_chunk.new.lines c.observe_chunk.new.observer) (chunk_text c.args.self.now.lines c.next_row.new.self text c.args.chunk.now c.in-Some.rest.now c.next_row.new.row row)
     (c.in_ok-observe_chunk.ensures.observes c.in-Some-interface.interface (text ++ row.1.taken) observed)) refl s.running (c.in_ok-observe_chunk.ensures.keeps ∙ c.in_ok-first.ensures.keeps ∙ c.new-observer.ensures.keeps ∙ ap (λ v. v.keeps_rows) c.self.view_is)
@@ -84,7 +84,7 @@ returns-in_err-observe_chunk-clause-refused g c text s =
     let none = nothing_seen g.C.Channel.interface_of g.C.Channel.number_of g.C.Channel.stands_for c.args.self.now text s c.requires.bare in
     let row : ReadsRow c.args.self.now.lines c.next_row.new.self c.args.chunk.now c.in-Some.rest.now c.next_row.new.row = rw c.in-Some.is at c.in_ok-rest.ensures.ok in
     let observed = first_observed g.C.Channel.interface_of g.C.Channel.number_of g.C.Channel.stands_for c.in-Some-interface.interface text c.args.chunk.now c.in-Some.rest.now c.next_row.new.row c.args.self.now.lines c.next_row.new.self c.take.new.self s.reads none row (c.in-Some-interface.ensures.kept ∙ ap (λ v. v.lines.interface) c.self.view_is)
-    (c.in_ok-first.ensures.stands c.in-Some-interface.interface [] c.new-observer.ensures.walked (first_rows c.in-Some-interface.interface c.args.self.now.lines c.next_row.new.self text c.args.chunk.now c.in-Some.rest.now c.next_row.new.row s.reads none row)) in
+    (c.in_ok-first.ensures.stands c.in-Some-interface.interface [] c.new-observer.ensures.walked (first_rows c.in-Some-interface.interface c.args.self.now.lines c.next_row.new.self text c.args.chunk.now c.in-Some.rest.now c.next_row.new.row s.reads none row (c.in-Some-interface.ensures.kept ∙ ap (λ v. v.lines.interface) c.self.view_is))) in
     passed_on c.from_residual-in_err-observe_chunk.result c.in_err-observe_chunk.field-0.0 _ c.from_residual-in_err-observe_chunk.ensures.1
     (subst (λ x. IsFaultOf (early x) c.in_err-observe_chunk.field-0.0) (chunk_text c.args.self.now.lines c.next_row.new.self text c.args.chunk.now c.in-Some.rest.now c.next_row.new.row row)
     (c.in_err-observe_chunk.ensures.refused c.in-Some-interface.interface (text ++ row.1.taken) observed))
@@ -95,7 +95,7 @@ returns-clause-found g c text s =
     let row : ReadsRow c.args.self.now.lines c.next_row.new.self c.args.chunk.now c.in-Some.rest.now c.next_row.new.row = rw c.in-Some.is at c.in_ok-rest.ensures.ok in
     let i = c.in-Some-interface.interface in
     let given = text ++ row.1.taken in
-    let sound = first_rows i c.args.self.now.lines c.next_row.new.self text c.args.chunk.now c.in-Some.rest.now c.next_row.new.row s.reads none row in
+    let sound = first_rows i c.args.self.now.lines c.next_row.new.self text c.args.chunk.now c.in-Some.rest.now c.next_row.new.row s.reads none row (c.in-Some-interface.ensures.kept ∙ ap (λ v. v.lines.interface) c.self.view_is) in
     let observed = first_observed g.C.Channel.interface_of g.C.Channel.number_of g.C.Channel.stands_for i text c.args.chunk.now c.in-Some.rest.now c.next_row.new.row c.args.self.now.lines c.next_row.new.self c.take.new.self s.reads none row (c.in-Some-interface.ensures.kept ∙ ap (λ v. v.lines.interface) c.self.view_is)
     (c.in_ok-first.ensures.stands i [] c.new-observer.ensures.walked sound) in
     let headed = found_headed c.next_row.new.self given c.in-Some.rest.now i observed.reads observed.header in
@@ -113,7 +113,7 @@ returns-in_err-observe_chunk-clause-found g c text s =
     let row : ReadsRow c.args.self.now.lines c.next_row.new.self c.args.chunk.now c.in-Some.rest.now c.next_row.new.row = rw c.in-Some.is at c.in_ok-rest.ensures.ok in
     let i = c.in-Some-interface.interface in
     let given = text ++ row.1.taken in
-    let sound = first_rows i c.args.self.now.lines c.next_row.new.self text c.args.chunk.now c.in-Some.rest.now c.next_row.new.row s.reads none row in
+    let sound = first_rows i c.args.self.now.lines c.next_row.new.self text c.args.chunk.now c.in-Some.rest.now c.next_row.new.row s.reads none row (c.in-Some-interface.ensures.kept ∙ ap (λ v. v.lines.interface) c.self.view_is) in
     let observed = first_observed g.C.Channel.interface_of g.C.Channel.number_of g.C.Channel.stands_for i text c.args.chunk.now c.in-Some.rest.now c.next_row.new.row c.args.self.now.lines c.next_row.new.self c.take.new.self s.reads none row (c.in-Some-interface.ensures.kept ∙ ap (λ v. v.lines.interface) c.self.view_is)
     (c.in_ok-first.ensures.stands i [] c.new-observer.ensures.walked sound) in
     let headed = found_headed c.next_row.new.self given c.in-Some.rest.now i observed.reads observed.header in

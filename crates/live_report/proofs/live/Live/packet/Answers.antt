@@ -1,4 +1,4 @@
-use Rattle.std.proofs.Common.{◌∙◌, ◌++◌, ap, subst, sym}
+use Rattle.std.proofs.Common.{None, ◌∙◌, ◌++◌, ap, subst, sym}
 use Rattle.std.specs.Prelude.{IfSome}
 use Rattle.std.specs.Result.{result_err}
 use Rattle.trace_text.specs.RowTexts.{row_text}
@@ -17,7 +17,7 @@ pub returns-clause-fed : goal.returns-clause-fed
 returns-clause-fed g c = record {
   fed = λ none.
       let room = c.requires.fed.fed c.in_default.is in
-      let w = fed_on c.take_packet-taken.result _ (λ text. WasFed g.C.Channel text c.take_packet-taken.new.self) room.0 (row_text (record { number = c.args.number; side = c.args.side; octets = c.args.octets.now })) c.err-self.ensures.value
+      let w = fed_on c.take_packet-taken.result _ (λ text. WasFed g.C.Channel text c.take_packet-taken.new.self) room.0 (row_text (record { number = c.args.number; side = c.args.side; octets = c.args.octets.now; gap = None })) c.err-self.ensures.value
       (c.take_packet-taken.ensures.taken room.0 (record { reads = room.1.reads; running = room.1.running; observed = room.1.observed; keeps = room.1.keeps; last = room.1.last })) (c.take_packet-taken.ensures.passed room.0 (record { reads = room.1.reads; running = room.1.running; observed = room.1.observed; keeps = room.1.keeps; last = room.1.last })) none in
       (w.0, record { reads = w.1.reads; running = none; observed = w.1.observed; keeps = w.1.keeps; last = w.1.last });
   kinds = subst (λ o. IfSome o IsTextFault) (sym c.err-self.ensures.value) (fault_of c.take_packet-taken.result IsTextFault c.take_packet-taken.ensures.kinds);
@@ -35,5 +35,5 @@ returns-clause-passed g c text s told =
 
 pub returns-clause-found : goal.returns-clause-found
 returns-clause-found g c text s told =
-    subst (λ l. HasFound l c.take_packet-taken.new.self.found.items (found text) (found (text ++ (row_text (record { number = c.args.number; side = c.args.side; octets = c.args.octets.now }))))) c.clear.ensures.items
+    subst (λ l. HasFound l c.take_packet-taken.new.self.found.items (found text) (found (text ++ (row_text (record { number = c.args.number; side = c.args.side; octets = c.args.octets.now; gap = None }))))) c.clear.ensures.items
     (c.take_packet-taken.ensures.found text (record { reads = s.reads; running = s.running; observed = s.observed; keeps = s.keeps; last = s.last }) told)

@@ -3,20 +3,30 @@ use Rattle.line_model.specs.pieces.Plans.{value}
 use Rattle.line_model.proofs.Posts.{length-values}
 use Rattle.restart_epochs.specs.Cutting.{given_of}
 use Rattle.restart_epochs.proofs.Listings.{listing}
-use Rattle.live_report.proofs.WholeLemmas.{of_walk}
+use Rattle.live_report.specs.Observing.{epoch_at}
+use Rattle.live_report.proofs.TakeLemmas.{pieces_here}
+use Rattle.live_report.proofs.WholeLemmas.{few_gaps, of_walk}
 use Rattle.live_report.proofs.observer.Observer.end.Goals as goal
 
 pub end_channels-requires-clause-room : goal.end_channels-requires-clause-room
 end_channels-requires-clause-room g c =
     let room = c.requires.room in
-    let s = room.2 in
-    (s.cutting.interface, s.cutting.epoch, s.cutting.open_rows, map value (given_of room.0 room.1), s.holds.lanes, listing room.0 room.1 s.cutting s.cut, s.holds.ended)
+    let s = room.2 in (
+      epoch_at s.cutting,
+      s.cutting.open_rows,
+      map value (given_of room.0 room.1),
+      s.holds.lanes,
+      pieces_here g.C.Channel.interface_of g.C.Channel.number_of g.C.Channel.stands_for s.cutting _ _ s.holds s.bounds,
+      listing room.0 room.1 s.cutting s.cut,
+      s.holds.ended,
+    )
 
 pub returns-clause-report : goal.returns-clause-report
 returns-clause-report g c i rs s =
     c.finish.ensures.report i rs _
-    (c.in_ok-end_channels.ensures.values s.cutting.interface s.cutting.epoch s.cutting.open_rows (map value (given_of i rs)) s.holds.lanes (listing i rs s.cutting s.cut) s.holds.ended)
-    (of_walk g.C.Channel.interface_of g.C.Channel.number_of g.C.Channel.stands_for i rs c.args.self s c.args.self.walk.findings.items c.args.self.walk.packets refl refl)
+    (c.in_ok-end_channels.ensures.values (epoch_at s.cutting) s.cutting.open_rows (map value (given_of i rs)) s.holds.lanes
+    (pieces_here g.C.Channel.interface_of g.C.Channel.number_of g.C.Channel.stands_for s.cutting _ _ s.holds s.bounds) (listing i rs s.cutting s.cut) s.holds.ended)
+    (of_walk g.C.Channel.interface_of g.C.Channel.number_of g.C.Channel.stands_for i rs c.args.self s c.args.self.walk.findings.items c.row_counts-rows.result refl c.row_counts-rows.ensures.packets c.row_counts-rows.ensures.gaps)
 
 pub end_channels-requires-clause-pieces : goal.end_channels-requires-clause-pieces
 end_channels-requires-clause-pieces g c =
@@ -24,3 +34,6 @@ end_channels-requires-clause-pieces g c =
     let pieces = ap (λ e. e.pieces) s.holds.ended ∙ length-values (given_of c.requires.room.0 c.requires.room.1) ∙ sym s.cut.given in
     let channels = ap (λ l. length l) s.holds.lanes.channels in
     omega (arith, pieces, channels, s.bounds.ids, s.bounds.rows, s.bounds.last)
+
+pub row_counts-rows-requires : goal.row_counts-rows-requires
+row_counts-rows-requires g c = few_gaps g.C.Channel.interface_of g.C.Channel.number_of g.C.Channel.stands_for c.requires.room.0 c.requires.room.1 _ c.requires.room.2

@@ -1,6 +1,8 @@
 use Rattle.std.proofs.Common.{refl, subst, sym}
+use Rattle.restart_epochs.specs.Cutting.{no_cutting}
 use Rattle.restart_epochs.specs.OpenLanes.{IsEmpty}
 use Rattle.restart_epochs.specs.OpenRows.{no_rows}
+use Rattle.live_report.specs.Observing.{epoch_at}
 use Rattle.live_report.proofs.StandLemmas.{lanes_none, nothing_taken}
 use Rattle.live_report.proofs.observer.Observer.new.Goals as goal
 
@@ -11,9 +13,12 @@ returns-clause-walked g c =
       interface = c.new.ensures.interface;
       line = c.new.ensures.machine;
       epoch = c.new.ensures.epoch;
+      start = c.new.ensures.start;
       packets = c.new.ensures.packets;
+      gaps = c.new.ensures.gaps;
       findings = c.new.ensures.findings;
       ended = c.new-2.ensures;
-      lanes = lanes_none g.C.Channel.interface_of g.C.Channel.number_of g.C.Channel.stands_for c.args.interface.now 1 no_rows c.new-3.result (subst IsEmpty (sym c.new-3.ensures) (record { channels = refl; values = λ k. refl })) refl;
+      gap = c.new-3.ensures.gap;
+      lanes = lanes_none g.C.Channel.interface_of g.C.Channel.number_of g.C.Channel.stands_for (epoch_at (no_cutting c.args.interface.now)) no_rows c.new-3.result.table (subst IsEmpty (sym c.new-3.ensures.table) (record { channels = refl; values = λ k. refl })) refl;
     })
     c.none.ensures

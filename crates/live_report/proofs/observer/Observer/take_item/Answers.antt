@@ -5,12 +5,13 @@ use Rattle.restart_epochs.specs.Cutting.{given_of}
 use Rattle.restart_epochs.specs.Walks.{HasRoom, IsAdvanced}
 use Rattle.restart_epochs.proofs.Listings.{listing}
 use Rattle.live_report.specs.JudgedRows.{IsJudgedRow, KnowsLast}
-use Rattle.live_report.specs.Lanes.{OpenFor}
-use Rattle.live_report.specs.Turns.{MayTurn, StandsAt, with_data}
+use Rattle.restart_epochs.specs.Cutting.{HasTurned}
+use Rattle.live_report.specs.Lanes.{LanesFor}
+use Rattle.live_report.specs.Turns.{StandsAt, epoch_of, with_data}
 use Rattle.live_report.proofs.FindingLemmas.{finds_after}
 use Rattle.live_report.proofs.LastLemmas.{last_known}
 use Rattle.live_report.proofs.UncountedLemmas.{few_with}
-use Rattle.live_report.proofs.TakeLemmas.{said_here, cut_after, cutting_after, has_turned, holds_after, is_taken, lanes_at, may_turn, rows_after, stands_after, step_of}
+use Rattle.live_report.proofs.TakeLemmas.{said_here, cut_after, cutting_after, has_turned, holds_after, is_taken, epoch_here, lanes_at, next_of, pieces_at, rows_after, stands_after, step_of, turns_at}
 use Rattle.live_report.proofs.observer.Observer.take_item.Goals as goal
 
 pub step-requires : goal.step-requires
@@ -29,10 +30,13 @@ turn-requires-clause-room g c =
     let is = step_of g.C.Channel.interface_of g.C.Channel.number_of g.C.Channel.stands_for s.cutting _ o one c.in_ok-step.step s.holds c.in_ok-step.ensures.step in (
       s.cutting.open_rows,
       map value (given_of room.0 room.1),
-      (lanes_at g.C.Channel.interface_of g.C.Channel.number_of g.C.Channel.stands_for s.cutting _ o c.step.new.self s.holds same, listing room.0 room.1 s.cutting s.cut),
+      (
+        lanes_at g.C.Channel.interface_of g.C.Channel.number_of g.C.Channel.stands_for s.cutting _ o c.step.new.self s.holds same,
+        pieces_at g.C.Channel.interface_of g.C.Channel.number_of g.C.Channel.stands_for s.cutting _ o c.step.new.self s.holds same s.bounds,
+        listing room.0 room.1 s.cutting s.cut,
+      ),
       s.holds.ended,
-      subst (λ i. MayTurn c.in_ok-step.step.turn i one s.cutting.open_rows) (sym (same.interface ∙ s.holds.interface))
-          (may_turn g.C.Channel.interface_of g.C.Channel.number_of g.C.Channel.stands_for room.0 room.1 o one c.in_ok-step.step s room.3 packet is),
+      turns_at g.C.Channel.interface_of g.C.Channel.number_of g.C.Channel.stands_for room.0 room.1 o one c.in_ok-step.step c.step.new.self s room.3 packet is same,
     )
 
 pub turn-requires-clause-pieces : goal.turn-requires-clause-pieces
@@ -41,6 +45,11 @@ turn-requires-clause-pieces g c =
     let pieces = ap (λ e. e.pieces) s.holds.ended ∙ length-values (given_of c.requires.room.0 c.requires.room.1) ∙ sym s.cut.given in
     let channels = ap (λ l. length l) s.holds.lanes.channels in
     omega (arith, pieces, channels, s.bounds.ids, s.bounds.rows, s.bounds.last)
+
+pub advance-requires-clause-gaps : goal.advance-requires-clause-gaps
+advance-requires-clause-gaps g c =
+    let s = c.requires.room.2 in
+    omega (arith, ap (λ o. o.walk.gaps) c.in_ok-keep.ensures.rest, ap (λ w. w.gaps) c.in_ok-judged.ensures.walk, c.in_ok-step.ensures.same.gaps, s.holds.gaps, s.bounds.gaps, s.bounds.rows, s.bounds.last)
 
 pub advance-requires-clause-packets : goal.advance-requires-clause-packets
 advance-requires-clause-packets g c =
@@ -59,28 +68,37 @@ returns-clause-stands g c i rs s sound =
     let same = c.in_ok-step.ensures.same in
     let packet = said_here g.C.Channel.interface_of g.C.Channel.number_of g.C.Channel.stands_for c.requires.room.0 c.requires.room.1 o one s.cutting.interface c.requires.room.2 c.requires.room.3 s.holds.interface in
     let is = step_of g.C.Channel.interface_of g.C.Channel.number_of g.C.Channel.stands_for s.cutting _ o one step s.holds c.in_ok-step.ensures.step in
-    let here : StandsAt g.C.Channel v s.cutting.open_rows o.lanes = (lanes_at g.C.Channel.interface_of g.C.Channel.number_of g.C.Channel.stands_for s.cutting _ o v s.holds same, listing i rs s.cutting s.cut) in
-    let may = subst (λ j. MayTurn step.turn j one s.cutting.open_rows) (sym (same.interface ∙ s.holds.interface)) (may_turn g.C.Channel.interface_of g.C.Channel.number_of g.C.Channel.stands_for i rs o one step s sound packet is) in
-    let turned = has_turned step.turn one s.cutting.open_rows in
+    let rows = s.cutting.open_rows in
+    let here : StandsAt g.C.Channel v rows o.lanes = (
+      lanes_at g.C.Channel.interface_of g.C.Channel.number_of g.C.Channel.stands_for s.cutting _ o v s.holds same,
+      pieces_at g.C.Channel.interface_of g.C.Channel.number_of g.C.Channel.stands_for s.cutting _ o v s.holds same s.bounds,
+      listing i rs s.cutting s.cut,
+    ) in
+    let epoch = epoch_here g.C.Channel.interface_of g.C.Channel.number_of g.C.Channel.stands_for s.cutting _ o v s.holds same in
+    let next = next_of g.C.Channel.interface_of g.C.Channel.number_of g.C.Channel.stands_for i rs o one s sound in
+    let rows_then = rows_after step.turn one s.cutting.gap rows in
+    let may = turns_at g.C.Channel.interface_of g.C.Channel.number_of g.C.Channel.stands_for i rs o one step v s sound packet is same in
+    let turned = subst (λ n. HasTurned step.turn one n rows rows_then) (sym s.holds.gap) (has_turned step.turn one s.cutting.gap rows) in
     let last = c.in_ok-judged.judged in
     let rest = c.in_ok-keep.ensures.rest in
     let events = with_data v.epoch last.judge one c.turn.new.self.events.items in
     let known : KnowsLast i (rs ++ one ∷ []) (Some last) events =
-    (last_known i rs s.cutting (cutting_after s.cutting one step) one step v last _ _ s.cut (cut_after i rs s.cutting one step s.cut packet is) (is_taken s.cutting one step) packet is
-    (same.interface ∙ s.holds.interface) (same.epoch ∙ s.holds.epoch) (same.machine ∙ s.holds.line) refl
+    (last_known i rs s.cutting (cutting_after s.cutting one step) one step v o.lanes.gap last _ _ s.cut (cut_after i rs s.cutting one step s.cut s.bounds next.rising packet is) (is_taken s.cutting one step) packet is
+    epoch s.holds.gap (same.machine ∙ s.holds.line) (omega (arith, next.rising, s.bounds.gap)) refl
     (record {
       number = c.in_ok-judged.ensures.number;
       side = c.in_ok-judged.ensures.side;
       packet = c.in_ok-judged.ensures.packet;
-      judge = c.in_ok-judged.ensures.judge s.cutting.open_rows here (rows_after step.turn one s.cutting.open_rows) may turned;
-      came = c.in_ok-judged.ensures.events s.cutting.open_rows here;
+      judge = c.in_ok-judged.ensures.judge rows here rows_then may turned;
+      came = c.in_ok-judged.ensures.events rows here;
     })
-    (finds_after i rs s.cutting one step v _ s.cut packet is (same.interface ∙ s.holds.interface) (same.epoch ∙ s.holds.epoch) (c.in_ok-judged.ensures.finding s.cutting.open_rows here))) in
+    (finds_after i rs s.cutting one step v o.lanes.gap _ s.cut packet is epoch s.holds.gap (c.in_ok-judged.ensures.finding rows here))) in
     stands_after g.C.Channel.interface_of g.C.Channel.number_of g.C.Channel.stands_for i rs one o _ one step s refl sound packet is
-    (holds_after g.C.Channel.interface_of g.C.Channel.number_of g.C.Channel.stands_for i rs s.cutting (map value (given_of i rs)) one step o _ v s.cut packet is s.holds same (subst (λ w. IsAdvanced step w c.advance.new.self) (ap (λ k. k.walk) rest ∙ c.in_ok-judged.ensures.walk) c.advance.ensures) (length-values (given_of i rs) ∙ sym s.cut.given)
-    (ap (λ k. k.ended) rest ∙ c.in_ok-judged.ensures.ended s.cutting.open_rows here (map value (given_of i rs)) s.holds.ended)
-    (subst (OpenFor g.C.Channel.interface_of g.C.Channel.number_of g.C.Channel.stands_for v.interface v.epoch (rows_after step.turn one s.cutting.open_rows)) (sym (ap (λ k. k.lanes) rest))
-    (c.in_ok-judged.ensures.lanes s.cutting.open_rows here (rows_after step.turn one s.cutting.open_rows) may turned)))
+    (holds_after g.C.Channel.interface_of g.C.Channel.number_of g.C.Channel.stands_for i rs s.cutting (map value (given_of i rs)) one step o _ v s.cut is s.holds same (subst (λ w. IsAdvanced step w c.advance.new.self) (ap (λ k. k.walk) rest ∙ c.in_ok-judged.ensures.walk) c.advance.ensures) (length-values (given_of i rs) ∙ sym s.cut.given)
+    (ap (λ k. k.ended) rest ∙ c.in_ok-judged.ensures.ended rows here (map value (given_of i rs)) s.holds.ended)
+    (ap (λ k. k.lanes.gap) rest ∙ c.in_ok-judged.ensures.gap)
+    (subst (LanesFor g.C.Channel.interface_of g.C.Channel.number_of g.C.Channel.stands_for (epoch_of v) rows_then) (sym (ap (λ k. k.lanes.table) rest))
+    (c.in_ok-judged.ensures.lanes rows here rows_then may turned)))
     (λ keeps.
     let kept = sym (ap (λ k. k.keeps_rows) rest) ∙ keeps in
     subst (λ l. KnowsLast i (rs ++ one ∷ []) l c.keep.new.self.events.items) (sym (c.in_ok-keep.ensures.last kept))
@@ -98,5 +116,11 @@ returns-clause-finding g c i rs s =
     let same = c.in_ok-step.ensures.same in
     let packet = said_here g.C.Channel.interface_of g.C.Channel.number_of g.C.Channel.stands_for c.requires.room.0 c.requires.room.1 o one s.cutting.interface c.requires.room.2 c.requires.room.3 s.holds.interface in
     let is = step_of g.C.Channel.interface_of g.C.Channel.number_of g.C.Channel.stands_for s.cutting _ o one step s.holds c.in_ok-step.ensures.step in
-    let here : StandsAt g.C.Channel v s.cutting.open_rows o.lanes = (lanes_at g.C.Channel.interface_of g.C.Channel.number_of g.C.Channel.stands_for s.cutting _ o v s.holds same, listing i rs s.cutting s.cut) in
-    (finds_after i rs s.cutting one step v _ s.cut packet is (same.interface ∙ s.holds.interface) (same.epoch ∙ s.holds.epoch) (c.in_ok-judged.ensures.finding s.cutting.open_rows here))
+    let rows = s.cutting.open_rows in
+    let here : StandsAt g.C.Channel v rows o.lanes = (
+      lanes_at g.C.Channel.interface_of g.C.Channel.number_of g.C.Channel.stands_for s.cutting _ o v s.holds same,
+      pieces_at g.C.Channel.interface_of g.C.Channel.number_of g.C.Channel.stands_for s.cutting _ o v s.holds same s.bounds,
+      listing i rs s.cutting s.cut,
+    ) in
+    let epoch = epoch_here g.C.Channel.interface_of g.C.Channel.number_of g.C.Channel.stands_for s.cutting _ o v s.holds same in
+    finds_after i rs s.cutting one step v o.lanes.gap _ s.cut packet is epoch s.holds.gap (c.in_ok-judged.ensures.finding rows here)

@@ -1,23 +1,26 @@
-use Rattle.std.proofs.Common.{◌∙◌, ap, subst, sym}
-use Rattle.std.specs.Option.{option_map}
+use Rattle.std.proofs.Common.{sym, subst}
+use Rattle.std.proofs.lemmas.Option.{IfSome_then}
+use Rattle.channel_run.specs.Live.{channel_so_far}
 use Rattle.channel_run.specs.Views.{IsViewOf}
-use Rattle.restart_epochs.specs.Cutting.{observer}
-use Rattle.live_report.specs.Observing.{open_piece}
+use Rattle.restart_epochs.specs.Cutting.{items_out, observer}
+use Rattle.live_report.specs.Lanes.{begun_piece}
+use Rattle.live_report.specs.Observing.{epoch_at}
 use Rattle.live_report.proofs.FindingLemmas.{state_here}
 use Rattle.live_report.proofs.LastLemmas.{open_is_ready}
-use Rattle.live_report.proofs.ReportingLemmas.{reported_lane}
 use Rattle.live_report.proofs.observer.Observer.view.Goals as goal
 
-pub returns-in-Some-clause-held : goal.returns-in-Some-clause-held
-returns-in-Some-clause-held g c cutting reports held =
-    c.view.ensures (open_piece cutting c.args.channel)
-    (reported_lane g.C.Channel.interface_of g.C.Channel.number_of g.C.Channel.stands_for cutting.interface cutting.epoch cutting.open_rows c.args.channel c.args.self.now.lanes c.in-Some.live.now held.lanes (ap (λ o. option_map (λ r. r.now) o) (sym c.in-Some.is) ∙ c.get.ensures)).1
+pub returns-clause-held : goal.returns-clause-held
+returns-clause-held g c cutting reports held =
+    IfSome_then c.view.result (c.view.ensures (epoch_at cutting) cutting.open_rows held.lanes)
+    (λ v is. subst (λ n. IsViewOf cutting.interface (channel_so_far (begun_piece (epoch_at cutting) c.args.channel (items_out n cutting.open_rows c.args.channel))) v) held.gap is.1)
 
-pub returns-in-Some-clause-walked : goal.returns-in-Some-clause-walked
-returns-in-Some-clause-walked g c i rows walked =
+pub returns-clause-walked : goal.returns-clause-walked
+returns-clause-walked g c i rows walked =
     let cutting = walked.cutting in
+    let held = walked.holds in
     let k = c.args.channel in
-    let lane = reported_lane g.C.Channel.interface_of g.C.Channel.number_of g.C.Channel.stands_for cutting.interface cutting.epoch cutting.open_rows k c.args.self.now.lanes c.in-Some.live.now walked.holds.lanes (ap (λ o. option_map (λ r. r.now) o) (sym c.in-Some.is) ∙ c.get.ensures) in
-    let state = state_here i rows cutting k walked.cut (open_is_ready i rows cutting k walked.cut lane.0) in
-    subst (λ j. IsViewOf j ((observer i rows).states k) c.view.result) walked.cut.interface
-    (subst (λ x. IsViewOf cutting.interface x c.view.result) (sym state) (c.view.ensures (open_piece cutting k) lane.1))
+    IfSome_then c.view.result (c.view.ensures (epoch_at cutting) cutting.open_rows held.lanes)
+    (λ v is.
+    subst (λ j. IsViewOf j ((observer i rows).states k) v) walked.cut.interface
+    (subst (λ x. IsViewOf cutting.interface x v) (sym (state_here i rows cutting k walked.cut (open_is_ready i rows cutting k walked.cut is.0)))
+    (subst (λ n. IsViewOf cutting.interface (channel_so_far (begun_piece (epoch_at cutting) k (items_out n cutting.open_rows k))) v) held.gap is.1)))

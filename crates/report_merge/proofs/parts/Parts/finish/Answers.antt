@@ -1,4 +1,4 @@
-use Rattle.std.proofs.Common.{◌≡◌, ◌∙◌, ap, subst, sym, List, ◌++◌, sum_by, arith}
+use Rattle.std.proofs.Common.{◌≡◌, ◌∙◌, ap, subst, sym, List, ◌++◌, sum_by, arith, refl}
 use Rattle.std.specs.Prelude.{IfErr}
 use Rattle.std.proofs.lemmas.Result.{IfOk-from_err, err_from_is_err_and}
 use Rattle.line_model.specs.declared.fault.Fault.TheVariants.{Memory}
@@ -37,12 +37,13 @@ returns-clause-merged g c ps all =
       calls_sorted = subst (IsNonDecreasingBy (λ (call : CallRecord). call.opened)) (sym c.into_calls-calls.ensures) sorted.calls_sorted;
       accounts = c.in_ok-accounts.ensures.accounts ∙ ap accounts_of c.as_slice.ensures.value;
       peak = subst (λ (l : List CallRecord). IsPeakOfTimes (up_at l) c.in_ok-peak.peak.count c.in_ok-peak.peak.packet) c.as_slice-2.ensures.value c.in_ok-peak.ensures.peak;
+      gaps = refl;
       summary = λ j. record { packets = c.from.ensures j; findings = many_findings j; calls = many_calls j; octets = (sorted.same_octets ∙ given.same_octets) j; segments = (sorted.same_segments ∙ given.same_segments) j };
     }
 
 pub returns-clause-report : goal.returns-clause-report
 returns-clause-report g c i rs ps is w =
-    report_is i rs ps c.args.line.items c.args.packets _ _ w
+    report_is i rs ps c.args.line.items c.args.rows _ _ w
     (returns-clause-merged g c ps (in_order_as ps _ is))
 
 pub returns-in_err-append-clause-merged : goal.returns-in_err-append-clause-merged

@@ -7,9 +7,11 @@ returns g c = cut_begun c.args.machine _ (record {
   line = c.of_block.ensures.machine;
   epoch = c.of_block.ensures.epoch;
   packets = c.of_block.ensures.packets;
+  gaps = c.of_block.ensures.gaps;
   octets = refl;
   findings = c.of_block.ensures.findings;
   ended = c.new.ensures.items;
+  gap = refl;
   rows = c.emptied.ensures.rows;
   channels = c.emptied.ensures.channels;
 })

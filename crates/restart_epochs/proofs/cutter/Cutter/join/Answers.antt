@@ -8,7 +8,7 @@ pub end_epochs-requires : goal.end_epochs-requires
 end_epochs-requires g c =
     let next = c.requires.next in
     let may = may_hang next.0 next.1 next.2 c.args.self c.args.block next.3 (subst IsCutting c.self.view_is c.self.invariant) next.4 next.5 in
-    record { rows = subst (λ d. MayEndAll d.interface d.epoch d.given d.open_rows c.args.block.ended.items) (sym c.self.view_is) (may_end c.args.self c.args.block may) }
+    record { rows = subst (λ d. MayEndAll d.interface d.epoch d.start d.given d.gap d.open_rows c.args.block.ended.items) (sym c.self.view_is) (may_end c.args.self c.args.block may) }
 
 pub join-requires-clause-epochs : goal.join-requires-clause-epochs
 join-requires-clause-epochs g c =
@@ -22,10 +22,16 @@ join-requires-clause-packets g c =
     let fits = (counts_fit c.args.self c.args.block (may_hang next.0 next.1 next.2 c.args.self c.args.block next.3 (subst IsCutting c.self.view_is c.self.invariant) next.4 next.5)).1 in
     omega (arith, fits, ap (λ d. d.packets) c.self.view_is)
 
+pub join-requires-clause-gaps : goal.join-requires-clause-gaps
+join-requires-clause-gaps g c =
+    let next = c.requires.next in
+    let fits = (counts_fit c.args.self c.args.block (may_hang next.0 next.1 next.2 c.args.self c.args.block next.3 (subst IsCutting c.self.view_is c.self.invariant) next.4 next.5)).2 in
+    omega (arith, fits, ap (λ d. d.gaps) c.self.view_is)
+
 pub overflow_add-result : goal.overflow_add-result
 overflow_add-result g c =
     let next = c.requires.next in
-    let fits = (counts_fit c.args.self c.args.block (may_hang next.0 next.1 next.2 c.args.self c.args.block next.3 (subst IsCutting c.self.view_is c.self.invariant) next.4 next.5)).2 in
+    let fits = (counts_fit c.args.self c.args.block (may_hang next.0 next.1 next.2 c.args.self c.args.block next.3 (subst IsCutting c.self.view_is c.self.invariant) next.4 next.5)).3 in
     omega (arith, fits, ap (λ d. d.octets) c.self.view_is)
 
 pub invariant_of-result : goal.invariant_of-result
@@ -35,12 +41,16 @@ invariant_of-result g c =
     let walk = c.in_ok-join.ensures in
     let hung : IsHung c.args.self c.args.block _ c.args.out.now.items c.end_epochs.new.out.items = hung_at _ c.args.self _ c.args.block c.args.out.now.items c.end_epochs.new.out.items c.self.view_is (record {
       between = c.end_epochs.new.self.rows;
+      gap = c.end_epochs.new.self.gap;
       ended = c.in_ok-end_epochs.ensures;
       added = c.in_ok-keep_parts.ensures;
+      joined = c.gap_joined.ensures;
       interface = walk.interface;
       line = walk.machine;
       epoch = walk.epoch;
+      start = walk.start;
       packets = walk.packets;
+      gaps = walk.gaps;
       last = c.last_after-last.ensures;
       octets = refl;
       findings = walk.findings;
@@ -54,12 +64,16 @@ returns-clause-taken g c items cut come =
     let walk = c.in_ok-join.ensures in
     let hung : IsHung c.args.self c.args.block _ c.args.out.now.items c.end_epochs.new.out.items = hung_at _ c.args.self _ c.args.block c.args.out.now.items c.end_epochs.new.out.items c.self.view_is (record {
       between = c.end_epochs.new.self.rows;
+      gap = c.end_epochs.new.self.gap;
       ended = c.in_ok-end_epochs.ensures;
       added = c.in_ok-keep_parts.ensures;
+      joined = c.gap_joined.ensures;
       interface = walk.interface;
       line = walk.machine;
       epoch = walk.epoch;
+      start = walk.start;
       packets = walk.packets;
+      gaps = walk.gaps;
       last = c.last_after-last.ensures;
       octets = refl;
       findings = walk.findings;

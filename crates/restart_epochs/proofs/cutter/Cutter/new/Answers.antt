@@ -6,4 +6,4 @@ use Rattle.restart_epochs.proofs.cutter.Cutter.new.Goals as goal
 pub returns-clause-stands : goal.returns-clause-stands
 returns-clause-stands g c =
     let fresh = c.new.ensures in
-    stands_nothing c.args.interface.now _ fresh.interface fresh.machine fresh.epoch refl fresh.packets fresh.findings (λ k. ap (λ o. rows_of o k) c.new-2.ensures) (ap (λ o. o.channels) c.new-2.ensures)
+    stands_nothing c.args.interface.now _ fresh.interface fresh.machine fresh.epoch fresh.start refl fresh.packets fresh.gaps fresh.findings refl (λ k. ap (λ o. rows_of o k) c.new-2.ensures) (ap (λ o. o.channels) c.new-2.ensures)

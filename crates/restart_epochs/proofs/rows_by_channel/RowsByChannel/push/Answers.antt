@@ -5,5 +5,5 @@ use Rattle.restart_epochs.proofs.rows_by_channel.RowsByChannel.push.Goals as goa
 
 pub invariant_of-self-2 : goal.invariant_of-self-2
 invariant_of-self-2 g c =
-    let more : HasMore c.args.channel c.args.item.now c.self.inside.table c.put.new.self = search rules in
-    others_more c.args.channel c.args.item.now c.self.inside.table c.put.new.self more c.self.invariant
+    let more : HasMore c.args.gap c.args.channel c.args.item.now c.self.inside.table c.put.new.self = search rules in
+    others_more c.args.gap c.args.channel c.args.item.now c.self.inside.table c.put.new.self more c.self.invariant

@@ -1,6 +1,6 @@
 use Rattle.std.proofs.Common.{rules, ◌≡◌, ◌∙◌, ap, sym, subst, ◌++◌, length}
 use Rattle.std.specs.List.{flat_map}
-use Rattle.restart_epochs.specs.OpenRows.{IsTakenOut, OpenRows, rows_of}
+use Rattle.restart_epochs.specs.OpenRows.{IsTakenOut, OpenRows, last_number, rows_of}
 use Rattle.restart_epochs.proofs.ListedRows.{others_taken}
 use Rattle.restart_epochs.proofs.SharedParts.{rows_kept, same_front, same_rest}
 use Rattle.restart_epochs.proofs.rows_by_channel.RowsByChannel.take_first.Goals as goal
@@ -20,6 +20,21 @@ invariant_of-self-2 g c =
     let after = c.put.new.self in
     let taken : IsTakenOut channel (rows_of before channel) before after = search rules in
     others_taken channel (rows_of before channel) before after taken c.self.invariant
+
+pub invariant_of-result-2 : goal.invariant_of-result-2
+invariant_of-result-2 g c =
+    let channel = c.in-Some.channel in
+    let before = c.self.inside.table in
+    let after = c.put.new.self in
+    let taken : IsTakenOut channel (rows_of before channel) before after = search rules in
+    let first = c.in_ok-items-2.items in
+    let rest = c.split_first-2.new.self in
+    let split : c.args.rows.now ≡ first ++ rest = search rules in
+    let count : length first ≡ length (rows_of before channel) = search rules in
+    let last : c.last-last.result ≡ last_number (rows_of before channel) = search rules in
+    let all : c.args.rows.now ≡ flat_map (rows_of before) before.channels = c.requires.rows ∙ ap (λ (o : OpenRows). flat_map (rows_of o) o.channels) (sym c.self.view_is) in
+    let both : first ++ rest ≡ rows_of before channel ++ flat_map (rows_of before) after.channels = sym split ∙ all ∙ ap (flat_map (rows_of before)) taken.channels in
+    last ∙ ap last_number (sym (same_front first rest (rows_of before channel) (flat_map (rows_of before) after.channels) both count))
 
 pub returns-in_default-list-clause-rows : goal.returns-in_default-list-clause-rows
 returns-in_default-list-clause-rows g c =

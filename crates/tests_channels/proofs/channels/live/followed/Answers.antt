@@ -7,8 +7,8 @@ pub loop-item-init : goal.loop-item-init
 loop-item-init g c =
     let is = c.piece.view_is in
     record {
-      stands = c.in_ok-live.ensures.stands (record c.args.piece.now { items = [] }) (sym (ap (λ v. v.interface) is)) (sym (ap (λ v. v.channel) is)) (sym (ap (λ v. v.epoch) is)) refl;
-      left = ap (λ v. v.items) (sym is) ∙ sym c.iter-item-items.ensures ∙ sym c.into_iter-item-iterator.ensures.into_iter_gives;
+      stands = c.in_ok-live.ensures.stands (record c.args.piece.now { items = [] }) (sym (ap (λ v. v.interface) is)) (sym (ap (λ v. v.channel) is)) (sym (ap (λ v. v.epoch) is)) (sym (ap (λ v. v.start) is)) refl;
+      left = sym c.rows-item-items.ensures ∙ sym c.into_iter-item-iterator.ensures.into_iter_gives;
     }
 
 pub take-requires : goal.take-requires

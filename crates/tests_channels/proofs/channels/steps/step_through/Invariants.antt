@@ -1,12 +1,12 @@
 use Rattle.std.specs.Prelude.{◌≡◌, All}
 use Rattle.line_model.specs.basics.Bounds.{IsItem}
-use Rattle.line_model.specs.channels.Channels.{Channel}
+use Rattle.line_model.specs.channels.Gaps.{GapChannel}
 use Rattle.tests_channels.proofs.channels.steps.step_through.Given as goal
 
 abbrev pub invariant-loop-item : goal.invariant-loop-item
 invariant-loop-item g l = record {
   interface : g.C.Channel.interface_of l.channel ≡ l.interface;
   number : g.C.Channel.number_of l.channel ≡ 1;
-  stands : (c : Channel) × g.C.Channel.stands_for l.channel c;
+  stands : (c : GapChannel) × g.C.Channel.stands_for l.channel c;
   left : All (IsItem l.interface 1) l.item-iterator;
 }

@@ -4,7 +4,7 @@ use Rattle.line_model.specs.text.Text.{early, early_rows}
 use Rattle.trace_text.proofs.SourceLemmas.{passed_on}
 use Rattle.trace_text.specs.Progress.{bytes_fed}
 use Rattle.trace_text.specs.StandsFor.{IsFaultOf, ReadsChunk}
-use Rattle.live_report.proofs.ChunkLemmas.{ReadsRow, next_rows}
+use Rattle.live_report.proofs.ChunkLemmas.{ReadsRow, header_stays, next_rows}
 use Rattle.trace_scan.proofs.Cuts.{come_begun, come_end, come_pieces, come_row, come_text}
 use Rattle.trace_scan.proofs.text_cutter.RowCutter.cut_lines.Goals as goal
 
@@ -24,7 +24,8 @@ cut-requires g c =
       next = (
         items_of c.loop-after.self.interface (early_rows (text ++ come.read)),
         come.cut.cut,
-        next_rows c.loop-after.self.interface c.loop-after.lines c.next_row.new.self (text ++ come.read) c.loop-after.rest.now c.in-Some.after.now c.next_row.new.row come.cut.reads row,
+        next_rows c.loop-after.self.interface c.loop-after.lines c.next_row.new.self (text ++ come.read) c.loop-after.rest.now c.in-Some.after.now c.next_row.new.row come.cut.reads row
+            (header_stays c.loop-after.lines c.next_row.new.self (text ++ come.read) c.loop-after.rest.now c.loop-after.self.interface come.cut.reads come.cut.header (c.in_ok-after.ensures.header (text ++ come.read) come.cut.reads)),
       );
     }
 

@@ -31,7 +31,14 @@ cut-requires g c =
     let text = c.requires.taken.0 in
     let none = no_rows_yet c.args.self.now text c.requires.taken.1 c.requires.bare in
     let t : ReadsRow c.args.self.now.lines c.next_row.new.self c.args.bytes.now c.in-Some.rest.now c.next_row.new.row = rw c.in-Some.is at c.in_ok-rest.ensures.ok in
-    record { next = ([], c.new-row_cutter.ensures.cut, first_rows c.new-row_cutter.result.interface c.args.self.now.lines c.next_row.new.self text c.args.bytes.now c.in-Some.rest.now c.next_row.new.row c.requires.taken.1.reads none t) }
+    record {
+      next = (
+        [],
+        c.new-row_cutter.ensures.cut,
+        first_rows c.new-row_cutter.result.interface c.args.self.now.lines c.next_row.new.self text c.args.bytes.now c.in-Some.rest.now c.next_row.new.row c.requires.taken.1.reads none t
+            (ap Some c.new-row_cutter.ensures.interface ∙ c.in-Some-interface.ensures.kept ∙ ap (λ v. v.lines.interface) c.self.view_is),
+      );
+    }
 
 pub cut_lines-requires : goal.cut_lines-requires
 cut_lines-requires g c =

@@ -23,7 +23,7 @@ cut_last-requires g c =
       next = (
         items_of i (early_rows text),
         subst (λ j. HasCut (items_of j (early_rows text)) c.row_cutter_of-row_cutter.result) (sym header) (c.row_cutter_of-row_cutter.ensures.cut (early_rows text) c.args.self.lines.interface taken.cut same),
-        subst (AreItems i) all (whole_trace i text end.0),
+        subst (AreItems i) all (whole_trace i text end.0 (end.1 ∙ ap Some (sym header))),
       );
     }
 

@@ -3,9 +3,9 @@ use Rattle.line_model.specs.packets.Says.{items_of}
 use Rattle.line_model.specs.text.Text.{early_rows}
 use Rattle.trace_text.specs.StandsFor.{last_row}
 use Rattle.trace_scan.specs.Headers.{headers_tried}
-use Rattle.live_report.proofs.ReportLemmas.{whole_trace}
 use Rattle.trace_scan.specs.Trials.{AreTrials, IsTrace}
 use Rattle.trace_scan.proofs.Firsts.{whole_head}
+use Rattle.trace_scan.proofs.TrialsLemmas.{whole_under}
 use Rattle.trace_scan.proofs.tried_text.TriedText.end.Goals as goal
 
 pub take_last-requires : goal.take_last-requires
@@ -22,7 +22,7 @@ take_last-requires g c =
         row.0,
         c.in_ok-trials.ensures.trying (early_rows text) c.args.self.lines.interface taken.tried same,
         row.2,
-        subst IsTrace row.1 (λ i. whole_trace i text end.0),
+        subst (IsTrace c.in-Ok.end.interface) row.1 (whole_under c.in-Ok.end.interface text end.0 end.1),
       );
     }
 
@@ -36,7 +36,7 @@ returns-clause-tried g c text taken =
       sound = end.0;
       interface = i;
       header = end.1;
-      trials = subst (λ rs. AreTrials g.C.Channel (λ j. items_of j rs) (headers_tried i rs) c.chosen.result.items) (sym row.1)
+      trials = subst (λ rs. AreTrials g.C.Channel i (λ j. items_of j rs) (headers_tried i rs) c.chosen.result.items) (sym row.1)
           (c.chosen.ensures i (early_rows text ++ last_row c.in-Ok.end.has_row row.0)
-          (c.in_ok-take_last.ensures.trying i (early_rows text) row.0 (c.in_ok-trials.ensures.trying (early_rows text) c.args.self.lines.interface taken.tried same) row.2 (subst IsTrace row.1 (λ j. whole_trace j text end.0))));
+          (c.in_ok-take_last.ensures.trying i (early_rows text) row.0 (c.in_ok-trials.ensures.trying (early_rows text) c.args.self.lines.interface taken.tried same) row.2 (subst (IsTrace i) row.1 (whole_under i text end.0 end.1))));
     }

@@ -1,5 +1,5 @@
-use Rattle.std.proofs.Common.{◌∙◌, ap, subst, sym}
-use Rattle.trace_scan.specs.Trials.{AreTried}
+use Rattle.std.proofs.Common.{◌∙◌, ◌∷◌, ◌++◌, [], ap, subst, sym}
+use Rattle.trace_scan.specs.Trials.{AreTried, IsTraceUnder}
 use Rattle.trace_scan.proofs.TriedLemmas.{same_head}
 use Rattle.trace_scan.proofs.tried_text.TriedText.take_row.Goals as goal
 
@@ -15,7 +15,7 @@ take-requires g c =
         next.1,
         c.in_ok-trials.ensures.trying next.0 c.args.self.now.lines.interface tried (same_head c.args.self.now.lines.interface c.in-Some.interface head),
         ap (λ v. v.row) c.self.view_is ∙ next.3,
-        next.4,
+        subst (λ o. IsTraceUnder o (next.0 ++ next.1 ∷ [])) (sym head) next.4,
       );
     }
 
@@ -27,5 +27,5 @@ returns-clause-tried g c rows next was is sound =
       sym head,
       c.in_ok-take.ensures.trying c.in-Some.interface rows next
           (c.in_ok-trials.ensures.trying rows c.args.self.now.lines.interface tried (same_head c.args.self.now.lines.interface c.in-Some.interface head))
-          (ap (λ v. v.row) c.self.view_is ∙ is) sound,
+          (ap (λ v. v.row) c.self.view_is ∙ is) (subst (λ o. IsTraceUnder o (rows ++ next ∷ [])) (sym head) sound),
     )

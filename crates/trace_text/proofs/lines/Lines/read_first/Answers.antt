@@ -1,4 +1,4 @@
-use Rattle.std.proofs.Common.{◌≡◌, ◌+◌, ◌-◌, ◌∙◌, sym, ap, ap₂, arith, subst, length, ℕ, List}
+use Rattle.std.proofs.Common.{◌≡◌, ◌+◌, ◌-◌, ◌∙◌, sym, ap, ap₂, arith, subst, length, ℕ, List, None}
 use Rattle.std.proofs.lemmas.Bool.{eqb-true}
 use Rattle.std.specs.Vec.{vec_len}
 use Rattle.line_model.specs.basics.Records.{Row}
@@ -23,7 +23,7 @@ returns g c =
     let front = c.in_ok-number in
     let back = c.in_ok-length in
     let written = back.ensures.0 in
-    let row : Row = record { number = front.number; side = front.side; octets = written.octets } in
+    let row : Row = record { number = front.number; side = front.side; octets = written.octets; gap = None } in
     let before : Progress = record { ended = kept.ended; start = kept.start; interface = kept.interface; last = kept.last; begun = kept.begun.items; refused = kept.refused } in
     let len = length c.args.chunk.now - length back.rest.now in
     let few = front-few kept.last front.number front.side back.length c.args.chunk.now front.digits.now back.rest.now front.ensures written in
@@ -32,6 +32,6 @@ returns g c =
       subst (λ (v : Progress). TakesLine v c.count_line.new.self c.args.chunk.now back.rest.now row) c.self.view_is
           (takes-first before c.count_line.new.self c.args.chunk.now back.rest.now row line c.if-is_none.ensures none (fits kept.start (len - 1) (omega (arith, few)) (omega (arith, few, c.if-self-gt-LAST_START.false)))
           (c.count_line.ensures ∙ ap₂ (λ (n : ℕ) (xs : List ℕ). record before { ended = kept.ended + 1; start = n; last = front.number; begun = xs }) (omega (arith, few)) (no_bytes kept.begun.items none))),
-      ap₂ (λ (n : ℕ) (os : List ℕ). record { number = front.number; side = front.side; length = n; octets = os }) (sym written.count) (c.in_ok-convert_digits.ensures back.rest.now written)
+      ap₂ (λ (n : ℕ) (os : List ℕ). record { number = front.number; side = front.side; length = n; octets = os; gap = None }) (sym written.count) (c.in_ok-convert_digits.ensures back.rest.now written)
           ∙ ap (λ b. kept_row b row) (sym c.if-whole.false),
     )

@@ -1,0 +1,61 @@
+//! A row as it is read, where its octets lie.
+
+ghost use Rattle.std.specs.Prelude.{◌≡◌};
+ghost use Rattle.line_model.specs.packets.Classes.{packet_of};
+ghost use Rattle.line_model.specs.packets.Says.{gap_packet, packet_or_gap};
+
+use line_model::interface::Interface;
+use line_model::packet::{Packet, PacketKind};
+use line_model::state::Side;
+use packet_decode::decode::decode;
+use std::marker::Model;
+
+/// A row as it is read, where its octets lie.
+#[derive(Drop)]
+pub(crate) struct RowRef<'a> {
+    /// The packet number.
+    pub(crate) number: u32,
+    /// The side that sent it.
+    pub(crate) side: Side,
+    /// How many octets it has.
+    pub(crate) length: usize,
+    /// The octets that are read of it.
+    pub(crate) octets: &'a [u8],
+    /// The gap that it is, of a channel or of all.
+    pub(crate) gap: Option<Option<u16>>,
+}
+
+impl<'a> Model for RowRef<'a> {
+    ghost use Rattle.line_model.specs.basics.Records as records;
+
+    ghost Value = { records.ReadRow };
+
+    ghost view = { λ r. record { number = r.number; side = r.side; length = r.length; octets = r.octets.now; gap = r.gap } };
+}
+
+impl RowRef<'_> {
+    /// The packet that the octets are, or the gap that the row is.
+    pub(crate) fn packet(&self, interface: &Interface) -> Packet
+        ensures { result ≡ packet_or_gap self.now.gap (packet_of interface.now self.now.octets) }
+    {
+        let mut packet = decode(interface, self.octets);
+        if let Some(gap) = self.gap {
+            packet = gap_packet(gap);
+        }
+        packet
+    }
+}
+
+/// What stands in the place of the packet in a gap of a channel, or of all.
+#[inline(never)]
+fn gap_packet(gap: Option<u16>) -> Packet
+    ensures { result ≡ gap_packet gap }
+{
+    match gap {
+        None => Packet::GapOfAll,
+        Some(channel) => Packet::Channel {
+            channel,
+            kind: PacketKind::Gap,
+        },
+    }
+}
