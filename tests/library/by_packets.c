@@ -1,16 +1,20 @@
-/* by_packets [--json | --rows] FILE: feeds the packets of a trace one by one, and prints its report. Comments are left out.
- * FILE may have no faulty line. */
+/* by_packets [--json | --rows] FILE: feeds the packets of a trace one by one, and its gap rows as lines, and prints its
+ * report. Comments are left out. FILE may have no faulty line. */
 #include <stdio.h>
 #include <stdlib.h>
 #include <string.h>
 #include <x25scan.h>
 
+static int feed_line(x25scan *scan, const char *line) {
+    int error = x25scan_feed(scan, line, strlen(line));
+    return error ? error : x25scan_feed(scan, "\n", 1);
+}
+
 static int feed_header(x25scan *scan, unsigned form, char *header) {
     int error;
     if (form != X25SCAN_ROW_OBJECTS) return x25scan_open_header(scan, header);
     error = x25scan_open(scan, form);
-    if (!error) error = x25scan_feed(scan, header, strlen(header));
-    return error ? error : x25scan_feed(scan, "\n", 1);
+    return error ? error : feed_line(scan, header);
 }
 
 static int feed_row(x25scan *scan, char *row) {
@@ -19,6 +23,7 @@ static int feed_row(x25scan *scan, char *row) {
     size_t length = 0;
     unsigned octet;
     uint32_t number = (uint32_t)strtoul(row, &side, 10);
+    if (side[1] == '?') return feed_line(scan, row);
     for (digits = side + 3; length < sizeof octets && sscanf(digits, "%2x", &octet) == 1; digits += 2)
         octets[length++] = (unsigned char)octet;
     return x25scan_packet(scan, number, side[1], octets, length);
