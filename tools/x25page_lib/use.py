@@ -184,7 +184,7 @@ class Use:
             self.windows.signal(row, time)
 
     def miss(self, channel: int | None) -> None:
-        """Packets of a channel may be missing, or of all: nobody knows what they answered."""
+        """Packets of a channel may be missing, or of all: what they answered is unknown."""
         self.waits.miss(channel)
         self.windows.miss(channel)
 

@@ -106,7 +106,7 @@ class Held:
     octets: bytes
     is_cut: bool
     time: int | None
-    # How many gaps of the link were told before it came.
+    # How many gaps of the link were written before it came.
     gaps: int
 
 

@@ -85,7 +85,7 @@ class Spool:
     ) -> Iterator[str]:
         """The text of the trace after its header, in parts, of which one ends with the last of the first rows.
 
-        A gap on a channel past the last one is told as one of all channels.
+        A gap on a channel past the last one is written as one of all channels.
         """
         self.write()
         self.file.seek(0)
