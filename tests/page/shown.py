@@ -1,5 +1,6 @@
 """A page in a headless Chromium: its tables, its ladders, what a click does, and that hostile text stays text."""
 import pathlib
+import subprocess
 import sys
 import time
 
@@ -12,6 +13,9 @@ sys.path.insert(0, str(ROOT / "tools"))
 from browser import Browser  # noqa: E402
 
 SEVEN, GUESSED = (ROOT / "examples" / f"{name}.trace" for name in ("seven-calls", "window-guessed"))
+# Traces whose tables of calls are saved: with times, with gaps, with reverse charging, and with a permanent circuit.
+TABLES = [SEVEN, *(ROOT / "examples" / f"{name}.trace" for name in ("overlapping-calls", "packets-missing", "reverse-charging")),
+          ROOT / "tests" / "calls" / "expected" / "permanent-circuit.trace"]
 # How long something may take to be so.
 SECONDS = 5
 TAG = '"><script>hacked=1</script><img src=x onerror=hacked=1>\''
@@ -91,6 +95,25 @@ def clicks(shown):
     shown.is_so("document.querySelector('#detail pre').textContent.startsWith('0000  10 01 24 21')")
     browser.value("location.hash = '#call-1/4'")
     shown.is_so("document.querySelector('#detail').textContent.includes('103 octets in hex')")
+
+
+def saves(shown, folder, scanner):
+    """The button over the calls saves the table that x25scan prints, of traces with times, gaps and permanent circuits."""
+    browser, downloads = shown.browser, folder / "downloads"
+    downloads.mkdir()
+    browser.ask("Page.setDownloadBehavior", behavior="allow", downloadPath=str(downloads))
+    for trace in TABLES:
+        path = folder / f"{trace.stem}.html"
+        run("--scanner", scanner, "-o", path, trace)
+        browser.open(path)
+        browser.value("document.querySelector('#calls-csv').scrollIntoView({block: 'center'})")
+        browser.click("#calls-csv")
+        saved, end = downloads / f"{trace.stem}-calls.csv", time.monotonic() + SECONDS
+        while not saved.exists() and time.monotonic() < end:
+            time.sleep(0.05)
+        wanted = subprocess.run([scanner, "--calls", trace], capture_output=True, check=False).stdout
+        if not saved.exists() or saved.read_bytes() != wanted:
+            shown.said.append(f"{trace.stem}: saved {saved.exists() and saved.read_bytes()}, wanted {wanted}")
 
 
 def uses(shown):
@@ -183,6 +206,8 @@ def outcomes(scanner, folder):
         yield "clicks", shown.faults()
         uses(shown)
         yield "filters, sorting, words, colours", shown.faults()
+        saves(shown, pathlib.Path(folder), scanner)
+        yield "the table of calls is saved", shown.faults()
         hostile(shown, pathlib.Path(folder), scanner)
         yield "hostile text in the browser", shown.faults()
         folds(shown, pathlib.Path(folder), scanner)

@@ -4,6 +4,7 @@ from __future__ import annotations
 from dataclasses import dataclass, field
 
 HEADER = "X25 1 MOD 8 WIN 2 SIZE 128 PVC 0 SVC 4\n"
+GAPS = "X25 3 MOD 8 WIN 2 SIZE 128 PVC 0 IN 0 TWO 4 OUT 4\n"
 CALL = "1 T 10010B0000\n2 N 10010F\n"
 GIVEN = ("--win", "2", "--size", "128")
 LAPB = ("--as", "147=lapb", *GIVEN)
@@ -73,8 +74,12 @@ WHOLE = (
     Case("late-without-times", ("good", "No packet breaks the protocol."), trace=HEADER + "1 T 10010B0000\n2 N 10010F\n"),
     Case("late-and-broken", ("bad", "The DTE broke the protocol once."),
          trace=HEADER + "#@ 1000\n1 T 10010B0000\n#@ 1201\n2 N 10010F\n3 T 100102AA\n"),
-    Case("no-findings", ("good", "No packet breaks the protocol."), trace=HEADER + CALL, shown=("DTE", "DCE"),
-         hidden=("Nobody",)),
+    Case("no-findings", ("good", "No packet breaks the protocol."), trace=HEADER + CALL,
+         shown=("DTE", "DCE", "None of its packets breaks the protocol.", "all data was accepted"), hidden=("Nobody",)),
+    Case("no-findings-beside-a-gap", ("good", "No packet breaks the protocol, in what was recorded: 1 gap."),
+         trace=GAPS + CALL + "3 ? 1\n4 T 100102AA\n5 N 100121\n",
+         shown=("No recorded packet of it breaks the protocol.", "all data that was recorded was accepted"),
+         hidden=("Nobody", "None of its packets breaks", "all data was accepted")),
     Case("dte-once", ("bad", "The DTE broke the protocol once."), trace=HEADER + CALL + "3 T 100102AA\n"),
     Case("dce-twice", ("bad", "The DCE broke the protocol twice."), trace=HEADER + CALL + "3 N 100102AA\n4 N 100104AA\n"),
     Case("both-sides", ("bad", "The DTE broke the protocol once, the DCE 3 times."),

@@ -2,6 +2,7 @@
 from __future__ import annotations
 
 import heapq
+from array import array
 from collections.abc import Iterator
 from typing import Any
 
@@ -10,7 +11,7 @@ from .texts import encoded
 
 MEMBERS = ("call", "epoch", "channel", "direction", "called", "calling", "opened", "up", "ended", "how",
            "data_t", "octets_t", "data_n", "octets_n", "segments")
-FACTS = ("pays", "payer", "cleared_by", "cause", "diagnostic", "findings", "start", "seconds", "gaps")
+FACTS = ("pays", "payer", "cleared_by", "cause", "diagnostic", "findings", "start", "seconds", "gaps", "segments_t")
 COLUMNS = (*MEMBERS, *FACTS)
 PACKETS = tuple(map(MEMBERS.index, ("opened", "up", "ended")))
 # What the array of a call has at most, mostly.
@@ -25,6 +26,8 @@ class Calls:
     def __init__(self, budget: int) -> None:
         self.budget, self.left_out = budget, 0
         self.findings: dict[int, int] = {}
+        # The segments of the DTE's data in each call, by its number.
+        self.segments_t = array("Q")
         self.kept: dict[int, list[Any]] = {}
         self.names = Table()
         self.waiting: list[tuple[int, ...]] = []
@@ -33,6 +36,12 @@ class Calls:
     def count(self, call: int) -> None:
         """A row of the call has a finding."""
         self.findings[call] = self.findings.get(call, 0) + 1
+
+    def share(self, call: int, segments: int) -> None:
+        """Data of the DTE was counted in the call."""
+        if call >= len(self.segments_t):
+            self.segments_t.frombytes(bytes(self.segments_t.itemsize * (call + 1 - len(self.segments_t))))
+        self.segments_t[call] += segments
 
     def add(self, it: dict[str, Any]) -> None:
         """Takes what the report says of a call; those with the fewest findings and segments are left out.
@@ -54,6 +63,7 @@ class Calls:
     def facts(self, it: dict[str, Any]) -> None:
         """Takes what is said of a call besides."""
         if it["call"] in self.kept:
+            it["segments_t"] = self.segments_t[it["call"]] if it["call"] < len(self.segments_t) else 0
             it["cause"], it["diagnostic"] = map(self.named, (it["cause"], it["diagnostic"]))
             it["findings"] = {finding["code"]: finding["count"] for finding in it["findings"]} or None
             self.kept[it["call"]] += [it[name] for name in FACTS]

@@ -222,6 +222,8 @@ class Facts:
             if not self.times.seen:
                 self.forms.begin(time)
             self.times.add(packet, time)
+        if row.segments and not row.side and row.call is not None:
+            self.calls.share(row.call, row.segments)
         if row.is_quiet and not self.has_halves:
             self.use.flow(row, key)
             self.ladders.add(key, row)

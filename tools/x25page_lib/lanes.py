@@ -84,6 +84,8 @@ class Lanes:
             flow.ready(side, (packet, time), receive)
         else:
             flow.data(side, (packet, time), receive)
+        if segments and not side and call is not None:
+            self.facts.calls.share(call, segments)
         forms, shown, frame = self.facts.forms, digits[:self.facts.ladders.keeps.digits], it.get(FRAME)
         frame = None if frame == packet and not forms.frames.distance else forms.frame_of(packet, frame)
         array = forms.array((packet, side, time), kind, digits, members, frame)

@@ -11,7 +11,7 @@ from .rows import SIDES
 from .suspicions import number, trial, warnings
 from .texts import encoded
 
-SCRIPTS = ("words.js", "filters.js", "overview.js", "strip.js", "strip_keys.js", "tables.js", "use.js", "rungs.js", "ladder.js",
+SCRIPTS = ("words.js", "filters.js", "overview.js", "strip.js", "strip_keys.js", "calls_csv.js", "tables.js", "use.js", "rungs.js", "ladder.js",
            "detail.js", "packets.js", "find.js", "history.js", "page.js")
 
 

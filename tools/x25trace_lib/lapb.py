@@ -251,7 +251,7 @@ class Lapb:
         way = self.ways[side]
         if way.next is None:
             before, way.acknowledged = way.acknowledged, receive
-            if before in (None, receive):
+            if before is None or before == receive:
                 return ()
             self.lose(frame, side, receive, (receive - before) % self.circle)
             return [self.gap(frame.number, frame.time)]

@@ -57,7 +57,8 @@ class Trace:
                 self.ledger.damaged(Reason.LONG_PACKET, words)
                 self.miss(without(packet))
                 continue
-            carriers[carrier] += 1
+            if carrier is not None:
+                carriers[carrier] += 1
             if circuit is None:
                 sides.add(packet.side)
                 key = channel_of(octets) if len(octets) >= 2 else 0

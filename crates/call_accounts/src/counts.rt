@@ -77,6 +77,7 @@ impl CallCounts {
     }
 
     /// A data packet.
+    #[inline(always)]
     pub(crate) fn add_data(&mut self, side: Side, octets: u32, segments: u64)
         ensures { (e : Event) → e.what ≡ Data side octets
             → segments ≡ segments_of (all_lengths (e ∷ [])) → Adds self.old self.new e }

@@ -174,6 +174,7 @@ impl<A: Allocator + Clone> CallsSoFar<A> {
     }
 
     /// Adds the event of a data packet of a side, which has so many segments (`segments_for`). It takes no memory.
+    #[inline(always)]
     pub fn add_data(&mut self, side: Side, octets: u32, segments: u64)
         ensures { (epoch channel : ℕ) (es : List Event) (e : Event)
             → StandsFor self.old epoch channel es → IsOf epoch channel e
@@ -186,8 +187,6 @@ impl<A: Allocator + Clone> CallsSoFar<A> {
     }
 
     /// A call that is open is open no more, and has no end.
-    #[cold]
-    #[inline(never)]
     fn close(&mut self) -> Result<(), AllocError>
         ensures none { OnOk result (self.new.call ≡ None) }
         ensures closed { OnOk result (AreCallsOf self.old self.new.closed.items) }
@@ -205,8 +204,6 @@ impl<A: Allocator + Clone> CallsSoFar<A> {
     }
 
     /// The call that is open ends, and with it those that have no end.
-    #[cold]
-    #[inline(never)]
     fn end(&mut self, packet: u32, how: How) -> Result<(), AllocError>
         ensures { (epoch channel : ℕ) (es : List Event) (e : Event)
             → StandsFor self.old epoch channel es

@@ -103,6 +103,7 @@ pub(crate) fn between(least: usize, most: usize, length: usize) -> Option<u8>
 impl<A: Allocator + Clone, S: StatusStore> StatusChannel<A, S> {
     /// What a packet says that moves its channel, or its first fault: a call against the direction of its channel
     /// (profile), or a fault of its format.
+    #[inline(always)]
     pub(crate) fn read<'a>(&self, item: &ItemRef<'a>) -> Result<Contents<'a>, u8>
         requires said { IsSaid self.now.terms.interface item.now }
         ensures fault { (c : Channel) → Stands self.now c
@@ -118,6 +119,7 @@ impl<A: Allocator + Clone, S: StatusStore> StatusChannel<A, S> {
     }
 
     /// What a packet of a class says, or the first fault of its format.
+    #[inline(always)]
     fn read_format<'a>(&self, class: Class, item: &ItemRef<'a>) -> Result<Contents<'a>, u8>
         requires said { IsSaid self.now.terms.interface item.now }
         requires class { class ≡ packet_class item.now.packet }
@@ -160,6 +162,7 @@ impl<A: Allocator + Clone, S: StatusStore> StatusChannel<A, S> {
 
     /// The first fault of a length, for the class of a packet that is none of a call, with the packet size in force for
     /// the side that sent it.
+    #[inline(always)]
     pub(crate) fn length_fault(&self, side: Side, class: Class, length: usize) -> Option<u8>
         ensures fault { (c : Channel) (xs : List ℕ) → Stands self.now c → is_call class ≡ false
             → result ≡ format_fault self.now.terms.interface c side class length xs }

@@ -20,6 +20,7 @@ fn entry(side: Side, state: StateName, owed: bool, class: Class) -> Action
 
 /// The state in whose column a packet stands, and the entry there: in p4 the first table's, and the second's where that
 /// says so. Of an unknown channel a packet that tells what it is in is judged as in p1, on a permanent circuit as in d1.
+#[inline(always)]
 pub(crate) fn judged(
     permanent: bool,
     side: Side,

@@ -78,6 +78,7 @@ fn leaving(to: StateName) -> Change<'static, 'static>
 
 impl<A: Allocator + Clone, S: StatusStore> StatusChannel<A, S> {
     /// Enters a state, where a call is opened.
+    #[inline(always)]
     pub(crate) fn open(
         &mut self,
         origin: EventOrigin,
@@ -108,6 +109,7 @@ impl<A: Allocator + Clone, S: StatusStore> StatusChannel<A, S> {
     }
 
     /// Enters a state, where a call comes up.
+    #[inline(always)]
     pub(crate) fn go_up(
         &mut self,
         origin: EventOrigin,

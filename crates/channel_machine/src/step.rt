@@ -117,6 +117,7 @@ impl<A: Allocator + Clone, S: StatusStore> StatusChannel<A, S> {
     }
 
     /// Moves to a state.
+    #[inline(always)]
     pub(crate) fn go(
         &mut self,
         judgement: &Judgement,

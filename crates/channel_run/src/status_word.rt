@@ -48,6 +48,7 @@ pub fn set_adrift(word: &mut FlowWord, adrift: bool)
 }
 
 /// The state of the owner's number.
+#[inline(always)]
 pub fn state_in(owner_bits: u32) -> ChannelState
     ensures { result ≡ state_in owner_bits }
 {

@@ -56,6 +56,7 @@ impl<A: Allocator + Clone> Tally<A> {
     }
 
     /// Records the next event. It answers `Memory` alone; then it stands for nothing any more.
+    #[inline(always)]
     pub(crate) fn record(&mut self, event: &Event) -> Result<(), Fault>
         ensures recorded { (epoch channel : ℕ) (es : List Event) → Counts self.old epoch channel es
             → IsOf epoch channel event.now → IsCountable (es ++ event.now ∷ [])
@@ -73,6 +74,7 @@ impl<A: Allocator + Clone> Tally<A> {
     }
 
     /// Records the event of a data packet of a side, with so many octets of user data. It takes no memory.
+    #[inline(always)]
     pub(crate) fn add_data(&mut self, side: Side, octets: u32)
         ensures { (epoch channel : ℕ) (es : List Event) (e : Event) → Counts self.old epoch channel es
             → IsOf epoch channel e → e.what ≡ Data side octets → IsCountable (es ++ e ∷ [])
@@ -86,6 +88,7 @@ impl<A: Allocator + Clone> Tally<A> {
 
     /// Records the next events, and answers the first finding among them. It answers `Memory` alone; then it stands for
     /// nothing any more.
+    #[inline(always)]
     pub(crate) fn record_all(&mut self, events: &[Event]) -> Result<Option<Finding>, Fault>
         ensures recorded { (epoch channel : ℕ) (es : List Event) → Counts self.old epoch channel es
             → AllByRecursion (IsOf epoch channel) events.now → IsCountable (es ++ events.now)

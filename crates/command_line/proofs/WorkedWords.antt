@@ -3,7 +3,7 @@ use Rattle.std.proofs.Common.{◌≡◌, false, true, refl, codes, [], ◌∷◌
 use Rattle.clap.proofs.OnLiterals.{clap_on_literals}
 use Rattle.clap.specs.declared.error.kind.ErrorKind.TheVariants.{ArgumentConflict, DisplayHelp, DisplayVersion, UnknownArgument, ValueValidation}
 use Rattle.command_line.specs.Notes.{notes_refused}
-use Rattle.command_line.specs.Options.{alone, annotates, as_json, asked_word, asked_workers, asks_notes, follows, named_trace, prints_rows, shows_progress, tries_headers, words_fault}
+use Rattle.command_line.specs.Options.{alone, annotates, as_json, asked_word, asked_workers, asks_notes, follows, lists_calls, named_trace, prints_rows, shows_progress, tries_headers, words_fault}
 
 no_arguments : words_fault (codes "x25scan" ∷ []) ≡ []
 unfolding clap_on_literals
@@ -156,6 +156,18 @@ rows_asked = refl
 no_rows_asked : prints_rows (codes "x25scan" ∷ codes "--annotate" ∷ []) ≡ false
 unfolding clap_on_literals
 no_rows_asked = refl
+
+calls_asked : lists_calls (codes "x25scan" ∷ codes "--calls" ∷ codes "--json" ∷ []) ≡ true
+unfolding clap_on_literals
+calls_asked = refl
+
+no_calls_asked : lists_calls (codes "x25scan" ∷ codes "--call" ∷ codes "7" ∷ []) ≡ false
+unfolding clap_on_literals
+no_calls_asked = refl
+
+notes_of_calls : notes_refused (codes "x25scan" ∷ codes "--calls" ∷ codes "--notes" ∷ []) ≡ true
+unfolding clap_on_literals
+notes_of_calls = refl
 
 notes_asked : asks_notes (codes "x25scan" ∷ codes "--notes" ∷ codes "day.trace" ∷ []) ≡ true
 unfolding clap_on_literals

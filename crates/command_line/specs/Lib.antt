@@ -5,5 +5,6 @@ pub mod Pasted
 pub mod Explaining
 pub mod Faults
 pub mod Program
+pub mod Calls
 pub mod Printing
 pub mod Trying

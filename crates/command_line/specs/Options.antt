@@ -1,4 +1,4 @@
--- The command line: `x25scan [--workers N] [--alone] [--follow] [--json] [--annotate | --rows] [--channel N] [--call N] [--try-headers] [--progress] [--notes] [--explain [WORD]] [FILE]` (profile).
+-- The command line: `x25scan [--workers N] [--alone] [--follow] [--json] [--annotate | --rows | --calls] [--channel N] [--call N] [--try-headers] [--progress] [--notes] [--explain [WORD]] [FILE]` (profile).
 use Rattle.std.specs.Prelude.{◌≡◌, ◌≤◌, ℕ, Bool, false, true, List, [], ◌∷◌, Option, None, Some, MatchOption, codes, pos, if◌then◌else◌}
 use Rattle.std.specs.Str.{bytes_eq}
 use Rattle.std.specs.Str.Parse.{IsNumeral, digits_value, without_leading_plus}
@@ -64,7 +64,7 @@ with_scanning app = with_rule (with_rule (with_rule app workers_rule) (flag_rule
 -- with those that say what is written, and of which rows
 abbrev pub with_writing : App → App
 with_writing app =
-    with_rule (with_rule (with_rule (with_rule (with_rule (with_rule app (flag_rule (codes "json"))) (flag_rule (codes "annotate"))) (flag_rule (codes "rows"))) channel_rule) call_rule)
+    with_rule (with_rule (with_rule (with_rule (with_rule (with_rule (with_rule app (flag_rule (codes "json"))) (flag_rule (codes "annotate"))) (flag_rule (codes "rows"))) (flag_rule (codes "calls"))) channel_rule) call_rule)
     (flag_rule (codes "try-headers"))
 
 -- with those that ask for more, and the name of the trace
@@ -131,6 +131,10 @@ has_comments words = is_given (first_of (codes "annotate") (matches_of command w
 -- whether the words ask for the rows as objects
 abbrev pub prints_rows : List Text → Bool
 prints_rows words = is_given (first_of (codes "rows") (matches_of command words))
+
+-- whether the words ask for the table of calls
+abbrev pub lists_calls : List Text → Bool
+lists_calls words = is_given (first_of (codes "calls") (matches_of command words))
 
 -- whether the words ask which header explains the rows best
 abbrev pub tries_headers : List Text → Bool

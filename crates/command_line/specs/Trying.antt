@@ -32,9 +32,9 @@ pub record IsTryStatus (text : List ℕ) (left asked before after : Option (List
 abbrev pub TriesOf : (trace left asked before after : Option (List ℕ)) → (well : Type 0) → (status : ℕ) → Type 0
 TriesOf trace left asked before after well status = (text : List ℕ) → trace ≡ Some text → IsTryStatus text left asked before after well status
 
--- what headers can't be tried with: JSON, following, objects of rows, an annotation
-abbrev pub cannot_try : (json follow rows annotates : Bool) → Bool
-cannot_try json follow rows annotates = json || (follow || (rows || annotates))
+-- what headers can't be tried with: JSON, following, objects of rows, an annotation, the table of calls
+abbrev pub cannot_try : (json follow rows annotates calls : Bool) → Bool
+cannot_try json follow rows annotates calls = json || (follow || (rows || (annotates || calls)))
 
 -- what is answered, by whether it can't be together with what else is asked for
 abbrev pub IsTryAnswer : {S K : Type 0} → (refused : Bool) → (source source' : S) (sink sink' : K) → (trace left asked before after : Option (List ℕ)) → (well : Type 0) → (status : ℕ) → Type 0

@@ -19,6 +19,7 @@ Options:
       --json              Print the report as JSON lines, an object for each line
       --annotate          Print the trace again, with comments that say what its rows are and did
       --rows              Print a JSON object for each row, and then those of the report
+      --calls             Print a table of the report's calls as CSV, or with --json an object for each
       --channel <N>       Annotate only the rows of this logical channel; with --rows, print only those
       --call <N>          Annotate only the rows of this call of the report; with --rows, print only those
       --try-headers       Print how each window and packet size explains the rows, best first
@@ -35,6 +36,7 @@ Examples:
                                         follow a line while it is recorded
   x25scan --json day.trace              print an object for each line of the report
   x25scan --rows --call 7 day.trace     print an object for each row of call 7
+  x25scan --calls day.trace > calls.csv write a table of the calls for a spreadsheet
   x25scan --annotate --call 7 day.trace print the trace, with comments on the rows of call 7
   x25scan --try-headers day.trace       print which window and packet size explain the rows best
   x25trace day.pcap | x25scan           read a capture

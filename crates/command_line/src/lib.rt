@@ -3,6 +3,7 @@
 #![tactic(auto)]
 
 pub mod annotated_scan;
+mod calls_scan;
 mod channels;
 mod explaining;
 mod faults;

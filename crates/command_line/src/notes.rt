@@ -14,7 +14,10 @@ use std::alloc::{AllocError, Global};
 pub(crate) fn refuses_notes(options: &Options<'_>) -> bool
     ensures { result ≡ refused_in options.now }
 {
-    let printed = options.rows || options.annotate.is_some() || options.try_headers;
+    let printed = options.rows
+        || options.annotate.is_some()
+        || options.calls
+        || options.try_headers;
     let is_alone = options.alone || options.follow;
     options.notes && (printed || (options.crew && !is_alone))
 }
@@ -25,6 +28,8 @@ pub(crate) fn refuse_notes<E: Sink>(options: &Options<'_>, errors: &mut E) -> u8
 {
     let text: &[u8] = if options.try_headers {
         b"error: --notes is for a report, and --try-headers prints what each header leaves out: leave it out\n"
+    } else if options.calls {
+        b"error: --notes is for a report, and --calls prints a table of its calls: leave it out\n"
     } else if options.rows || options.annotate.is_some() {
         b"error: --notes is for a report, and --annotate, --rows, --channel and --call print why at each row: leave it out\n"
     } else {

@@ -2,7 +2,7 @@
 
 ghost use Rattle.std.specs.Prelude.{◌≡◌, ◌≤◌, IfOk, MatchOption, codes, false, is_some, map, option_map, true};
 ghost use Rattle.clap.specs.Words.{FailsBy, app_of, first_value, found_of, rule_of};
-ghost use Rattle.command_line.specs.Options.{AreAskedRows, AskFor, HasNumber, HasWorkers, alone, annotates, as_json, asked_word, asked_workers, asks_notes, call_rule, channel_rule, command, explain_rule, flag_rule, follows, has_comments, is_given, named_by, named_trace, prints_rows, shows_progress, trace_rule, tries_headers, versioned, with_asking, with_scanning, with_writing, words_fault, workers_rule};
+ghost use Rattle.command_line.specs.Options.{AreAskedRows, AskFor, HasNumber, HasWorkers, alone, annotates, as_json, asked_word, asked_workers, asks_notes, call_rule, channel_rule, command, explain_rule, flag_rule, follows, has_comments, is_given, lists_calls, named_by, named_trace, prints_rows, shows_progress, trace_rule, tries_headers, versioned, with_asking, with_scanning, with_writing, words_fault, workers_rule};
 
 use crate::help::VERSION;
 use annotated_trace::rows::Rows;
@@ -12,13 +12,17 @@ use std::alloc::{AllocError, Global};
 /// How many workers there are where the words don't say it.
 const WORKERS: u8 = 4;
 
-/// How rows are printed in place of the report.
+/// What is printed in place of the report.
 #[derive(Clone, Copy)]
 pub enum Form {
     /// The trace once more, with comments behind its rows.
     Comments,
     /// An object for each row, and then those of the report.
     Objects,
+    /// The table of calls, as CSV.
+    Table,
+    /// The table of calls, as an object for each call.
+    TableObjects,
 }
 
 /// Which rows are printed in place of the report, and how.
@@ -49,6 +53,8 @@ pub struct Options<'a> {
     pub comments: bool,
     /// An object is asked for of each row, or of those that are chosen, before the objects of the report.
     pub rows: bool,
+    /// The table of calls is asked for in place of the report.
+    pub calls: bool,
     /// What the rows count under each header is asked for in place of the report.
     pub try_headers: bool,
     /// It is asked for that progress is shown, also where the errors are no terminal.
@@ -148,6 +154,7 @@ fn with_writing<'a>(alloc: Global, command: Command<'a>) -> Result<Command<'a>, 
         .arg(flag(alloc, "json"))?
         .arg(flag(alloc, "annotate"))?
         .arg(flag(alloc, "rows"))?
+        .arg(flag(alloc, "calls"))?
         .arg(channel(alloc))?
         .arg(call(alloc))?
         .arg(flag(alloc, "try-headers"))
@@ -273,6 +280,7 @@ fn options_in<'a>(matches: &ArgMatches<'a>) -> Options<'a>
     ensures comments { result.comments ≡ is_given
         (first_value (found_of matches.now) (codes "annotate")) }
     ensures rows { result.rows ≡ is_given (first_value (found_of matches.now) (codes "rows")) }
+    ensures calls { result.calls ≡ is_given (first_value (found_of matches.now) (codes "calls")) }
     ensures try_headers { result.try_headers ≡ is_given
         (first_value (found_of matches.now) (codes "try-headers")) }
     ensures explain { option_map (λ word. word.now) result.explain
@@ -287,6 +295,7 @@ fn options_in<'a>(matches: &ArgMatches<'a>) -> Options<'a>
     let notes = is_given(matches, "notes");
     let comments = is_given(matches, "annotate");
     let rows = is_given(matches, "rows");
+    let calls = is_given(matches, "calls");
     let try_headers = is_given(matches, "try-headers");
     Options {
         workers: workers_in(matches),
@@ -297,6 +306,7 @@ fn options_in<'a>(matches: &ArgMatches<'a>) -> Options<'a>
         annotate: rows_in(matches),
         comments,
         rows,
+        calls,
         try_headers,
         progress,
         notes,
@@ -329,6 +339,8 @@ pub fn parse<'a>(alloc: Global, words: &'a [&'a str]) -> Result<Options<'a>, Err
         ≡ has_comments (map (λ word. word.now) words.entry.now)) }
     ensures rows { IfOk result (λ options. options.rows
         ≡ prints_rows (map (λ word. word.now) words.entry.now)) }
+    ensures calls { IfOk result (λ options. options.calls
+        ≡ lists_calls (map (λ word. word.now) words.entry.now)) }
     ensures try_headers { IfOk result (λ options. options.try_headers
         ≡ tries_headers (map (λ word. word.now) words.entry.now)) }
     ensures explain { IfOk result (λ options. option_map (λ word. word.now) options.explain

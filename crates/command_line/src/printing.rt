@@ -1,10 +1,13 @@
-//! The rows of the trace in place of its report: the trace once more with comments, or an object for each row.
+//! The rows of the trace in place of its report: the trace once more with comments, or an object for each row; or the table of
+//! its calls.
 
-ghost use Rattle.std.specs.Prelude.{◌≡◌, ◌<◌, ◌≤◌, ◌+◌, ◌^◌, ◌⊎◌, IfErr, IfOk, option_map};
+ghost use Rattle.std.specs.Prelude.{◌≡◌, ◌<◌, ◌≤◌, ◌+◌, ◌^◌, ◌⊎◌, IfErr, IfOk, is_some, option_map};
+ghost use Rattle.command_line.specs.Calls.{cannot_list};
 ghost use Rattle.command_line.specs.Printing.{IsPrintAnswer, IsPrintStatus, Prints, StopsBy, is_refused};
 ghost use Rattle.command_line.specs.Program.{IsUnread, trace_of};
 
 use crate::annotated_scan::annotate;
+use crate::calls_scan::print_calls;
 use crate::channels::last_channel;
 use crate::opening::open_trace;
 use crate::options::{Form, Options, Printing};
@@ -12,6 +15,7 @@ use crate::program::{USAGE, summary_status};
 use crate::refusing::refuse_scan;
 use crate::rows_scan::print_rows;
 use annotated_trace::rows::Rows;
+use descriptions::call_table::{Csv, Objects};
 use line_model::device::{Sink, Source};
 use line_model::fault::Fault;
 use line_model::totals::Summary;
@@ -75,7 +79,7 @@ fn print_missing<S: Input, E: Sink>(
     }
 }
 
-/// Prints the trace in a form, as `annotate` and `print_rows` do.
+/// Prints the trace in a form, as `annotate`, `print_rows` and `print_calls` do.
 fn print<S: Source, K: Sink>(
     alloc: Global,
     printing: Printing,
@@ -91,6 +95,8 @@ fn print<S: Source, K: Sink>(
     match printing.form {
         Form::Comments => annotate(alloc, printing.rows, source, sink),
         Form::Objects => print_rows(alloc, printing.rows, source, sink),
+        Form::Table => print_calls::<Global, Csv, S, K>(alloc, source, sink),
+        Form::TableObjects => print_calls::<Global, Objects, S, K>(alloc, source, sink),
     }
 }
 
@@ -147,6 +153,8 @@ fn refuse_form<E: Sink>(errors: &mut E, form: Form) -> u8
             b"error: --json writes the report, and --annotate, --channel and --call write a trace instead\n",
         Form::Objects =>
             b"error: --annotate prints the trace again, and --rows an object for each row: name one of them\n",
+        _ =>
+            b"error: --calls prints a table of the report's calls: leave out --follow, --rows, --annotate, --channel and --call\n",
     };
     let _ = write_all(errors, text);
     USAGE
@@ -163,7 +171,8 @@ pub(crate) fn print_trace<S: Input, K: Output, E: Sink>(
 ) -> u8
     ensures answer { let name = option_map (λ name. name.now) asked.entry.options.trace in
         let trace = trace_of name (S.left source.old) (S.named source.old) in
-        IsPrintAnswer (is_refused asked.entry.printing.form asked.entry.options.json asked.entry.options.comments)
+        IsPrintAnswer (is_refused asked.entry.printing.form asked.entry.options.json asked.entry.options.comments
+        (cannot_list asked.entry.options.follow asked.entry.options.rows (is_some asked.entry.options.annotate)))
         asked.entry.printing source.old source.new sink.old sink.new
         trace (S.left source.new) (S.before source.new) (K.taken sink.old) (K.taken sink.new)
         (K.failures sink.new ≡ K.failures sink.old) result }
@@ -171,19 +180,30 @@ pub(crate) fn print_trace<S: Input, K: Output, E: Sink>(
     ensures asked { S.calls source.new ≤ S.calls source.old + (2 ^ 30 + 1) }
 {
     let AskedRows { options, printing } = asked;
-    if is_refused(printing.form, options.json, options.comments) {
+    if is_refused(printing.form, &options) {
         refuse_form(errors, printing.form)
     } else {
         print_input(alloc, asked, source, sink, errors)
     }
 }
 
-/// Whether a form can't be printed with what else is asked for: JSON with comments, or comments with objects.
-fn is_refused(form: Form, json: bool, comments: bool) -> bool
-    ensures { result ≡ is_refused form json comments }
+/// Whether a form can't be printed with what else is asked for: JSON with comments, comments with objects, or following or
+/// rows with the table of calls.
+fn is_refused(form: Form, options: &Options<'_>) -> bool
+    ensures { result ≡ is_refused form options.now.json options.now.comments
+        (cannot_list options.now.follow options.now.rows (is_some options.now.annotate)) }
 {
     match form {
-        Form::Comments => json,
-        Form::Objects => comments,
+        Form::Comments => options.json,
+        Form::Objects => options.comments,
+        Form::Table => cannot_list(options),
+        Form::TableObjects => cannot_list(options),
     }
+}
+
+/// Whether the table of calls can't be asked for with what else is.
+fn cannot_list(options: &Options<'_>) -> bool
+    ensures { result ≡ cannot_list options.now.follow options.now.rows (is_some options.now.annotate) }
+{
+    options.follow || options.rows || options.annotate.is_some()
 }

@@ -3,12 +3,13 @@
 ghost use Rattle.std.specs.Prelude.{◌≡◌, ◌≢◌, ℕ, ◌<◌, ◌≤◌, ◌+◌, ◌^◌, ◌⊎◌, IfSome, List, [], None, Some, false, map, option_map, true, is_some};
 ghost use Rattle.clap.specs.Words.{kind_of};
 ghost use Rattle.trace_scan.specs.Readings.{in_flight};
-ghost use Rattle.command_line.specs.Options.{AreAskedRows, alone, annotates, as_json, asked_word, follows, has_comments, named_trace, prints_rows, tries_headers, words_fault};
+ghost use Rattle.command_line.specs.Options.{AreAskedRows, alone, annotates, as_json, asked_word, follows, has_comments, lists_calls, named_trace, prints_rows, tries_headers, words_fault};
 ghost use Rattle.command_line.specs.Explaining.{IsAnswered};
 ghost use Rattle.command_line.specs.Faults.{SaysFault};
 ghost use Rattle.command_line.specs.Notes.{notes_refused, refused_in};
 ghost use Rattle.annotated_trace.specs.declared.rows.Rows.{Rows as AnyRows};
-ghost use Rattle.command_line.specs.Printing.{IsAnnotateAnswer, IsPrintAnswer, IsRefused, IsRowsAnswer, is_refused, printing_of};
+ghost use Rattle.command_line.specs.Calls.{cannot_list};
+ghost use Rattle.command_line.specs.Printing.{IsAnnotateAnswer, IsCallsAnswer, IsPrintAnswer, IsRefused, IsRowsAnswer, is_refused, printing_of, table_of};
 ghost use Rattle.command_line.specs.Trying.{IsTryAnswer, cannot_try};
 ghost use Rattle.command_line.specs.Program.{IsAskedTextTaken, IsFollowStatus, IsReportStatus, IsStatus, IsUnread, IsWordsAnswer, TellsOf, asked_text, fault_status, lag_by, summary_status, trace_of, words_status};
 
@@ -287,10 +288,34 @@ fn scan_trace<S: Input, K: Output, E: Sink, R: Threads + Wait + Clock + Sync>(
     }
 }
 
-/// Which rows the options ask for in place of the report, and how, if they do: with `--rows` their objects, of all where
-/// none are chosen.
+/// What the options ask for in place of the report, if they do: with `--calls` the table of calls, and with `--rows` the
+/// objects of rows, of all where none are chosen.
 fn printing(options: &Options<'_>) -> Option<Printing>
-    ensures { result ≡ printing_of options.now.rows options.now.annotate }
+    ensures { result ≡ printing_of (table_of options.now.calls options.now.json) options.now.rows options.now.annotate }
+{
+    match table_form(options) {
+        Some(form) => Some(Printing {
+            form,
+            rows: Rows::All,
+        }),
+        None => printing_of_rows(options),
+    }
+}
+
+/// The form of the table of calls, where it is asked for.
+fn table_form(options: &Options<'_>) -> Option<Form>
+    ensures { result ≡ table_of options.now.calls options.now.json }
+{
+    match (options.calls, options.json) {
+        (false, _) => None,
+        (true, false) => Some(Form::Table),
+        (true, true) => Some(Form::TableObjects),
+    }
+}
+
+/// Which rows the options ask for in place of the report, and how, if they do.
+fn printing_of_rows(options: &Options<'_>) -> Option<Printing>
+    ensures { result ≡ printing_of None options.now.rows options.now.annotate }
 {
     match (options.rows, options.annotate) {
         (true, Some(rows)) => Some(Printing {
@@ -321,27 +346,28 @@ fn run<S: Input, K: Output, E: Sink, R: Threads + Wait + Clock + Sync>(
         let trace = trace_of name (S.left source.old) (S.named source.old) in
         option_map (λ word. word.now) options.entry.explain ≡ None → options.entry.try_headers ≡ false
         → refused_in options.entry ≡ false
-        → printing_of options.entry.rows options.entry.annotate ≡ None
+        → printing_of (table_of options.entry.calls options.entry.json) options.entry.rows options.entry.annotate ≡ None
         → IsUnread source.old source.new sink.old sink.new result
         ⊎ TellsOf (lag_by options.entry.alone) options.entry.json options.entry.follow trace (S.left source.new) (S.before source.new)
         (K.taken sink.old) (K.taken sink.new) (K.failures sink.new ≡ K.failures sink.old) result }
     ensures reported { option_map (λ word. word.now) options.entry.explain ≡ None
         → options.entry.try_headers ≡ false → refused_in options.entry ≡ false
-        → printing_of options.entry.rows options.entry.annotate ≡ None
+        → printing_of (table_of options.entry.calls options.entry.json) options.entry.rows options.entry.annotate ≡ None
         → IsReportStatus options.entry.json (K.taken sink.old) (K.taken sink.new) result }
     ensures said { let name = option_map (λ name. name.now) options.entry.trace in
         let trace = trace_of name (S.left source.old) (S.named source.old) in
         option_map (λ word. word.now) options.entry.explain ≡ None → options.entry.try_headers ≡ false
         → refused_in options.entry ≡ false
-        → printing_of options.entry.rows options.entry.annotate ≡ None
+        → printing_of (table_of options.entry.calls options.entry.json) options.entry.rows options.entry.annotate ≡ None
         → result ≡ 2 → SaysFault (lag_by options.entry.alone) trace (S.left source.new) (S.before source.new)
         (E.taken errors.old) (E.taken errors.new) (E.failures errors.new ≡ E.failures errors.old) }
     ensures printed { let name = option_map (λ name. name.now) options.entry.trace in
         let trace = trace_of name (S.left source.old) (S.named source.old) in
         option_map (λ word. word.now) options.entry.explain ≡ None → options.entry.try_headers ≡ false
         → refused_in options.entry ≡ false
-        → IfSome (printing_of options.entry.rows options.entry.annotate) (λ printing.
-        IsPrintAnswer (is_refused printing.form options.entry.json options.entry.comments)
+        → IfSome (printing_of (table_of options.entry.calls options.entry.json) options.entry.rows options.entry.annotate) (λ printing.
+        IsPrintAnswer (is_refused printing.form options.entry.json options.entry.comments
+        (cannot_list options.entry.follow options.entry.rows (is_some options.entry.annotate)))
         printing source.old source.new sink.old sink.new trace
         (S.left source.new) (S.before source.new) (K.taken sink.old) (K.taken sink.new)
         (K.failures sink.new ≡ K.failures sink.old) result) }
@@ -352,7 +378,7 @@ fn run<S: Input, K: Output, E: Sink, R: Threads + Wait + Clock + Sync>(
         let trace = trace_of name (S.left source.old) (S.named source.old) in
         option_map (λ word. word.now) options.entry.explain ≡ None → options.entry.try_headers ≡ true
         → refused_in options.entry ≡ false
-        → IsTryAnswer (cannot_try options.entry.json options.entry.follow options.entry.rows (is_some options.entry.annotate))
+        → IsTryAnswer (cannot_try options.entry.json options.entry.follow options.entry.rows (is_some options.entry.annotate) options.entry.calls)
         source.old source.new sink.old sink.new trace
         (S.left source.new) (S.before source.new) (K.taken sink.old) (K.taken sink.new)
         (K.failures sink.new ≡ K.failures sink.old) result }
@@ -433,14 +459,14 @@ pub fn program<S: Input, K: Output, E: Sink, R: Threads + Wait + Clock + Sync>(
     sink: &mut K,
     errors: &mut E,
 ) -> u8
-    // Where the words are right and ask for no explanation and no rows, the status and the bytes are those of a scan of the trace that
+    // Where the words are right and ask for no explanation, no rows and no table, the status and the bytes are those of a scan of the trace that
     // is named, or of standard input: a scan that follows it where they ask so, and the objects of the report's lines
     // where they ask for JSON. Or it could not be opened, or memory ran out, and nothing was read.
     ensures told { let asked = map (λ word. word.now) words.now in
         let trace = trace_of (named_trace asked) (S.left source.old) (S.named source.old) in
         words_fault asked ≡ [] → asked_word asked ≡ None → tries_headers asked ≡ false
         → annotates asked ≡ false → prints_rows asked ≡ false
-        → notes_refused asked ≡ false
+        → lists_calls asked ≡ false → notes_refused asked ≡ false
         → IsUnread source.old source.new sink.old sink.new result
         ⊎ TellsOf (lag_by (alone asked)) (as_json asked) (follows asked) trace (S.left source.new) (S.before source.new)
         (K.taken sink.old) (K.taken sink.new) (K.failures sink.new ≡ K.failures sink.old) result }
@@ -449,14 +475,14 @@ pub fn program<S: Input, K: Output, E: Sink, R: Threads + Wait + Clock + Sync>(
     ensures reported { let asked = map (λ word. word.now) words.now in
         words_fault asked ≡ [] → asked_word asked ≡ None → tries_headers asked ≡ false
         → annotates asked ≡ false → prints_rows asked ≡ false
-        → notes_refused asked ≡ false
+        → lists_calls asked ≡ false → notes_refused asked ≡ false
         → IsReportStatus (as_json asked) (K.taken sink.old) (K.taken sink.new) result }
     // Status 2 says that the errors took the line of the trace's fault first, or that they failed.
     ensures said { let asked = map (λ word. word.now) words.now in
         let trace = trace_of (named_trace asked) (S.left source.old) (S.named source.old) in
         words_fault asked ≡ [] → asked_word asked ≡ None → tries_headers asked ≡ false
         → annotates asked ≡ false → prints_rows asked ≡ false
-        → notes_refused asked ≡ false
+        → lists_calls asked ≡ false → notes_refused asked ≡ false
         → result ≡ 2 → SaysFault (lag_by (alone asked)) trace (S.left source.new) (S.before source.new)
         (E.taken errors.old) (E.taken errors.new) (E.failures errors.new ≡ E.failures errors.old) }
     // Where they ask for an annotation, of each row or of exactly those that they choose, the sink took one of that trace,
@@ -465,7 +491,7 @@ pub fn program<S: Input, K: Output, E: Sink, R: Threads + Wait + Clock + Sync>(
         let trace = trace_of (named_trace asked) (S.left source.old) (S.named source.old) in
         words_fault asked ≡ [] → asked_word asked ≡ None → tries_headers asked ≡ false
         → annotates asked ≡ true → prints_rows asked ≡ false
-        → notes_refused asked ≡ false
+        → lists_calls asked ≡ false → notes_refused asked ≡ false
         → IsUnread source.old source.new sink.old sink.new result
         ⊎ ((rows : AnyRows) × AreAskedRows asked rows
         × IsAnnotateAnswer (as_json asked) rows source.old source.new sink.old sink.new trace
@@ -476,26 +502,38 @@ pub fn program<S: Input, K: Output, E: Sink, R: Threads + Wait + Clock + Sync>(
     ensures rows { let asked = map (λ word. word.now) words.now in
         let trace = trace_of (named_trace asked) (S.left source.old) (S.named source.old) in
         words_fault asked ≡ [] → asked_word asked ≡ None → tries_headers asked ≡ false → prints_rows asked ≡ true
-        → notes_refused asked ≡ false
+        → lists_calls asked ≡ false → notes_refused asked ≡ false
         → IsUnread source.old source.new sink.old sink.new result
         ⊎ ((rows : AnyRows) × AreAskedRows asked rows
         × IsRowsAnswer (has_comments asked) rows source.old source.new sink.old sink.new trace
         (S.left source.new) (S.before source.new) (K.taken sink.old) (K.taken sink.new)
         (K.failures sink.new ≡ K.failures sink.old) result) }
-    // Where they ask for a note of the data that was not counted with workers, or with rows in place of the report, they
+    // Where they ask for the table of calls, as CSV or as objects where they ask for JSON, the sink took that of exactly the
+    // calls of the report, or the trace was refused. Where they ask for rows, for an annotation or for following with it, they
     // are refused.
+    ensures calls { let asked = map (λ word. word.now) words.now in
+        let trace = trace_of (named_trace asked) (S.left source.old) (S.named source.old) in
+        words_fault asked ≡ [] → asked_word asked ≡ None → tries_headers asked ≡ false → lists_calls asked ≡ true
+        → notes_refused asked ≡ false
+        → IsUnread source.old source.new sink.old sink.new result
+        ⊎ IsCallsAnswer (cannot_list (follows asked) (prints_rows asked) (annotates asked)) (as_json asked)
+        source.old source.new sink.old sink.new trace
+        (S.left source.new) (S.before source.new) (K.taken sink.old) (K.taken sink.new)
+        (K.failures sink.new ≡ K.failures sink.old) result }
+    // Where they ask for a note of the data that was not counted with workers and neither `--alone` nor `--follow`, or with
+    // something in place of the report, they are refused.
     ensures notes { let asked = map (λ word. word.now) words.now in
         words_fault asked ≡ [] → asked_word asked ≡ None → notes_refused asked ≡ true
         → IsUnread source.old source.new sink.old sink.new result
         ⊎ IsRefused source.old source.new sink.old sink.new result }
     // Where they ask for the headers that explain the rows best, the sink took the lines of all that are tried, or the trace
-    // was refused. Where they ask for a report, for objects or for rows with it, they are refused.
+    // was refused. Where they ask for JSON, following, rows, an annotation or the table of calls with it, they are refused.
     ensures tried { let asked = map (λ word. word.now) words.now in
         let trace = trace_of (named_trace asked) (S.left source.old) (S.named source.old) in
         words_fault asked ≡ [] → asked_word asked ≡ None → tries_headers asked ≡ true
         → notes_refused asked ≡ false
         → IsUnread source.old source.new sink.old sink.new result
-        ⊎ IsTryAnswer (cannot_try (as_json asked) (follows asked) (prints_rows asked) (annotates asked))
+        ⊎ IsTryAnswer (cannot_try (as_json asked) (follows asked) (prints_rows asked) (annotates asked) (lists_calls asked))
         source.old source.new sink.old sink.new trace
         (S.left source.new) (S.before source.new) (K.taken sink.old) (K.taken sink.new)
         (K.failures sink.new ≡ K.failures sink.old) result }
@@ -506,7 +544,7 @@ pub fn program<S: Input, K: Output, E: Sink, R: Threads + Wait + Clock + Sync>(
         ⊎ ((source.new ≡ source.old)
         × IsAnswered word (K.taken sink.old) (K.taken sink.new) result) }
     // Where the words are wrong, or ask for help or the version, the source is not asked. The sink took the text of the help or
-    // of the version where that was asked for, or it failed and took a first part of it.
+    // of the version where that was asked for, or it failed and took a first part of it, or memory ran out.
     ensures usage { let asked = map (λ word. word.now) words.now in
         words_fault asked ≢ []
         → (source.new ≡ source.old) × IsWordsAnswer (words_fault asked) (K.taken sink.old) (K.taken sink.new)

@@ -17,7 +17,7 @@ use trace_scan::trying::try_headers;
 
 /// What is printed where headers can't be tried with what else is asked for.
 const REFUSAL: &[u8] =
-    b"error: --try-headers prints a line for each header: leave out --json, --follow, --rows, --annotate, --channel and --call\n";
+    b"error: --try-headers prints a line for each header: leave out --json, --follow, --rows, --annotate, --calls, --channel and --call\n";
 
 /// The exit status by the findings of the best header.
 fn tried_status(findings: u32) -> u8
@@ -70,9 +70,10 @@ fn try_input<S: Input, K: Output, E: Sink>(
 
 /// Whether headers can't be tried with what else is asked for.
 fn cannot_try(options: &Options<'_>) -> bool
-    ensures { result ≡ cannot_try options.now.json options.now.follow options.now.rows (is_some options.now.annotate) }
+    ensures { result ≡ cannot_try options.now.json options.now.follow options.now.rows
+        (is_some options.now.annotate) options.now.calls }
 {
-    options.json || options.follow || options.rows || options.annotate.is_some()
+    options.json || options.follow || options.rows || options.annotate.is_some() || options.calls
 }
 
 /// Prints with what headers can't be tried.
@@ -94,7 +95,7 @@ pub(crate) fn try_trace<S: Input, K: Output, E: Sink>(
 ) -> u8
     ensures answer { let name = option_map (λ name. name.now) options.entry.trace in
         let trace = trace_of name (S.left source.old) (S.named source.old) in
-        IsTryAnswer (cannot_try options.entry.json options.entry.follow options.entry.rows (is_some options.entry.annotate))
+        IsTryAnswer (cannot_try options.entry.json options.entry.follow options.entry.rows (is_some options.entry.annotate) options.entry.calls)
         source.old source.new sink.old sink.new
         trace (S.left source.new) (S.before source.new) (K.taken sink.old) (K.taken sink.new)
         (K.failures sink.new ≡ K.failures sink.old) result }

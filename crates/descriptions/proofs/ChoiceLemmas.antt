@@ -56,6 +56,13 @@ rows_written ls l = by (is_comment l) (has_header ls) refl refl
     by false true is headed = later_rows ls l is headed ∙ ap (λ o. rows_in ls ++ option_to_list o) (sym (λ t. cond (headed t && not (is t)) (row_of l) None))
 
 -- where a line writes a row, a header stands before it
+pub written_row : (ls : List Line) (l : Line) (r : Row) → row_written ls l ≡ Some r → row_of l ≡ Some r
+written_row ls l r h = by (has_header ls && not (is_comment l)) h
+  where
+    by : (b : Bool) → cond b (row_of l) None ≡ Some r → row_of l ≡ Some r
+    by true h = h
+    by false h = cc
+
 pub headed_row : (ls : List Line) (l : Line) (r : Row) → row_written ls l ≡ Some r → head_of (ls ++ l ∷ []) ≡ head_of ls
 headed_row ls l r e = by (is_comment l) (has_header ls) refl refl
   where

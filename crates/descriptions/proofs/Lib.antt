@@ -6,4 +6,11 @@ pub mod ObjectLemmas
 pub mod LineLemmas
 pub mod FactLemmas
 pub mod SentLemmas
+pub mod TableLemmas
+pub mod MemberLemmas
+pub mod OneLine
+pub mod DigitLemmas
+pub mod ClosingLemmas
 mod Anywhere
+pub mod UsualMembers
+pub mod RestLemmas

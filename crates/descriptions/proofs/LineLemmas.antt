@@ -1,12 +1,7 @@
 -- Lines that are written from their end, and the objects of the rows that are as most are.
-use Rattle.std.proofs.Common.{◌≡◌, ◌∙◌, sym, ap, subst, refl, ℕ, ◌<◌, ◌≤◌, ◌==◌, ◌^◌, Bool, true, false, not, ◌&&◌, ◌||◌, cond, List, [], ◌∷◌, ◌++◌, Option, Some, None, IfSome, Result, Ok, Err, OnOk, is_ok, arith, append_assoc}
+use Rattle.std.proofs.Common.{◌≡◌, ◌∙◌, sym, ap, subst, refl, ℕ, Bool, true, false, not, ◌&&◌, cond, List, [], ◌∷◌, ◌++◌, Option, Some, None, IfSome, Result, Ok, Err, OnOk, is_ok, append_assoc}
 use Rattle.std.specs.Prelude.{codes, decimal}
-use Rattle.std.specs.List.{list_any}
 use Rattle.std.specs.Option.{is_none, option_map, option_to_list}
-use Rattle.std.specs.Str.Parse.{AllDigits}
-use Rattle.std.proofs.lemmas.Fmt.{digits_decimal}
-use Rattle.std.proofs.lemmas.List.Folds.{list_any-append}
-use Rattle.std.proofs.lemmas.Str.Parse.{numerals_by_value, tells_digits}
 use Rattle.line_model.specs.basics.Records.{Item}
 use Rattle.line_model.specs.declared.event.Event.{Event}
 use Rattle.line_model.specs.declared.finding.Finding.{Finding}
@@ -20,8 +15,8 @@ use Rattle.line_model.specs.observer.Calls.{all_lengths}
 use Rattle.line_model.specs.observer.Machine.{Observer, routed}
 use Rattle.line_model.specs.observer.Observer.{x25}
 use Rattle.line_model.specs.observer.Report.{report_of}
+use Rattle.line_model.specs.declared.packet.Packet.{Packet}
 use Rattle.line_model.specs.packets.Says.{gap_of}
-use Rattle.line_model.specs.text.Text.{Line, ended_lines, is_lf}
 use Rattle.restart_epochs.specs.Cutting.{observer}
 use Rattle.data_transfer.specs.Packed.{Packed}
 use Rattle.channel_run.specs.StatusWord.{view_in}
@@ -29,16 +24,16 @@ use Rattle.live_report.specs.JudgedRows.{IsJudge, IsJudgedRow}
 use Rattle.live_report.specs.declared.judged_row.Judge.{Judge}
 use Rattle.live_report.specs.declared.judged_row.Judge.TheVariants as judge
 use Rattle.live_report.specs.declared.judged_row.JudgedRow.{JudgedRow}
-use Rattle.annotated_trace.specs.Annotation.{IsOneLine}
-use Rattle.annotated_trace.proofs.WordingLemmas.{both_one}
-use Rattle.annotated_trace.proofs.LinesOfText.{AreLines, ended_are_lines}
 use Rattle.annotated_trace.specs.Printed.{HasAppended}
 use Rattle.descriptions.specs.Facts.{IsFateOf}
-use Rattle.descriptions.specs.Lines.{Puts, PutsPlain}
-use Rattle.descriptions.specs.RowObjects.{IsObjectWhere, IsRowObject, channel_word, counted_word, events_at, finding_word, head_by, known_word, named_channel, row_head, state_at, state_members, word_after, word_before}
+use Rattle.descriptions.specs.Lines.{Puts, PutsForm}
+use Rattle.descriptions.specs.Members.{IsFurther, IsText, IsValue}
+use Rattle.descriptions.specs.RowObjects.{IsObjectWhere, IsRest, IsRowObject, channel_word, counted_word, events_at, finding_word, head_by, known_word, named_channel, row_head, state_at, state_members, word_after, word_before}
 use Rattle.descriptions.specs.UsualObjects.{IsUsualObject, amount_word, is_d1, is_quiet, is_settled, leaves_settled, usual_head}
 use Rattle.descriptions.specs.declared.facts.Fate.TheVariants.{Counted}
 use Rattle.descriptions.proofs.ObjectLemmas.{words_are}
+use Rattle.descriptions.proofs.OneLine.{rest_one}
+use Rattle.descriptions.proofs.UsualMembers.{place_members}
 
 -- ---- bytes before others
 
@@ -53,34 +48,29 @@ puts_then v w a b c first later = record {
       (f.0, f.1, l.2 ∙ ap (λ xs. v ++ xs) f.2 ∙ sym (append_assoc v w f.0));
 }
 
-pub plain_put : (bytes : List ℕ) (a b : Option (List ℕ)) → IsOneLine bytes → Puts bytes a b → PutsPlain a b
-plain_put bytes a b one put = record {
+pub form_put : {P : List ℕ → Type 0} (bytes : List ℕ) (a b : Option (List ℕ)) → P bytes → Puts bytes a b → PutsForm P a b
+form_put bytes a b p put = record {
   whole = λ line is.
-      let p = put.whole line is in
-      (p.0, bytes, p.1, p.2, one);
+      let w = put.whole line is in
+      (w.0, bytes, w.1, w.2, p);
 }
 
-pub plain_then : (a b c : Option (List ℕ)) → PutsPlain a b → PutsPlain b c → PutsPlain a c
-plain_then a b c first later = record {
+-- bytes of one form, and of another before them
+pub form_then : {P Q R : List ℕ → Type 0} (a b c : Option (List ℕ)) → ((x y : List ℕ) → P x → Q y → R (x ++ y)) → PutsForm Q a b → PutsForm P b c → PutsForm R a c
+form_then a b c join first later = record {
   whole = λ line is.
       let l = later.whole line is in
       let f = first.whole l.0 l.2 in
-      (f.0, l.1 ++ f.1, f.2, l.3 ∙ ap (λ xs. l.1 ++ xs) f.3 ∙ sym (append_assoc l.1 f.1 f.0), both_one l.1 f.1 l.4 f.4);
+      (f.0, l.1 ++ f.1, f.2, l.3 ∙ ap (λ xs. l.1 ++ xs) f.3 ∙ sym (append_assoc l.1 f.1 f.0), join l.1 f.1 l.4 f.4);
 }
 
--- ---- numbers
-
-digits_one : (ds : List ℕ) → AllDigits 10 ds → IsOneLine ds
-digits_one [] h = refl
-digits_one (d ∷ ds) h =
-    let parts = tells_digits.parts d ds h in
-    ap (λ v. v || list_any is_lf ds) (not_lf d parts.0.0) ∙ digits_one ds parts.1
-  where
-    not_lf : (d : ℕ) → 48 ≤ d → (d == 10) ≡ false
-    not_lf d low = grind (arith, low)
-
-pub number_put : (n : ℕ) (a b : Option (List ℕ)) → n < 2 ^ 64 → Puts (decimal n) a b → PutsPlain a b
-number_put n a b few put = plain_put (decimal n) a b (digits_one (decimal n) (digits_decimal (numerals_by_value (AllDigits 10) tells_digits) n (omega (arith, few)))) put
+-- an epoch and a call
+pub place_form : (epoch : ℕ) (a b c d e : Option (List ℕ)) → PutsForm IsValue a b → Puts (codes ",\"owed\":false,\"call\":") b c → Puts (decimal epoch) c d → Puts (codes ",\"epoch\":") d e → PutsForm IsFurther a e
+place_form epoch a b c d e call owed number member =
+    let between = puts_then (codes ",\"epoch\":") (decimal epoch ++ codes ",\"owed\":false,\"call\":") b d e (puts_then (decimal epoch) (codes ",\"owed\":false,\"call\":") b c d owed number) member in
+    form_then {P = λ x. x ≡ codes ",\"epoch\":" ++ (decimal epoch ++ codes ",\"owed\":false,\"call\":")} a b e
+    (λ x y same v. subst IsFurther (ap (λ xs. codes ",\"epoch\":" ++ xs) (sym (append_assoc (decimal epoch) (codes ",\"owed\":false,\"call\":") y)) ∙ ap (λ xs. xs ++ y) (sym same)) (place_members epoch y v))
+    call (form_put (codes ",\"epoch\":" ++ (decimal epoch ++ codes ",\"owed\":false,\"call\":")) b e refl between)
 
 -- ---- what was counted
 
@@ -103,7 +93,7 @@ headed a n b s c k d x =
 
 -- ---- a whole line
 
-pub usual_line : (row : JudgedRow) (events : List Event) (a b c d : Option (List ℕ)) (bytes : List ℕ) → is_quiet row ≡ true → gap_of row.packet ≡ None → a ≡ Some [] → Puts (codes "}\n") a b → PutsPlain b c → Puts (usual_head row (all_lengths events)) c d
+pub usual_line : (row : JudgedRow) (events : List Event) (a b c d : Option (List ℕ)) (bytes : List ℕ) → is_quiet row ≡ true → gap_of row.packet ≡ None → a ≡ Some [] → Puts (codes "}\n") a b → PutsForm IsFurther b c → Puts (usual_head row (all_lengths events)) c d
     → d ≡ Some bytes → IsUsualObject row events bytes
 usual_line row events a b c d bytes quiet gap empty end plain head is =
     let h = head.whole bytes is in
@@ -114,7 +104,7 @@ usual_line row events a b c d bytes quiet gap empty end plain head is =
       quiet = quiet;
       packet = gap;
       rest = p.1;
-      one = p.4;
+      members = p.4;
       written = h.2 ∙ ap (λ xs. usual_head row (all_lengths events) ++ xs) (p.3 ∙ ap (λ xs. p.1 ++ xs) (e.2 ∙ ap (λ xs. codes "}\n" ++ xs) none));
     }
 
@@ -164,6 +154,9 @@ taker_of i None o more (judge.Restart before after) h settled = absurd (let bad 
 taker_of i None o more (judge.Channel k before after accepted) h settled = absurd h
 taker_of i (Some n) o more j h settled = (n, refl)
 
+further_rest : (read packet : Packet) → read ≡ packet → gap_of packet ≡ None → (rest : List ℕ) → IsFurther rest → IsRest (gap_of read) None rest
+further_rest read packet same none rest h = subst (λ g. IsRest g None rest) (sym (ap gap_of same ∙ none)) h
+
 usual_object : (i : Interface) (earlier : List Item) (r : Item) (row : JudgedRow) (events : List Event) (bytes : List ℕ) → IsJudgedRow i earlier r row events → IsUsualObject row events bytes → IsRowObject i earlier r bytes
 usual_object i earlier r row events bytes l line =
     let o : Observer GapLine GapChannel = observer i earlier in
@@ -188,7 +181,8 @@ usual_object i earlier r row events bytes l line =
       found = None;
       came = subst (λ f. (report_of i (earlier ++ r ∷ [])).findings ≡ (report_of i earlier).findings ++ option_to_list f) none l.finding;
       rest = line.rest;
-      one = line.one;
+      one = rest_one None None line.rest line.members;
+      members = further_rest r.packet row.packet (sym l.packet) line.packet line.rest line.members;
       written = line.written ∙ ap (λ xs. xs ++ (line.rest ++ codes "}\n")) head;
     }
 
@@ -196,26 +190,9 @@ pub told_object : (told : Bool) (i : Interface) (earlier : List Item) (r : Item)
 told_object told i earlier r bytes is h = subst (λ b. IsObjectWhere b i earlier r bytes) (sym is) h
 
 pub lent_object : {X : Type 0} (f : X → List ℕ) (o : Option X) (told : Bool) (i : Interface) (earlier : List Item) (r : Item) (row : JudgedRow) (events : List Event) (digits : List ℕ) → told ≡ true
-    → IsJudgedRow i earlier r row events → IsOneLine digits → IfSome o (λ x. IsOneLine digits → IsUsualObject row events (f x)) → IfSome o (λ x. IsObjectWhere told i earlier r (f x))
-lent_object f None told i earlier r row events digits is l one h = tt
-lent_object f (Some x) told i earlier r row events digits is l one h = told_object told i earlier r (f x) is (usual_object i earlier r row events (f x) l (h one))
-
--- ---- its line
-
-last_line : (ls : List Line) (l : Line) → AreLines (ls ++ l ∷ []) → IsOneLine l
-last_line [] l h = h.0
-last_line (x ∷ ls) l h = last_line ls l h.1
-
-pub line_is_one : (text : List ℕ) (before : List Line) (l : Line) → ended_lines text ≡ before ++ l ∷ [] → IsOneLine l
-line_is_one text before l e = last_line before l (subst AreLines e (ended_are_lines text))
-
-or_right : (v r : Bool) → (v || r) ≡ false → r ≡ false
-or_right true r h = cc
-or_right false r h = h
-
--- what a line ends with
-pub end_is_one : (front back l : List ℕ) → l ≡ front ++ back → IsOneLine l → IsOneLine back
-end_is_one front back l e one = or_right (list_any is_lf front) (list_any is_lf back) (sym (list_any-append is_lf front back) ∙ ap (list_any is_lf) (sym e) ∙ one)
+    → IsJudgedRow i earlier r row events → IsText digits → IfSome o (λ x. IsText digits → IsUsualObject row events (f x)) → IfSome o (λ x. IsObjectWhere told i earlier r (f x))
+lent_object f None told i earlier r row events digits is l text h = tt
+lent_object f (Some x) told i earlier r row events digits is l text h = told_object told i earlier r (f x) is (usual_object i earlier r row events (f x) l (h text))
 
 -- ---- it is appended
 

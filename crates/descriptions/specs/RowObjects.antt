@@ -1,5 +1,5 @@
 -- The object of a row: its first members say what the definitions' walk does; others come after them.
-use Rattle.std.specs.Prelude.{◌≡◌, ℕ, Bool, true, false, List, [], ◌∷◌, ◌++◌, Option, None, Some, option_to_list, codes, decimal, flat_map}
+use Rattle.std.specs.Prelude.{◌≡◌, ℕ, Bool, true, false, List, [], ◌∷◌, ◌++◌, Option, None, Some, option_to_list, codes, decimal, flat_map, length}
 use Rattle.json_lines.specs.Json.{json_text}
 use Rattle.line_model.specs.basics.Records.{Item, Report, Row}
 use Rattle.line_model.specs.channels.Gaps.{GapChannel}
@@ -29,6 +29,8 @@ use Rattle.live_report.specs.declared.judged_row.Judge.TheVariants as judge
 use Rattle.annotated_trace.specs.Annotation.{IsOneLine}
 use Rattle.annotated_trace.specs.Rows.{is_chosen, row_written}
 use Rattle.annotated_trace.specs.declared.rows.Rows.{Rows}
+use Rattle.descriptions.specs.Closing.{AreClosingObjects}
+use Rattle.descriptions.specs.Members.{IsFurther}
 
 -- all words, one after the other
 abbrev pub joined : List (List ℕ) → List ℕ
@@ -111,12 +113,18 @@ head_by (Some channel) i earlier r found = gap_head r.number channel
 abbrev pub row_head : Interface → (earlier : List Item) → Item → Option Finding → List ℕ
 row_head i earlier r found = head_by (gap_of r.packet) i earlier r found
 
--- the object of a row after others on a line of its own: that beginning, with what the row found, and further members
+-- what comes after that beginning: where the row found something, the rest of the object of the finding; then further members of the row's
+abbrev pub IsRest : (gap : Option (Option ℕ)) → Option Finding → List ℕ → Type 0
+IsRest None (Some f) rest = (own : List ℕ) × (further : List ℕ) × (rest ≡ own ++ (codes "}" ++ further)) × IsFurther own × IsFurther further
+IsRest _ _ rest = IsFurther rest
+
+-- the object of a row after others on a line of its own: that beginning, with what the row found, and members with other names
 pub record IsRowObject (i : Interface) (earlier : List Item) (r : Item) (bytes : List ℕ) : Type 0 where
   pub found : Option Finding
   pub came : (report_of i (earlier ++ r ∷ [])).findings ≡ (report_of i earlier).findings ++ option_to_list found
   pub rest : List ℕ
   pub one : IsOneLine rest
+  pub members : IsRest (gap_of r.packet) found rest
   pub written : bytes ≡ row_head i earlier r found ++ (rest ++ codes "}\n")
 
 -- the object of a row that is printed, and nothing for another
@@ -133,7 +141,8 @@ IsObjectOf rows _ earlier _ bytes = bytes ≡ []
 abbrev pub IsLineObject : Rows → (before : List Line) → Line → List ℕ → Type 0
 IsLineObject rows before l bytes = IsObjectOf rows (head_of before) (rows_in before) (row_written before l) bytes
 
--- what comes after the last row: the objects of the report, and further ones
-pub record IsClosing (rows : Rows) (report : Report) (bytes : List ℕ) : Type 0 where
+-- what comes after the last row: the objects of the report, those of what was not counted, and one for each of its calls, and no other line
+pub record IsClosing (report : Report) (bytes : List ℕ) : Type 0 where
   pub rest : List ℕ
+  pub objects : AreClosingObjects (length report.calls) rest
   pub written : bytes ≡ json_text (text_of report) ++ rest

@@ -10,10 +10,10 @@ use Rattle.line_model.specs.observer.Calls.{all_lengths}
 use Rattle.line_model.specs.packets.Says.{gap_of}
 use Rattle.data_transfer.specs.Packed.{Packed}
 use Rattle.channel_run.specs.StatusWord.{view_in}
-use Rattle.annotated_trace.specs.Annotation.{IsOneLine}
 use Rattle.live_report.specs.declared.judged_row.Judge.{Judge}
 use Rattle.live_report.specs.declared.judged_row.Judge.TheVariants as judge
 use Rattle.live_report.specs.declared.judged_row.JudgedRow.{JudgedRow}
+use Rattle.descriptions.specs.Members.{IsFurther}
 use Rattle.descriptions.specs.RowObjects.{counted_word, finding_word, joined, named_channel, state_members}
 
 -- whether a state of data transfer is d1
@@ -49,10 +49,10 @@ usual_head row lengths =
     state_members row.number row.side (named_channel row.packet) (codes "d1") (codes "d1")
     ++ (counted_word lengths ++ (codes ",\"finding\":" ++ finding_word None))
 
--- its object on a line of its own: that beginning, and further members
+-- its object on a line of its own: that beginning, and members with other names
 pub record IsUsualObject (row : JudgedRow) (events : List Event) (bytes : List ℕ) : Type 0 where
   pub quiet : is_quiet row ≡ true
   pub packet : gap_of row.packet ≡ None
   pub rest : List ℕ
-  pub one : IsOneLine rest
+  pub members : IsFurther rest
   pub written : bytes ≡ usual_head row (all_lengths events) ++ (rest ++ codes "}\n")

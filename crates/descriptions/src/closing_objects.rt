@@ -1,10 +1,13 @@
 //! The objects after those of the report: what was not counted, and what a call's line does not say.
+#![tactic(auto, using(crate::proofs::MemberLemmas::further_then, crate::proofs::MemberLemmas::member_put, crate::proofs::MemberLemmas::no_member))]
 
-ghost use Rattle.std.specs.Prelude.{◌≡◌, ◌<◌, IfErr, OnErr};
-ghost use Rattle.annotated_trace.specs.Printed.{HasTaken};
-ghost use Rattle.descriptions.specs.Sent.{IsAnything};
+ghost use Rattle.std.specs.Prelude.{◌≡◌, ◌<◌, IfErr, OnErr, OnOk, codes, length};
+ghost use Rattle.annotated_trace.specs.Printed.{HasTaken, HasTakenFirst};
+ghost use Rattle.descriptions.specs.Members.{IsFurther, IsValue};
+ghost use Rattle.descriptions.specs.Closing.{AreClosingObjects, AreObjects, AreUncounted, IsObjectLine};
+ghost use Rattle.descriptions.specs.Writing.{Adds};
 
-use crate::call_memory::{CallMemory, Calls};
+use crate::call_memory::{CallMemory, Calls, CodeCount};
 use crate::causes::CauseTable;
 use crate::json::{Json, Out};
 use crate::packet_members::{address_member, cause_members};
@@ -18,7 +21,7 @@ use line_model::device::Sink;
 use line_model::event::How;
 use line_model::fault::Fault;
 use line_model::lending::{Borrowed, Origin, take_back};
-use live_report::uncounted::{REASONS, Uncounted};
+use live_report::uncounted::{Amount, REASONS, Reason, Uncounted};
 use std::alloc::Allocator;
 use std::marker::Brand;
 
@@ -38,8 +41,21 @@ fn rest_objects<O: Out, A: Allocator + Copy>(
     json: &mut Json<O>,
     rest: &Rest<A>,
     records: &[CallRecord<A>],
-) {
+)
+    ensures { Adds O.has (AreClosingObjects (length records.now)) json.old.out json.new.out }
+{
     uncounted_objects(json, &rest.uncounted);
+    call_objects(json, rest, records);
+}
+
+/// An object for each call of the report, in order.
+fn call_objects<O: Out, A: Allocator + Copy>(
+    json: &mut Json<O>,
+    rest: &Rest<A>,
+    records: &[CallRecord<A>],
+)
+    ensures { Adds O.has (AreObjects (codes "call_facts") (length records.now)) json.old.out json.new.out }
+{
     let mut number: u32 = 0;
     for record in records {
         number = number.saturating_add(1);
@@ -56,7 +72,10 @@ fn write_to<'a, A: Allocator + Copy, K: Sink, B: Origin>(
     requires name { sink.ghost_name ≡ B.name }
     requires before { (K.taken sink.now, K.failures sink.now) ≡ B.before }
     ensures name { result.0.ghost_name ≡ B.name }
-    ensures taken { HasTaken IsAnything B.before.0 (K.taken result.0.now) }
+    ensures ok { OnOk result.1 (HasTaken (AreClosingObjects (length records.now)) B.before.0
+        (K.taken result.0.now)) }
+    ensures part { OnErr result.1 (HasTakenFirst (AreClosingObjects (length records.now)) B.before.0
+        (K.taken result.0.now)) }
     ensures cause { OnErr result.1 (B.before.1 < K.failures result.0.now) }
     ensures write { IfErr result.1 (λ fault. fault ≡ Fault.Write) }
 {
@@ -75,7 +94,10 @@ pub fn write_rest<A: Allocator + Copy, K: Sink>(
     records: &[CallRecord<A>],
     sink: &mut K,
 ) -> Result<(), Fault>
-    ensures taken { HasTaken IsAnything (K.taken sink.old) (K.taken sink.new) }
+    ensures ok { OnOk result (HasTaken (AreClosingObjects (length records.now)) (K.taken sink.old)
+        (K.taken sink.new)) }
+    ensures part { OnErr result (HasTakenFirst (AreClosingObjects (length records.now))
+        (K.taken sink.old) (K.taken sink.new)) }
     ensures cause { OnErr result (K.failures sink.old < K.failures sink.new) }
     ensures write { IfErr result (λ fault. fault ≡ Fault.Write) }
 {
@@ -85,18 +107,26 @@ pub fn write_rest<A: Allocator + Copy, K: Sink>(
 }
 
 /// An object for each reason for which data was not counted.
-fn uncounted_objects<O: Out>(json: &mut Json<O>, uncounted: &Uncounted) {
+fn uncounted_objects<O: Out>(json: &mut Json<O>, uncounted: &Uncounted)
+    ensures { Adds O.has AreUncounted json.old.out json.new.out }
+{
     for reason in &REASONS {
         let amount = uncounted.amount(*reason);
         if amount.packets != 0 {
-            json.first("{\"line\":");
-            json.word("not_counted");
-            json.word_member(",\"reason\":", reason_word(*reason));
-            json.number_member(",\"packets\":", amount.packets);
-            json.number_member(",\"octets\":", amount.octets);
-            json.raw(b"}\n");
+            uncounted_object(json, *reason, &amount);
         }
     }
+}
+
+/// What was not counted for a reason.
+fn uncounted_object<O: Out>(json: &mut Json<O>, reason: Reason, amount: &Amount)
+    ensures { Adds O.has (IsObjectLine (codes "not_counted")) json.old.out json.new.out }
+{
+    json.raw(b"{\"line\":\"not_counted\"");
+    json.text_member(",\"reason\":", reason_word(reason));
+    json.number_member(",\"packets\":", amount.packets);
+    json.number_member(",\"octets\":", amount.octets);
+    json.raw(b"}\n");
 }
 
 /// What a call's line of the report does not say.
@@ -105,63 +135,99 @@ fn call_object<O: Out, A: Allocator + Copy>(
     number: u32,
     record: &CallRecord<A>,
     rest: &Rest<A>,
-) {
-    json.first("{\"line\":");
-    json.word("call_facts");
+)
+    ensures { Adds O.has (IsObjectLine (codes "call_facts")) json.old.out json.new.out }
+{
+    json.raw(b"{\"line\":\"call_facts\"");
     json.number_member(",\"call\":", u64::from(number));
+    payer_members(json, record);
+    clearer_member(json, record.how);
+    known_members(json, number, rest);
+    json.raw(b"}\n");
+}
+
+/// Who pays for a call.
+fn payer_members<O: Out, A: Allocator + Copy>(json: &mut Json<O>, record: &CallRecord<A>)
+    ensures { Adds O.has IsFurther json.old.out json.new.out }
+{
     if record.reverse {
-        json.word_member(",\"pays\":", "called");
+        json.text_member(",\"pays\":", "called");
         address_member(json, ",\"payer\":", &record.called);
     } else {
-        json.word_member(",\"pays\":", "calling");
+        json.text_member(",\"pays\":", "calling");
         address_member(json, ",\"payer\":", &record.calling);
     }
-    json.member(",\"cleared_by\":");
-    match record.how {
-        Some(How::T) => json.word("T"),
-        Some(How::N) => json.word("N"),
-        _ => json.null(),
+}
+
+/// The side that cleared a call, null where none did.
+fn clearer_member<O: Out>(json: &mut Json<O>, how: Option<How>)
+    ensures { Adds O.has IsFurther json.old.out json.new.out }
+{
+    match how {
+        Some(How::T) => json.text_member(",\"cleared_by\":", "T"),
+        Some(How::N) => json.text_member(",\"cleared_by\":", "N"),
+        _ => json.null_member(",\"cleared_by\":"),
     }
+}
+
+/// What is remembered of a call, where something is.
+fn known_members<O: Out, A: Allocator + Copy>(json: &mut Json<O>, number: u32, rest: &Rest<A>)
+    ensures { Adds O.has IsFurther json.old.out json.new.out }
+{
     if let Some(call) = rest.calls.get(number) {
         memory_members(json, call);
         if rest.has_gaps {
             json.number_member(",\"gaps\":", u64::from(rest.calls.gaps_of(call)));
         }
     }
-    json.raw(b"}\n");
 }
 
 /// What is remembered of a call's rows.
-fn memory_members<O: Out, A: Allocator>(json: &mut Json<O>, call: &CallMemory<A>) {
+fn memory_members<O: Out, A: Allocator>(json: &mut Json<O>, call: &CallMemory<A>)
+    ensures { Adds O.has IsFurther json.old.out json.new.out }
+{
     cause_members(json, &call.causes, CauseTable::Clearing);
-    codes_member(json, call);
+    codes_member(json, &call.codes);
     time_member(json, ",\"start\":", call.start);
-    time_member(json, ",\"seconds\":", length(call));
+    time_member(json, ",\"seconds\":", call_length(call));
 }
 
 /// How long a call lasted, where both its rows have times.
-fn length<A: Allocator>(call: &CallMemory<A>) -> Option<Time> {
+pub fn call_length<A: Allocator>(call: &CallMemory<A>) -> Option<Time> {
     let end = call.end?;
     let start = call.start?;
     end.since(&start)
 }
 
 /// The findings of a call's rows, by their codes.
-fn codes_member<O: Out, A: Allocator>(json: &mut Json<O>, call: &CallMemory<A>) {
+fn codes_member<O: Out>(json: &mut Json<O>, codes: &[CodeCount])
+    ensures { Adds O.has IsFurther json.old.out json.new.out }
+{
     json.member(",\"findings\":");
+    code_counts(json, codes);
+}
+
+/// An array of codes.
+fn code_counts<O: Out>(json: &mut Json<O>, codes: &[CodeCount])
+    ensures { Adds O.has IsValue json.old.out json.new.out }
+{
     json.raw(b"[");
     let mut is_first = true;
-    for known in &call.codes {
-        if !is_first {
-            json.raw(b",");
-        }
+    for known in codes {
+        json.separate(is_first);
         is_first = false;
-        let mut code = Buffer::new();
-        json.first("{\"code\":\"");
-        json.raw(code_digits(known.code, &mut code));
-        json.raw(b"\"");
-        json.number_member(",\"count\":", known.count);
-        json.raw(b"}");
+        code_count(json, known);
     }
     json.raw(b"]");
+}
+
+/// How often the rows of a call have a code.
+fn code_count<O: Out>(json: &mut Json<O>, known: &CodeCount)
+    ensures { Adds O.has IsValue json.old.out json.new.out }
+{
+    let mut code = Buffer::new();
+    json.first("{\"code\":");
+    json.quoted(code_digits(known.code, &mut code));
+    json.number_member(",\"count\":", known.count);
+    json.raw(b"}");
 }

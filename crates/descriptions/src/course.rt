@@ -225,9 +225,10 @@ impl<A: Allocator + Copy> Course<A> {
         last: &'a JudgedRow,
         observer: &'a Observer<A, C>,
     ) -> RowFacts<'a>
-        ensures { (i : AnyInterface) (earlier : List Item) (r : Item)
+        ensures facts { (i : AnyInterface) (earlier : List Item) (r : Item)
             → IsJudgedRow i earlier r last.now observer.now.events.items
             → AreFactsOf i earlier r result }
+        ensures length { result.length ≡ row.now.length }
     {
         let events = events_of(last, observer);
         RowFacts {

@@ -1,8 +1,10 @@
 //! What the rows of a trace are and did, in words.
 #![tactic(auto)]
 
+mod call_columns;
 mod call_memory;
 mod call_rows;
+pub mod call_table;
 mod calls;
 mod causes;
 mod chosen;
@@ -29,6 +31,8 @@ mod row_members;
 pub mod row_objects;
 mod row_words;
 mod sending;
+mod sentence;
+mod table_lines;
 mod times;
 mod uncounted;
 mod usual_objects;

@@ -1,13 +1,21 @@
 //! What a row did, as members of an object.
+#![tactic(auto, using(crate::proofs::MemberLemmas::further_then, crate::proofs::MemberLemmas::member_put, crate::proofs::MemberLemmas::no_member, crate::proofs::MemberLemmas::text_then, crate::proofs::MemberLemmas::text_put))]
+
+ghost use Rattle.std.specs.Prelude.{IfSome, IsTrue, None};
+ghost use Rattle.line_model.specs.packets.Says.{gap_of};
+ghost use Rattle.descriptions.specs.Members.{IsFurther, IsText, IsValue, promised};
+ghost use Rattle.descriptions.specs.RowObjects.{IsRest};
+ghost use Rattle.descriptions.specs.Writing.{Adds, AreDigits, IsOpenArray, is_beginning};
 
 use crate::facts::{EndedCall, Fate, RowFacts, gap_of};
 use crate::faults::{Before, consequence, wrong};
 use crate::json::{Json, Out};
 use crate::packet_members::{packet_members, settings_member};
 use crate::packet_types::packet_type;
-use crate::prose::Prose;
+use crate::sentence::Sentence;
 use crate::times::{BILLIONTHS, Recorded, Time};
 use channel_run::status_word::view_in;
+use explanations::explanation::Explanation;
 use explanations::lookup::code_row;
 use line_model::event::{Event, How, What};
 use line_model::finding::Finding;
@@ -16,14 +24,17 @@ use live_report::judged_row::Judge;
 use live_report::uncounted::Reason;
 use report_merge::words::state_word;
 
-/// The members of a row's object after its finding's code, or of a gap's after its channel.
+/// Writes the members of a row's object after its finding's code, or of a gap's after its channel.
 pub fn row_members<O: Out>(
     json: &mut Json<O>,
     facts: &RowFacts<'_>,
     ended: &[EndedCall],
     recorded: Recorded,
     digits: Option<&[u8]>,
-) {
+)
+    ensures { IfSome digits.entry (λ digits. IsText digits.now) → Adds O.has (IsRest
+        (gap_of facts.now.last.now.packet) facts.now.last.now.finding) json.old.out json.new.out }
+{
     match gap_of(&facts.last.packet) {
         Some(_) => gap_members(json, recorded),
         None => members_of_packet(json, facts, ended, recorded, digits),
@@ -31,11 +42,20 @@ pub fn row_members<O: Out>(
 }
 
 /// When a gap shows, and the frame that shows it, where these are known.
-fn gap_members<O: Out>(json: &mut Json<O>, recorded: Recorded) {
+fn gap_members<O: Out>(json: &mut Json<O>, recorded: Recorded)
+    ensures { Adds O.has IsFurther json.old.out json.new.out }
+{
+    known_time_member(json, recorded);
+    frame_member(json, recorded);
+}
+
+/// When a row was recorded, where that is known.
+fn known_time_member<O: Out>(json: &mut Json<O>, recorded: Recorded)
+    ensures { Adds O.has IsFurther json.old.out json.new.out }
+{
     if recorded.time.is_some() {
         time_member(json, ",\"time\":", recorded.time);
     }
-    frame_member(json, recorded);
 }
 
 /// The members of a packet's object after its finding's code.
@@ -45,17 +65,39 @@ fn members_of_packet<O: Out>(
     ended: &[EndedCall],
     recorded: Recorded,
     digits: Option<&[u8]>,
-) {
-    if let Some(finding) = &facts.last.finding {
-        finding_members(json, facts, finding);
+)
+    ensures { IfSome digits.entry (λ digits. IsText digits.now)
+        → Adds O.has (IsRest None facts.now.last.now.finding) json.old.out json.new.out }
+{
+    match &facts.last.finding {
+        Some(finding) => {
+            finding_members(json, facts, finding);
+            json.raw(b"}");
+            further_members(json, facts, ended, recorded, digits);
+        }
+        None => further_members(json, facts, ended, recorded, digits),
     }
+}
+
+/// The members of a packet's object after its finding.
+fn further_members<O: Out>(
+    json: &mut Json<O>,
+    facts: &RowFacts<'_>,
+    ended: &[EndedCall],
+    recorded: Recorded,
+    digits: Option<&[u8]>,
+)
+    ensures { IfSome digits.entry (λ digits. IsText digits.now)
+        → Adds O.has IsFurther json.old.out json.new.out }
+{
     json.number_member(",\"epoch\":", u64::from(facts.epoch));
-    json.flag_member(is_owed(facts), ",\"owed\":true", ",\"owed\":false");
+    json.flag_member(",\"owed\":", is_owed(facts));
     call_members(json, facts);
     ends_member(json, ended);
     not_counted_member(json, facts);
-    recorded_members(json, recorded);
-    json.word_member(
+    time_member(json, ",\"time\":", recorded.time);
+    frame_member(json, recorded);
+    json.text_member(
         ",\"type\":",
         packet_type(facts.last.side, &facts.last.packet),
     );
@@ -65,35 +107,88 @@ fn members_of_packet<O: Out>(
 }
 
 /// The rest of the object of a finding after its code.
-fn finding_members<O: Out>(json: &mut Json<O>, facts: &RowFacts<'_>, finding: &Finding) {
+fn finding_members<O: Out>(json: &mut Json<O>, facts: &RowFacts<'_>, finding: &Finding)
+    ensures { Adds O.has IsFurther json.old.out json.new.out }
+{
+    explained_members(json, facts, finding);
+    gap_state_member(json, facts, finding);
+}
+
+/// The explanation of a finding, if its code has one.
+fn explained_members<O: Out>(json: &mut Json<O>, facts: &RowFacts<'_>, finding: &Finding)
+    ensures { Adds O.has IsFurther json.old.out json.new.out }
+{
     if let Some(row) = code_row(finding.code) {
-        json.text_member(",\"name\":", row.name);
-        json.member(",\"wrong\":");
-        json.raw(b"\"");
-        wrong(json, &Before::of_row(facts), facts.octets, finding, row);
-        json.raw(b"\"");
-        json.member(",\"then\":");
-        json.raw(b"\"");
-        json.say(consequence(finding));
-        json.raw(b".\"");
-        json.text_member(",\"clause\":", row.clause);
+        explanation_members(json, facts, finding, row);
     }
+}
+
+/// The explanation of a finding.
+fn explanation_members<O: Out>(
+    json: &mut Json<O>,
+    facts: &RowFacts<'_>,
+    finding: &Finding,
+    row: &Explanation,
+)
+    ensures { Adds O.has IsFurther json.old.out json.new.out }
+{
+    json.text_member(",\"name\":", row.name);
+    wrong_member(json, facts, finding, row);
+    then_member(json, finding);
+    json.text_member(",\"clause\":", row.clause);
+}
+
+/// What is wrong with a row.
+fn wrong_member<O: Out>(
+    json: &mut Json<O>,
+    facts: &RowFacts<'_>,
+    finding: &Finding,
+    row: &Explanation,
+)
+    ensures { Adds O.has IsFurther json.old.out json.new.out }
+{
+    let mut sentence = Sentence::new();
+    wrong(
+        &mut sentence,
+        &Before::of_row(facts),
+        facts.octets,
+        finding,
+        row,
+    );
+    json.member(",\"wrong\":");
+    json.quoted(sentence.as_bytes());
+}
+
+/// What the DCE does after a finding.
+fn then_member<O: Out>(json: &mut Json<O>, finding: &Finding)
+    ensures { Adds O.has IsFurther json.old.out json.new.out }
+{
+    json.member(",\"then\":");
+    json.raw(b"\"");
+    json.words(consequence(finding).as_bytes());
+    json.words(b".");
+    json.raw(b"\"");
+}
+
+/// The state of a finding, in a trace that may have gaps.
+fn gap_state_member<O: Out>(json: &mut Json<O>, facts: &RowFacts<'_>, finding: &Finding)
+    ensures { Adds O.has IsFurther json.old.out json.new.out }
+{
     if facts.interface.gaps {
         state_member(json, finding.state);
     }
-    json.raw(b"}");
 }
 
 /// The state of a finding, as its line of the report has it.
-fn state_member<O: Out>(json: &mut Json<O>, state: StateName) {
-    json.member(",\"state\":");
+fn state_member<O: Out>(json: &mut Json<O>, state: StateName)
+    ensures { Adds O.has IsFurther json.old.out json.new.out }
+{
     if state == StateName::Dash {
-        json.null();
-        return;
+        json.null_member(",\"state\":");
+    } else {
+        json.member(",\"state\":");
+        json.quoted(state_word(state));
     }
-    json.raw(b"\"");
-    json.raw(state_word(state));
-    json.raw(b"\"");
 }
 
 /// Whether the DCE owes an indication on the channel after the row.
@@ -105,20 +200,25 @@ fn is_owed(facts: &RowFacts<'_>) -> bool {
 }
 
 /// The call of a row, and whether the row begins it or brings it into data transfer.
-fn call_members<O: Out>(json: &mut Json<O>, facts: &RowFacts<'_>) {
+fn call_members<O: Out>(json: &mut Json<O>, facts: &RowFacts<'_>)
+    ensures { Adds O.has IsFurther json.old.out json.new.out }
+{
     json.member(",\"call\":");
-    match facts.calls.of_row() {
-        0 => json.null(),
-        call => json.value(u64::from(call)),
-    }
-    json.flag_member(
-        facts.calls.opened != 0,
-        ",\"begins\":true",
-        ",\"begins\":false",
-    );
-    json.flag_member(is_up(facts.events), ",\"up\":true", ",\"up\":false");
+    call_number(json, facts.calls.of_row());
+    json.flag_member(",\"begins\":", facts.calls.opened != 0);
+    json.flag_member(",\"up\":", is_up(facts.events));
 }
 
+/// The number of a call, or null.
+fn call_number<O: Out>(json: &mut Json<O>, call: u32)
+    ensures { Adds O.has IsValue json.old.out json.new.out }
+{
+    if call == 0 {
+        json.null();
+    } else {
+        json.value(u64::from(call));
+    }
+}
 /// Whether a call came into data transfer.
 fn is_up(events: &[Event]) -> bool {
     for event in events {
@@ -141,24 +241,35 @@ pub fn how_word(how: How) -> &'static str {
 }
 
 /// The calls that a row ended.
-fn ends_member<O: Out>(json: &mut Json<O>, ended: &[EndedCall]) {
-    if ended.is_empty() {
-        json.member(",\"ends\":[]");
-        return;
-    }
-    json.member(",\"ends\":[");
+fn ends_member<O: Out>(json: &mut Json<O>, ended: &[EndedCall])
+    ensures { Adds O.has IsFurther json.old.out json.new.out }
+{
+    json.member(",\"ends\":");
+    ended_calls(json, ended);
+}
+
+/// An array of calls that ended.
+fn ended_calls<O: Out>(json: &mut Json<O>, ended: &[EndedCall])
+    ensures { Adds O.has IsValue json.old.out json.new.out }
+{
+    json.raw(b"[");
     let mut is_first = true;
     for ended in ended {
-        if !is_first {
-            json.raw(b",");
-        }
+        json.separate(is_first);
         is_first = false;
-        json.first("{\"call\":");
-        json.value(u64::from(ended.call));
-        json.word_member(",\"how\":", how_word(ended.how));
-        json.raw(b"}");
+        ended_call(json, ended);
     }
     json.raw(b"]");
+}
+
+/// A call that ended.
+fn ended_call<O: Out>(json: &mut Json<O>, ended: &EndedCall)
+    ensures { Adds O.has IsValue json.old.out json.new.out }
+{
+    json.first("{\"call\":");
+    json.value(u64::from(ended.call));
+    json.text_member(",\"how\":", how_word(ended.how));
+    json.raw(b"}");
 }
 
 /// The word of a reason for which data was not counted.
@@ -174,67 +285,83 @@ pub fn reason_word(reason: Reason) -> &'static str {
 }
 
 /// Why the data of a row was not counted.
-fn not_counted_member<O: Out>(json: &mut Json<O>, facts: &RowFacts<'_>) {
+fn not_counted_member<O: Out>(json: &mut Json<O>, facts: &RowFacts<'_>)
+    ensures { Adds O.has IsFurther json.old.out json.new.out }
+{
     match facts.fate {
-        Fate::NotCounted(reason) => json.word_member(",\"not_counted\":", reason_word(reason)),
-        _ => json.member(",\"not_counted\":null"),
+        Fate::NotCounted(reason) => json.text_member(",\"not_counted\":", reason_word(reason)),
+        _ => json.null_member(",\"not_counted\":"),
     }
-}
-
-/// When a row was recorded, and its frame where that is known.
-fn recorded_members<O: Out>(json: &mut Json<O>, recorded: Recorded) {
-    match recorded.time {
-        Some(_) => time_member(json, ",\"time\":", recorded.time),
-        None => json.member(",\"time\":null"),
-    }
-    frame_member(json, recorded);
 }
 
 /// The frame of a row, where it is known.
-fn frame_member<O: Out>(json: &mut Json<O>, recorded: Recorded) {
+fn frame_member<O: Out>(json: &mut Json<O>, recorded: Recorded)
+    ensures { Adds O.has IsFurther json.old.out json.new.out }
+{
     if let Some(frame) = recorded.frame {
         json.number_member(",\"frame\":", frame);
     }
 }
 
 /// A time, as a number of seconds.
-pub fn time_member<O: Out>(json: &mut Json<O>, beginning: &str, time: Option<Time>) {
+pub fn time_member<O: Out>(json: &mut Json<O>, beginning: &str, time: Option<Time>)
+    requires { IsTrue (is_beginning promised beginning.now) }
+    ensures { Adds O.has IsFurther json.old.out json.new.out }
+{
     json.member(beginning);
+    seconds(json, time);
+}
+
+/// A number of seconds, or null.
+fn seconds<O: Out>(json: &mut Json<O>, time: Option<Time>)
+    ensures { Adds O.has IsValue json.old.out json.new.out }
+{
     match time {
-        Some(time) => {
-            json.value(time.seconds);
-            if time.billionths != 0 {
-                json.raw(b".");
-                billionths(json, time.billionths);
-            }
-        }
+        Some(time) => known_seconds(json, time),
         None => json.null(),
     }
 }
 
-/// The digits after the point, without zeros at the end.
-fn billionths<O: Out>(json: &mut Json<O>, billionths: u32) {
-    let mut rest = billionths;
-    for worth in &BILLIONTHS {
+/// A number of seconds, with digits after the point where it is not whole.
+fn known_seconds<O: Out>(json: &mut Json<O>, time: Time)
+    ensures { Adds O.has IsValue json.old.out json.new.out }
+{
+    if time.billionths == 0 {
+        json.value(time.seconds);
+    } else {
+        json.number(time.seconds);
+        json.raw(b".");
+        billionths(json, time.billionths);
+    }
+}
+
+/// The digits after the point, the first one and the others without zeros at the end.
+fn billionths<O: Out>(json: &mut Json<O>, billionths: u32)
+    ensures { Adds O.has AreDigits json.old.out json.new.out }
+{
+    json.digits(u64::from(billionths / BILLIONTHS[0]));
+    let mut rest = billionths % BILLIONTHS[0];
+    for worth in &BILLIONTHS[1..] {
         if rest != 0 {
             let digit = rest.checked_div(*worth).unwrap_or(0);
-            json.value(u64::from(digit));
+            json.digits(u64::from(digit));
             rest = rest.checked_rem(*worth).unwrap_or(0);
         }
     }
 }
 
 /// The octets of a row: the hex digits of its line, where they are known, else those of the octets.
-fn hex_member<O: Out>(json: &mut Json<O>, facts: &RowFacts<'_>, digits: Option<&[u8]>) {
+fn hex_member<O: Out>(json: &mut Json<O>, facts: &RowFacts<'_>, digits: Option<&[u8]>)
+    ensures { IfSome digits.entry (λ digits. IsText digits.now)
+        → Adds O.has IsFurther json.old.out json.new.out }
+{
+    json.member(",\"hex\":");
     match digits {
         Some(digits) => {
-            json.member(",\"hex\":\"");
+            json.raw(b"\"");
             json.raw(digits);
             json.raw(b"\"");
         }
-        None => {
-            json.member(",\"hex\":");
-            json.hex(facts.octets);
-        }
+        None => json.hex(facts.octets),
     }
 }

@@ -1,30 +1,31 @@
 //! The rows of a trace as objects.
 
-ghost use Rattle.std.specs.Prelude.{◌≡◌, ℕ, ◌++◌, ◌∷◌, [], List, IfSome, None, OnOk, Some, false};
-ghost use Rattle.annotated_trace.specs.Annotation.{IsOneLine};
+ghost use Rattle.std.specs.Prelude.{◌≡◌, ℕ, ◌++◌, ◌∷◌, [], List, IfSome, None, OnOk, Some, false, length};
 ghost use Rattle.line_model.specs.basics.Records.{Item, Row};
 ghost use Rattle.line_model.specs.declared.interface.Interface.{Interface};
-ghost use Rattle.line_model.specs.packets.Says.{item_of, items_of};
+ghost use Rattle.line_model.specs.packets.Says.{gap_of, item_of, items_of};
+ghost use Rattle.line_model.specs.text.RowLine.{row_of};
 ghost use Rattle.line_model.specs.text.Text.{Line, ended_lines, head_of, rows_in};
 ghost use Rattle.live_report.specs.Lives.{KeepsRowsOf};
 ghost use Rattle.annotated_trace.specs.Printed.{HasAppended};
 ghost use Rattle.annotated_trace.specs.Rows.{row_written};
 ghost use Rattle.descriptions.specs.Facts.{AreFactsOf};
-ghost use Rattle.descriptions.specs.RowObjects.{IsObjectWhere, IsRowObject};
+ghost use Rattle.descriptions.specs.Members.{IsText};
+ghost use Rattle.descriptions.specs.RowObjects.{IsObjectWhere, IsRest, IsRowObject};
+ghost use Rattle.descriptions.specs.Writing.{Holds};
 
 use crate::call_memory::Calls;
 use crate::chosen::Chosen;
 use crate::closing_objects::{Rest, write_rest};
 use crate::course::Course;
 use crate::facts::{EndedCall, RowFacts};
-use crate::json::{Growing, Json};
+use crate::json::{Growing, Json, Out};
 use crate::line_room::LineRoom;
 use crate::report_objects::write_report_objects;
 use crate::row_head::append_head;
 use crate::row_members::row_members;
 use crate::times::Recorded;
 use crate::usual_objects::{UsualRow, usual_object};
-use annotated_trace::notes::append_plain;
 use annotated_trace::printer::Printer;
 use annotated_trace::rows::Rows;
 use channel_run::run::Channel;
@@ -42,28 +43,29 @@ fn append_object<A: Allocator>(
     out: &mut Vec<u8, A>,
 ) -> Result<(), AllocError>
     ensures { (i : Interface) (earlier : List Item) (r : Item) → AreFactsOf i earlier r facts.now
+        → IsRest (gap_of facts.now.last.now.packet) facts.now.last.now.finding members.now
         → OnOk result (HasAppended (IsRowObject i earlier r) out.old.items out.new.items) }
 {
     append_head(facts, out)?;
-    append_plain(members, out)?;
+    out.extend_from_slice(members)?;
     out.extend_from_slice(b"}\n")?;
     Ok(())
 }
 
 /// What is remembered of the rows before, and of the comments before the next one.
 #[derive(Drop)]
-struct Past<A: Allocator> {
+pub(crate) struct Past<A: Allocator> {
     course: Course<A>,
     rest: Rest<A>,
     /// When and where the next row was recorded.
     recorded: Option<Recorded>,
     /// Room for the members of an object.
-    members: Vec<u8, A>,
+    members: Json<Growing<A>>,
 }
 
 impl<A: Allocator + Copy> Past<A> {
     /// There was no row. It takes no memory.
-    fn new(alloc: A) -> Self {
+    pub(crate) fn new(alloc: A) -> Self {
         Past {
             course: Course::new(alloc),
             rest: Rest {
@@ -72,7 +74,9 @@ impl<A: Allocator + Copy> Past<A> {
                 has_gaps: false,
             },
             recorded: None,
-            members: Vec::new(alloc),
+            members: Json {
+                out: Growing::new(alloc),
+            },
         }
     }
 
@@ -122,7 +126,7 @@ impl<A: Allocator + Copy> Past<A> {
 
     /// Takes the last row of a trace, and appends its object where it is told of.
     #[inline(never)]
-    fn append_row<C: Channel<A>>(
+    pub(crate) fn append_row<C: Channel<A>>(
         &mut self,
         trace: &Live<A, C>,
         line: &[u8],
@@ -131,7 +135,8 @@ impl<A: Allocator + Copy> Past<A> {
     ) -> Result<(), AllocError>
         ensures object { (i : Interface) (before : List Line) (l : Line) (r : Row) (text : List ℕ)
             → KeepsRowsOf C.Channel text trace.now → ended_lines text ≡ before ++ l ∷ []
-            → head_of before ≡ Some i → row_written before l ≡ Some r → OnOk result
+            → head_of before ≡ Some i → row_written before l ≡ Some r → line.now ≡ l ++ 10 ∷ []
+            → OnOk result
             (HasAppended (IsObjectWhere told i (items_of i (rows_in before)) (item_of i r)) out.old.items out.new.items) }
         ensures untold { told ≡ false → out.new.items ≡ out.old.items }
     {
@@ -158,8 +163,25 @@ impl<A: Allocator + Copy> Past<A> {
             return Ok(());
         }
         let ended = self.course.ended();
-        write_members(&facts, ended, recorded, line, &mut self.members)?;
-        append_object(&facts, self.members.as_slice(), out)
+        write_members(&facts, ended, recorded, line, &mut self.members);
+        append_object(&facts, self.members.out.written()?, out)
+    }
+
+    /// Takes a line that writes no row: a comment may say when and where the next one was recorded.
+    pub(crate) fn take_comment(&mut self, line: &[u8]) {
+        if let Some(recorded) = Recorded::of_comment(line) {
+            self.recorded = Some(recorded);
+        }
+    }
+
+    /// The call that is open on a channel, or 0.
+    pub(crate) fn call_on(&self, channel: u16) -> u32 {
+        self.course.call_on(channel)
+    }
+
+    /// What is remembered for the end.
+    pub(crate) fn rest(&self) -> &Rest<A> {
+        &self.rest
     }
 }
 
@@ -169,15 +191,15 @@ fn write_members<A: Allocator>(
     ended: &[EndedCall],
     recorded: Recorded,
     line: &[u8],
-    members: &mut Vec<u8, A>,
-) -> Result<(), AllocError> {
-    members.clear();
-    let mut json = Json {
-        out: Growing::new(members),
-    };
+    members: &mut Json<Growing<A>>,
+)
+    ensures { (l : Line) (r : Row) → line.now ≡ l ++ 10 ∷ [] → row_of l ≡ Some r
+        → facts.now.length ≡ length r.octets → Holds ⟦<Growing<A> as Out>⟧.has (IsRest
+        (gap_of facts.now.last.now.packet) facts.now.last.now.finding) members.new.out }
+{
+    members.out.clear();
     let digits = last_digits(line, facts.length);
-    row_members(&mut json, facts, ended, recorded, digits);
-    json.out.answer()
+    row_members(members, facts, ended, recorded, digits);
 }
 
 /// A line without the LF that ends it.
@@ -192,11 +214,12 @@ fn without_lf(line: &[u8]) -> &[u8]
 
 /// The hex digits at the end of a row's line that write so many octets, where they come after a space.
 fn last_digits(line: &[u8], octets: usize) -> Option<&[u8]>
-    ensures { (l : Line) → line.now ≡ l ++ 10 ∷ [] → IsOneLine l
-        → IfSome result (λ digits. IsOneLine digits.now) }
+    ensures { (l : Line) (r : Row) → line.now ≡ l ++ 10 ∷ [] → row_of l ≡ Some r
+        → octets ≡ length r.octets → IfSome result (λ digits. IsText digits.now) }
 {
     let words = without_lf(line);
-    let place = words.len().checked_sub(octets.saturating_mul(2))?;
+    let count = octets.checked_mul(2)?;
+    let place = words.len().checked_sub(count)?;
     let (front, digits) = words.split_at_checked(place)?;
     match front {
         [.., b' '] => Some(digits),
@@ -263,7 +286,7 @@ impl<A: Allocator + Copy, C: Channel<A>> Printer<A, Live<A, C>> for RowObjects<A
 
     ghost form = { λ rows before l bytes. IsLineObject rows before l bytes };
 
-    ghost closing = { λ rows report bytes. IsClosing rows report bytes };
+    ghost closing = { λ rows report bytes. IsClosing report bytes };
 
     fn rows(&self) -> Rows {
         self.chosen.rows()

@@ -1,8 +1,8 @@
 //! JSON on its way to a sink.
 
-ghost use Rattle.std.specs.Prelude.{◌≡◌, ◌<◌, IfErr, OnErr};
-ghost use Rattle.descriptions.specs.Sent.{HasSent, IsAnything};
-ghost use Rattle.annotated_trace.specs.Printed.{HasTaken};
+ghost use Rattle.std.specs.Prelude.{◌≡◌, ◌<◌, ℕ, List, [], IfErr, OnErr, OnOk};
+ghost use Rattle.line_model.specs.basics.Device.{with_more};
+ghost use Rattle.line_model.specs.basics.Written.{HasFront};
 
 use crate::json::Out;
 use line_model::device::Sink;
@@ -16,13 +16,13 @@ use line_model::write_buffer::WriteBuffer;
 pub struct Sending<S: LentSink> {
     sink: S,
     buffer: WriteBuffer,
-    ghost stands: { ∥ HasSent S.before (S.taken sink, S.failures sink) buffer ∥₁ },
 }
 
 impl<S: LentSink> Sending<S> {
     /// Nothing was put yet. The sink is as it was lent.
     pub fn new(sink: S) -> Self
         requires { (S.taken sink, S.failures sink) ≡ S.before }
+        ensures { ⟦<Sending<S> as Out>⟧.has result [] }
     {
         Sending {
             sink,
@@ -32,8 +32,12 @@ impl<S: LentSink> Sending<S> {
 
     /// Gives the sink back. It took all that was put, or it has failed and took a first part of it.
     pub fn finish(self) -> (S, Result<(), Fault>)
-        ensures taken { HasTaken IsAnything S.before.0 (S.taken result.0) }
-        ensures cause { OnErr result.1 (S.before.1 < S.failures result.0) }
+        ensures ok { (text : List ℕ) → ⟦<Sending<S> as Out>⟧.has self text
+            → OnOk result.1 (S.taken result.0 ≡ with_more S.before.0 text) }
+        ensures part { (text : List ℕ) → ⟦<Sending<S> as Out>⟧.has self text
+            → OnErr result.1 (HasFront S.before.0 (S.taken result.0) text) }
+        ensures cause { (text : List ℕ) → ⟦<Sending<S> as Out>⟧.has self text
+            → OnErr result.1 (S.before.1 < S.failures result.0) }
         ensures write { IfErr result.1 (λ fault. fault ≡ Fault.Write) }
     {
         let Sending { mut sink, buffer } = self;
@@ -43,6 +47,10 @@ impl<S: LentSink> Sending<S> {
 }
 
 impl<S: LentSink> Out for Sending<S> {
+    ghost use Rattle.line_model.specs.basics.Written.{Writes};
+
+    ghost has = { λ s text. Writes S.before (S.taken s.sink, S.failures s.sink) s.buffer text };
+
     fn put(&mut self, bytes: &[u8]) {
         self.buffer.put(&mut self.sink, bytes);
     }

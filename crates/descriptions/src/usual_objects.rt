@@ -6,9 +6,9 @@ ghost use Rattle.line_model.specs.observer.Calls.{all_lengths};
 ghost use Rattle.line_model.specs.observer.Report.{side_word};
 ghost use Rattle.line_model.specs.declared.packet.Packet.TheVariants.{Channel as OfChannel};
 ghost use Rattle.line_model.specs.packets.Says.{gap_of};
-ghost use Rattle.annotated_trace.specs.Annotation.{IsOneLine};
 ghost use Rattle.descriptions.specs.Facts.{IsFateOf};
-ghost use Rattle.descriptions.specs.Lines.{Puts, PutsPlain};
+ghost use Rattle.descriptions.specs.Lines.{Puts, PutsForm};
+ghost use Rattle.descriptions.specs.Members.{IsFurther, IsText, IsValue};
 ghost use Rattle.descriptions.specs.RowObjects.{counted_word, named_channel};
 ghost use Rattle.descriptions.specs.UsualObjects.{IsUsualObject, amount_word, is_quiet, is_settled, usual_head};
 
@@ -73,7 +73,7 @@ const TO_READY_DIGITS: &[u8] =
 
 /// The members of the M bit and the D bit of data with Q 0, up to its octets.
 fn bit_members(header: &DataHeader) -> &'static [u8]
-    ensures { IsOneLine result.now }
+    ensures { (value : List ℕ) → IsValue value → IsFurther (result.now ++ value) }
 {
     match (header.more, header.delivery) {
         (false, false) => b",\"more\":false,\"qualified\":false,\"delivery\":false,\"octets\":",
@@ -85,7 +85,7 @@ fn bit_members(header: &DataHeader) -> &'static [u8]
 
 /// Puts the members of a data packet after its call.
 fn put_data(line: &mut LineRoom, header: &DataHeader, octets: u32, digits: &[u8])
-    ensures { IsOneLine digits.now → PutsPlain line.old line.new }
+    ensures { IsText digits.now → PutsForm IsFurther line.old line.new }
 {
     line.number(u64::from(octets));
     line.put(bit_members(header));
@@ -99,7 +99,7 @@ fn put_data(line: &mut LineRoom, header: &DataHeader, octets: u32, digits: &[u8]
 
 /// Puts the members of a receive ready after its call.
 fn put_ready(line: &mut LineRoom, receive: u8, digits: &[u8])
-    ensures { IsOneLine digits.now → PutsPlain line.old line.new }
+    ensures { IsText digits.now → PutsForm IsFurther line.old line.new }
 {
     line.number(u64::from(receive));
     line.put(b"\",\"receive\":");
@@ -110,7 +110,7 @@ fn put_ready(line: &mut LineRoom, receive: u8, digits: &[u8])
 /// Puts the members after the call of a row, if it is data with Q 0 that was counted, or a receive ready.
 #[inline(always)]
 fn put_packet(line: &mut LineRoom, kind: &PacketKind, fate: Fate, digits: &[u8]) -> bool
-    ensures plain { OnTrue result (IsOneLine digits.now → PutsPlain line.old line.new) }
+    ensures members { OnTrue result (IsText digits.now → PutsForm IsFurther line.old line.new) }
     ensures packet { OnTrue result ((k : ℕ) → gap_of (OfChannel k kind.now) ≡ None) }
 {
     match (kind, fate) {
@@ -128,7 +128,7 @@ fn put_packet(line: &mut LineRoom, kind: &PacketKind, fate: Fate, digits: &[u8])
 
 /// Puts the number of a call, or null.
 fn put_call(line: &mut LineRoom, call: u32)
-    ensures { PutsPlain line.old line.new }
+    ensures { PutsForm IsValue line.old line.new }
 {
     if call == 0 {
         line.put(b"null");
@@ -139,7 +139,7 @@ fn put_call(line: &mut LineRoom, call: u32)
 
 /// Puts the epoch of a row, and its call.
 fn put_place(line: &mut LineRoom, epoch: u32, call: u32)
-    ensures { PutsPlain line.old line.new }
+    ensures { PutsForm IsFurther line.old line.new }
 {
     put_call(line, call);
     line.put(b",\"owed\":false,\"call\":");
@@ -206,7 +206,7 @@ fn usual_fate(events: &[Event]) -> Fate
 /// Writes the object of a row in place of what a room has, if the row is as most are and its object finds room.
 #[inline(always)]
 pub fn usual_object<'r>(room: &'r mut LineRoom, usual: &UsualRow<'_>) -> Option<&'r [u8]>
-    ensures { IfSome result (λ object. IsOneLine usual.now.digits.now
+    ensures { IfSome result (λ object. IsText usual.now.digits.now
         → IsUsualObject usual.now.row.now usual.now.events.now object.now) }
 {
     let Packet::Channel { channel, kind } = &usual.row.packet else {

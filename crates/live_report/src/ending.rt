@@ -4,7 +4,7 @@ ghost use Rattle.std.specs.Prelude.{◌≡◌, ◌<◌, ◌+◌, ◌^◌, IfErr,
 ghost use Rattle.line_model.specs.declared.fault.Fault.TheVariants.{Memory};
 ghost use Rattle.live_report.specs.AddedPieces.{EmptiesLanes, MayAddPieces, AddsPieces};
 
-use crate::lanes::OpenChannels;
+use crate::lanes::{OpenChannel, OpenChannels};
 use channel_run::run::Channel;
 use line_model::fault::Fault;
 use line_model::piece::PieceEnd;
@@ -29,7 +29,7 @@ pub fn end_channels<A: Allocator + Copy, C: Channel<A>>(
     let mut events = Vec::new(alloc);
     while let Some((channel, entry)) = lanes.table.pop_first() {
         if let Some(entry) = entry {
-            let report = Box::into_inner(entry).end(lanes.gap, &mut events, out.pieces(), end)?;
+            let report = OpenChannel::end(entry, lanes.gap, &mut events, out.pieces(), end)?;
             out.add(report)?;
         }
     }

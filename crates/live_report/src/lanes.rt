@@ -77,23 +77,23 @@ impl<A: Allocator + Copy, C: Channel<A>> OpenChannel<A, C> {
     /// What the channel gives as its epoch ends, in which the last gap of all channels has this number. Fails only when
     /// memory is refused.
     pub(crate) fn end(
-        mut self,
+        mut entry: Box<Self, A>,
         gap: u32,
         events: &mut Vec<Event, A>,
         id: u32,
         end: Option<PieceEnd>,
     ) -> Result<PieceReport<A>, Fault>
         requires room { (e : OpenEpoch) × (k : ℕ) × (items : List Item)
-            × IsOpenFor C.Channel e k items self
+            × IsOpenFor C.Channel e k items entry.value
             × IsPiece e.interface k (with_gap gap items) }
         ensures value { IfOk result (λ report. (e : OpenEpoch) (k : ℕ) (items : List Item)
-            → IsOpenFor C.Channel e k items self
+            → IsOpenFor C.Channel e k items entry.value
             → IsPiece e.interface k (with_gap gap items)
             → report ≡ value (ended_piece id e end k (with_gap gap items))) }
         ensures memory { IfErr result (λ fault. fault ≡ Memory) }
     {
-        self.take_gap(gap, events)?;
-        self.live.end(id, end)
+        entry.take_gap(gap, events)?;
+        Box::into_inner(entry).live.end(id, end)
     }
 }
 

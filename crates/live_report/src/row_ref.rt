@@ -35,19 +35,19 @@ impl<'a> Model for RowRef<'a> {
 
 impl RowRef<'_> {
     /// The packet that the octets are, or the gap that the row is.
+    #[inline(always)]
     pub(crate) fn packet(&self, interface: &Interface) -> Packet
         ensures { result ≡ packet_or_gap self.now.gap (packet_of interface.now self.now.octets) }
     {
-        let mut packet = decode(interface, self.octets);
-        if let Some(gap) = self.gap {
-            packet = gap_packet(gap);
+        match self.gap {
+            Some(gap) => gap_packet(gap),
+            None => decode(interface, self.octets),
         }
-        packet
     }
 }
 
 /// What stands in the place of the packet in a gap of a channel, or of all.
-#[inline(never)]
+#[inline(always)]
 fn gap_packet(gap: Option<u16>) -> Packet
     ensures { result ≡ gap_packet gap }
 {

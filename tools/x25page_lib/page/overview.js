@@ -2,6 +2,9 @@
 
 const broken = SIDES.map((_, side) => facts.codes.reduce((sum, code) => sum + code[3][side], 0));
 
+// Whether packets may be missing: what is said of all packets is of those that were recorded.
+const isPart = facts.gaps.length > 0 || facts.half_counts !== null;
+
 // Whether the findings of a side are of half a recording, where they show what is missing.
 const isHalf = (side) => facts.half_counts !== null && (facts.half_counts[side] || !facts.rows_of[side]);
 
@@ -9,8 +12,8 @@ function sideCard(side) {
   const most = Math.max(1, ...facts.codes.map((code) => Math.max(...code[3])));
   const rows = facts.codes.filter((code) => code[3][side]).map((code) => codeLine(code, side, most));
   const none = facts.half_counts === null ? "The trace has no packet of it." : "None of its packets was recorded.";
-  const whole = "None of its packets breaks the protocol.";
-  const kept = !facts.rows_of[side] ? none : facts.half_counts === null ? whole : "No recorded packet of it breaks the protocol.";
+  const clean = isPart ? "No recorded packet of it breaks the protocol." : "None of its packets breaks the protocol.";
+  const kept = facts.rows_of[side] ? clean : none;
   const half = facts.half_counts?.[side];
   const missing = half ? make("p", { class: "muted" }, `Of these, ${count(half)} ${half === 1 ? "is" : "are"} where only `,
     `the ${SIDES[side]} was recorded, and may come from packets of the ${SIDES[1 - side]} that were not.`) : "";
@@ -49,7 +52,7 @@ function tiles() {
     tile(count(sums.segments), sums.segments === 1 ? "segment" : "segments", "of 64 octets, as they are charged"),
     tile(count(peak[0]), peak[0] === 1 ? "call at once" : "calls at once", atPeak),
     tile(count(lost), lost === 1 ? "data packet not counted" : "data packets not counted",
-      lost ? "" : "all data was accepted"),
+      lost ? "" : isPart ? "all data that was recorded was accepted" : "all data was accepted"),
   ];
   if (lost) found.at(-1).append(make("ul", {}, facts.not_counted.map(notCounted)));
   return make("div", { class: "tiles" }, found);

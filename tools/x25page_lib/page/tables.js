@@ -155,9 +155,9 @@ function showCalls() {
   };
   for (const element of [text, found, how]) element.addEventListener("input", update);
   place("calls").append(make("div", { class: "section-head" }, make("h2", {}, "Calls"),
-    make("div", { class: "tools" }, text, how, make("label", {}, found, " with findings"), total)),
+    make("div", { class: "tools" }, text, how, make("label", {}, found, " with findings"), total, csvButton())),
   make("div", { class: "card flush" }, table.element),
-    leftOut(facts.left_out.calls, "call", "x25scan --json has all of them.") ?? "");
+    leftOut(facts.left_out.calls, "call", "x25scan --calls has all of them.") ?? "");
   update();
 }
 

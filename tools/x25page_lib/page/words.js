@@ -169,12 +169,12 @@ function faultOf([at, wrong]) {
 function callOf(array) {
   const [call, epoch, channel, direction, called, calling, opened, up, ended, how, dataT, octetsT, dataN, octetsN,
     segments,
-    pays, payer, clearedBy, cause, diagnostic, codes, start, seconds, gaps] = array;
+    pays, payer, clearedBy, cause, diagnostic, codes, start, seconds, gaps, segmentsT] = array;
   let findings = 0;
   for (const code in codes) findings += codes[code];
   return { call, epoch, channel, direction, called, calling, opened, up, ended, how, dataT, octetsT, dataN, octetsN,
     segments,
-    pays, payer, clearedBy, cause, diagnostic, codes, start, seconds, gaps, findings, data: dataT + dataN };
+    pays, payer, clearedBy, cause, diagnostic, codes, start, seconds, gaps, segmentsT, findings, data: dataT + dataN, end: how };
 }
 
 const calls = facts.calls.map(callOf);

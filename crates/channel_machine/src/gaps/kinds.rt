@@ -10,6 +10,7 @@ use line_model::packet::{Class, Packet, PacketKind};
 use line_model::state::{ChannelState, DState, PState, Side};
 
 /// Whether a gap is one of all channels; none where a packet is no gap.
+#[inline(always)]
 pub(crate) fn gap_in(packet: &Packet) -> Option<bool>
     ensures { result ≡ option_map (λ c. is_none c) (gap_of packet.now) }
 {

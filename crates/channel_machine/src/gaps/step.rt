@@ -1,12 +1,10 @@
 //! What a row does to a channel of a recording with gaps.
 
 ghost use Rattle.std.specs.Prelude.{◌≡◌, IfOk, None, OnSome};
-ghost use Rattle.std.specs.Bool.{OnTrue};
 ghost use Rattle.line_model.specs.basics.Bounds.{IsSaid};
 ghost use Rattle.line_model.specs.channels.Gaps as gaps;
 ghost use Rattle.line_model.specs.channels.GapStep.{gap_channel_step};
 ghost use Rattle.line_model.specs.observer.Observer.{row_step};
-ghost use Rattle.line_model.specs.packets.Says.{gap_of};
 ghost use Rattle.channel_machine.specs.Channels.{IsMemory};
 ghost use Rattle.channel_machine.specs.Events.{origin_at};
 ghost use Rattle.channel_machine.specs.GapChannels.{GapDoes, GapDoesApart, IsGapUnchanged, Represents, interface_of, number_of};
@@ -21,7 +19,6 @@ use crate::step::listed;
 use line_model::event::Event;
 use line_model::fault::Fault;
 use line_model::items::ItemRef;
-use line_model::packet::{Packet, PacketKind};
 use std::alloc::Allocator;
 
 impl<A: Allocator + Clone, S: StatusStore> GapChannel<A, S> {
@@ -45,18 +42,15 @@ impl<A: Allocator + Clone, S: StatusStore> GapChannel<A, S> {
         ensures memory { IsMemory result }
     {
         match &self.certainty {
-            Certainty::Certain => {
-                if is_common(&item.packet) {
-                    self.channel.handle(epoch, item, events)
-                } else {
-                    self.handle_rarely(epoch, item, events)
-                }
-            }
+            Certainty::Certain => match gap_in(&item.packet) {
+                None => self.channel.handle(epoch, item, events),
+                Some(_) => self.handle_rarely(epoch, item, events),
+            },
             _ => self.handle_rarely(epoch, item, events),
         }
     }
 
-    /// Steps the channel as `handle` does, where the row is not one of the common ones, or something is in doubt.
+    /// Steps the channel as `handle` does, where the row is a gap, or something is in doubt.
     #[inline(never)]
     fn handle_rarely(
         &mut self,
@@ -118,23 +112,5 @@ impl<A: Allocator + Clone, S: StatusStore> GapChannel<A, S> {
             }
             _ => Ok(()),
         }
-    }
-}
-
-/// Whether a packet is data or RR, which are the most of all packets.
-#[inline(always)]
-fn is_common(packet: &Packet) -> bool
-    ensures { OnTrue result (gap_of packet.now ≡ None) }
-{
-    match packet {
-        Packet::Channel {
-            kind: PacketKind::Data(_),
-            ..
-        } => true,
-        Packet::Channel {
-            kind: PacketKind::Rr(_),
-            ..
-        } => true,
-        _ => false,
     }
 }

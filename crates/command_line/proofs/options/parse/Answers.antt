@@ -69,6 +69,9 @@ returns-in-Ok-clause-comments c = c.options_in.ensures.comments ∙ ap is_given 
 pub returns-in-Ok-clause-rows : goal.returns-in-Ok-clause-rows
 returns-in-Ok-clause-rows c = c.options_in.ensures.rows ∙ ap is_given (value_of c (codes "rows"))
 
+pub returns-in-Ok-clause-calls : goal.returns-in-Ok-clause-calls
+returns-in-Ok-clause-calls c = c.options_in.ensures.calls ∙ ap is_given (value_of c (codes "calls"))
+
 pub returns-in-Ok-clause-try_headers : goal.returns-in-Ok-clause-try_headers
 returns-in-Ok-clause-try_headers c = c.options_in.ensures.try_headers ∙ ap is_given (value_of c (codes "try-headers"))
 

@@ -1,4 +1,4 @@
-use Rattle.std.proofs.Common.{◌≡◌, ◌∙◌, ◌++◌, ◌∷◌, ◌&&◌, [], false, refl, Some, subst, sym, ap}
+use Rattle.std.proofs.Common.{◌≡◌, ◌∙◌, ◌++◌, ◌∷◌, ◌&&◌, [], refl, Some, subst, sym, ap}
 use Rattle.line_model.specs.observer.Machine.{routed}
 use Rattle.line_model.specs.observer.Observer.{events, x25}
 use Rattle.restart_epochs.specs.Cutting.{observer}

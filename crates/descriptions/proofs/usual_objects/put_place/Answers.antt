@@ -1,9 +1,5 @@
-use Rattle.std.proofs.Common.{refl}
-use Rattle.descriptions.proofs.LineLemmas.{number_put, plain_put, plain_then}
+use Rattle.descriptions.proofs.LineLemmas.{place_form}
 use Rattle.descriptions.proofs.usual_objects.put_place.Goals as goal
 
 pub returns : goal.returns
-returns c =
-    plain_then _ _ _ c.put_call.ensures
-    (plain_then _ _ _ (plain_put _ _ _ refl c.put.ensures)
-    (plain_then _ _ _ (number_put _ _ _ c.from.type_inv c.number.ensures) (plain_put _ _ _ refl c.put-2.ensures)))
+returns c = place_form c.from.result _ _ _ _ _ c.put_call.ensures c.put.ensures c.number.ensures c.put-2.ensures

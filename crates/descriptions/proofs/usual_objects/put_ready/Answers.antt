@@ -1,9 +1,8 @@
-use Rattle.std.proofs.Common.{refl}
-use Rattle.descriptions.proofs.LineLemmas.{number_put, plain_put, plain_then}
+use Rattle.descriptions.proofs.LineLemmas.{form_put, puts_then}
+use Rattle.descriptions.proofs.UsualMembers.{ready_members}
 use Rattle.descriptions.proofs.usual_objects.put_ready.Goals as goal
 
 pub returns : goal.returns
-returns c one =
-    plain_then _ _ _ (number_put _ _ _ c.from.type_inv c.number.ensures)
-    (plain_then _ _ _ (plain_put _ _ _ refl c.put.ensures)
-    (plain_then _ _ _ (plain_put _ _ _ one c.put-2.ensures) (plain_put _ _ _ refl c.put-3.ensures)))
+returns c text =
+    form_put _ _ _ (ready_members c.args.digits.now c.from.result text)
+    (puts_then _ _ _ _ _ (puts_then _ _ _ _ _ (puts_then _ _ _ _ _ c.number.ensures c.put.ensures) c.put-2.ensures) c.put-3.ensures)

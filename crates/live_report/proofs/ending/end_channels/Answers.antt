@@ -12,8 +12,8 @@ use Rattle.live_report.proofs.ending.end_channels.Given.{Over}
 use Rattle.live_report.proofs.ending.end_channels.Goals as goal
 
 -- the open channel that was popped
-popped : (g : Over) (c : goal.After-pieces g) → HasPopped c.in-Some.channel (Some c.into_inner.result) c.loop-channel.lanes.table c.pop_first.new.self
-popped g c = subst (λ o. HasPopped c.in-Some.channel o c.loop-channel.lanes.table c.pop_first.new.self) (ap (λ o. option_map (λ b. b.value) o) c.in-Some-entry.is ∙ ap Some (sym c.into_inner.ensures)) c.in-Some.ensures
+popped : (g : Over) (c : goal.After-pieces g) → HasPopped c.in-Some.channel (Some c.in-Some-entry.entry.value) c.loop-channel.lanes.table c.pop_first.new.self
+popped g c = subst (λ o. HasPopped c.in-Some.channel o c.loop-channel.lanes.table c.pop_first.new.self) (ap (λ o. option_map (λ b. b.value) o) c.in-Some-entry.is) c.in-Some.ensures
 
 pub loop-channel-init : goal.loop-channel-init
 loop-channel-init g c = record {
@@ -32,7 +32,7 @@ end-requires g c =
         room.0,
         k,
         rows_of room.1 k,
-        popped_live g.C.Channel.interface_of g.C.Channel.number_of g.C.Channel.stands_for room.0 c.args.lanes.now.gap c.args.end room.1 room.2 c.loop-channel.lanes.table c.pop_first.new.self was.0 k c.into_inner.result was.1 (popped g c),
+        popped_live g.C.Channel.interface_of g.C.Channel.number_of g.C.Channel.stands_for room.0 c.args.lanes.now.gap c.args.end room.1 room.2 c.loop-channel.lanes.table c.pop_first.new.self was.0 k c.in-Some-entry.entry.value was.1 (popped g c),
         subst (λ gap. IsPiece room.0.interface k (with_gap gap (rows_of room.1 k))) (sym c.loop-channel.invariant.gap) (room.4 k),
       );
     }
@@ -41,15 +41,15 @@ pub loop-channel-preserved-in-Continue-branch-2 : goal.loop-channel-preserved-in
 loop-channel-preserved-in-Continue-branch-2 g c =
     let one = ap (λ ks. length ks) c.in-Some.ensures.channels in
     let k = c.in-Some.channel in
-    let pop : HasPopped k (Some c.into_inner.result) c.loop-channel.lanes.table c.pop_first.new.self =
-    subst (λ o. HasPopped k o c.loop-channel.lanes.table c.pop_first.new.self) (ap (λ o. option_map (λ b. b.value) o) c.in-Some-entry.is ∙ ap Some (sym c.into_inner.ensures)) c.in-Some.ensures in
+    let pop : HasPopped k (Some c.in-Some-entry.entry.value) c.loop-channel.lanes.table c.pop_first.new.self =
+    subst (λ o. HasPopped k o c.loop-channel.lanes.table c.pop_first.new.self) (ap (λ o. option_map (λ b. b.value) o) c.in-Some-entry.is) c.in-Some.ensures in
     record {
       pieces = omega (arith, one, c.loop-channel.invariant.pieces, c.in_ok-add.ensures.pieces);
       gap = c.loop-channel.invariant.gap;
       ending = λ e rows first f all l is.
           let was = c.loop-channel.invariant.ending e rows first f all l is in
           let gap = c.loop-channel.invariant.gap in
-          let entry = popped_live g.C.Channel.interface_of g.C.Channel.number_of g.C.Channel.stands_for e c.args.lanes.now.gap c.args.end rows first c.loop-channel.lanes.table c.pop_first.new.self was.0 k c.into_inner.result was.1 pop in
+          let entry = popped_live g.C.Channel.interface_of g.C.Channel.number_of g.C.Channel.stands_for e c.args.lanes.now.gap c.args.end rows first c.loop-channel.lanes.table c.pop_first.new.self was.0 k c.in-Some-entry.entry.value was.1 pop in
           let worth =
           c.in_ok-report.ensures.value e k (rows_of rows k) entry (subst (λ n. IsPiece e.interface k (with_gap n (rows_of rows k))) (sym gap) (all k))
           ∙ ap (λ n. value (ended_piece c.pieces.result e c.args.end k (with_gap n (rows_of rows k)))) gap

@@ -9,8 +9,8 @@ use Rattle.descriptions.specs.Facts.{IsFateOf}
 use Rattle.descriptions.proofs.FactLemmas.{events_are}
 use Rattle.descriptions.proofs.course.Course.facts.Goals as goal
 
-pub returns : goal.returns
-returns g c i earlier r l =
+pub returns-clause-facts : goal.returns-clause-facts
+returns-clause-facts g c i earlier r l =
     let o = observer i earlier in
     let to = routed (x25 i) o.line r in
     let by = taker_is i to o (observer i (earlier ++ r ∷ [])) c.args.last.now.judge l.judge in

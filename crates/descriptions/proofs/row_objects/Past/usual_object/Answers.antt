@@ -8,9 +8,9 @@ use Rattle.live_report.proofs.LiveLemmas.{keeps_rows, observing_of}
 use Rattle.live_report.specs.JudgedRows.{IsJudgedRow}
 use Rattle.live_report.specs.Observing.{StandsFor}
 use Rattle.descriptions.specs.RowObjects.{IsObjectWhere}
-use Rattle.descriptions.proofs.ChoiceLemmas.{items_written, headed_row, rows_written}
+use Rattle.descriptions.proofs.ChoiceLemmas.{items_written, headed_row, rows_written, written_row}
 use Rattle.descriptions.proofs.ObjectLemmas.{same_interface}
-use Rattle.descriptions.proofs.LineLemmas.{line_is_one, lent_object}
+use Rattle.descriptions.proofs.LineLemmas.{lent_object}
 use Rattle.descriptions.proofs.row_objects.Past.usual_object.Goals as goal
 
 pub returns-clause-object : goal.returns-clause-object
@@ -21,7 +21,7 @@ returns-clause-object g c i before line r text s lines head row is =
     let walked = subst (λ rs. StandsFor g.C.Channel.interface_of g.C.Channel.number_of g.C.Channel.stands_for w.0 rs observer) (items_written w.0 (early_rows text) (rows_in before) r rows) w.1.observes in
     let same : w.0 ≡ i = same_interface (head_of before) w.0 i (sym (headed_row before line r row) ∙ ap head_of (sym lines) ∙ sym s.0.reads.interface ∙ w.1.header) head in
     let last = subst (λ es. IsJudgedRow w.0 (items_of w.0 (rows_in before)) (item_of w.0 r) c.in-Some-last_row.row.now es) (sym c.events.ensures) (c.in-Some-last_row.ensures w.0 (items_of w.0 (rows_in before)) (item_of w.0 r) (walked, keeps_rows g.C.Channel.interface_of g.C.Channel.number_of g.C.Channel.stands_for c.args.trace.now text observer s.0 s.1 (sym c.observer.ensures ∙ ap (option_map (λ o. o.now)) c.in-Some.is))) in
-    let one = c.in-Some-last_digits.ensures line is (line_is_one text before line lines) in
+    let digits = c.in-Some-last_digits.ensures line r is (written_row before line r row) (ap (λ v. v.length) c.behind-trace.view_is ∙ ap (λ v. v.length) (c.row.ensures.last text s (rows_in before) r rows)) in
     subst (λ j. IfSome c.usual_object.result (λ object. IsObjectWhere c.args.is_told j (items_of j (rows_in before)) (item_of j r) object.now)) same
     (lent_object (λ object. object.now) c.usual_object.result c.args.is_told w.0 (items_of w.0 (rows_in before)) (item_of w.0 r) c.in-Some-last_row.row.now c.events.result.now c.in-Some-last_digits.digits.now
-    c.if-not-is_told.false last one c.usual_object.ensures)
+    c.if-not-is_told.false last digits c.usual_object.ensures)

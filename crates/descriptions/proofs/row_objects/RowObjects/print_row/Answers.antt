@@ -10,4 +10,4 @@ returns-in-Some-clause-object g c i before l r text s lines head row is =
     (c.in-Some.ensures.object i before l r text s lines head row is)
 
 pub returns-in-None-clause-object : goal.returns-in-None-clause-object
-returns-in-None-clause-object g c i before l r text s lines head row is = c.append_row.ensures.object i before l r text s lines head row
+returns-in-None-clause-object g c i before l r text s lines head row is = c.append_row.ensures.object i before l r text s lines head row is

@@ -1,0 +1,31 @@
+-- What is printed of a trace where the table of its calls is asked for.
+use Rattle.std.specs.Prelude.{◌≡◌, ℕ, Bool, ◌||◌, List, [], Option}
+use Rattle.line_model.specs.basics.Records.{Report}
+use Rattle.line_model.specs.declared.fault.Fault.{Fault}
+use Rattle.line_model.specs.declared.totals.Summary.{Summary}
+use Rattle.line_model.specs.text.Text.{Line}
+use Rattle.annotated_trace.specs.Printed.{IsPrintOf}
+use Rattle.annotated_trace.specs.Printers.{HasFirstPrintOf, IsPrinted}
+use Rattle.annotated_trace.specs.Printing.{HasPassed, StopsPrinting}
+use Rattle.descriptions.specs.CallTable.{IsCallTable}
+use Rattle.descriptions.specs.declared.call_columns.TableForm.{TableForm}
+
+-- nothing is printed of any of some lines
+abbrev pub IsNothing : List Line → List ℕ → Type 0
+IsNothing ls bytes = IsPrintOf (λ before l own. own ≡ []) [] ls bytes
+
+-- after the last line comes the table of the report's calls
+abbrev pub ClosesWithCalls : TableForm → Report → List ℕ → Type 0
+ClosesWithCalls form report bytes = IsCallTable form report.calls bytes
+
+-- a source gave a text without a fault, and the sink took the table of the calls of its report; the sums are those of the report
+abbrev pub PrintsCalls : TableForm → (left after asked before taken : Option (List ℕ)) → Summary → Type 0
+PrintsCalls form left after asked before taken sums = HasPassed (IsPrinted IsNothing (ClosesWithCalls form)) left after asked before taken sums
+
+-- a source gave some bytes, and they are refused; the sink has nothing, or at the end of the text a first part of the table
+abbrev pub StopsCalls : TableForm → (left after asked before taken : Option (List ℕ)) → (well : Type 0) → Fault → Type 0
+StopsCalls form left after asked before taken well fault = StopsPrinting IsNothing (HasFirstPrintOf IsNothing (ClosesWithCalls form)) left after asked before taken well fault
+
+-- what the table can't be asked for with: following, objects of rows, an annotation
+abbrev pub cannot_list : (follow rows annotates : Bool) → Bool
+cannot_list follow rows annotates = follow || (rows || annotates)

@@ -1,0 +1,88 @@
+-- The lines of the table of calls.
+use Rattle.std.proofs.Common.{◌≡◌, ◌≢◌, ◌∙◌, Option, Result, Ok, Err, OnOk, OnErr, sym, ap, refl, subst, ℕ, zero, suc, ◌+◌, ◌<◌, ◌≤◌, get_or, List, [], ◌∷◌, ◌++◌, take, drop, length, append_assoc, append-nil, arith, ne_eqb}
+use Rattle.std.specs.Prelude.{if◌then◌else◌}
+use Rattle.std.specs.List.{enumerate_from}
+use Rattle.std.proofs.lemmas.List.{drop_all}
+use Rattle.line_model.specs.basics.Device.{with_more}
+use Rattle.line_model.specs.basics.Records.{CallRecord}
+use Rattle.line_model.specs.basics.Written.{HasFront}
+use Rattle.annotated_trace.specs.Printed.{HasTaken, HasTakenFirst}
+use Rattle.descriptions.specs.CallTable.{AreEntries, IsCallTable, IsEntry, heading, trimmed, with_digit}
+use Rattle.descriptions.specs.declared.call_columns.TableForm.{TableForm}
+use Rattle.descriptions.specs.RowObjects.{joined}
+
+-- ---- zeros at the end
+
+-- the first of some digits
+first_kept : (d : ℕ) → d ≢ 48 → with_digit d [] ≡ d ∷ []
+first_kept d other = ap (λ b. if b then [] else d ∷ []) (ne_eqb d 48 other)
+
+pub trimmed_last : (ds : List ℕ) (n : ℕ) → length ds ≡ suc n → get_or ds n 0 ≢ 48 → trimmed ds ≡ ds
+trimmed_last [] n size other = absurd (omega arith)
+trimmed_last (d ∷ []) zero size other = first_kept d other
+trimmed_last (d ∷ []) (suc n) size other = absurd (omega arith)
+trimmed_last (d ∷ e ∷ ds) zero size other = absurd (omega arith)
+trimmed_last (d ∷ e ∷ ds) (suc n) size other = ap (λ l. with_digit d l) (trimmed_last (e ∷ ds) n (omega arith) other)
+
+pub trimmed_front : (ds : List ℕ) (n : ℕ) → length ds ≡ suc n → get_or ds n 0 ≡ 48 → trimmed (take n ds) ≡ trimmed ds
+trimmed_front [] n size last = absurd (omega arith)
+trimmed_front (d ∷ []) zero size last = sym (ap (λ n. with_digit n []) last)
+trimmed_front (d ∷ []) (suc n) size last = absurd (omega arith)
+trimmed_front (d ∷ e ∷ ds) zero size last = absurd (omega arith)
+trimmed_front (d ∷ e ∷ ds) (suc n) size last = ap (λ l. with_digit d l) (trimmed_front (e ∷ ds) n (omega arith) last)
+
+-- ---- an entry
+
+pub eight_parts : (t a b c d e f g h : List ℕ) → (((((((t ++ a) ++ b) ++ c) ++ d) ++ e) ++ f) ++ g) ++ h ≡ t ++ joined (a ∷ b ∷ c ∷ d ∷ e ∷ f ∷ g ∷ h ∷ [])
+eight_parts t a b c d e f g h = simp (append_assoc, append-nil)
+
+-- ---- the entries of calls
+
+dropped : {X : Type 0} → (xs : List X) (i : ℕ) (x : X) → i < length xs → x ≡ get_or xs i x → drop i xs ≡ x ∷ drop (i + 1) xs
+dropped [] i x lt is = absurd (omega arith)
+dropped (y ∷ ys) zero x lt is = ap (λ z. z ∷ ys) (sym is)
+dropped (y ∷ ys) (suc i) x lt is =
+    let e : suc i + 1 ≡ suc (i + 1) = omega arith in
+    subst (λ k. drop i ys ≡ x ∷ drop k (y ∷ ys)) (sym e) (dropped ys i x (omega arith) is)
+
+pub entry_more : (form : TableForm) (xs : List CallRecord) (i : ℕ) (x : CallRecord) (done own : List ℕ) → i < length xs → x ≡ get_or xs i x
+    → ((entries : List ℕ) → AreEntries form (enumerate_from (i + 1) (drop i xs)) entries → AreEntries form (enumerate_from 1 xs) (done ++ entries)) → IsEntry form (i + 1, x) own
+    → (entries : List ℕ) → AreEntries form (enumerate_from (i + 1 + 1) (drop (i + 1) xs)) entries → AreEntries form (enumerate_from 1 xs) ((done ++ own) ++ entries)
+entry_more form xs i x done own lt is before h entries rest =
+    subst (λ l. AreEntries form (enumerate_from 1 xs) l) (sym (append_assoc done own entries))
+    (before (own ++ entries) (subst (λ ys. AreEntries form (enumerate_from (i + 1) ys) (own ++ entries)) (sym (dropped xs i x lt is)) (own, entries, refl, h, rest)))
+
+pub entries_end : (form : TableForm) (xs : List CallRecord) (i : ℕ) (done : List ℕ) → length xs ≤ i
+    → ((entries : List ℕ) → AreEntries form (enumerate_from (i + 1) (drop i xs)) entries → AreEntries form (enumerate_from 1 xs) (done ++ entries)) → AreEntries form (enumerate_from 1 xs) done
+entries_end form xs i done ge before =
+    subst (λ l. AreEntries form (enumerate_from 1 xs) l) (append-nil done)
+    (before [] (subst (λ ys. AreEntries form (enumerate_from (i + 1) ys) []) (sym (drop_all i xs ge)) refl))
+
+-- ---- the table
+
+whole_table : (form : TableForm) (calls : List CallRecord) (entries : List ℕ) → AreEntries form (enumerate_from 1 calls) entries → IsCallTable form calls (heading form ++ entries)
+whole_table form calls entries each = record { entries = entries; each = each; written = refl }
+
+pub table_taken : {T E : Type 0} (r : Result T E) (form : TableForm) (calls : List CallRecord) (entries : List ℕ) (start lent : Option (List ℕ) × ℕ) (after : Option (List ℕ)) → start ≡ lent
+    → AreEntries form (enumerate_from 1 calls) entries → OnOk r (after ≡ with_more start.0 (heading form ++ entries)) → OnOk r (HasTaken (IsCallTable form calls) lent.0 after)
+table_taken (Ok x) form calls entries start lent after same each taken = record {
+  bytes = heading form ++ entries;
+  taken = taken ∙ ap (λ s. with_more s.0 (heading form ++ entries)) same;
+  formed = whole_table form calls entries each;
+}
+table_taken (Err e) form calls entries start lent after same each taken = tt
+
+pub table_begun : {T E : Type 0} (r : Result T E) (form : TableForm) (calls : List CallRecord) (entries : List ℕ) (start lent : Option (List ℕ) × ℕ) (after : Option (List ℕ)) → start ≡ lent
+    → AreEntries form (enumerate_from 1 calls) entries → OnErr r (HasFront start.0 after (heading form ++ entries)) → OnErr r (HasTakenFirst (IsCallTable form calls) lent.0 after)
+table_begun (Ok x) form calls entries start lent after same each front = tt
+table_begun (Err e) form calls entries start lent after same each front = record {
+  bytes = heading form ++ entries;
+  front = front.0;
+  left = front.1;
+  whole = front.2;
+  taken = front.3 ∙ ap (λ s. with_more s.0 front.0) same;
+  formed = whole_table form calls entries each;
+}
+
+pub table_failed : {T E : Type 0} (r : Result T E) (start lent : Option (List ℕ) × ℕ) (failures : ℕ) → start ≡ lent → OnErr r (start.1 < failures) → OnErr r (lent.1 < failures)
+table_failed r start lent failures same failed = subst (λ s. OnErr r (s.1 < failures)) same failed

@@ -1,0 +1,16 @@
+use Rattle.std.proofs.Common.{[], refl, subst, sym}
+use Rattle.descriptions.specs.Closing.{AreUncounted}
+use Rattle.descriptions.specs.Writing.{Adds}
+use Rattle.descriptions.proofs.MemberLemmas.{nothing_put}
+use Rattle.descriptions.proofs.ClosingLemmas.{uncounted_then}
+use Rattle.descriptions.proofs.closing_objects.uncounted_objects.Goals.{then-amount-ne0, else-amount-ne0}
+use Rattle.descriptions.proofs.closing_objects.uncounted_objects.Goals as goal
+
+pub loop-reason-init : goal.loop-reason-init
+loop-reason-init g c = nothing_put (0, ([], refl, refl, tt))
+
+pub loop-reason-preserved : goal.loop-reason-preserved
+loop-reason-preserved g c = elim c.if-amount-ne0.branch [
+  | then-amount-ne0 w ↦ subst (λ j. Adds g.O.Out.has AreUncounted c.args.json.now.out j.out) (sym w.json-is) (uncounted_then c.loop-reason.invariant w.uncounted_object.ensures)
+  | else-amount-ne0 w ↦ subst (λ j. Adds g.O.Out.has AreUncounted c.args.json.now.out j.out) (sym w.json-is) c.loop-reason.invariant
+]

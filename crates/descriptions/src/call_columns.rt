@@ -1,0 +1,283 @@
+//! What the table of calls says of a call, column by column.
+
+ghost use Rattle.std.specs.Prelude.{◌≡◌, ◌≤◌, flat_map};
+ghost use Rattle.descriptions.specs.CallTable.{cause_columns, cell_text, column_text, data_columns, last_columns, maybe_number, maybe_seconds, address_text, name_of, payer, payer_word, place_columns, span_columns, value_of};
+ghost use Rattle.descriptions.specs.declared.call_columns.TableForm.{TableForm as AnyForm};
+
+use crate::times::Time;
+use line_model::address::Address;
+use line_model::call::CallRecord;
+use report_merge::words::{direction_word, how_word};
+use std::alloc::Allocator;
+
+/// How the table is printed.
+#[derive(Clone, Copy)]
+pub enum TableForm {
+    /// As CSV with a heading (RFC 4180).
+    Csv,
+    /// As an object for each call.
+    Objects,
+}
+
+/// What a column says of a call.
+#[derive(Clone, Copy)]
+pub enum Cell<'a> {
+    /// Nothing is known.
+    Absent,
+    /// A number.
+    Number(u64),
+    /// A time in seconds.
+    Seconds(Time),
+    /// A word of letters or digits.
+    Word(&'a [u8]),
+    /// Any text.
+    Text(&'a [u8]),
+}
+
+/// A column of a call.
+#[derive(Clone, Copy)]
+pub struct Column<'a> {
+    /// Its name in the heading.
+    pub name: &'static [u8],
+    /// What it says.
+    pub cell: Cell<'a>,
+}
+
+/// A cause or a diagnostic code, and its name.
+#[derive(Clone, Copy)]
+pub struct Named<'a> {
+    /// The code.
+    pub value: u8,
+    /// Its name.
+    pub name: &'a [u8],
+}
+
+/// What is known of a call besides its record.
+#[derive(Clone, Copy)]
+pub struct Further<'a> {
+    /// When it was opened.
+    pub start: Option<Time>,
+    /// How long it lasted.
+    pub seconds: Option<Time>,
+    /// The cause of the packet that cleared it.
+    pub cause: Option<Named<'a>>,
+    /// The diagnostic code of that packet.
+    pub diagnostic: Option<Named<'a>>,
+    /// The segments of the DTE's data packets, of those of the call.
+    pub segments_t: u64,
+    /// The findings of its rows.
+    pub findings: u64,
+    /// The gap rows in it, where gaps are rows.
+    pub gaps: Option<u32>,
+}
+
+/// A number that may be absent.
+fn maybe_number<'a>(number: Option<u32>) -> Cell<'a>
+    ensures { (form : AnyForm) → cell_text form result ≡ maybe_number form number }
+{
+    match number {
+        Some(number) => Cell::Number(u64::from(number)),
+        None => Cell::Absent,
+    }
+}
+
+/// A time that may be absent.
+fn maybe_seconds<'a>(time: Option<Time>) -> Cell<'a>
+    ensures { (form : AnyForm) → cell_text form result ≡ maybe_seconds form time }
+{
+    match time {
+        Some(time) => Cell::Seconds(time),
+        None => Cell::Absent,
+    }
+}
+
+/// An address that may be absent.
+fn address_cell(address: &Address) -> Cell<'_>
+    ensures { (form : AnyForm) → cell_text form result ≡ address_text form address.now }
+{
+    match address.as_bytes() {
+        [] => Cell::Absent,
+        digits => Cell::Word(digits),
+    }
+}
+
+/// A code that may be absent.
+fn value_of<'a>(code: Option<Named<'_>>) -> Cell<'a>
+    ensures { (form : AnyForm) → cell_text form result ≡ value_of form code.entry }
+{
+    match code {
+        Some(code) => Cell::Number(u64::from(code.value)),
+        None => Cell::Absent,
+    }
+}
+
+/// The name of a code that may be absent.
+fn name_of<'a>(code: Option<Named<'a>>) -> Cell<'a>
+    ensures { (form : AnyForm) → cell_text form result ≡ name_of form code.entry }
+{
+    match code {
+        Some(code) => Cell::Text(code.name),
+        None => Cell::Absent,
+    }
+}
+
+/// Who pays.
+fn payer_word(reverse: bool) -> &'static [u8]
+    ensures { result.now ≡ payer_word reverse }
+{
+    if reverse { b"called" } else { b"calling" }
+}
+
+/// The address that pays.
+fn payer<A: Allocator>(call: &CallRecord<A>) -> &Address
+    ensures { result.now ≡ payer call.now }
+{
+    if call.reverse {
+        &call.called
+    } else {
+        &call.calling
+    }
+}
+
+/// Where a call is, and between whom.
+pub fn place_columns<A: Allocator>(call: &CallRecord<A>) -> [Column<'_>; 4]
+    ensures { (form : AnyForm) → flat_map (column_text form) result ≡ place_columns form call.now }
+{
+    [
+        Column {
+            name: b"channel",
+            cell: Cell::Number(u64::from(call.channel)),
+        },
+        Column {
+            name: b"direction",
+            cell: Cell::Word(direction_word(call.out)),
+        },
+        Column {
+            name: b"called",
+            cell: address_cell(&call.called),
+        },
+        Column {
+            name: b"calling",
+            cell: address_cell(&call.calling),
+        },
+    ]
+}
+
+/// From when to when it was open, and how it ended.
+pub fn span_columns<'a, A: Allocator>(
+    call: &CallRecord<A>,
+    further: &Further<'_>,
+) -> [Column<'a>; 5]
+    ensures { (form : AnyForm) → flat_map (column_text form) result ≡ span_columns form call.now further.now }
+{
+    [
+        Column {
+            name: b"opened",
+            cell: Cell::Number(u64::from(call.opened)),
+        },
+        Column {
+            name: b"ended",
+            cell: maybe_number(call.ended),
+        },
+        Column {
+            name: b"start",
+            cell: maybe_seconds(further.start),
+        },
+        Column {
+            name: b"seconds",
+            cell: maybe_seconds(further.seconds),
+        },
+        Column {
+            name: b"how",
+            cell: Cell::Word(how_word(call.how)),
+        },
+    ]
+}
+
+/// What the packet that cleared it says.
+pub fn cause_columns<'a>(further: &Further<'a>) -> [Column<'a>; 4]
+    ensures { (form : AnyForm) → flat_map (column_text form) result ≡ cause_columns form further.now }
+{
+    [
+        Column {
+            name: b"cause",
+            cell: value_of(further.cause),
+        },
+        Column {
+            name: b"cause_name",
+            cell: name_of(further.cause),
+        },
+        Column {
+            name: b"diagnostic",
+            cell: value_of(further.diagnostic),
+        },
+        Column {
+            name: b"diagnostic_name",
+            cell: name_of(further.diagnostic),
+        },
+    ]
+}
+
+/// What each side sent.
+pub fn data_columns<'a, A: Allocator>(
+    call: &CallRecord<A>,
+    further: &Further<'_>,
+) -> [Column<'a>; 6]
+    requires { further.now.segments_t ≤ call.now.segments }
+    ensures { (form : AnyForm) → flat_map (column_text form) result ≡ data_columns form call.now further.now }
+{
+    let segments_n = call.segments - further.segments_t;
+    [
+        Column {
+            name: b"data_t",
+            cell: Cell::Number(call.data_t),
+        },
+        Column {
+            name: b"octets_t",
+            cell: Cell::Number(call.oct_t),
+        },
+        Column {
+            name: b"segments_t",
+            cell: Cell::Number(further.segments_t),
+        },
+        Column {
+            name: b"data_n",
+            cell: Cell::Number(call.data_n),
+        },
+        Column {
+            name: b"octets_n",
+            cell: Cell::Number(call.oct_n),
+        },
+        Column {
+            name: b"segments_n",
+            cell: Cell::Number(segments_n),
+        },
+    ]
+}
+
+/// Who pays, and what was found.
+pub fn last_columns<'a, A: Allocator>(
+    call: &'a CallRecord<A>,
+    further: &Further<'_>,
+) -> [Column<'a>; 4]
+    ensures { (form : AnyForm) → flat_map (column_text form) result ≡ last_columns form call.now further.now }
+{
+    [
+        Column {
+            name: b"pays",
+            cell: Cell::Word(payer_word(call.reverse)),
+        },
+        Column {
+            name: b"payer",
+            cell: address_cell(payer(call)),
+        },
+        Column {
+            name: b"findings",
+            cell: Cell::Number(further.findings),
+        },
+        Column {
+            name: b"gaps",
+            cell: maybe_number(further.gaps),
+        },
+    ]
+}
