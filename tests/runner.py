@@ -203,17 +203,6 @@ def run_cases(cases, only=""):
     return 1 if failed else 0
 
 
-def command_line(description, has_program=True, has_words=False):
-    """The command line of a suite, which may add options of its own."""
-    parser = argparse.ArgumentParser(description=description, formatter_class=argparse.RawDescriptionHelpFormatter)
-    parser.add_argument("--only", metavar="WORD", default="", help="run only the cases whose names have WORD in them")
-    if has_program:
-        parser.add_argument("program", metavar="PROGRAM", type=program_of, help="the program that is tested")
-    if has_words:
-        parser.add_argument("words", metavar="ARGS", nargs=argparse.REMAINDER, help="words with which it is run")
-    return parser
-
-
 def program_of(word):
     """The path of a program that is named by its path or as a shell finds it, for any folder that it is run in."""
     path = shutil.which(word)
@@ -222,7 +211,21 @@ def program_of(word):
     return str(pathlib.Path(path).resolve())
 
 
-def main(description, table, has_words=False):
-    """Runs the suite of a table: `table(program)` yields its cases, or `table([program, *ARGS])` where it has words."""
-    asked = command_line(description, has_words=has_words).parse_args()
+def main(description, table, has_program=True, has_words=False, options=None):
+    """Runs the suite of a table, which yields its cases; `options` has the suite's own options, with what argparse reads of each.
+
+    The table gets the program, with its words in a list where it has words; or all that was asked, where the suite has
+    options of its own or no program.
+    """
+    parser = argparse.ArgumentParser(description=description, formatter_class=argparse.RawDescriptionHelpFormatter)
+    parser.add_argument("--only", metavar="WORD", default="", help="run only the cases whose names have WORD in them")
+    if has_program:
+        parser.add_argument("program", metavar="PROGRAM", type=program_of, help="the program that is tested")
+    if has_words:
+        parser.add_argument("words", metavar="ARGS", nargs=argparse.REMAINDER, help="words with which it is run")
+    for name, how in (options or {}).items():
+        parser.add_argument(name, **how)
+    asked = parser.parse_args()
+    if options or not has_program:
+        return run_cases(table(asked), asked.only)
     return run_cases(table([asked.program, *asked.words] if has_words else asked.program), asked.only)

@@ -25,9 +25,15 @@ class Proof:
     comparison: Optional[tuple[str, str]] = None
 
 
-def table(rule: str, edit: str = "restart_is_taken_in_r2") -> Proof:
+def table(rule: str, edit: str) -> Proof:
     """A code that is an entry of the state tables."""
-    return Proof(rule, "crates/line_model/src/table.rt", "table_t", f"crates/line_model/must-fail/{edit}.edit")
+    return Proof(rule, "crates/line_model/src/table.rt", "table_t", f"crates/line_model/must-fail-more/{edit}_of_the_dte_passes.edit")
+
+
+def owed(rule: str) -> Proof:
+    """A code of a DCE that sends another packet in place of its indication, though it does not owe one."""
+    edit = "crates/line_model/must-fail/owed_indication_is_an_error.edit"
+    return Proof(rule, "crates/line_model/src/table.rt", "table_n", edit, comparison=("crates/line_model/src/table.rt", "owed_or"))
 
 
 def number(function: str, edit: str) -> Proof:
@@ -73,17 +79,19 @@ RESTART, CALL, TRANSFER = "The restart tables", "The call tables", "The data tra
 PROOFS = {
     "1": compared_number("data", "is_next", "window_is_not_judged"),
     "2": compared_number("ack", "acknowledges", "any_residue_is_acknowledged"),
-    **{code: table(RESTART) for code in ("17", "18")},
-    "19": table(RESTART, "owed_indication_is_an_error"),
-    **{code: table(CALL) for code in ("20", "21", "22", "23", "24", "25", "26")},
-    **{code: table(TRANSFER) for code in ("27", "28", "29")},
+    **{code: table(RESTART, "restart_confirmation") for code in ("17", "18")},
+    "19": owed(RESTART),
+    **{code: table(CALL, "clear_confirmation") for code in ("20", "21", "22", "23", "24", "25")},
+    "26": owed(CALL),
+    **{code: table(TRANSFER, "reset_confirmation") for code in ("27", "28")},
+    "29": owed(TRANSFER),
     "33": packet_class("must-fail-more/restart_confirmation_on_a_channel_is_undefined"),
     "34": Proof(
         "Epochs, one-way channels, joining", "crates/channel_machine/src/format.rt", "direction_fault",
         "crates/channel_machine/must-fail/call_against_its_channel_passes.edit", "crates/channel_machine/proofs/FirstFault.antt"),
-    "35": table(TRANSFER),
+    "35": table(TRANSFER, "clear_confirmation"),
     "36": packet_class("must-fail/unassigned_channel_before_wrong_format"),
-    "37": table(TRANSFER),
+    "37": table(TRANSFER, "reject"),
     "38": length("at_least", "must-fail-more/clear_of_three_octets_passes"),
     "39": length("between", "must-fail/interrupt_of_36_octets_passes"),
     "40": packet_class("must-fail/unassigned_channel_before_wrong_format"),

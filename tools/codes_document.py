@@ -48,9 +48,10 @@ HEAD = """# The words of the report, of a header and of the refusals, causes and
 `x25scan --explain WORD` prints what stands here of a word, and `x25scan --explain` the list of all words. A word is known
 by its name too: `--explain echo` prints what `--explain "parameter 2"` does. A word with several meanings stands in
 several tables: `--explain 22` prints all three of that one, `--explain "kind 22"` the one of a faulty line, and
-`--explain kind` all kinds; so it is with `line`, `field`, `side`, `direction`, `end`, `setting`, `absent`, `state`,
-`code`, `message`, `header`, `kind`, `refusal`, `status`, `cause`, `term` and `parameter`. A cause of a clear, a reset and
-a restart may have one number: `--explain "cause 1"` prints all three.
+`--explain "cause 1"` the causes of a clear, a reset and a restart.
+
+`--explain kind` prints all kinds. The same holds of `line`, `field`, `side`, `direction`, `end`, `setting`, `absent`,
+`state`, `code`, `message`, `header`, `refusal`, `status`, `cause`, `term` and `parameter`.
 
 A line that the program prints can be pasted: `--explain "F 5 T d1 1"` explains the line and each of its words by its
 field, `--explain "x25scan: line 3: kind 24"` the kind, and `--explain "write failed"` the refusal.
@@ -64,8 +65,10 @@ PROOFS_HEAD = """
 
 Each code has its rule in words, the definition that says it, the function that gives it with the contract that names the
 definition, the file of the function's proof, an edit that the prover refuses, and a trace that prints it. Where no file is
-named the prover finds the proof of the contract without help. The contract of `table_t` is the whole table, so most of its
-rows name the same edit of an entry.
+named the prover finds the proof of the contract without help.
+
+The contract of `table_t` is the whole table. An edit of it lets a class of packets pass that has these codes, so several
+codes name the same edit. Three codes are of the DCE alone: `table_n` gives them where no indication is owed.
 
 The scans keep the windows and interrupts of a channel in one word, `FlowWord` of
 [packed.rt](../crates/data_transfer/src/packed.rt). Its functions judge P(S) and P(R) by a comparison of the numbers of one

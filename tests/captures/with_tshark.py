@@ -14,14 +14,14 @@ OTHER_FRAMES = "tcp.reassemble_out_of_order:TRUE"
 
 
 def packets_of_trace(trace):
-    """Frame, channel in the capture, and octets without the channel, of each row."""
+    """Frame, channel in the capture, and octets without the channel, of each row of a packet."""
     frame, channels = 0, {}
     for line in trace.splitlines():
         if match := FRAME.match(line):
             frame = int(match[1])
         elif match := CIRCUIT.match(line):
             channels[int(match[1])] = int(match[2])
-        elif line[0].isdigit():
+        elif line[0].isdigit() and line.split(" ")[1] != "?":
             octets = line.split(" ")[2]
             channel = int(octets[1:4], 16)
             yield frame, channels.get(channel, channel), (octets[0] + octets[4:]).lower()

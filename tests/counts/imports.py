@@ -1,4 +1,4 @@
-"""What each crate builds on: the column of docs/ARCHITECTURE.md, compared with what its sources use."""
+"""What each crate builds on: the column of docs/ARCHITECTURE.md and crates.txt, compared with what its sources import."""
 import functools
 import re
 
@@ -6,6 +6,8 @@ from runner import ROOT
 
 ROW = re.compile(r"^\| \[(\w+)\]\(\.\./crates/\w+\) \|.*\| ([\w, -]+) \|$", re.MULTILINE)
 USE = re.compile(r"(?<![\w.])([a-z]\w*)::")
+# An import of definitions or of a proof.
+CITED = re.compile(r"\bRattle\.(\w+)\.")
 DOCUMENT = ROOT / "docs" / "ARCHITECTURE.md"
 
 
@@ -28,6 +30,36 @@ def used(crate):
         lines = (line.strip() for line in source.read_text().splitlines())
         names |= {name for line in lines if not line.startswith(("//", "ghost ")) for name in USE.findall(line)}
     return names & written().keys() - {crate}
+
+
+@functools.cache
+def listed():
+    """The libraries that each crate uses by crates.txt, the kit's among them."""
+    lines = (line.partition(":") for line in (ROOT / "crates.txt").read_text().splitlines() if line and line[0] != "#")
+    return {head.split()[0]: set(names.split()) for head, _, names in lines}
+
+
+@functools.cache
+def imported(crate):
+    """The libraries of crates.txt that a crate names in its code, its contracts, its definitions and its proofs."""
+    names, folder = set(), ROOT / "crates" / crate
+    for source in (it for part in ("src", "specs", "proofs") for it in (folder / part).rglob("*") if it.suffix in (".rt", ".antt")):
+        lines = (line for line in source.read_text().splitlines() if not line.lstrip().startswith("//"))
+        names |= {name for line in lines for pattern in (USE, CITED) for name in pattern.findall(line)}
+    return names & set(listed()).union(*listed().values()) - {crate}
+
+
+@functools.cache
+def reached(crate):
+    """The libraries that a crate imports, and those that they import in turn."""
+    own = imported(crate) if crate in listed() else set()
+    return own.union(*map(reached, own))
+
+
+def wrong_libraries(crate):
+    """Where crates.txt lists none of the libraries that a crate imports, or one to which no import leads."""
+    yield from (f"imports {name}, which crates.txt does not list" for name in sorted(imported(crate) - listed()[crate]))
+    yield from (f"lists {name} in crates.txt, and no import leads there" for name in sorted(listed()[crate] - reached(crate)))
 
 
 def below(crate):

@@ -81,26 +81,27 @@ class Talk:
 class Flowing(unittest.TestCase):
     @staticmethod
     def facts_of(objects, budget, has_lanes):
-        """What a page of so many octets has of objects, and how many rows took the fast path."""
+        """What a page of so many octets has of objects, and how many rows did not take the fast path."""
         with mock.patch("x25page_lib.facts.PAGE", WORDS + budget):
             facts = Facts(Halves(Head()))
             facts.ladders.budget = budget
             facts.use.begin(2, 8)
-            take, taken = facts.lanes.take, []
-            facts.lanes.take = lambda it: has_lanes and take(it) and taken.append(it) is None
-            facts.take(copy.deepcopy(objects))
+            if not has_lanes:
+                facts.lanes.take = lambda rest: next(rest, None)
+            with mock.patch.object(facts, "row", wraps=facts.row) as rows:
+                facts.take(copy.deepcopy(objects))
             found = [dict(facts.ladders.texts()), facts.ladders.level, facts.use.facts(), facts.times.all(facts.forms), facts.rows_of]
-            return [*found, facts.first, facts.last, facts.marks.text, facts.frame_text, facts.forms.types.values()], len(taken)
+            return [*found, facts.first, facts.last, facts.marks.text, facts.frame_text, facts.forms.types.values()], rows.call_count
 
     def test_lanes(self):
         """Lanes take most rows of data and RR, and the page is the same."""
         for seed, (has_times, budget) in enumerate((times, budget) for times in (True, False) for budget in (2_000_000, 300_000, 90_000)):
             objects = Talk(seed, has_times).whole(3000)
-            found, taken = self.facts_of(objects, budget, True)
-            wanted, none = self.facts_of(objects, budget, False)
+            found, slow = self.facts_of(objects, budget, True)
+            wanted, every = self.facts_of(objects, budget, False)
             self.assertEqual(found, wanted, (has_times, budget))
-            self.assertEqual(none, 0)
-            self.assertGreater(taken, 1500)
+            self.assertEqual(every, sum(it["line"] == "row" for it in objects))
+            self.assertGreater(every - slow, 1500)
 
 
 if __name__ == "__main__":

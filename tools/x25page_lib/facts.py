@@ -159,17 +159,14 @@ class Facts:
             "not_counted": lambda it: self.not_counted.append([it["reason"], it["packets"], it["octets"]]),
             "call_facts": self.call_facts,
             "gap": self.gap,
+            "row": lambda it: self.row(Row(it, self.forms)),
         }
 
     def take(self, objects: Iterable[dict[str, Any]]) -> None:
         """Takes all objects of a trace."""
-        take_row, takers, forms, takes_flow = self.row, self.takers, self.forms, self.lanes.take
-        for it in objects:
-            line = it[LINE]
-            if line == "row":
-                if not takes_flow(it):
-                    take_row(Row(it, forms))
-            elif taker := takers.get(line):
+        rest = iter(objects)
+        while (it := self.lanes.take(rest)) is not None:
+            if taker := self.takers.get(it[LINE]):
                 taker(it)
         self.finish()
 
@@ -254,12 +251,12 @@ class Facts:
 
     def count(self, rows: Sequence[Flowing]) -> None:
         """Takes what quiet rows used, whose lanes take the rest."""
-        packets, sides, _, octets, segments, *_ = zip(*rows)
+        packets, sides, times, octets, segments, *_ = zip(*rows)
         self.last = packets[-1]
         self.rows_of[1] += sum(sides)
         self.rows_of[0] += len(rows) - sum(sides)
         self.use.segments.packets.update(zip(sides, octets, segments))
-        if timed := [row for row in rows if row[2] is not None]:
+        if timed := rows if None not in times else [row for row in rows if row[2] is not None]:
             packets, _, times, octets, *_ = zip(*timed)
             self.times.add_all(list(zip(packets, times)))
             self.use.pass_time(times, octets)

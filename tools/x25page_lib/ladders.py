@@ -6,7 +6,7 @@ from collections.abc import Iterator, Sequence
 from dataclasses import dataclass, field
 from typing import Any
 
-from .rows import OCTETS, SIDES, SIZE, Kept, Missing, Row, cut, is_plain
+from .rows import OCTETS, SIDES, Flowing, Kept, Missing, Row, RowForms, cut, is_plain
 from .texts import encoded, plain_texts
 
 # A ladder keeps its first rows, which show how the call was set up.
@@ -229,17 +229,14 @@ class Ladder:
         return [item if isinstance(item, str) else item.kept(level).text for item in self.items]
 
 
-# A quiet row: its packet, its side, its time, its octets and segments of data, its ladder, and its array.
-Flowing = tuple[int, int, "int | None", int, "int | None", Ladder, list[Any]]
-
-
-def quiet_texts(arrays: Sequence[list[Any]], level: Level) -> list[str]:
+def quiet_texts(rows: Sequence[Flowing], level: Level, forms: RowForms) -> list[str]:
     """The texts of quiet rows, as a level keeps them."""
     if level.edge != ALL:
-        for *_, members in arrays:
+        for *_, members in rows:
             if "frame" in members and "c" in members:
                 # A row that may be left out again has its frame before its segments.
                 members["c"] = members.pop("c")
+    arrays = forms.arrays(rows, level.digits)
     if is_plain("".join([array[OCTETS] for array in arrays])):
         return plain_texts(arrays)
     return [encoded(array) for array in arrays]
@@ -297,30 +294,31 @@ class Ladders:
         if self.size > self.budget:
             self.shrink()
 
-    def flow(self, rows: Sequence[Flowing]) -> int:
+    def flow(self, rows: Sequence[Flowing], forms: RowForms) -> int:
         """Takes quiet rows, up to one after which less is kept; returns how many it took."""
-        *_, ladders, arrays = zip(*rows)
-        keeps, texts = self.keeps, quiet_texts(arrays, self.keeps)
-        size = self.size + sum(map(len, texts)) + len(texts)
+        keeps, texts = self.keeps, quiet_texts(rows, self.keeps, forms)
+        sizes = list(map(len, texts))
+        size = self.size + sum(sizes) + len(sizes)
         if keeps.edge != ALL or size > self.budget:
             return self.flow_singly(rows, texts)
         self.size = size
-        for ladder, array, text in zip(ladders, arrays, texts):
-            if 2 * array[SIZE] > ladder.widest:
-                ladder.widest = 2 * array[SIZE]
+        for (_, _, _, _, _, ladder, _, digits, _), text, each in zip(rows, texts, sizes):
             ladder.items.append(text)
-            ladder.size += len(text) + 1
+            ladder.size += each + 1
+            if len(digits) > ladder.widest:
+                ladder.widest = len(digits)
         return len(rows)
 
     def flow_singly(self, rows: Sequence[Flowing], texts: Sequence[str]) -> int:
         """Takes quiet rows of which some may be left out."""
         keeps = self.keeps
-        for many, ((_, _, _, octets, _, ladder, array), text) in enumerate(zip(rows, texts), 1):
-            before, ladder.widest = ladder.size, max(ladder.widest, 2 * array[SIZE])
+        for many, (row, text) in enumerate(zip(rows, texts), 1):
+            *_, ladder, _, digits, _ = row
+            before, ladder.widest = ladder.size, max(ladder.widest, len(digits))
             if keeps.edge == ALL:
                 ladder.keep_text(text)
             else:
-                ladder.place(Kept.flowing(text, array, octets), keeps)
+                ladder.place(Kept.flowing(text, row), keeps)
             self.size += ladder.size - before
             if self.size > self.budget:
                 self.shrink()

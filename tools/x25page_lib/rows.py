@@ -1,7 +1,7 @@
 """The rows of a page: what x25scan says of each, and its array; words that many rows have stand in tables beside it."""
 from __future__ import annotations
 
-from collections.abc import Hashable
+from collections.abc import Hashable, Iterable
 from functools import lru_cache
 from operator import itemgetter
 from typing import Any, Protocol
@@ -26,8 +26,11 @@ ADRIFT = "adrift"
 LATEST = 1 << 32
 # Many rows have the same kind and states.
 REMEMBERED = 1 << 15
-# The places of a quiet row's octets and of their number in its array.
-OCTETS, SIZE = 6, 7
+# The place of a quiet row's octets in its array.
+OCTETS = 6
+# A quiet row: its packet, its side, its time, its octets and segments of data, its ladder, its kind, its hex digits, and what
+# else it has.
+Flowing = tuple[int, int, "int | None", int, "int | None", Any, str, str, dict[str, Any]]
 
 
 def microseconds(seconds: float | None) -> int | None:
@@ -131,11 +134,11 @@ class Kept:
         self.frame = int(frame.rstrip("}]")) if is_other else None
 
     @classmethod
-    def flowing(cls, text: str, array: list[Any], octets: int) -> Kept:
-        """A quiet row by its text and its array, with its octets of data."""
+    def flowing(cls, text: str, row: Flowing) -> Kept:
+        """A quiet row with its text."""
         kept = cls.__new__(cls)
-        kept.text, kept.packet, kept.side, kept.octets = text, array[0], array[1], octets
-        kept.code, kept.is_marked, kept.is_data, kept.frame = None, False, "o" in array[-1], array[-1].get("frame")
+        kept.text, (kept.packet, kept.side, _, kept.octets, segments, *_, members) = text, row
+        kept.code, kept.is_marked, kept.is_data, kept.frame = None, False, segments is not None, members.get("frame")
         return kept
 
     def kept(self, level: Level) -> Kept:
@@ -230,20 +233,20 @@ class RowForms:
         shown = row.hex[:digits]
         if not is_plain(shown):
             return self.text(row, digits)
-        array = self.array((row.packet, row.side, row.time), row.kind, row.hex, members_of(row.members), row.frame)
-        array[OCTETS] = shown
+        members = members_of(row.members)
+        if row.frame is not None:
+            members["frame"] = row.frame
+        array, = self.arrays([(row.packet, row.side, row.time, 0, None, None, row.kind, row.hex, members)], digits)
         return plain(array)
 
-    def array(
-        self, row: tuple[int, int, int | None], kind: str, octets: str, members: dict[str, Any], frame: int | None,
-    ) -> list[Any]:
-        """The array of a quiet row, of which there are the packet, the side and the time."""
-        packet, side, time = row
-        if frame is not None:
-            members["frame"] = frame
-        step = self.steps.get(kind) or self.quiet_step(kind)
-        seconds = None if time is None else (time - (self.begun or 0)) / SECOND
-        return [packet, side, *step, seconds, octets, len(octets) // 2, members]
+    def arrays(self, rows: Iterable[Flowing], digits: int) -> list[list[Any]]:
+        """The arrays of quiet rows, with so many digits of their octets."""
+        begun, steps = self.begun or 0, self.steps
+        return [
+            [packet, side, *(steps.get(kind) or self.quiet_step(kind)), None if time is None else (time - begun) / SECOND,
+             octets[:digits], len(octets) // 2, members]
+            for packet, side, time, _, _, _, kind, octets, members in rows
+        ]
 
     def quiet_step(self, kind: str) -> list[int]:
         """The kind of a quiet row and its state, by their places."""

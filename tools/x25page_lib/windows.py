@@ -33,7 +33,7 @@ class Spread(Evenly):
     def add(self, time: int, packet: int, key: str) -> None:
         """Takes a time with its packet and its ladder."""
         self.waiting.append((time, packet, key))
-        if len(self.waiting) == MOST_WAITING:
+        if len(self.waiting) >= MOST_WAITING:
             self.settle()
 
     def settle(self) -> None:
@@ -76,14 +76,16 @@ class Direction:
 
     def acknowledge(self, receive: int, time: int) -> None:
         """P(R) of the other side acknowledges data."""
-        waiting, spread = self.waiting, self.spread
-        if self.edge is None:
-            waiting.clear()
-            self.edge = receive
-        for _ in range(min((receive - self.edge) % self.modulus, len(waiting))):
-            packet, sent = waiting.popleft()
-            spread.add(time - sent if time > sent else 0, packet, self.key)
+        waiting, edge = self.waiting, self.edge
         self.edge = receive
+        if edge is None:
+            waiting.clear()
+            return
+        many = (receive - edge) % self.modulus
+        while many and waiting:
+            many -= 1
+            packet, sent = waiting.popleft()
+            self.spread.add(time - sent if time > sent else 0, packet, self.key)
 
     def look(self, packet: int, time: int) -> None:
         """Looks whether the window is closed after a packet."""

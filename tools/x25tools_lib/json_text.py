@@ -2,6 +2,7 @@
 from __future__ import annotations
 
 from collections.abc import Iterator
+from itertools import chain
 from typing import Any, BinaryIO
 
 try:
@@ -26,22 +27,26 @@ def names(*words: str) -> tuple[str, ...]:
 
 def objects(stream: BinaryIO) -> Iterator[Any]:
     """The values of a stream that has a JSON text in each line. Raises ValueError where a line is none."""
+    return chain.from_iterable(parts(stream))
+
+
+def parts(stream: BinaryIO) -> Iterator[list[Any]]:
+    """The same values, those that were parsed at once together."""
     rest = b""
     while octets := stream.read(CHUNK):
         whole, end, after = octets.rpartition(b"\n")
         if not end:
             rest += octets
             continue
-        yield from values(rest + whole)
+        yield values(rest + whole)
         rest = after
     if rest:
-        yield from values(rest)
+        yield values(rest)
 
 
 def values(lines: bytes) -> list[Any]:
     """The values of lines, a JSON text each."""
-    texts = lines.split(b"\n")
-    found: list[Any] = read(b"[" + b",".join(texts) + b"]")
-    if len(found) != len(texts):
+    found: list[Any] = read(b"[%b]" % lines.replace(b"\n", b","))
+    if len(found) != lines.count(b"\n") + 1:
         raise ValueError("a line with several values")
     return found

@@ -13,7 +13,7 @@ Where packets may not have been recorded, the trace has gap rows: NUMBER ? CHANN
 channel. x25scan takes what a missing packet could explain for no finding. Such a trace, and one that begins in the middle or
 is written while frames come, has the third form of the header."""
 FOLLOWING = """\
-With --follow, x25scan prints each finding as soon as its row is written, and the rest of the report at the end. Ctrl-C
+With --follow, x25scan prints findings while rows are written, and the rest of the report at the end. Ctrl-C
 (SIGINT) and SIGTERM end the reading, and the report of what was read follows. A second one ends all at once. Findings of
 a pipe come at once where options give all numbers of the header, or where the pipe has a trace. The exit status is that
 of x25scan where there is a trace: 0 without findings, 1 with findings."""

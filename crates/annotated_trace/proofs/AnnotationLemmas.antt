@@ -127,9 +127,8 @@ pub stops_annotating : (choice : Rows) (left after asked before taken : Option (
 stops_annotating choice left after asked before taken well (Ok sums) h = tt
 stops_annotating choice left after asked before taken well (Err f) h = record { given = h.given; source = h.source; order = h.order; why = why h.why }
   where
-    first : HasPrinted (IsPrintOf (IsAnnotatedLine choice) []) before taken [] (ended_lines h.given) ⊎ HasFirstPrintOf (IsPrintOf (IsAnnotatedLine choice) []) Closes h.given before taken → HasPrinted (IsAnnotationOf choice) before taken [] (ended_lines h.given) ⊎ HasFirstOf choice h.given before taken
-    first (inl p) = inl (same_print (IsPrintOf (IsAnnotatedLine choice) []) (IsAnnotationOf choice) (annotation_of choice) before taken [] (ended_lines h.given) p)
-    first (inr p) = inr (first_of_annotation choice h.given before taken p)
+    same : HasPrinted (IsPrintOf (IsAnnotatedLine choice) []) before taken [] (ended_lines h.given) → HasPrinted (IsAnnotationOf choice) before taken [] (ended_lines h.given)
+    same p = same_print (IsPrintOf (IsAnnotatedLine choice) []) (IsAnnotationOf choice) (annotation_of choice) before taken [] (ended_lines h.given) p
 
     why : StopsReading (IsPrintOf (IsAnnotatedLine choice) []) h.given before taken well f ⊎ StopsAtEnd (IsPrintOf (IsAnnotatedLine choice) []) (HasFirstPrintOf (IsPrintOf (IsAnnotatedLine choice) []) Closes) left after asked h.given before taken f
         → StopsReading (IsAnnotationOf choice) h.given before taken well f ⊎ StopsAtEnd (IsAnnotationOf choice) (HasFirstOf choice) left after asked h.given before taken f
@@ -137,5 +136,6 @@ stops_annotating choice left after asked before taken well (Err f) h = record { 
       refusal = s.refusal;
       first = same_first_print (IsPrintOf (IsAnnotatedLine choice) []) (IsAnnotationOf choice) (annotation_of choice) before taken (ended_lines h.given) s.first;
       at_line = λ w. same_print_before (IsPrintOf (IsAnnotatedLine choice) []) (IsAnnotationOf choice) (annotation_of choice) before taken (ended_lines h.given) f (s.at_line w);
+      at_failure = λ e. same (s.at_failure e);
     })
-    why (inr s) = inr (record { source = s.source; sound = s.sound; refusal = s.refusal; first = first s.first })
+    why (inr s) = inr (record { source = s.source; sound = s.sound; refusal = s.refusal; kept = λ n. same (s.kept n); first = λ e. first_of_annotation choice h.given before taken (s.first e) })

@@ -69,14 +69,14 @@ abbrev pub IsPrinterStop : {A O P : Type 0} (S : O → P → List ℕ → Type 0
 IsPrinterStop S size F before taken x z t fed last f = HasFailed (λ text. HasWritten S size F before taken x z text t) fed last f ⊎ IsRefusedAfter F before taken x z fed last f
 
 stop_failed : (F : List Line → List ℕ → Type 0) (given : List ℕ) (before taken : Option (List ℕ)) (well : Type 0) → early given ≡ None → HasPrinted F before taken [] (ended_lines given) → StopsReading F given before taken well Read
-stop_failed F given before taken well sound h = record { refusal = sound; first = all_first F before taken [] (ended_lines given) h; at_line = λ w. tt }
+stop_failed F given before taken well sound h = record { refusal = sound; first = all_first F before taken [] (ended_lines given) h; at_line = λ w. tt; at_failure = λ e. h }
 
 stop_is : {A O P : Type 0} (S : O → P → List ℕ → Type 0) (size : O → ℕ) (F : List Line → List ℕ → Type 0) (before taken : Option (List ℕ)) (x z : ℕ) (t : TracePrinter A O P) (fed last : List ℕ) (f : Fault) → early fed ≡ None → length last ≤ 2 ^ 16 → IsPrinterStop S size F before taken x z t fed last f
     → StopsReading F (fed ++ last) before taken (z ≡ x) f
 stop_is S size F before taken x z t fed last f sound few (inl why) =
     subst (StopsReading F (fed ++ last) before taken (z ≡ x)) (sym why.failure)
     (subst (λ xs. StopsReading F (fed ++ xs) before taken (z ≡ x) Read) (sym why.none) (subst (λ xs. StopsReading F xs before taken (z ≡ x) Read) (sym (append-nil fed)) (stop_failed F fed before taken (z ≡ x) sound why.stands.printed)))
-stop_is S size F before taken x z t fed last f sound few (inr why) = record { refusal = read_refusal fed last f sound few why.refusal; first = why.first; at_line = why.at_line }
+stop_is S size F before taken x z t fed last f sound few (inr why) = record { refusal = read_refusal fed last f sound few why.refusal; first = why.first; at_line = why.at_line; at_failure = λ e. absurd (no_read f why.kinds e) }
 
 -- by what a reader of the source says
 abbrev pub IsWrittenUpTo : {A O P : Type 0} (S : O → P → List ℕ → Type 0) (size : O → ℕ) (F : List Line → List ℕ → Type 0) (left after asked before taken : Option (List ℕ)) (x z : ℕ) (t : TracePrinter A O P) → Fault → Type 0
@@ -97,14 +97,6 @@ pub end_prints : (whole : List ℕ → Option (List ℕ) → Option (List ℕ) �
 end_prints whole left after asked before taken was_fed (Ok sums) w h = record { given = w.text; source = w.source; printed = h }
 end_prints whole left after asked before taken was_fed (Err f) w h = tt
 
--- at the end the sink has what it had, or where it failed a first part of all
-end_first : (F : List Line → List ℕ → Type 0) (has_first : List ℕ → Option (List ℕ) → Option (List ℕ) → Type 0) (given : List ℕ) (before taken taken2 : Option (List ℕ)) (f : Fault) → HasPrinted F before taken [] (ended_lines given) → (f ≢ Write → taken2 ≡ taken) → (f ≡ Write → has_first given before taken2)
-    → IsEndRefusal given f → HasPrinted F before taken2 [] (ended_lines given) ⊎ has_first given before taken2
-end_first F has_first given before taken taken2 Memory h kept part r = inl (subst (λ t. HasPrinted F before t [] (ended_lines given)) (sym (kept (λ e. cc))) h)
-end_first F has_first given before taken taken2 (Trace line kind) h kept part r = inl (subst (λ t. HasPrinted F before t [] (ended_lines given)) (sym (kept (λ e. cc))) h)
-end_first F has_first given before taken taken2 Write h kept part r = inr (part refl)
-end_first F has_first given before taken taken2 _ h kept part r = absurd r
-
 pub end_stops : {K : Type 0} → (F : List Line → List ℕ → Type 0) (has_first : List ℕ → Option (List ℕ) → Option (List ℕ) → Type 0) (left after asked before : Option (List ℕ)) (well : Type 0) (was_fed : List ℕ → Type 0) (took : K → Option (List ℕ)) (old new : K) (r : Result Summary Fault) → (w : IsFedAll 0 left after asked was_fed)
     → HasPrinted F before (took old) [] (ended_lines w.text) → IfErr r (IsEndRefusal w.text) → IfErr r (λ fault. fault ≢ Write → new ≡ old) → (r ≡ Err Write → has_first w.text before (took new)) → IfErr r (StopsPrinting F has_first left after asked before (took new) well)
 end_stops F has_first left after asked before well was_fed took old new (Ok sums) w h refusal kept part = tt
@@ -116,6 +108,7 @@ end_stops F has_first left after asked before well was_fed took old new (Err f) 
     source = w.source;
     sound = none_sound w.text w.sound;
     refusal = refusal;
-    first = end_first F has_first w.text before (took old) (took new) f h (λ n. ap took (kept n)) (λ e. part (ap Err e)) refusal;
+    kept = λ n. subst (λ t. HasPrinted F before t [] (ended_lines w.text)) (sym (ap took (kept n))) h;
+    first = λ e. part (ap Err e);
   });
 }

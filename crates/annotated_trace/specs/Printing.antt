@@ -1,5 +1,5 @@
 -- What a scan that prints a trace answers, and what its sink took.
-use Rattle.std.specs.Prelude.{◌≡◌, ◌⊎◌, ℕ, ◌<◌, ◌≤◌, ◌^◌, List, [], ◌++◌, length, Option, Some, None}
+use Rattle.std.specs.Prelude.{◌≡◌, ◌≢◌, ◌⊎◌, ℕ, ◌<◌, ◌≤◌, ◌^◌, List, [], ◌++◌, length, Option, Some, None}
 use Rattle.trace_text.specs.Decided.{NoneDecidedButLast}
 use Rattle.trace_text.specs.Sources.{IsAllGiven, IsGiven, NoneDecided}
 use Rattle.line_model.specs.text.Text.{Line, early, ended_lines}
@@ -50,12 +50,13 @@ IsReadRefusal given Read = early given ≡ None
 IsReadRefusal given Write = NoneDecidedButLast (2 ^ 16) given
 IsReadRefusal given _ = ⊥
 
--- the bytes that were given are refused while they are read, and the sink has a first part of the print of their lines, at a faulty line that
--- of all lines before it, if it stood well
+-- the bytes that were given are refused while they are read, and the sink has a first part of the print of their lines: where the source failed
+-- that of all lines that ended, at a faulty line that of all lines before it, if it stood well
 pub record StopsReading (is_print : List Line → List ℕ → Type 0) (given : List ℕ) (before taken : Option (List ℕ)) (well : Type 0) (told : Fault) : Type 0 where
   pub refusal : IsReadRefusal given told
   pub first : HasFirstPrint is_print before taken (ended_lines given)
   pub at_line : well → HasPrintBefore is_print before taken (ended_lines given) told
+  pub at_failure : told ≡ Read → HasPrinted is_print before taken [] (ended_lines given)
 
 -- the whole text is refused at its end, and none of its lines was refused while it was read; the sink has the print of the lines that ended,
 -- or where it failed a first part of what is printed of the text
@@ -63,7 +64,8 @@ pub record StopsAtEnd (is_print : List Line → List ℕ → Type 0) (has_first 
   pub source : IsAllGiven left after asked given
   pub sound : early given ≡ None
   pub refusal : IsEndRefusal given told
-  pub first : HasPrinted is_print before taken [] (ended_lines given) ⊎ has_first given before taken
+  pub kept : told ≢ Write → HasPrinted is_print before taken [] (ended_lines given)
+  pub first : told ≡ Write → has_first given before taken
 
 -- a source gave some bytes, and they are refused; those before its last call, when it had `asked`, decide no faulty line
 pub record StopsPrinting (is_print : List Line → List ℕ → Type 0) (has_first : (x : List ℕ) (before after : Option (List ℕ)) → Type 0) (left after asked before taken : Option (List ℕ)) (well : Type 0) (told : Fault) : Type 0 where

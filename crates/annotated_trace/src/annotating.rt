@@ -12,9 +12,9 @@ use line_model::totals::Summary;
 use std::alloc::Allocator;
 use trace_text::trace_observer::TraceObserver;
 
-/// Writes a trace again that a source gives, each line with its comments as soon as its LF was read, and answers the last
-/// line of its report as numbers. It refuses by the first faulty line as soon as it is known, and has written the lines
-/// before it; where a device fails; for want of memory; and as `TracePrinter::end`.
+/// Writes a trace again that a source gives, each line with its comments, and returns the last line of its report as
+/// numbers. Fails by the first faulty line, after all lines before it; where the source fails, after all lines that an
+/// LF ended; where memory is refused; where the sink fails; and as `TracePrinter::end`.
 pub fn annotate<A: Allocator + Copy, O: TraceObserver<A>, D: Describer<A, O>, S: Source, K: Sink>(
     alloc: A,
     trace: O,
@@ -28,8 +28,9 @@ pub fn annotate<A: Allocator + Copy, O: TraceObserver<A>, D: Describer<A, O>, S:
     ensures annotated { IfOk result (Annotates (D.rows describer) (S.left source.old)
         (S.left source.new)
         (S.before source.new) (K.taken sink.old) (K.taken sink.new)) }
-    // A refusal is by the bytes that were given, and those before the last call of the source show no faulty line; the
-    // sink has a first part of their annotation.
+    // A refusal is by the bytes that were given, and those before the last call of the source show no faulty line. The
+    // sink has the annotation of all lines before the faulty one, if it did not fail; of all that ended where the source
+    // failed, or memory was refused at the end; else a first part.
     ensures stopped { IfErr result (Stops (D.rows describer) (S.left source.old) (S.left source.new)
         (S.before source.new) (K.taken sink.old) (K.taken sink.new) (K.failures sink.new
         ≡ K.failures sink.old)) }

@@ -299,9 +299,11 @@ impl<A: Allocator + Copy, O: TraceObserver<A>, P: Printer<A, O>, K: Sink> Consum
     ghost few = { λ first start now sink text fed. few_bytes text fed.sound };
 }
 
-/// Prints a trace that a source gives, each line as soon as its LF was read, and what comes after the last line; returns
-/// the last line of its report as numbers. It refuses by the first faulty line as soon as it is known, and has written
-/// what the lines before it become; where a device fails; for want of memory; and as `TracePrinter::end`.
+/// Prints a trace that a source gives, line by line, and what comes after the last line; returns the last line of its
+/// report as numbers. Fails by the first faulty line, after what all lines before it become; where the source fails,
+/// after what all lines become that an LF ended; where memory is refused; where the sink fails; and as
+/// `TracePrinter::end`. The clauses speak of the end of the call; what is written before, after each read, those of
+/// `TracePrinter::feed` say.
 pub fn print_trace<A: Allocator + Copy, O: TraceObserver<A>, P: Printer<A, O>, S: Source, K: Sink>(
     alloc: A,
     trace: O,
@@ -314,8 +316,9 @@ pub fn print_trace<A: Allocator + Copy, O: TraceObserver<A>, P: Printer<A, O>, S
     ensures printed { IfOk result (HasPassed (IsPrinted (IsPrintOf (P.form (P.rows printer)) [])
         (P.closing (P.rows printer))) (S.left source.old) (S.left source.new)
         (S.before source.new) (K.taken sink.old) (K.taken sink.new)) }
-    // A refusal is by the bytes that were given, and those before the last call of the source show no faulty line; the
-    // sink has a first part of their print.
+    // A refusal is by the bytes that were given, and those before the last call of the source show no faulty line. The
+    // sink has the print of all lines before the faulty one, if it did not fail; of all that ended where the source
+    // failed, or memory was refused at the end; else a first part.
     ensures stopped { IfErr result (StopsPrinting (IsPrintOf (P.form (P.rows printer)) [])
         (HasFirstPrintOf (IsPrintOf (P.form (P.rows printer)) [])
         (P.closing (P.rows printer))) (S.left source.old) (S.left source.new)

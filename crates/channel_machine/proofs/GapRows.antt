@@ -1,5 +1,5 @@
 -- A row on a channel of a recording with gaps, by what is certain of it.
-use Rattle.std.proofs.Common.{◌≡◌, ℕ, Bool, true, false, true≢false, refl, sym, ◌∙◌, ap, subst, append-nil, List, Option, Some, None, Result, Ok, Err}
+use Rattle.std.proofs.Common.{◌≡◌, ℕ, Bool, true, false, true≢false, refl, sym, ◌∙◌, ap, subst, append-nil, map, List, ◌++◌, Option, Some, None, Result, Ok, Err}
 use Rattle.std.specs.Prelude.{IfOk, ◌||◌, is_none, option_map, unwrap_or}
 use Rattle.line_model.specs.declared.event.Event.{Event}
 use Rattle.line_model.specs.declared.fault.Fault.{Fault}
@@ -15,7 +15,7 @@ use Rattle.line_model.specs.channels.Gaps.{Doubts, WhileAdrift}
 use Rattle.line_model.specs.channels.GapStep.{GapOutcome, SettledOutcome, adrift_step, certainty_with, doubts_in, gap_channel_step, is_in_d1, packet_step, with_certainty}
 use Rattle.channel_machine.specs.declared.events.EventOrigin.{EventOrigin}
 use Rattle.channel_machine.specs.Channels.{DoesApart, Stands, StandsForReached, listed}
-use Rattle.channel_machine.specs.Events.{origin_at}
+use Rattle.channel_machine.specs.Events.{data_of, event_at, origin_at}
 use Rattle.channel_machine.specs.GapChannels.{ComesAdrift, GapDoes, GapDoesApart, GapKnown, IsKnownBy, Represents, StandsAdrift, StandsSettled, adrift_at, at_rest, certainty_of, interface_of, number_of}
 use Rattle.channel_machine.specs.GapView.{InDoubt}
 use Rattle.channel_machine.specs.GapView.KnownCertainty.{Certain, Adrift, Settled}
@@ -60,6 +60,16 @@ row_listed q l s t x old new before after r g none origin is d =
     let does : IfOk q (λ _. GapDoes s old new before after o) = subst (λ v. IfOk q (λ _. GapDoes s old new before after v)) (packet_row (interface_of old) (number_of old) g r none) d in
     subst (λ v. IfOk v (λ k. GapDoesApart t x old new before after k o)) (sym is)
     (listed_apart q t x old new before after o (subst (λ v. IfOk q (λ _. GapDoes v old new before after o)) origin does))
+
+-- a row whose data packet may be kept out of the list
+pub kept_apart : (k : Option ℕ) (s : EventOrigin) (x : Side) (old new : GapKnown) (before after : List Event) (o : GapOutcome) → GapDoes s old new before (after ++ map (event_at s) (data_of x k)) o → GapDoesApart s x old new before after k o
+kept_apart k s x old new before after o d = record { interface = d.interface; number = d.number; represents = d.represents; reports = d.reports }
+
+pub row_apart : (q : Result (Option ℕ) Fault) (s t : EventOrigin) (x : Side) (old new : GapKnown) (before after : List Event) (r : Item) (g : gaps.GapChannel) → gap_of r.packet ≡ None → s ≡ t →
+    IfOk q (λ k. GapDoesApart s x old new before after k (gap_channel_step (interface_of old) (number_of old) g r)) → IfOk q (λ k. GapDoesApart t x old new before after k (row_step (interface_of old) (number_of old) g r))
+row_apart q s t x old new before after r g none origin d =
+    subst (λ v. IfOk q (λ k. GapDoesApart v x old new before after k (row_step (interface_of old) (number_of old) g r))) origin
+    (subst (λ v. IfOk q (λ k. GapDoesApart s x old new before after k v)) (packet_row (interface_of old) (number_of old) g r none) d)
 
 -- a channel of which all is certain
 certain_after : (q : Result (Option ℕ) Fault) (s : EventOrigin) (x : Side) (old new : GapKnown) (before after : List Event) (o : Outcome) (g : gaps.GapChannel) → old.restarting ≡ g.restarting → new.certainty ≡ Certain → new.restarting ≡ old.restarting → IsReached o.after →

@@ -1,5 +1,5 @@
 -- Data packets on a settled channel.
-use Rattle.std.proofs.Common.{◌≡◌, ◌⊎◌, ◌+◌, ◌-◌, ℕ, Bool, true, false, true≢false, refl, sym, ◌∙◌, ap, subst, length, List, [], ◌∷◌, ◌++◌, Option, Some, None, Result, Ok, Err}
+use Rattle.std.proofs.Common.{◌≡◌, ◌⊎◌, ◌+◌, ◌-◌, ℕ, Bool, true, false, true≢false, refl, sym, ◌∙◌, ap, subst, length, map, List, [], ◌∷◌, ◌++◌, Option, Some, None, Result, Ok, Err}
 use Rattle.std.specs.Prelude.{not, reverse, take_while, ◌&&◌}
 use Rattle.line_model.specs.declared.diagnostic.TheConstants.{INCONSISTENT_Q_BIT_SETTING}
 use Rattle.line_model.specs.declared.event.Event.{Event}
@@ -25,10 +25,10 @@ use Rattle.data_transfer.proofs.SequenceLemmas.{packets_of-other, packets_of-sam
 use Rattle.channel_machine.specs.declared.events.EventOrigin.{EventOrigin}
 use Rattle.channel_machine.specs.Channels as channels
 use Rattle.channel_machine.specs.Channels.{Known}
-use Rattle.channel_machine.specs.Events.{Reports}
+use Rattle.channel_machine.specs.Events.{Reports, data_of, event_at}
 use Rattle.channel_machine.specs.GapChannels.{StandsSettled, at_rest}
 use Rattle.channel_machine.specs.GapView.{InDoubt}
-use Rattle.channel_machine.specs.SettledData.{Continues, IsAdded, IsDataJudged, continued_by, data_settled, known_message}
+use Rattle.channel_machine.specs.SettledData.{Continues, IsAdded, IsDataJudged, IsPut, continued_by, data_settled, known_message}
 use Rattle.channel_machine.specs.SettledNumbers.{IsNumbered, IsWidest, NumbersStand, SequencesStand, kept_begun, kept_of}
 use Rattle.channel_machine.specs.SettledSequences.{kept_after}
 use Rattle.channel_machine.specs.SettledSteps.{SettledDoes}
@@ -249,9 +249,9 @@ accepts s old held put left before after x q h p a f c st d1 side ((v, is, stand
     let e : Channel = record d { heard = d.heard ++ p ∷ []; acknowledged = edge_in_doubt i.modulus (of_side x b.numbers) x (sent x (d.heard ++ p ∷ [])) v.acknowledged } in
     let rest : at_rest e ≡ at_rest c = rest_for_data i.modulus b x h c in
     let sized : size_in_force i d x ≡ size = size_same i b x x h c in
-    let category : a ≡ may_be_category_a b.hidden size p = added.category ∙ ap (λ n. may_be_category_a b.hidden n p) sized in
+    let category : a ≡ may_be_category_a b.hidden size p = added.put.category ∙ ap (λ n. may_be_category_a b.hidden n p) sized in
     let new : InDoubt = record { doubts = doubts_after_data x a b; flow = f; assembler = put.assembler } in
-    let new_is : left ≡ new = left_is ∙ (λ j. record { doubts = doubts_after_data x a (added.doubts j); flow = f; assembler = put.assembler }) in
+    let new_is : left ≡ new = left_is ∙ (λ j. record { doubts = doubts_after_data x a (added.put.doubts j); flow = f; assembler = put.assembler }) in
     let here : is_in_d1 e.state ≡ true = ap (λ (k : Channel). is_in_d1 k.state) rest ∙ ap (λ k. is_in_d1 k) (sym st.rest.state) ∙ d1 in
     let eight : (i.modulus ≡ 8) ⊎ (i.modulus ≡ 128) = subst (λ m. (m ≡ 8) ⊎ (m ≡ 128)) (modulus ∙ st.numbers.modulus) widest.eight in
     subst (λ o. SettledDoes s old old left before after o) (sym (accepted_by i x q h p v b c is alike))
@@ -263,7 +263,7 @@ accepts s old held put left before after x q h p a f c st d1 side ((v, is, stand
         rest = subst (λ k. channels.Stands old k) (sym rest) st.rest;
         reached = same c e (ap (λ (k : Channel). k.opening) rest) (ap (λ (k : Channel). k.accepting) rest) (ap (λ (k : Channel). k.state) rest) st.reached;
         numbers = numbers_after i (window_in_doubt i b c x) held put.assembler f x h p a v c eight st.numbers side is stands widest modulus;
-        sequences = sequences_after i held put.assembler f x h p a e.acknowledged c st.numbers st.sequences side category added.begun added.apart;
+        sequences = sequences_after i held put.assembler f x h p a e.acknowledged c st.numbers st.sequences side category added.put.begun added.put.apart;
         outside = λ k. absurd (true≢false (sym here ∙ k));
       };
       reports = subst (λ n. Reports s before after (Data x p.length ∷ settings_in_doubt x (message_in_doubt b.hidden (of_side x b.sequences) n p hs d))) sized added.reports;
@@ -295,6 +295,19 @@ pub unknown : (carried known : Bool) (hs : List AcceptedData) (p : AcceptedData)
 unknown true true hs p q e = absurd (true≢false (sym q ∙ e))
 unknown true false hs p q e = refl
 unknown false known hs p q e = refl
+
+-- a packet with Q 0 carries no message
+unqualified : (pad q : Bool) → q ≡ false → false ≡ (pad && q)
+unqualified true q e = sym e
+unqualified false q e = refl
+
+pub added_apart : (s : EventOrigin) (i : Interface) (x : Side) (old new : InDoubt) (events : List Event) (a : Bool) (hs : List AcceptedData) (p : AcceptedData) (c : Channel) → p.qualified ≡ false → IsPut i x old new a hs p c →
+    IsAdded s i x old new events (events ++ map (event_at s) (data_of x (Some p.length))) a hs p c
+added_apart s i x old new events a hs p c q put = record {
+  put = put;
+  reports = subst (λ m. Reports s events (events ++ event_at s (Data x p.length) ∷ []) (Data x p.length ∷ settings_in_doubt x m))
+      (told old.doubts.hidden (of_side x old.doubts.sequences) (size_in_force i c x) p hs a false c (unqualified (is_pad_call c) p.qualified q) put.category) refl;
+}
 
 -- no header
 pub none_header : (o : Option DataHeader) → ((h : DataHeader) → ¬ (o ≡ Some h)) → o ≡ None

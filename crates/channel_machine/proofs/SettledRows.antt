@@ -1,6 +1,6 @@
 -- What packets do to a settled channel, as the code does it.
-use Rattle.std.proofs.Common.{◌≡◌, ◌-◌, ℕ, Bool, true, false, true≢false, refl, sym, ◌∙◌, ap, subst, append-nil, List, [], ◌∷◌, Option, Some, None, Result, Ok, Err}
-use Rattle.std.specs.Prelude.{OnOk, is_some}
+use Rattle.std.proofs.Common.{◌≡◌, ◌-◌, ℕ, Bool, true, false, true≢false, refl, sym, ◌∙◌, ap, subst, append-nil, map, List, [], ◌∷◌, ◌++◌, Option, Some, None, Result, Ok, Err}
+use Rattle.std.specs.Prelude.{IfOk, OnOk, is_some}
 use Rattle.line_model.specs.declared.packet.Class as class
 use Rattle.line_model.specs.declared.packet.DataHeader.{DataHeader}
 use Rattle.line_model.specs.declared.packet.Packet.{Packet}
@@ -11,6 +11,7 @@ use Rattle.line_model.specs.declared.packet.Class.{Class}
 use Rattle.line_model.specs.declared.packet.Class.TheVariants.{Data, Interrupt, InterruptConfirm}
 use Rattle.line_model.specs.packets.Says.{header_in, receive_in}
 use Rattle.line_model.specs.declared.event.Event.{Event}
+use Rattle.line_model.specs.declared.fault.Fault.{Fault}
 use Rattle.line_model.specs.declared.event.How.{How}
 use Rattle.line_model.specs.declared.event.How as how
 use Rattle.line_model.specs.declared.event.What.{What}
@@ -37,10 +38,10 @@ use Rattle.data_transfer.specs.Assembler.{begun_on}
 use Rattle.data_transfer.specs.Assembly.{Holds}
 use Rattle.data_transfer.specs.FlowResidues as flow
 use Rattle.channel_machine.specs.declared.events.EventOrigin.{EventOrigin}
-use Rattle.channel_machine.specs.Channels.{Does, Known, Stands}
+use Rattle.channel_machine.specs.Channels.{Does, Known, Stands, listed}
 use Rattle.channel_machine.specs.Contents.{is_call}
 use Rattle.channel_machine.specs.Entries.{is_transfer}
-use Rattle.channel_machine.specs.Events.{Reports}
+use Rattle.channel_machine.specs.Events.{Reports, data_of, event_at}
 use Rattle.channel_machine.specs.GapChannels.{StandsSettled, at_rest}
 use Rattle.channel_machine.specs.GapView.{InDoubt}
 use Rattle.channel_machine.specs.Reached.{IsReached}
@@ -131,6 +132,20 @@ stays s old new held before after ws w c st interface number stands reports =
       };
       reports = reports;
     }
+
+-- a row whose events are all listed
+pub none_apart : (s : EventOrigin) (x : Side) (old new : Known) (left : InDoubt) (before after : List Event) (o : SettledOutcome) → SettledDoes s old new left before after o → SettledDoes s old new left before (after ++ map (event_at s) (data_of x None)) o
+none_apart s x old new left before after o d = subst (λ es. SettledDoes s old new left before es o) (sym (append-nil after)) d
+
+settled_apart : {U : Type 0} (q : Result U Fault) (s : EventOrigin) (x : Side) (old new : Known) (left : InDoubt) (before after : List Event) (o : SettledOutcome) → IfOk q (λ _. SettledDoes s old new left before after o) →
+    IfOk (listed q) (λ k. SettledDoes s old new left before (after ++ map (event_at s) (data_of x k)) o)
+settled_apart (Ok u) s x old new left before after o d = none_apart s x old new left before after o d
+settled_apart (Err e) s x old new left before after o d = tt
+
+pub settled_listed : {U : Type 0} (q : Result U Fault) (l : Result (Option ℕ) Fault) (s : EventOrigin) (x : Side) (old new : Known) (left : InDoubt) (before after : List Event) (o : SettledOutcome) → l ≡ listed q →
+    IfOk q (λ _. SettledDoes s old new left before after o) → IfOk l (λ k. SettledDoes s old new left before (after ++ map (event_at s) (data_of x k)) o)
+settled_listed q l s x old new left before after o is d =
+    subst (λ v. IfOk v (λ k. SettledDoes s old new left before (after ++ map (event_at s) (data_of x k)) o)) (sym is) (settled_apart q s x old new left before after o d)
 
 -- an error
 

@@ -49,10 +49,14 @@ known_message true true hs p = Some (sequence_octets (alike_at_end p hs ++ p ∷
 known_message true false hs p = None
 known_message false known hs p = None
 
--- a packet is added to the sequence of its side, and reported
-pub record IsAdded (s : EventOrigin) (i : Interface) (x : Side) (old new : InDoubt) (before after : List Event) (a : Bool) (hs : List AcceptedData) (p : AcceptedData) (c : Channel) : Type 0 where
+-- a packet is put to the sequence of its side
+pub record IsPut (i : Interface) (x : Side) (old new : InDoubt) (a : Bool) (hs : List AcceptedData) (p : AcceptedData) (c : Channel) : Type 0 where
   pub category : a ≡ may_be_category_a old.doubts.hidden (size_in_force i c x) p
   pub begun : Holds (begun_on new.assembler x) (kept_after (of_side x old.doubts.sequences) old.doubts.hidden a hs p)
   pub apart : begun_on new.assembler (other x) ≡ begun_on old.assembler (other x)
   pub doubts : new.doubts ≡ old.doubts
+
+-- a packet is put to the sequence of its side, and reported
+pub record IsAdded (s : EventOrigin) (i : Interface) (x : Side) (old new : InDoubt) (before after : List Event) (a : Bool) (hs : List AcceptedData) (p : AcceptedData) (c : Channel) : Type 0 where
+  pub put : IsPut i x old new a hs p c
   pub reports : Reports s before after (Data x p.length ∷ settings_in_doubt x (message_in_doubt old.doubts.hidden (of_side x old.doubts.sequences) (size_in_force i c x) p hs c))

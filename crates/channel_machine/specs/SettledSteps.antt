@@ -1,5 +1,5 @@
 -- What a packet does to a settled channel, in the parts of the code.
-use Rattle.std.specs.Prelude.{ℕ, ◌≡◌, List, Result, Ok, Err, IfOk, OnErr}
+use Rattle.std.specs.Prelude.{ℕ, ◌≡◌, List, ◌++◌, map, Option, Result, Ok, Err, IfOk, OnErr}
 use Rattle.line_model.specs.declared.event.Event.{Event}
 use Rattle.line_model.specs.declared.fault.Fault.{Fault}
 use Rattle.line_model.specs.declared.interface.Interface.{Interface}
@@ -14,7 +14,7 @@ use Rattle.line_model.specs.channels.Gaps.{Doubts}
 use Rattle.line_model.specs.channels.GapStep.{SettledOutcome, doubts_in, failing_in_doubt, settled_verdict}
 use Rattle.channel_machine.specs.declared.events.EventOrigin.{EventOrigin}
 use Rattle.channel_machine.specs.Channels.{Known}
-use Rattle.channel_machine.specs.Events.{Reports}
+use Rattle.channel_machine.specs.Events.{Reports, data_of, event_at}
 use Rattle.channel_machine.specs.GapChannels.{StandsSettled, at_rest}
 use Rattle.channel_machine.specs.GapView.{InDoubt}
 use Rattle.channel_machine.specs.SettledNumbers.{NumbersStand, SequencesStand}
@@ -45,6 +45,11 @@ pub record SettledDoes (s : EventOrigin) (old new : Known) (left : InDoubt) (bef
 abbrev pub ComesSettled : {U : Type 0} → Result U Fault → EventOrigin → (old new : Known) → (held left : InDoubt) → (before after : List Event) → (Channel → SettledOutcome) → Type 0
 ComesSettled r s old new held left before after f =
     (c : Channel) → StandsSettled old held c → IfOk r (λ _. SettledDoes s old new left before after (f c))
+
+-- the same where the event of an accepted data packet of side x is kept out of the list
+abbrev pub ComesSettledApart : Result (Option ℕ) Fault → EventOrigin → Side → (old new : Known) → (held left : InDoubt) → (before after : List Event) → (Channel → SettledOutcome) → Type 0
+ComesSettledApart r s x old new held left before after f =
+    (c : Channel) → StandsSettled old held c → IfOk r (λ accepted. SettledDoes s old new left before (after ++ map (event_at s) (data_of x accepted)) (f c))
 
 -- after a fault all is as it was
 abbrev pub IsSettledUnchanged : {U : Type 0} → Result U Fault → (old new : Known) → (held left : InDoubt) → (before after : List Event) → Type 0

@@ -3,6 +3,7 @@
 ghost use Rattle.std.specs.Prelude.{◌≡◌};
 ghost use Rattle.line_model.specs.channels.Tables.{action};
 ghost use Rattle.line_model.specs.channels.ChannelStep.{judged, joining, is_reset, is_call_or_clear};
+ghost use Rattle.channel_machine.specs.Entries.{is_transfer};
 
 use line_model::packet::Class;
 use line_model::state::{ChannelState, Side, StateName};
@@ -77,4 +78,15 @@ fn is_call_or_clear(class: Class) -> bool
     ensures { result ≡ is_call_or_clear class }
 {
     matches!(class, Class::Call | Class::Clear)
+}
+
+/// Whether a packet of a class is one of data transfer.
+#[inline(always)]
+pub(crate) fn is_transfer(class: Class) -> bool
+    ensures { result ≡ is_transfer class }
+{
+    matches!(
+        class,
+        Class::Data | Class::Interrupt | Class::InterruptConfirm | Class::Rr | Class::Rnr
+    )
 }

@@ -131,7 +131,7 @@ impl<A: Allocator + Clone, S: StatusStore> StatusChannel<A, S> {
 
     /// Whether the channel is in d1 and no indication is owed.
     #[inline(always)]
-    fn is_open(&self) -> bool
+    pub(crate) fn is_open(&self) -> bool
         ensures { OnTrue result (IsOpen self.now) }
     {
         match self.status.state() {

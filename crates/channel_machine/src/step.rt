@@ -20,7 +20,7 @@ ghost use Rattle.channel_machine.specs.Sizes.{largest_length};
 use crate::channel::StatusChannel;
 use crate::events::Judgement;
 use crate::format::{Contents, header_of};
-use crate::judging::judged;
+use crate::judging::{is_transfer, judged};
 use crate::messages::data_packet;
 use crate::moves::{Change, change_of};
 use crate::status::StatusStore;
@@ -227,7 +227,9 @@ impl<A: Allocator + Clone, S: StatusStore> StatusChannel<A, S> {
         }
     }
 
-    /// The state in whose column a packet stands, and the entry there.
+    /// The state in whose column a packet stands, and the entry there. In d1 where nothing is owed every packet of data
+    /// transfer is normal.
+    #[inline(always)]
     pub(crate) fn judge(&self, side: Side, class: Class) -> (StateName, Action)
         ensures judged { (c : Channel) → Stands self.now c
             → record { state = result.0; entry = result.1 }
@@ -236,6 +238,9 @@ impl<A: Allocator + Clone, S: StatusStore> StatusChannel<A, S> {
         ensures fits { is_entry result.1 side class self.now.state ≡ true }
         ensures in_d1 { result.1 ≡ Normal → is_in_d1 self.now.state ≡ true }
     {
+        if is_transfer(class) && self.is_open() {
+            return (StateName::D1, Action::Normal);
+        }
         judged(
             self.status.interface().is_permanent(self.channel),
             side,

@@ -22,7 +22,7 @@ ClosesWithCalls form report bytes = IsCallTable form report.calls bytes
 abbrev pub PrintsCalls : TableForm → (left after asked before taken : Option (List ℕ)) → Summary → Type 0
 PrintsCalls form left after asked before taken sums = HasPassed (IsPrinted IsNothing (ClosesWithCalls form)) left after asked before taken sums
 
--- a source gave some bytes, and they are refused; the sink has nothing, or at the end of the text a first part of the table
+-- a source gave some bytes, and they are refused; the sink has nothing, or where it failed at the end of the text a first part of the table
 abbrev pub StopsCalls : TableForm → (left after asked before taken : Option (List ℕ)) → (well : Type 0) → Fault → Type 0
 StopsCalls form left after asked before taken well fault = StopsPrinting IsNothing (HasFirstPrintOf IsNothing (ClosesWithCalls form)) left after asked before taken well fault
 

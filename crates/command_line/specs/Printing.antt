@@ -26,7 +26,8 @@ AreRowObjects rows ls bytes = IsPrintOf (IsLineObject rows) [] ls bytes
 abbrev pub PrintsRows : Rows → (left after asked before taken : Option (List ℕ)) → Summary → Type 0
 PrintsRows rows left after asked before taken sums = HasPassed (IsPrinted (AreRowObjects rows) IsClosing) left after asked before taken sums
 
--- a source gave some bytes, and they are refused; the sink has a first part of the objects, at a faulty line those of the chosen rows before it, if the sink did not fail and the text had not ended
+-- a source gave some bytes, and they are refused; the sink has a first part of the objects: at a faulty line those of the chosen rows before it,
+-- if the sink did not fail, and where the source failed those of the chosen rows whose line ended
 abbrev pub StopsRows : Rows → (left after asked before taken : Option (List ℕ)) → (well : Type 0) → Fault → Type 0
 StopsRows rows left after asked before taken well fault =
     StopsPrinting (AreRowObjects rows) (HasFirstPrintOf (AreRowObjects rows) IsClosing) left after asked before taken well fault

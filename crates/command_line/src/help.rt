@@ -15,7 +15,7 @@ Arguments:
 Options:
       --workers <N>       Scan with this many worker threads, 1 to 64 (default: 4)
       --alone             Scan in one thread, which takes longer and less memory
-      --follow            Print each finding as soon as its packet is known, in one thread
+      --follow            Print findings while the trace is read, in one thread
       --json              Print the report as JSON lines, an object for each line
       --annotate          Print the trace again, with comments that say what its rows are and did
       --rows              Print a JSON object for each row, and then those of the report

@@ -43,7 +43,7 @@ pub struct Options<'a> {
     pub crew: bool,
     /// The scan of one thread is asked for.
     pub alone: bool,
-    /// Each finding is asked for as soon as its packet is known, which one thread does.
+    /// The findings are asked for while the trace is read, which one thread does.
     pub follow: bool,
     /// The report is asked for as JSON lines.
     pub json: bool,

@@ -7,7 +7,7 @@ ghost use Rattle.line_model.specs.traces.WorkedGapTraces.{WorkedGapTraces};
 ghost use Rattle.line_model.specs.text.Text.{early, fault};
 ghost use Rattle.line_model.specs.declared.fault.Kind.{Kind};
 
-/// Rows of different channels may be walked in any order.
+/// Where rows of different channels change places, each row has the same events, and the observer ends the same.
 pub fn shuffle()
     ensures { ShuffleLaw }
 {}

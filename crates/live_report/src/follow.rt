@@ -17,7 +17,7 @@ use line_model::totals::Summary;
 use report_merge::text::{write_findings, write_rest};
 use std::alloc::Allocator;
 
-/// A trace that grows, of which each finding is written as soon as its row is known.
+/// A trace that grows. After a `feed` that succeeds the sink has the lines of all findings of the rows whose LF was fed.
 #[derive(Drop)]
 pub struct Follower<A: Allocator, C: Channel<A>> {
     live: Live<A, C>,

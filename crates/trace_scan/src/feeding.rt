@@ -427,9 +427,9 @@ fn last_fault<P: Plan + TraceText, A: Allocator + Copy, R: Wait + Clock>(
     }
 }
 
-/// Reads a source to its end. The pieces of its trace are fed as soon as they are known whole. What was given is taken
-/// before the failure of the source is returned, so that it hides no faulty line. Where lines are refused, they are kept
-/// apart.
+/// Reads a source to its end, and feeds the pieces of its trace. Where it succeeds, the text has no fault, and exactly
+/// its pieces were fed. A failure of the source hides no faulty line: what was given before is taken first. Lines that
+/// are refused are kept apart, for the message alone: no clause says which.
 fn read_all<P: Plan + TraceText, A: Allocator + Copy, S: RoomSource, R: Wait + Clock>(
     source: &mut S,
     fed: FedText<'_, P, A, R>,

@@ -52,10 +52,11 @@ impl<A: Allocator + Copy, C: Channel<A>, K: Sink> Consumer<K> for Following<A, C
     ghost few = { λ first start now sink text fed. few_bytes text fed.stands.live.reads.sound };
 }
 
-/// Walks a trace in one thread, and writes each finding as soon as the LF of its row was read, and the rest of the report
-/// where the source ends; so the bytes are those of `scan_alone`. Answers the report's last line as numbers, and the data
-/// that was not counted. Refuses by the first faulty line as soon as it is known, behind what was found before it; where
-/// a device fails; and for want of memory.
+/// Walks a trace in one thread, and writes its findings and, after the source has ended, the rest of the report: the
+/// bytes of `scan_alone`. Returns the report's last line as numbers, and the data that was not counted. Fails by the
+/// first faulty line, after all that was found before it; where the source fails, after all that was found in what it
+/// gave; where memory is refused; and where the sink fails. The clauses speak of the end of the call; what is written
+/// before, after each read, those of `Follower::feed` say.
 pub fn follow<A: Allocator + Copy, S: Source, K: Sink>(
     alloc: A,
     source: &mut S,

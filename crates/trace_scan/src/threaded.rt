@@ -153,10 +153,12 @@ pub struct Scan<A: Allocator = Global> {
     pub shares: Vec<Totals, A>,
 }
 
-/// Reads a trace, and has 1 to 64 workers run its pieces while it is read, over a queue of 1 to 4,096 entries. Once the
-/// whole text was accepted and all workers were joined, it writes what the one observer finds who walks the trace packet
-/// by packet. Refuses where a thread or memory was refused, as reading does, where a worker wanted memory, and where the
-/// sink fails, in this order. The fault of a line is the text's however it goes on (`line_model::laws::fault`).
+/// Reads a trace, and has 1 to 64 workers run its pieces while it is read, over a queue of 1 to 4,096 entries. After the
+/// whole text was accepted and all workers were joined, it writes what one observer finds that walks the trace packet by
+/// packet. Fails where no thread is made, and has then read nothing; by the first faulty line; where the source fails,
+/// and what it gave then shows no faulty line; where memory is refused, and all of that but at most the blocks in flight
+/// then shows none (`IsRefusal`); and where the sink fails, and the text then has no fault. The fault of a line is the
+/// text's however it goes on (`line_model::laws::fault`).
 pub fn scan_with<
     A: Allocator + Copy + Send + Sync,
     S: RoomSource,

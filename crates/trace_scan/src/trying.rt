@@ -40,15 +40,15 @@ fn write_tried<A: Allocator + Copy, C: Channel<A>, K: Sink>(
     Ok(fewest_findings(tried.as_slice()))
 }
 
-/// Walks a trace under each header that is tried on it, and writes once the whole text was accepted how many findings
-/// each has and how much data it leaves uncounted, a line for each, best first. It answers the findings of the first
-/// line. Refuses as `scan::scan_alone` does.
+/// Walks a trace under each header that is tried on it, and writes a heading and a line for each header, best first
+/// (`AreTriedLines`): the reactions of the DCE, the findings, and the data that is not counted. Returns the findings of
+/// the first line. Fails as `scan::scan_alone` does; the sink is then as it was, or it failed and took a first part.
 pub fn try_headers<A: Allocator + Copy, S: Source, K: Sink>(
     alloc: A,
     source: &mut S,
     sink: &mut K,
 ) -> Result<u32, Fault>
-    // Of a text without a fault the sink took exactly the lines of all headers that are tried.
+    // Where it succeeds, the text has no fault, and the sink took exactly the heading and these lines, each once.
     ensures tried { (text : List ℕ) → S.left source.old ≡ Some text
         → IfOk result (HasTried text (K.taken sink.old) (K.taken sink.new)) }
     // So it is with a source that does not tell its bytes.

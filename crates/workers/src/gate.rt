@@ -23,7 +23,7 @@ pub trait Gate: Sync {
         ensures value { MatchResult result (λ r. r ≡ value piece.now) (λ fault. fault ≡ Memory) }
         ensures ran { IfOk result (ran self.now piece.now) };
 
-    /// The values of the pieces of a bundle, put together in the order of their packets. Fails only when memory is refused.
+    /// The values of the pieces of a bundle, in the bundle's order. Fails only when memory is refused.
     fn run_bundle<A: Allocator + Copy>(
         &self,
         alloc: A,
@@ -42,7 +42,7 @@ pub trait Gate: Sync {
         Ok(reports.sorted()?)
     }
 
-    /// Does some other work of the scan, if some waits, and says whether it did. A worker asks before it takes a piece.
+    /// May do other work of the scan, and returns whether it did. A worker calls it before it takes a piece.
     fn help<R: Wait>(&self, _rt: &R) -> bool {
         false
     }

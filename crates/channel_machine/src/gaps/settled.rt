@@ -280,6 +280,7 @@ impl<A: Allocator + Clone> SettledNumbers<A> {
 
     /// Adds a data packet that is accepted to the sequence of its side, of which more follows or not. Returns the octets of
     /// the sequence that it completes, if that is known from its beginning.
+    #[inline(always)]
     pub(crate) fn put<'a>(
         &mut self,
         side: Side,

@@ -1,6 +1,6 @@
 //! Data packets on a settled channel.
 
-ghost use Rattle.std.specs.Prelude.{◌≡◌, ◌+◌, ◌≤◌, Bool, List, true, drop, IfOk, OnErr, vec_len, vec_capacity};
+ghost use Rattle.std.specs.Prelude.{◌≡◌, ◌+◌, ◌≤◌, Bool, List, true, false, drop, IfOk, OnErr, OnSome, vec_len, vec_capacity};
 ghost use Rattle.line_model.specs.basics.Bounds.{IsSaid};
 ghost use Rattle.line_model.specs.channels.Channels.{AcceptedData, Channel};
 ghost use Rattle.line_model.specs.channels.ChannelStep.{heard_of};
@@ -11,10 +11,10 @@ ghost use Rattle.packet_decode.specs.SaidData.{IsSaidData};
 ghost use Rattle.channel_machine.specs.Channels.{IsMemory, Stands};
 ghost use Rattle.channel_machine.specs.Events.{Reports};
 ghost use Rattle.channel_machine.specs.GapChannels.{StandsSettled, at_rest};
-ghost use Rattle.channel_machine.specs.SettledData.{Continues, IsAdded, IsDataJudged, known_message};
+ghost use Rattle.channel_machine.specs.SettledData.{Continues, IsAdded, IsDataJudged, IsPut, known_message};
 ghost use Rattle.channel_machine.specs.SettledNumbers.{IsWidest};
 ghost use Rattle.channel_machine.specs.SettledSequences.{IsCompleted};
-ghost use Rattle.channel_machine.specs.SettledSteps.{ComesSettled, IsSettledUnchanged};
+ghost use Rattle.channel_machine.specs.SettledSteps.{ComesSettledApart, IsSettledUnchanged};
 ghost use Rattle.channel_machine.specs.Sizes.{largest_length};
 
 use crate::channel::StatusChannel;
@@ -23,6 +23,7 @@ use crate::format::header_of;
 use crate::gaps::settled::SettledNumbers;
 use crate::messages::{ROOM, data_packet, report_settings_of};
 use crate::status::StatusStore;
+use crate::step::listed;
 use crate::terms::is_pad_call;
 use crate::transfer::is_message;
 use data_transfer::flow::Flow;
@@ -37,38 +38,44 @@ use packet_decode::decode::header_length;
 use std::alloc::Allocator;
 
 impl<A: Allocator + Clone, S: StatusStore> StatusChannel<A, S> {
-    /// Accepts or refuses a data packet without fault of format.
+    /// Accepts or refuses a data packet without fault of format. With Q 0 it lists no event, and returns the octets of user
+    /// data instead.
     pub(crate) fn data_settled(
         &mut self,
         settled: &mut SettledNumbers<A>,
         judgement: &Judgement,
         item: &ItemRef<'_>,
         events: &mut Vec<Event, A>,
-    ) -> Result<(), Fault>
+    ) -> Result<Option<u32>, Fault>
         requires side { judgement.now.side ≡ item.now.side }
         requires said { IsSaid self.old.terms.interface item.now }
         requires class { packet_class item.now.packet ≡ Class.Data }
         requires short { item.now.length ≤ largest_length }
         requires in_d1 { is_in_d1 self.old.state ≡ true }
-        ensures does { ComesSettled result judgement.now.origin self.old self.new settled.old settled.new
-            events.old.items events.new.items
+        ensures does { ComesSettledApart result judgement.now.origin item.now.side self.old self.new
+            settled.old settled.new events.old.items events.new.items
             (data_in_doubt self.old.terms.interface judgement.now.state item.now
             (header_in item.now.packet) settled.old.doubts) }
+        ensures apart { IfOk result (λ accepted. OnSome accepted (events.new ≡ events.old)) }
         ensures unchanged { IsSettledUnchanged result self.old self.new settled.old settled.new
             events.old.items events.new.items }
         ensures memory { IsMemory result }
     {
         let Some(header) = header_of(&item.packet) else {
-            return Ok(());
+            return Ok(None);
         };
-        match self.judge_settled(settled, judgement.side, &header) {
-            Ok(flow) => {
-                let is_category_a = self.add_settled(settled, judgement, &header, item, events)?;
-                settled.accept(judgement.side, flow, is_category_a);
-                Ok(())
-            }
-            Err(code) => self.fail_settled(settled, judgement, code, events),
+        let flow = match self.judge_settled(settled, judgement.side, &header) {
+            Ok(flow) => flow,
+            Err(code) => return listed(self.fail_settled(settled, judgement, code, events)),
+        };
+        if header.qualified {
+            let is_category_a = self.add_settled(settled, judgement, &header, item, events)?;
+            settled.accept(judgement.side, flow, is_category_a);
+            return Ok(None);
         }
+        let is_category_a = self.add_unqualified(settled, judgement.side, &header, item)?;
+        settled.accept(judgement.side, flow, is_category_a);
+        Ok(Some(self.user_data_length(item) as u32))
     }
 
     /// Judges the numbers and the Q bit of a data packet of a side, and returns the numbers after it: `INVALID_P_S`,
@@ -98,8 +105,8 @@ impl<A: Allocator + Clone, S: StatusStore> StatusChannel<A, S> {
         }
     }
 
-    /// Adds a data packet to the sequence of its side, and reports it with what the message that it completes says of the
-    /// settings. Returns whether more of the sequence may follow.
+    /// Adds a data packet with Q 1 to the sequence of its side, and reports it with what the message that it completes says
+    /// of the settings. Returns whether more of the sequence may follow.
     fn add_settled(
         &self,
         settled: &mut SettledNumbers<A>,
@@ -110,6 +117,7 @@ impl<A: Allocator + Clone, S: StatusStore> StatusChannel<A, S> {
     ) -> Result<bool, Fault>
         requires side { judgement.now.side ≡ item.now.side }
         requires said { IsSaidData self.now.terms.interface item.now header.now }
+        requires qualified { header.now.qualified ≡ true }
         requires short { item.now.length ≤ largest_length }
         ensures adds { (c : Channel) (hs : List AcceptedData) → Stands self.now (at_rest c)
             → Continues settled.old judgement.now.side hs
@@ -139,16 +147,44 @@ impl<A: Allocator + Clone, S: StatusStore> StatusChannel<A, S> {
         Ok(is_category_a)
     }
 
-    /// The octets of user data of a data packet with Q 1, none with Q 0.
+    /// The octets of user data of a data packet with Q 1.
     fn user_data<'a>(&self, header: &DataHeader, item: &ItemRef<'a>) -> &'a [u8]
         requires said { IsSaidData self.now.terms.interface item.now header.now }
+        requires qualified { header.now.qualified ≡ true }
         ensures { result.now ≡ drop (header_length self.now.terms.interface) item.now.octets }
     {
-        if header.qualified {
-            &item.octets[header_length(&self.status.interface())..]
-        } else {
-            &[]
-        }
+        &item.octets[header_length(&self.status.interface())..]
+    }
+
+    /// Adds a data packet with Q 0 to the sequence of its side. Returns whether more of the sequence may follow.
+    fn add_unqualified(
+        &self,
+        settled: &mut SettledNumbers<A>,
+        side: Side,
+        header: &DataHeader,
+        item: &ItemRef<'_>,
+    ) -> Result<bool, Fault>
+        requires said { IsSaidData self.now.terms.interface item.now header.now }
+        requires unqualified { header.now.qualified ≡ false }
+        ensures puts { (c : Channel) (hs : List AcceptedData) → Stands self.now (at_rest c)
+            → Continues settled.old side hs
+            (heard_of self.now.terms.interface item.now header.now)
+            → IfOk result (λ a. IsPut self.now.terms.interface side settled.old
+            settled.new a hs (heard_of self.now.terms.interface item.now header.now) c) }
+        ensures unchanged { OnErr result (settled.new ≡ settled.old) }
+        ensures memory { IsMemory result }
+    {
+        let size = self.status.size(side);
+        let length = self.user_data_length(item);
+        let is_category_a = may_be_category_a(settled.doubts().is_hidden(), size, header, length);
+        let field = DataField {
+            qualified: false,
+            more: header.more,
+            delivery: header.delivery,
+            octets: &[],
+        };
+        settled.put(side, &field, is_category_a)?;
+        Ok(is_category_a)
     }
 }
 

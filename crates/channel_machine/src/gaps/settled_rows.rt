@@ -1,6 +1,6 @@
 //! What packets do to a settled channel, by the state tables.
 
-ghost use Rattle.std.specs.Prelude.{◌≡◌, ◌<◌, ◌≤◌, ◌||◌, true, false};
+ghost use Rattle.std.specs.Prelude.{◌≡◌, ◌<◌, ◌≤◌, ◌||◌, true, false, IfOk, OnSome};
 ghost use Rattle.line_model.specs.basics.Bounds.{IsSaid};
 ghost use Rattle.line_model.specs.channels.Channels.{Channel, is_open};
 ghost use Rattle.line_model.specs.channels.GapStep.{failing_in_doubt, is_in_d1, transferring_in_doubt};
@@ -10,7 +10,7 @@ ghost use Rattle.channel_machine.specs.Channels.{IsMemory, Stands};
 ghost use Rattle.channel_machine.specs.Entries.{is_entry, is_transfer};
 ghost use Rattle.channel_machine.specs.GapChannels.{at_rest};
 ghost use Rattle.line_model.specs.packets.Formats.{window_in_force};
-ghost use Rattle.channel_machine.specs.SettledSteps.{ComesSettled, IsSettledUnchanged, settled_entry, settled_row};
+ghost use Rattle.channel_machine.specs.SettledSteps.{ComesSettled, ComesSettledApart, IsSettledUnchanged, settled_entry, settled_row};
 ghost use Rattle.channel_machine.specs.Sizes.{largest_length};
 
 use crate::channel::StatusChannel;
@@ -18,6 +18,7 @@ use crate::events::Judgement;
 use crate::gaps::rows::GapRow;
 use crate::gaps::settled::{SettledNumbers, received};
 use crate::status::StatusStore;
+use crate::step::listed;
 use line_model::event::Event;
 use line_model::fault::Fault;
 use line_model::items::ItemRef;
@@ -88,19 +89,21 @@ impl<A: Allocator + Clone, S: StatusStore> StatusChannel<A, S> {
         }
     }
 
-    /// Steps a settled channel by what a row says.
+    /// Steps a settled channel by what a row says. Of an accepted data packet with Q 0 it lists no event, and returns the
+    /// octets of user data instead.
     pub(crate) fn step_settled(
         &mut self,
         settled: &mut SettledNumbers<A>,
         row: &GapRow,
         item: &ItemRef<'_>,
         events: &mut Vec<Event, A>,
-    ) -> Result<(), Fault>
+    ) -> Result<Option<u32>, Fault>
         requires side { row.now.side ≡ item.now.side }
         requires said { IsSaid self.old.terms.interface item.now }
-        ensures does { ComesSettled result row.now.origin self.old self.new settled.old settled.new
-            events.old.items events.new.items
+        ensures does { ComesSettledApart result row.now.origin item.now.side self.old self.new
+            settled.old settled.new events.old.items events.new.items
             (settled_row self.old.terms.interface self.old.channel item.now settled.old.doubts) }
+        ensures apart { IfOk result (λ accepted. OnSome accepted (events.new ≡ events.old)) }
         ensures unchanged { IsSettledUnchanged result self.old self.new settled.old settled.new
             events.old.items events.new.items }
         ensures memory { IsMemory result }
@@ -112,14 +115,14 @@ impl<A: Allocator + Clone, S: StatusStore> StatusChannel<A, S> {
             state,
         };
         match entry {
-            Action::Move(to) => self.move_settled(settled, &judgement, to, item, events),
+            Action::Move(to) => listed(self.move_settled(settled, &judgement, to, item, events)),
             Action::Normal => self.transfer_settled(settled, &judgement, item, events),
-            Action::Error(code) => self.fail_settled(settled, &judgement, code, events),
+            Action::Error(code) => listed(self.fail_settled(settled, &judgement, code, events)),
             Action::Ends => {
                 self.settle();
-                Ok(())
+                Ok(None)
             }
-            _ => Ok(()),
+            _ => Ok(None),
         }
     }
 
@@ -130,21 +133,22 @@ impl<A: Allocator + Clone, S: StatusStore> StatusChannel<A, S> {
         judgement: &Judgement,
         item: &ItemRef<'_>,
         events: &mut Vec<Event, A>,
-    ) -> Result<(), Fault>
+    ) -> Result<Option<u32>, Fault>
         requires side { judgement.now.side ≡ item.now.side }
         requires said { IsSaid self.old.terms.interface item.now }
         requires transfer { is_transfer (packet_class item.now.packet) ≡ true }
         requires in_d1 { is_in_d1 self.old.state ≡ true }
-        ensures does { ComesSettled result judgement.now.origin self.old self.new settled.old settled.new
-            events.old.items events.new.items
+        ensures does { ComesSettledApart result judgement.now.origin item.now.side self.old self.new
+            settled.old settled.new events.old.items events.new.items
             (settled_entry self.old.terms.interface self.old.channel
             (record { state = judgement.now.state; entry = Normal }) item.now settled.old.doubts) }
+        ensures apart { IfOk result (λ accepted. OnSome accepted (events.new ≡ events.old)) }
         ensures unchanged { IsSettledUnchanged result self.old self.new settled.old settled.new
             events.old.items events.new.items }
         ensures memory { IsMemory result }
     {
         match self.length_fault(judgement.side, item.packet.class(), item.length) {
-            Some(code) => self.fail_settled(settled, judgement, code, events),
+            Some(code) => listed(self.fail_settled(settled, judgement, code, events)),
             None => self.carry_settled(settled, judgement, item, events),
         }
     }
@@ -156,23 +160,24 @@ impl<A: Allocator + Clone, S: StatusStore> StatusChannel<A, S> {
         judgement: &Judgement,
         item: &ItemRef<'_>,
         events: &mut Vec<Event, A>,
-    ) -> Result<(), Fault>
+    ) -> Result<Option<u32>, Fault>
         requires side { judgement.now.side ≡ item.now.side }
         requires said { IsSaid self.old.terms.interface item.now }
         requires short { packet_class item.now.packet ≡ Class.Data
             → item.now.length ≤ largest_length }
         requires in_d1 { is_in_d1 self.old.state ≡ true }
-        ensures does { ComesSettled result judgement.now.origin self.old self.new settled.old settled.new
-            events.old.items events.new.items
+        ensures does { ComesSettledApart result judgement.now.origin item.now.side self.old self.new
+            settled.old settled.new events.old.items events.new.items
             (transferring_in_doubt self.old.terms.interface judgement.now.state
             (packet_class item.now.packet) item.now settled.old.doubts) }
+        ensures apart { IfOk result (λ accepted. OnSome accepted (events.new ≡ events.old)) }
         ensures unchanged { IsSettledUnchanged result self.old self.new settled.old settled.new
             events.old.items events.new.items }
         ensures memory { IsMemory result }
     {
         match item.packet.class() {
             Class::Data => self.data_settled(settled, judgement, item, events),
-            _ => self.control_settled(settled, judgement, item, events),
+            _ => listed(self.control_settled(settled, judgement, item, events)),
         }
     }
 

@@ -7,7 +7,7 @@ ghost use Rattle.line_model.specs.channels.GapStep.{gap_channel_step};
 ghost use Rattle.line_model.specs.observer.Observer.{row_step};
 ghost use Rattle.channel_machine.specs.Channels.{IsMemory};
 ghost use Rattle.channel_machine.specs.Events.{origin_at};
-ghost use Rattle.channel_machine.specs.GapChannels.{GapDoes, GapDoesApart, IsGapUnchanged, Represents, interface_of, number_of};
+ghost use Rattle.channel_machine.specs.GapChannels.{GapDoesApart, IsGapUnchanged, Represents, interface_of, number_of};
 ghost use Rattle.channel_machine.specs.GapView.{InDoubt};
 ghost use Rattle.channel_machine.specs.GapView.KnownCertainty.{Settled};
 
@@ -81,7 +81,7 @@ impl<A: Allocator + Clone, S: StatusStore> GapChannel<A, S> {
                 let adrift = *adrift;
                 listed(self.step_adrift(&row, adrift, item, events))
             }
-            Certainty::Settled(_) => listed(self.step_settled(&row, item, events)),
+            Certainty::Settled(_) => self.step_settled(&row, item, events),
         }
     }
 
@@ -92,25 +92,26 @@ impl<A: Allocator + Clone, S: StatusStore> GapChannel<A, S> {
         row: &GapRow,
         item: &ItemRef<'_>,
         events: &mut Vec<Event, A>,
-    ) -> Result<(), Fault>
+    ) -> Result<Option<u32>, Fault>
         requires side { row.now.side ≡ item.now.side }
         requires said { IsSaid (interface_of self.old) item.now }
         ensures does { (s : InDoubt) (g : gaps.GapChannel) → self.old.certainty ≡ Settled s
-            → Represents self.old g → IfOk result (λ _. GapDoes row.now.origin
-            self.old self.new events.old.items events.new.items
+            → Represents self.old g → IfOk result (λ accepted. GapDoesApart row.now.origin
+            item.now.side self.old self.new events.old.items events.new.items accepted
             (gap_channel_step (interface_of self.old) (number_of self.old) g item.now)) }
+        ensures apart { IfOk result (λ accepted. OnSome accepted (events.new ≡ events.old)) }
         ensures unchanged { IsGapUnchanged result self.old self.new events.old.items events.new.items }
         ensures memory { IsMemory result }
     {
         match &mut self.certainty {
             Certainty::Settled(settled) => {
-                self.channel.step_settled(settled, row, item, events)?;
+                let accepted = self.channel.step_settled(settled, row, item, events)?;
                 if !self.channel.is_settled() {
                     self.certainty = Certainty::Certain;
                 }
-                Ok(())
+                Ok(accepted)
             }
-            _ => Ok(()),
+            _ => Ok(None),
         }
     }
 }

@@ -122,8 +122,8 @@ impl<P: Plan, L: Ledgers, A: Allocator, W: Witness, T: Reports<A>> Book<P, L, A,
 }
 
 impl<P: Plan, L: Ledgers, A: Allocator, W: Witness, T: Reports<A>> LockedPosts<P, L, A, W, T> {
-    /// Adds a post for whose reports a witness vouches by `Posts::add`, and to the share. It comes back where an id of its
-    /// reports stands among the posts, or where memory ran out, and no number has changed then.
+    /// Adds a post, for whose reports a witness vouches, to the posts and to the share. Fails where an id of its reports is
+    /// among the posts, or where memory is refused; the post then comes back, and the share is as it was.
     pub fn post<R: Wait>(
         &self,
         rt: &R,

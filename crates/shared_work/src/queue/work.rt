@@ -80,7 +80,7 @@ pub enum Taken<A: Allocator = Global> {
     Got(Bundle<A>),
     /// An end: the pass takes no more.
     Finish,
-    /// Nothing, and the pass is as it was.
+    /// Nothing was taken; the pass is as it was.
     Empty,
 }
 
@@ -137,8 +137,8 @@ impl<P: Plan, A: Allocator> Work<P, A> {
         WorkerPass { pass }
     }
 
-    /// Feeds the plan's next piece. It comes back only if the queue was full at one moment of the call, and nothing
-    /// has changed then.
+    /// Feeds the plan's next piece. It comes back only if the queue was full at one moment of the call, and the pass is
+    /// then as it was.
     pub fn feed<R: Wait>(
         &self,
         rt: &R,
@@ -169,7 +169,7 @@ impl<P: Plan, A: Allocator> Work<P, A> {
     }
 
     /// Feeds the plan's next pieces as a bundle, which a worker takes whole. It comes back only if the queue was full at
-    /// one moment of the call, and nothing has changed then.
+    /// one moment of the call, and the pass is then as it was.
     pub fn feed_bundle<R: Wait>(
         &self,
         rt: &R,
@@ -230,10 +230,9 @@ impl<P: Plan, A: Allocator> Work<P, A> {
         }
     }
 
-    /// Takes what stands at the front: a bundle, whose pieces are the plan's of their ids and go into the record of the
-    /// pass, or an end, after which the pass takes no more. Returns `Finish` only if at one moment of the call each piece that had
-    /// been fed was taken, and ends alone stood in the queue; the record then has how many were fed. `Empty` leaves the
-    /// record as it was.
+    /// Takes a bundle, whose pieces are the plan's of their ids and go into the record of the pass, or an end, after which
+    /// the pass takes no more. Returns `Finish` only if at one moment of the call each piece that had been fed was taken,
+    /// and ends alone stood in the queue; the record then has how many were fed. `Empty` leaves the record as it was.
     pub fn take<R: Wait>(&self, rt: &R, pass: &mut WorkerPass<A>) -> Taken<A>
         requires queue { pass.old.queue ≡ self.now.queue }
         requires unfinished { pass.old.record_of.finished ≡ false }

@@ -45,9 +45,11 @@ returns-clause-adds g c k hs st continued =
     subst (λ m. Reports j.origin c.push_reserved.new.self.items c.report_known.new.events.items (settings_in_doubt x m)) (told s.doubts.hidden doubt (size_in_force i k x) q hs a _ k carried category)
     (c.report_known.ensures (not doubt && not a) hs q (carries (is_pad_call k) q.qualified _ carried) (c.in_ok-completed.ensures.completed hs q (record { holds = continued.holds; qualified = refl; octets = sym c.user_data.ensures; alike = continued.alike }))) in
     record {
-      category = category;
-      begun = c.in_ok-completed.ensures.continued hs q (record { holds = continued.holds; qualified = refl; octets = sym c.user_data.ensures; alike = continued.alike });
-      apart = c.put.ensures.apart;
-      doubts = c.put.ensures.doubts;
+      put = record {
+        category = category;
+        begun = c.in_ok-completed.ensures.continued hs q (record { holds = continued.holds; qualified = refl; octets = sym c.user_data.ensures; alike = continued.alike });
+        apart = c.put.ensures.apart;
+        doubts = c.put.ensures.doubts;
+      };
       reports = reporting.more j.origin es c.push_reserved.new.self.items c.report_known.new.events.items (Data x q.length ∷ []) (settings_in_doubt x (message_in_doubt s.doubts.hidden doubt (size_in_force i k x) q hs k)) first second;
     }

@@ -1,4 +1,4 @@
-use Rattle.std.proofs.Common.{◌≡◌, ◌∙◌, ap, subst, Some, None}
+use Rattle.std.proofs.Common.{◌≡◌, ◌∙◌, ap, subst, map, ◌++◌, Some, None}
 use Rattle.std.specs.Prelude.{IfOk}
 use Rattle.line_model.specs.declared.table.Action.TheVariants.{Normal}
 use Rattle.line_model.specs.basics.Records.{Item}
@@ -7,9 +7,10 @@ use Rattle.line_model.specs.packets.Formats.{packet_fault}
 use Rattle.line_model.specs.channels.ChannelStep.{verdict}
 use Rattle.line_model.specs.channels.GapStep.{failing_in_doubt, settled_verdict}
 use Rattle.channel_machine.specs.Entries.{is_transfer}
+use Rattle.channel_machine.specs.Events.{data_of, event_at}
 use Rattle.channel_machine.specs.GapChannels.{at_rest}
 use Rattle.channel_machine.specs.SettledSteps.{SettledDoes}
-use Rattle.channel_machine.proofs.SettledRows.{no_call, transfer_fault}
+use Rattle.channel_machine.proofs.SettledRows.{no_call, settled_listed, transfer_fault}
 use Rattle.channel_machine.proofs.channel.StatusChannel.transfer_settled.Goals as goal
 
 pub returns-in-Some-clause-does : goal.returns-in-Some-clause-does
@@ -21,10 +22,11 @@ returns-in-Some-clause-does g c k st =
     let fault : Some c.in-Some.code ≡ packet_fault p.terms.interface p.channel k r =
     transfer_fault p.terms.interface p.channel k r j.side c.class.result c.item.inside.length _ c.requires.side class (ap (λ (u : Item). u.length) c.item.view_is) c.requires.transfer
     (c.in-Some.ensures.fault (at_rest k) r.octets st.rest (no_call c.class.result (ap (λ v. is_transfer v) class ∙ c.requires.transfer))) in
-    subst (λ f. IfOk c.fail_settled.result (λ _. SettledDoes j.origin p c.fail_settled.new.self c.fail_settled.new.settled c.args.events.now.items c.fail_settled.new.events.items
+    settled_listed c.fail_settled.result c.listed.result j.origin r.side p c.fail_settled.new.self c.fail_settled.new.settled c.args.events.now.items c.fail_settled.new.events.items _ c.listed.ensures
+    (subst (λ f. IfOk c.fail_settled.result (λ _. SettledDoes j.origin p c.fail_settled.new.self c.fail_settled.new.settled c.args.events.now.items c.fail_settled.new.events.items
     (settled_verdict p.terms.interface j.state r (verdict (record { state = j.state; entry = Normal }) f) c.args.settled.now.doubts k))) fault
     (subst (λ x. IfOk c.fail_settled.result (λ _. SettledDoes j.origin p c.fail_settled.new.self c.fail_settled.new.settled c.args.events.now.items c.fail_settled.new.events.items
-    (failing_in_doubt x j.state c.in-Some.code c.args.settled.now.doubts k))) c.requires.side (c.fail_settled.ensures.does k st))
+    (failing_in_doubt x j.state c.in-Some.code c.args.settled.now.doubts k))) c.requires.side (c.fail_settled.ensures.does k st)))
 
 pub returns-in-None-clause-does : goal.returns-in-None-clause-does
 returns-in-None-clause-does g c k st =
@@ -35,6 +37,6 @@ returns-in-None-clause-does g c k st =
     let fault : None ≡ packet_fault p.terms.interface p.channel k r =
     transfer_fault p.terms.interface p.channel k r j.side c.class.result c.item.inside.length _ c.requires.side class (ap (λ (u : Item). u.length) c.item.view_is) c.requires.transfer
     (c.in-None.ensures.fault (at_rest k) r.octets st.rest (no_call c.class.result (ap (λ v. is_transfer v) class ∙ c.requires.transfer))) in
-    subst (λ f. IfOk c.carry_settled.result (λ _. SettledDoes j.origin p c.carry_settled.new.self c.carry_settled.new.settled c.args.events.now.items c.carry_settled.new.events.items
+    subst (λ f. IfOk c.carry_settled.result (λ a. SettledDoes j.origin p c.carry_settled.new.self c.carry_settled.new.settled c.args.events.now.items (c.carry_settled.new.events.items ++ map (event_at j.origin) (data_of r.side a))
     (settled_verdict p.terms.interface j.state r (verdict (record { state = j.state; entry = Normal }) f) c.args.settled.now.doubts k))) fault
     (c.carry_settled.ensures.does k st)

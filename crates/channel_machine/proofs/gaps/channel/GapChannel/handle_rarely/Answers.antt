@@ -6,7 +6,7 @@ use Rattle.channel_machine.specs.Certainties.{certainty_kept}
 use Rattle.channel_machine.specs.Events.{origin_at}
 use Rattle.channel_machine.specs.GapChannels.{GapKnown, number_of}
 use Rattle.channel_machine.specs.GapView.KnownCertainty.{Adrift, Settled}
-use Rattle.channel_machine.proofs.GapRows.{adrift_row, certain_row, no_gap, row_listed}
+use Rattle.channel_machine.proofs.GapRows.{adrift_row, certain_row, no_gap, row_apart, row_listed}
 use Rattle.channel_machine.proofs.gaps.channel.GapChannel.handle_rarely.Goals as goal
 
 pub returns-in-Certain-clause-does : goal.returns-in-Certain-clause-does
@@ -33,5 +33,5 @@ returns-in-Settled-clause-does g c k rep =
     no_gap (gap_of c.args.item.now.packet) (sym c.in_default.is ∙ c.gap_in.ensures ∙ ap (λ (r : Item). option_map (λ c. is_none c) (gap_of r.packet)) c.item.view_is) in
     let is : p.certainty ≡ Settled c.in-Settled.field-0.value = ap (λ (v : GapKnown). v.certainty) (sym c.self.view_is) ∙ ap (λ t. certainty_kept t) c.in-Settled.is in
     let origin : c.origin.result ≡ origin_at c.args.epoch (number_of p) c.args.item.now = c.origin.ensures ∙ ap (λ (v : GapKnown). origin_at c.args.epoch (number_of v) c.args.item.now) c.self.view_is in
-    row_listed c.step_settled.result c.listed-in-Settled.result c.origin.result (origin_at c.args.epoch (number_of p) c.args.item.now) c.args.item.now.side p c.step_settled.new.self c.args.events.now.items c.step_settled.new.events.items c.args.item.now k none origin c.listed-in-Settled.ensures
+    row_apart c.step_settled.result c.origin.result (origin_at c.args.epoch (number_of p) c.args.item.now) c.args.item.now.side p c.step_settled.new.self c.args.events.now.items c.step_settled.new.events.items c.args.item.now k none origin
     (c.step_settled.ensures.does c.in-Settled.field-0.value k is rep)
