@@ -53,6 +53,33 @@ def lost_inside_of_packets():
     """))
 
 
+def gaps_that_share_a_row():
+    """A data packet and the RR for it were not recorded: there is no packet between the two gaps. Later P(S) is wrong."""
+    talk, frames = begun()
+    frames.append(talk.a(data(0)))
+    talk.a(data(1))
+    talk.b(ready(2))
+    frames += [talk.a(data(2)), talk.b(ready(3)), talk.a(data(5)), talk.b("10011B0501"), talk.a("10011F")]
+    yield gap("gaps-that-share-a-row", frames + talk.close(), text("""
+        4 T 10010B0000
+        5 N 10010F
+        6 T 100100A0
+        7 ? 1
+        8 T 100104A0
+        9 N 100161
+        10 T 10010AA0
+        11 N 10011B0501
+        12 T 10011F
+    """), text("""
+        F 10 T d1 1
+        C 1 1 1 out - - 4 5 - open 2 2 0 0 2
+        A - 1 2
+        P 1 5
+        G 1
+        Z 8 1 1 2 2
+    """))
+
+
 def places_that_look_like_headers():
     """After the gap segments begin with headers of another version, modulus, channel, length, or with one alone."""
     talk, frames = begun()
@@ -204,6 +231,7 @@ def cases():
     yield from dropped_frames()
     yield from dropped_in_snoop()
     yield from lost_inside_of_packets()
+    yield from gaps_that_share_a_row()
     yield from places_that_look_like_headers()
     yield from gap_that_is_given_up()
     yield from gap_of_an_acknowledgement()

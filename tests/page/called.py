@@ -107,10 +107,16 @@ class Called(unittest.TestCase):
         self.assertNotIn(b"may be wrong", self.run_page(TRACE).stderr)
 
     def test_damaged_capture(self):
-        done = self.run_page(FILES / "tcp-gap-and-next-connection.pcap")
+        """Two gaps of the capture share a gap row: the messages, the page and the summary count that row."""
+        capture = FILES / "gaps-that-share-a-row.pcap"
+        done = self.run_page("--win", "7", capture)
         self.assertEqual(done.returncode, 1, done.stderr)
-        messages = Page(self.folder / "tcp-gap-and-next-connection.html").facts["messages"]
-        self.assertIn("left out: gaps in TCP connections: 1", messages)
+        facts = Page(self.folder / "gaps-that-share-a-row.html").facts
+        self.assertEqual(facts["messages"][-2:], ["missing: octets of TCP connections: 15",
+                                                  "in the trace: gap rows, where packets may be missing: 1"])
+        sentence = "The DTE broke the protocol once, in what was recorded: 1 gap."
+        self.assertEqual(facts["verdict"][1], sentence)
+        self.assertIn(sentence.encode(), self.run_page("--win", "7", "--summary", capture).stdout)
 
     def test_standard_input(self):
         for name, octets in (("trace", TRACE.read_bytes()), ("capture", CAPTURE.read_bytes())):

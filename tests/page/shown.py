@@ -181,6 +181,27 @@ def folds(shown, folder, scanner):
     shown.is_so("document.querySelector('#detail h3').textContent.startsWith('Packet 20: RR')")
 
 
+def after_a_gap(shown, folder, scanner):
+    """The stretch of a ladder whose state is not known after a gap has a key: in light, in dark, at 400 pixels, in print."""
+    browser, page = shown.browser, folder / "gap.html"
+    run("--scanner", scanner, "-o", page, ROOT / "examples" / "packets-missing.trace")
+    browser.open(page, "#call-1")
+    key = "document.querySelector('#ladder .key.life-unknown')"
+    colour, stretch = (f"getComputedStyle({it})" for it in (f"{key}, '::before'", "document.querySelector('.life.unknown')"))
+    for name in ("dark", "light"):
+        browser.value(f"document.querySelector('#theme [data-name={name}]').click()")
+        shown.is_so(f"{colour}.backgroundColor === {stretch}.fill")
+    for media, width in (("screen", printed.NARROW), ("print", browser.width)):
+        browser.resize(width, browser.height)
+        browser.ask("Emulation.setEmulatedMedia", media=media)
+        shown.is_so(f"{key}.textContent", "state not known, as after a gap")
+        shown.is_so(f"{key}.getBoundingClientRect().right <= {width} && {key}.offsetHeight > 0")
+        shown.is_so(f"{colour}.width", "16px")
+    shown.is_so(f"{colour}.printColorAdjust", "exact")
+    browser.ask("Emulation.setEmulatedMedia", media="")
+    browser.open(page, "#call-1/1")
+
+
 def doubtful(shown, folder, scanner):
     """A header that does not fit is doubted, with a command that tries all others, and one for a number of it."""
     page = folder / "guessed.html"
@@ -212,6 +233,8 @@ def outcomes(scanner, folder):
         yield "hostile text in the browser", shown.faults()
         folds(shown, pathlib.Path(folder), scanner)
         yield "long runs are folded", shown.faults()
+        after_a_gap(shown, pathlib.Path(folder), scanner)
+        yield "the key of a gap in a ladder", shown.faults()
         doubtful(shown, pathlib.Path(folder), scanner)
         yield "a header that may be wrong", shown.faults()
         yield from reached.outcomes(shown, scanner, folder)

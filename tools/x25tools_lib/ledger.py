@@ -9,7 +9,7 @@ from .notes import Half
 
 
 class Reason(enum.Enum):
-    """Why something of a capture is not in its trace: the words of its count, and whether packets may be missing."""
+    """What is counted of a capture: the words of its count, whether that is a damage, and where it is."""
 
     OTHER_BLOCK = ("blocks of the file that hold no frame", False)
     OTHER_INTERFACE = ("frames of interfaces that --interface does not name", False)
@@ -26,15 +26,14 @@ class Reason(enum.Enum):
     PVC_SETUP = ("XOT set-ups of permanent circuits", False)
 
     BAD_FILE = ("damages of the file", True)
-    DROPPED = ("frames that were dropped, as the capture says", True)
+    DROPPED = ("frames that were dropped, as the capture says", True, "missing")
     BAD_LINE = ("lines of the hex dump that cannot be read", True)
     UNKNOWN_LINK = ("frames of an unknown link type", True)
     BAD_HEADER = ("frames whose headers are cut or contradict themselves", True)
     CUT_PACKET = ("packets that were cut off", True)
     NO_SIDE = ("packets of unknown side, which --sender may name", True)
     FRAGMENT = ("IP fragments without the rest of their datagram", True)
-    GAP = ("gaps in TCP connections", True)
-    LOST_OCTETS = ("octets in these gaps", True)
+    LOST_OCTETS = ("octets of TCP connections", True, "missing")
     PASSED_OCTETS = ("octets that were passed over, up to a segment that begins with an XOT header", True)
     UNSYNCHRONISED = ("TCP segments that were passed over for that", True)
     AFTER_BREAK = ("TCP segments after a break or the end of their connection", True)
@@ -43,18 +42,19 @@ class Reason(enum.Enum):
     LINE_PACKET = ("XOT packets that speak of a whole interface", True)
     BAD_FCS = ("frames whose frame check sequence is wrong", True)
     OTHER_ADDRESS = ("LAPB frames with another address than 01 and 03", True)
-    LOST_FRAME = ("LAPB I frames that were not recorded", True)
+    LOST_FRAME = ("LAPB I frames that were not recorded", True, "missing")
     LONG_PACKET = ("packets of more than 4,200 octets", True)
     LARGE_TEXT = ("traces of more bytes than x25scan reads", True)
     SECOND_CARRIER = ("packets of another carrier than the first one, which --only may name", True)
     LATE_ROW = ("packets for which no row number was left", True)
     NO_CHANNEL = ("packets of circuits for which no channel was left", True)
 
+    GAP_ROW = ("gap rows, where packets may be missing", False, "in the trace")
+
     __hash__ = object.__hash__
 
-    def __init__(self, words: str, damage: bool) -> None:
-        self.words = words
-        self.damage = damage
+    def __init__(self, words: str, damage: bool, place: str = "left out") -> None:
+        self.words, self.damage, self.place = words, damage, place
 
 
 class Topic(enum.Enum):
@@ -79,7 +79,7 @@ def ignore(words: str) -> None:
 
 
 class Ledger:
-    """Counts what is left out and says what is wrong: the trace keeps all of it, standard error the first few."""
+    """Counts what is left out or missing and says what is wrong: the trace keeps all of it, standard error the first few."""
 
     # Messages of one topic on standard error: a capture that is read as the wrong kind has one for each frame.
     MOST_SAID = 5
@@ -128,4 +128,4 @@ class Ledger:
 
     def lines(self) -> list[str]:
         """The counts, a line each, in the order of the reasons."""
-        return [f"left out: {reason.words}: {self.counts[reason]}" for reason in Reason if self.counts[reason]]
+        return [f"{reason.place}: {reason.words}: {self.counts[reason]}" for reason in Reason if self.counts[reason]]

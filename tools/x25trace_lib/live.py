@@ -118,7 +118,7 @@ class Live:
                 return
         elif channel is not None and channel > self.header.outgoing:
             channel = None
-        self.put_row(missing.frame, gap_words(channel), missing.time)
+        self.ledger.counts[Reason.GAP_ROW] += self.put_row(missing.frame, gap_words(channel), missing.time)
 
     def put_row(self, frame: int, words: str, time: int | None) -> bool:
         """Writes a row; whether a number was left for it."""

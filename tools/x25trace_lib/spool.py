@@ -105,6 +105,7 @@ class Spool:
             if which != "0":
                 channel = channels[which]
                 if channel is None:
+                    self.gaps -= words[0] == GAP
                     continue
                 words = on_channel(words, channel)
             elif words[0] == GAP:

@@ -151,6 +151,7 @@ class Trace:
         yield from map(comment, head.comments)
         yield head.header + "\n"
         yield from rows
+        self.ledger.counts[Reason.GAP_ROW] = self.spool.gaps
         yield from map(comment, self.ledger.lines())
 
     def write(self, name: str, out: IO[str]) -> Head:

@@ -267,13 +267,12 @@ class Xot:
         circuit.has_gaps = True
         circuit.lacks[gap.index] |= gap.octets > 0
         circuit.miss(gap.frame, gap.time)
-        self.ledger.left_out(Reason.LOST_OCTETS, gap.octets)
+        # An unknown number of octets, 0 here, is a damage too.
+        self.ledger.counts[Reason.LOST_OCTETS] += gap.octets
         self.ledger.left_out(Reason.PASSED_OCTETS, len(rest))
         if gap.how:
             words = f"frame {gap.frame}: connection {circuit.number}: {gap.octets} octets"
-            self.ledger.damaged(Reason.GAP, f"{words} of {circuit.sides[gap.index].name} {gap.how}")
-        else:
-            self.ledger.left_out(Reason.GAP)
+            self.ledger.report(Reason.LOST_OCTETS, f"{words} of {circuit.sides[gap.index].name} {gap.how}")
 
     def finish(self, connection: Connection, circuit: Circuit, frame: int) -> Iterator[Item]:
         """Tells how a connection ended, after the packets that waited."""

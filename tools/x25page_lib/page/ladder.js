@@ -99,7 +99,7 @@ function drawings(parts, at) {
 
 function phases() {
   const names = { "set-up": "set-up", transfer: "data transfer", reset: "reset", clear: "clearing", restart: "restart",
-    ready: "ready" };
+    ready: "ready", unknown: "state not known, as after a gap" };
   const there = new Set(shown.items.flatMap((item) => (item.row ? [phase(item.row.before), phase(item.row.after)]
     : [])));
   return make("p", { class: "legend" },
