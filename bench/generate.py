@@ -3,7 +3,7 @@
 
 Each channel makes a call, sends data with random octets in both directions inside
 its windows, is acknowledged by RR packets, and now and then is cleared and called
-again. With --restart-every the DTE restarts the interface after so many rows.
+again. With --restart-every the DTE restarts the interface after that number of rows.
 With --kind calls each call is cleared as soon as it is up, so four rows are a call;
 with --kind findings the DCE sends data outside the window once the calls are up, so
 each row is a finding; with --kind gaps the rows of the busy interface have gap rows

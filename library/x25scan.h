@@ -39,12 +39,12 @@ enum x25scan_error {
     X25SCAN_ENDED = 4,    /* The trace has ended. */
     X25SCAN_NONE_LEFT = 5, /* No finding is left, or no line was refused. */
     X25SCAN_SHORT = 6,    /* The buffer is too short: `needed` says how long it has to be. */
-    X25SCAN_ARGUMENT = 7, /* A side, a form or a length is none that the call takes. */
+    X25SCAN_ARGUMENT = 7, /* The call does not accept this side, form or length. */
     X25SCAN_NOT_OPEN = 8, /* The scan was not opened. */
     X25SCAN_NULL = 9,     /* A pointer is null. */
     X25SCAN_OPEN = 10,    /* The scan is open. */
     X25SCAN_ROWS = 11,    /* The scan gives rows, and no findings or other reports. */
-    X25SCAN_LINE = 12     /* A packet in the midst of a line of text. */
+    X25SCAN_LINE = 12     /* A packet in the middle of a line of text. */
 };
 
 /* What is asked for: at x25scan_open one of the last two, at a report that of the scan. */
@@ -96,7 +96,7 @@ static inline int x25scan_open(x25scan *scan, unsigned form) {
 }
 
 /* Reads the next bytes of the text. Errors: TRACE at a line that is faulty however the text goes on, MEMORY, ENDED. What
- * the lines before a faulty line found stays there to be taken. */
+ * the lines before a faulty line found can still be read. */
 static inline int x25scan_feed(x25scan *scan, const void *text, size_t length) {
     return scan && (text || !length) ? (int)x25scan_feed_text(scan, x25scan_bytes(text), length) : X25SCAN_NULL;
 }
@@ -121,7 +121,7 @@ static inline int x25scan_packet(x25scan *scan, uint32_t number, char side, cons
         ? (int)x25scan_feed_packet(scan, number, (unsigned char)side, x25scan_bytes(octets), length) : X25SCAN_NULL;
 }
 
-/* Takes the next finding. Errors: NONE_LEFT, ROWS. */
+/* Returns the next finding, and removes it. Errors: NONE_LEFT, ROWS. */
 static inline int x25scan_found(x25scan *scan, x25scan_finding *finding) {
     x25scan_finding none = {0, 0, 0, 0, 0};
     if (!scan || !finding) return X25SCAN_NULL;
@@ -144,7 +144,7 @@ static inline int x25scan_end(x25scan *scan, unsigned form) {
     return scan ? (int)x25scan_end_trace(scan, form) : X25SCAN_NULL;
 }
 
-/* Takes the next bytes of what was made: `length` of them, 0 at its end; `left` are left. */
+/* Copies the next bytes of what was made: `length` of them, 0 at its end; `left` are left. */
 static inline int x25scan_read(x25scan *scan, void *buffer, size_t room, size_t *length, size_t *left) {
     if (!scan || (!buffer && room) || !length || !left) return X25SCAN_NULL;
     *length = *left = 0;

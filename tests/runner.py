@@ -103,7 +103,7 @@ class RunCase:
         program, *first = command
         how = {"cwd": folder, "env": {**os.environ, **self.environment}}
         if self.modes and os.geteuid() == 0:
-            # Nobody may not reach the program where it was built.
+            # The user nobody may not read the folder where the program was built.
             folder.chmod(0o755)
             program = shutil.copy(program, folder / pathlib.Path(program).name)
             how["user"] = "nobody"

@@ -20,11 +20,11 @@ END = b"\0"
 
 
 def path_of_browser() -> str | None:
-    """Where Chromium is installed, or None."""
+    """Returns the path of the installed Chromium, or None."""
     return next(filter(None, map(shutil.which, NAMES)), None)
 
 
-# The codes of keys that are no letters.
+# The codes of keys other than letters.
 KEYS = {"Tab": 9, "Enter": 13, "Escape": 27, "End": 35, "Home": 36, "ArrowLeft": 37, "ArrowUp": 38, "ArrowRight": 39,
         "ArrowDown": 40}
 TEXTS = {"Enter": "\r"}
@@ -33,7 +33,7 @@ INCH = 25.4
 
 
 class Browser:
-    """One window of a browser. Faults are what its scripts and its policy complained of, and what it asked a network."""
+    """One window of a browser. `faults` has the errors of scripts, the violations of the policy, and the network requests."""
 
     def __init__(self, width: int = 1280, height: int = 900) -> None:
         self.width, self.height = width, height
@@ -80,7 +80,7 @@ class Browser:
                 return reply["result"]
 
     def next_message(self) -> dict[str, Any]:
-        """The next message, whose complaints are kept."""
+        """Returns the next message; the faults in it are kept."""
         while END not in self.ahead:
             if not select.select([self.into], [], [], SECONDS)[0]:
                 raise TimeoutError("the browser says nothing")
@@ -103,7 +103,7 @@ class Browser:
         self.ask("Emulation.setDeviceMetricsOverride", width=width, height=height, deviceScaleFactor=1, mobile=False)
 
     def colours(self, name: str) -> None:
-        """Has the page believe that the system is light or dark."""
+        """Emulates the light or the dark colour scheme."""
         self.ask("Emulation.setEmulatedMedia", features=[{"name": "prefers-color-scheme", "value": name}])
 
     def open(self, path: str | pathlib.Path, part: str = "") -> float:
@@ -125,7 +125,7 @@ class Browser:
         return reply["result"].get("value")
 
     def click(self, selector: str, part: float = 0) -> None:
-        """Clicks on the middle of an element, or on that of the part of it that an expression gives."""
+        """Clicks on the middle of an element, or of the part of it that an expression returns."""
         place = f"document.querySelector({json.dumps(selector)})"
         self.value(f"{place}.scrollIntoView({{block: 'center'}})")
         box = self.value(f"(({place}).getBoundingClientRect().toJSON())")
@@ -137,7 +137,7 @@ class Browser:
             self.ask("Input.dispatchMouseEvent", type=kind, x=x, y=y, button="left", clickCount=1)
 
     def key(self, name: str, many: int = 1) -> None:
-        """Presses a key, as often as this."""
+        """Presses a key, once or several times."""
         text = TEXTS.get(name, "" if name in KEYS else name)
         key = {"key": name, "windowsVirtualKeyCode": KEYS.get(name, ord(name[0])), "text": text}
         for _ in range(many):

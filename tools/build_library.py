@@ -17,7 +17,7 @@ import sys
 import tempfile
 
 sys.dont_write_bytecode = True
-from build_program import CRATES, FRESH, OUT, ROOT, build_libraries, is_older, kit, lanes, libraries, library, rattle, run, say, sources  # noqa: E402
+from build_program import CRATES, FRESH, OUT, ROOT, build_libraries, is_older, kit, libraries, library, rattle, run, say, slots, sources  # noqa: E402
 
 NAME = "x25scan_c"
 FOLDER = OUT / "library"
@@ -27,17 +27,17 @@ EXPORTS = "x25scan_open_form x25scan_feed_text x25scan_feed_packet x25scan_take_
 
 
 def inputs() -> list[pathlib.Path]:
-    """What the library is made of."""
+    """The files that the library is built from."""
     return [ROOT / "crates.txt", *(it for name in [*libraries(NAME), NAME] for it in sources(name))]
 
 
 def left(name: str) -> pathlib.Path:
-    """The library that `rt ci` has left in its crate. It writes no stamp beside it, so `rt lib` would build it again."""
+    """The library that `rt ci` built in the crate. `rt ci` writes no stamp, so `rt lib` would build the library again."""
     return CRATES / name / "out" / "rlib" / f"{name}.rlib"
 
 
 def is_left(name: str) -> bool:
-    """Whether `rt ci` has left a library of the sources. It may have taken files of an earlier run, so the folder's age counts."""
+    """Whether `rt ci` built a library of these sources. It may reuse files of an earlier run, so the age of the folder is compared."""
     return not is_older(left(name), sources(name)) and not left(name).with_name("stamp").exists()
 
 
@@ -50,7 +50,7 @@ def prove() -> tuple[bool, str]:
     kept = OUT / "inc" / NAME
     kept.mkdir(parents=True, exist_ok=True)
     how: list[object] = ["--crate-type", "staticlib", "--toolchain", kit() / "toolchain", "--backend", "llvm", "--incremental", kept, "-o", fresh]
-    is_proved, said = rattle(NAME, "src/lib.rt", min(lanes(), 4), *how, place=place)
+    is_proved, said = rattle(NAME, "src/lib.rt", min(slots(), 4), *how, place=place)
     return is_proved, str(fresh) if is_proved else said
 
 
@@ -61,7 +61,7 @@ def version() -> str:
 
 
 def archive(proved: str, folder: pathlib.Path) -> tuple[bool, str]:
-    """One archive of the crate and of the kit's C: a program links with nothing else."""
+    """Writes one archive of the crate and of the kit's C: a program needs no other."""
     script = f"CREATE {folder / 'libx25scan.a'}\n" + "".join(f"ADDLIB {it}\n" for it in (proved, *c_archives())) + "SAVE\nEND\n"
     done = subprocess.run([str(kit() / "toolchain" / "bin" / "llvm-ar"), "-M"], input=script, text=True, capture_output=True, check=False)
     return done.returncode == 0, done.stderr
@@ -73,7 +73,7 @@ def c_archives() -> list[pathlib.Path]:
 
 
 def linker() -> str | None:
-    """What links C."""
+    """The command that links C."""
     return shutil.which("cc") or shutil.which("gcc") or shutil.which("clang")
 
 

@@ -26,9 +26,9 @@ PROGRAM = CRATES / "x25scan" / "out" / "x25scan"
 OUT = ROOT / "out"
 LIBRARIES, FRESH = OUT / "libraries", OUT / "fresh"
 PARTS = ("src", "specs", "proofs")
-# What the proof of one crate takes at the most, in bytes, and what a further processor for it takes.
+# The most memory that the proof of one crate needs, in bytes, and what each further processor for it needs.
 MEMORY, MORE_MEMORY = 3_000_000_000, 1_500_000_000
-# As many processors as one crate gains from.
+# One crate gains nothing from more processors than these.
 MOST_JOBS = 4
 
 
@@ -71,7 +71,7 @@ def sources(name: str) -> list[pathlib.Path]:
 
 
 def chains(below: Mapping[str, set[str]]) -> dict[str, int]:
-    """The lines of each library and of the longest chain of libraries above it."""
+    """For each library the lines of it and of the longest chain of libraries above it."""
     length = {name: sum(it.read_bytes().count(b"\n") for it in sources(name)) for name in below}
     found: dict[str, int] = {}
     for name in reversed(list(below)):
@@ -80,7 +80,7 @@ def chains(below: Mapping[str, set[str]]) -> dict[str, int]:
 
 
 def library(name: str) -> pathlib.Path:
-    """A library that was built here."""
+    """The path of a library that was built here."""
     return LIBRARIES / f"{name}.rlib"
 
 
@@ -103,7 +103,7 @@ def is_stale() -> bool:
 
 
 def stale_libraries(below: Mapping[str, set[str]]) -> set[str]:
-    """Those libraries that are not built, or older than a source of theirs or than a library that they stand on."""
+    """Those libraries that are not built, or older than a source of theirs or than a library that they build on."""
     found: set[str] = set()
     for name, lower in below.items():
         if lower & found or is_older(form(name), [*sources(name), *map(form, lower)]):
@@ -111,22 +111,22 @@ def stale_libraries(below: Mapping[str, set[str]]) -> set[str]:
     return found
 
 
-def lanes() -> int:
-    """How many processors prove side by side."""
+def slots() -> int:
+    """How many processors may prove at once."""
     free = re.search(r"MemAvailable:\s+(\d+)", pathlib.Path("/proc/meminfo").read_text())
     room = 1024 * int(free[1]) // MEMORY if free else 1
     return max(1, min(len(os.sched_getaffinity(0)), room))
 
 
 def run(folder: pathlib.Path, *words: object) -> tuple[bool, str]:
-    """Runs a program of the kit in a folder, and returns whether it succeeded and what it said."""
+    """Runs a program of the kit in a folder. Returns whether it succeeded, and its output."""
     quiet, pipe, both = subprocess.DEVNULL, subprocess.PIPE, subprocess.STDOUT
     ended = subprocess.run([str(it) for it in words], cwd=folder, check=False, stdin=quiet, stdout=pipe, stderr=both, text=True)
     return ended.returncode == 0, ended.stdout
 
 
 def rattle(name: str, root: str, jobs: int, *how: object, place: Callable[[str], pathlib.Path] = library) -> tuple[bool, str]:
-    """Has the kit's prover prove a crate over the libraries below it, which are built and lie in their places, and build it."""
+    """Proves and builds a crate with the kit's prover; the libraries below it are built and in their places."""
     used = uses()
     words = [kit() / "bin" / "rattle", "build", "--crate-name", name, root]
     for it in ["std", *used[name]]:
@@ -150,7 +150,7 @@ def prove(name: str, jobs: int) -> tuple[bool, str]:
 
 
 def prove_program(jobs: int, began: float) -> tuple[bool, str]:
-    """Proves the program over its libraries, has LLVM compile it, and links it. Its age is that of the build."""
+    """Proves the program over its libraries, compiles it with LLVM and links it; its time stamp is that of the build's beginning."""
     tools, code = kit() / "toolchain", FRESH / "x25scan.o"
     is_proved, said = rattle("x25scan", "src/main.rt", jobs, "--toolchain", tools, "--backend", "llvm", "-o", code)
     if not is_proved:
@@ -166,10 +166,10 @@ def prove_program(jobs: int, began: float) -> tuple[bool, str]:
 
 
 class Build:
-    """A build in its course: which libraries are left, which are being proved by how many processors, which are proved."""
+    """A build: the libraries that are left, those being proved, with their processors, and those that are proved."""
 
     def __init__(self, *above: str) -> None:
-        self.began, self.below, self.lanes = time.monotonic(), libraries(*above), lanes()
+        self.began, self.below, self.slots = time.monotonic(), libraries(*above), slots()
         chain, stale = chains(self.below), stale_libraries(self.below)
         self.left, self.proved = sorted(stale, key=lambda it: -chain[it]), set(self.below) - stale
         self.running: dict[str, int] = {}
@@ -181,13 +181,13 @@ class Build:
         return f"{time.monotonic() - self.began:.0f} s"
 
     def ready(self) -> list[str]:
-        """The libraries that could be begun, those first that the longest chains wait for."""
+        """The libraries whose proof can begin, those with the longest chains above them first."""
         return [it for it in self.left if self.below[it] <= self.proved]
 
     def jobs(self, ready: list[str]) -> int:
         """How many processors the first library that is ready gets: its share of the idle ones, where memory is free for them."""
-        idle = self.lanes - sum(self.running.values())
-        free = self.lanes * MEMORY - sum(MEMORY + (it - 1) * MORE_MEMORY for it in self.running.values())
+        idle = self.slots - sum(self.running.values())
+        free = self.slots * MEMORY - sum(MEMORY + (it - 1) * MORE_MEMORY for it in self.running.values())
         return min(MOST_JOBS, max(idle // len(ready), 1), 1 + max(free - MEMORY, 0) // MORE_MEMORY) if idle else 0
 
     def work(self, name: str, jobs: int) -> None:
@@ -203,7 +203,7 @@ class Build:
             self.turn.notify()
 
     def begin(self) -> None:
-        """Begins what can be begun."""
+        """Begins the proofs that can begin."""
         while not self.failed and (ready := self.ready()) and (jobs := self.jobs(ready)):
             name = ready[0]
             self.left.remove(name)
@@ -211,7 +211,7 @@ class Build:
             threading.Thread(target=self.work, args=(name, jobs)).start()
 
     def prove_libraries(self) -> dict[str, str]:
-        """Proves all libraries, and returns what was said of those that failed, by their names."""
+        """Proves all libraries, and returns the output of those that failed, by name."""
         with self.turn:
             self.begin()
             while self.running:
@@ -221,13 +221,13 @@ class Build:
 
 
 def report(failed: Mapping[str, str], what: str) -> None:
-    """Prints what was said of those that failed, by their names, and what came of it."""
+    """Prints the output of the libraries that failed, and the result."""
     sys.stderr.writelines(line + "\n" for said in failed.values() for line in said.split("\n")[-60:])
     say(f"{what}, since this was not proved or not built: {', '.join(failed)}")
 
 
 def build_libraries(*above: str) -> bool:
-    """Proves and builds the libraries that crates use where they do not stand, and returns whether they do; waits for another build."""
+    """Proves and builds the missing libraries of crates, and returns whether all are there; waits for another build."""
     kit()
     for folder in (LIBRARIES, FRESH):
         folder.mkdir(parents=True, exist_ok=True)
@@ -240,16 +240,16 @@ def build_libraries(*above: str) -> bool:
 
 
 def build() -> bool:
-    """Builds the program, and returns whether it stands."""
+    """Builds the program, and returns whether it is built."""
     kit()
-    say("proving and building the program, which takes a quarter of an hour the first time; bin/x25try prints a report in a minute")
+    say("proving and building the program, which takes half an hour or more the first time; bin/x25try prints a report in a minute or two")
     began = time.time()
     for folder in (LIBRARIES, FRESH, PROGRAM.parent):
         folder.mkdir(parents=True, exist_ok=True)
     going = Build("x25scan")
     failed = going.prove_libraries()
     if not failed:
-        is_built, said = prove_program(going.lanes, began)
+        is_built, said = prove_program(going.slots, began)
         failed = {} if is_built else {"x25scan": said}
     if failed:
         report(failed, "the program was not built")
@@ -259,7 +259,7 @@ def build() -> bool:
 
 
 def main() -> int:
-    """Builds the program unless it stands; a run waits for another that builds it."""
+    """Builds the program unless it is built; a run waits for another that builds it."""
     if not is_stale():
         return 0
     OUT.mkdir(parents=True, exist_ok=True)

@@ -10,16 +10,16 @@ from typing import Optional
 
 @dataclass
 class Proof:
-    """Where a code is given, and what guards it."""
+    """Where a code is returned, and what is proved and tried of it."""
 
     # The heading of docs/RULES.md.
     rule: str
     # The file of the function, and its name.
     source: str
     function: str
-    # The edit of the function, or of what it stands on, that the prover has to refuse.
+    # The edit of the function, or of what it builds on, that the prover has to refuse.
     edit: str
-    # None where the prover finds the proof of the contract without help.
+    # None where the prover needs no written proof of the contract.
     proof: Optional[str] = None
     # The file and the name of the comparison that the function calls, where that is a function of its own.
     comparison: Optional[tuple[str, str]] = None
@@ -61,7 +61,7 @@ def length(comparison: str, edit: str) -> Proof:
 
 
 def packet_class(edit: str) -> Proof:
-    """A code that a packet's class has by itself."""
+    """A code that a packet's class gives."""
     return Proof("Packets", "crates/packet_decode/src/decode.rt", "decode", f"crates/packet_decode/{edit}.edit", "crates/packet_decode/proofs/decode/decode/Answers.antt")
 
 

@@ -108,7 +108,7 @@ def anchor(heading: str) -> str:
 
 
 def proof_line(row: Row) -> str:
-    """The line that leads from a code to its proof."""
+    """The row of the table that leads from a code to its proof."""
     proof = PROOFS[row["word"]]
     source = f"[`{proof.function}`](../{proof.source})"
     if proof.comparison:
@@ -135,7 +135,7 @@ def document() -> str:
 
 
 def printed(trace: pathlib.Path) -> list[str]:
-    """The lines that the program prints of a trace, its exit status among them."""
+    """The lines that the program prints for a trace, with its exit status."""
     status = trace.with_suffix(".status")
     said = f"x25scan < t; echo $? prints {status.read_text().strip() if status.exists() else 0}\n"
     endings = (".report", ".errors")

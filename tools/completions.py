@@ -48,7 +48,7 @@ def bash(program: str, options: Sequence[Option]) -> str:
 
 
 def zsh_text(text: str) -> str:
-    """A text as a specification of _arguments has it within single quotes."""
+    """A text, escaped for a specification of _arguments within single quotes."""
     for letter in "\\[]:":
         text = text.replace(letter, "\\" + letter)
     return text.replace("'", "'\\''")

@@ -21,7 +21,7 @@ ROOT = pathlib.Path(__file__).resolve().parent.parent
 PAUSE = 1.0
 TICKS = os.sysconf("SC_CLK_TCK")
 SUITES = tuple(sorted(it.parent.name for it in (ROOT / "tests").glob("*/compare")))
-# A seed is the check of a crate as it stands that its edits begin with.
+# A seed is the check of an unchanged crate, from which the checks of its edits start.
 PARTS = ("libraries", "tests", "seeds", "edits", "programs", *SUITES)
 DEAREST = 10
 
@@ -52,7 +52,7 @@ class Process:
 
 @dataclass
 class Run:
-    """One check or one run of a program: the part of the gate, what it is of, and what it cost."""
+    """One check or one run of a program: the part of the gate, the crate or edit, and the cost."""
 
     part: str
     label: str
@@ -62,7 +62,7 @@ class Run:
 
 
 def processes() -> dict[int, Process]:
-    """All processes by their number; one that ends while it is read is left out."""
+    """All processes by number, without those that end while they are read."""
     found = {}
     for folder in pathlib.Path("/proc").iterdir():
         if folder.name.isdigit():
@@ -102,7 +102,7 @@ def edited(edit: pathlib.Path, folder: pathlib.Path) -> dict[str, str]:
 
 
 def edit_of(crate: str, room: str) -> str | None:
-    """The name of the must-fail edit whose texts stand in the copy of a crate that is being checked; None for the crate as it stands."""
+    """The name of the must-fail edit whose texts are in the copy of a crate that is being checked; None for the unchanged crate."""
     folder = ROOT / "crates" / crate
     for edit in sorted((folder / "must-fail").glob("*.edit")):
         if all((pathlib.Path(room) / file).read_text() == text for file, text in edited(edit, folder).items()):
@@ -111,7 +111,7 @@ def edit_of(crate: str, room: str) -> str | None:
 
 
 def kind_of(process: Process) -> tuple[str, str] | None:
-    """The part of the gate that a process is, and what it is of; None for others."""
+    """The part of the gate that a process belongs to, and the crate or edit that it is for; None for other processes."""
     words = process.words
     if process.name == "rattle" and "--crate-name" in words:
         crate = words[words.index("--crate-name") + 1]
@@ -159,7 +159,7 @@ def watch(file: str, ancestor: int) -> None:
 
 
 def united(runs: Iterable[Run]) -> float:
-    """The seconds in which at least one of the runs went on."""
+    """The seconds in which at least one of the runs was running."""
     total, last = 0.0, 0.0
     for run in sorted(runs, key=lambda it: it.begun):
         total += max(run.ended - max(run.begun, last), 0)

@@ -12,7 +12,7 @@ import sys
 
 TYPES = [0x0B, 0x0F, 0x13, 0x17, 0x1B, 0x1F, 0x23, 0x27, 0xFB, 0xFF, 0xF1, 0xF3, 0xF7]
 SIDES = "TN"
-# How many lines a text has, about.
+# The approximate number of lines of a text.
 COUNTS = [0, 1, 5, 40, 120, 300]
 # Rows, each with its side and its octets.
 Rows = list[tuple[str, bytes]]
@@ -23,7 +23,7 @@ def other(side: str) -> str:
 
 
 class Interface:
-    """The terms of an interface, and its header line."""
+    """The parameters of an interface, and its header line."""
 
     def __init__(self, source: random.Random) -> None:
         self.modulus = source.choice([8, 8, 8, 128])
@@ -57,7 +57,7 @@ class Interface:
         return 0x10 if self.modulus == 8 else 0x20
 
     def counted(self, kind: int | None, send: int, receive: int, more: int) -> bytes:
-        """The octets behind the channel of a packet with sequence numbers; `kind` is None for data."""
+        """The octets after the channel of a packet with sequence numbers; `kind` is None for data."""
         if self.modulus == 8:
             low = (send % 8) << 1 | more << 4 if kind is None else kind
             return bytes([(receive % 8) << 5 | low])
@@ -67,7 +67,7 @@ class Interface:
 
 
 class Channel:
-    """What a well-behaved user of a channel knows of it."""
+    """What a well-behaved user of a channel keeps of its state."""
 
     def __init__(self) -> None:
         self.forget()
@@ -190,12 +190,12 @@ class Writer:
     # ---- rows
 
     def answered(self, number: int, side: str, asks: bytes, answers: bytes) -> Rows:
-        """A packet and its answer, which now and then does not come."""
+        """A packet and its answer, which is left out now and then."""
         rows = [(side, self.start(number) + asks), (other(side), self.start(number) + answers)]
         return rows if self.chance(0.93) else rows[:1]
 
     def usual(self) -> Rows:
-        """What a side does next on some channel."""
+        """A packet that a side sends next on some channel."""
         number = self.source.randint(1, self.interface.channels)
         channel, side = self.channels[number], self.source.choice(SIDES)
         if self.chance(0.03):
@@ -251,7 +251,7 @@ class Writer:
         self.lines.append(f"{self.number} ? {channel}".encode())
 
     def more(self) -> None:
-        """More rows. Where gap rows are allowed, some of them come with a gap row or in its place."""
+        """Further rows; where gap rows are allowed, some come with a gap row, and some are replaced by one."""
         rows = self.strange() if self.chance(0.06) else self.usual()
         if self.interface.has_gaps and self.chance(self.gap_share):
             self.gap()
@@ -260,7 +260,7 @@ class Writer:
             self.row(side, octets)
 
     def broken(self) -> bytes:
-        """A line that is no row, or a header where none may stand."""
+        """A line that is not a row, or a header where none is allowed."""
         number = self.number + 1
         return self.source.choice([
             b"", b" ", b"\r", f"{number} T".encode(), f"{number} T 1".encode(), f"{number}  T 10".encode(),

@@ -31,14 +31,14 @@ DOCUMENTS = "/usr/share/doc/x25scan/"
 
 @dataclass(frozen=True)
 class Scan:
-    """What x25scan prints of itself: its help, and the lines of its version."""
+    """The help and the version that x25scan prints."""
 
     help: str
     version: list[str]
 
 
 def troff(text: str) -> str:
-    """A text as the macros of a manual page read it."""
+    """A text, escaped for the macros of a manual page."""
     text = text.replace("\\", "\\e").replace("-", "\\-")
     return "\n".join("\\&" + line if line[:1] in (".", "'") else line for line in text.split("\n"))
 
@@ -48,7 +48,7 @@ def capital(text: str) -> str:
 
 
 def head(option: Option) -> str:
-    """An option with its value, as a paragraph begins with it."""
+    """The tag of a paragraph: an option with its value."""
     if not option.names:
         return f"\\fI{option.value}\\fR"
     names = ", ".join(f"\\fB{troff(name)}\\fR" for name in option.names)
@@ -59,7 +59,7 @@ def head(option: Option) -> str:
 
 
 def synopsis(options: Iterable[Option]) -> str:
-    """The lines of a synopsis: the options except those that print a text, and what stands without a name."""
+    """The lines of a synopsis: all options except those that print a text, and the positional arguments."""
     shown = [it for it in options if len(it.names) < 2]
     ordered = sorted(shown, key=lambda it: not it.names)
     return "".join(head(it) + " ..." * it.is_repeated + "\n" if it.is_needed else f"[{head(it)}]\n" for it in ordered)
@@ -71,7 +71,7 @@ def entry(title: str, text: str) -> str:
 
 
 def entries(options: Iterable[Option]) -> str:
-    """All options, those of a group below its title."""
+    """The paragraphs of all options, those of a group below its title."""
     text, group = "", ""
     for it in options:
         if it.group != group:
@@ -117,7 +117,7 @@ def see_also(program: str, text: str) -> str:
 
 
 def python_page(words: argparse.ArgumentParser, scan: Scan, summary: str, more: str, documents: str) -> str:
-    """The page of a program whose words are those of a parser."""
+    """The page of a program whose command line a parser describes."""
     program = words.prog
     text = f'.\\" Written by tools/manual_page.py from the help of tools/{program}.\n'
     text += beginning(program, scan, summary, words.description or "")
@@ -148,7 +148,7 @@ def path_of(program: str) -> pathlib.Path:
 
 
 def complaints(scan: Scan) -> Iterator[tuple[str, list[str]]]:
-    """What is wrong, by what it is about."""
+    """What is wrong, by subject."""
     for program, page in PAGES.items():
         path = path_of(program)
         current = path.exists() and path.read_text() == page(scan)

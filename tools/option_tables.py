@@ -20,7 +20,7 @@ NAMES = ("x25scan", "x25trace", "x25page")
 OPTION = re.compile(r"^ +(?:(-\w), )?(--[\w-]+)(?: (\[?)<(\w+)>\]?)? {2,}(.+)$", re.MULTILINE)
 OPERAND = re.compile(r"^  \[(\w+)\] {2,}(.+)$", re.MULTILINE)
 FILES = ("FILE", "CAPTURE", "OUT", "PROGRAM")
-# What completes a value that may be another one too.
+# What completes a value of which other values are allowed too.
 SUGGESTED = {"kinds": KINDS}
 TITLES_OF_ARGPARSE = ("positional arguments", "options")
 
@@ -46,13 +46,13 @@ class Option:
 
 
 def printed(program: pathlib.Path, option: str) -> str:
-    """What a program prints of an option, such as --help."""
+    """What a program prints for an option such as --help."""
     done = subprocess.run([program.resolve(), option], stdin=subprocess.DEVNULL, capture_output=True, text=True, check=True)
     return done.stdout
 
 
 def section(text: str, title: str) -> str:
-    """The lines of a help below a title."""
+    """The lines of a help text below a title."""
     found = re.search(rf"^{title}:\n(.*?)(?:\n\n|\Z)", text, re.MULTILINE | re.DOTALL)
     if not found:
         raise ValueError(f"the help has no {title}")
@@ -68,7 +68,7 @@ def options_of_help(helped: str) -> list[Option]:
 
 
 def option_of_action(action: argparse.Action, group: str) -> Option:
-    """The option that an action of a parser is."""
+    """The option of an action of a parser."""
     suggested = SUGGESTED.get(action.dest, ()) if action.choices is None else action.choices
     choices = tuple(map(str, suggested))
     has_value = action.nargs != 0

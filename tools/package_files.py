@@ -13,14 +13,14 @@ import completions
 from option_tables import NAMES, ROOT, options_of
 
 DOCUMENTS = "share/doc/x25scan"
-# What is installed below the folder of the documents, by its place in the repository.
+# What is installed in the folder of the documents, by its path in the repository.
 READ = {f"docs/{name}.md": f"{name}.md" for name in ("GUIDE", "REPORT", "CODES", "TRACE", "RULES", "CAPTURES")}
 READ |= {"CHANGELOG.md": "CHANGELOG.md", "docs/rows.schema.json": "rows.schema.json"}
 # Folders of which the documents name files; what is installed of them keeps its place in the repository.
 EXAMPLES, CAPTURES, TRACES = "examples", "tests/captures/files", ("tests/traces", "tests/gaps/traces")
 LINK = re.compile(r"\[([^\]\n]*)\]\(([^)#\s]*)(#[^)\s]*)?\)")
 INSTALLED_PROGRAM = re.compile(rf"(?<![\w/])(?:bin|tools)/({'|'.join(NAMES)})(?![\w/])")
-# The other programs, their libraries and a link to x25scan stand as in the repository; links lead to the launchers.
+# The other programs, their libraries and a link to x25scan are placed as in the repository; links lead to the launchers.
 SHARED = "share/x25scan"
 LAUNCHED = ("x25trace", "x25page")
 LIBRARIES = {"x25tools_lib": ("*.py",), "x25trace_lib": ("*.py",), "x25page_lib": ("*.py", "page/*.*")}
@@ -35,7 +35,7 @@ class Refusal(Exception):
 class Release:
     """What is released: the bytes of the program, its help, its version, the kit that proved it, and the commit with its date.
 
-    Of a program that was named it is not known whether it was proved of this commit.
+    It is not known whether a program that was named on the command line was proved at this commit.
     """
 
     program: bytes
@@ -59,7 +59,7 @@ class File:
 
 
 def place_of(path: str, target: str) -> str:
-    """The place in the repository that a link of a document leads to."""
+    """The path in the repository that a link of a document leads to."""
     return posixpath.normpath(posixpath.join(posixpath.dirname(path), target))
 
 
@@ -79,7 +79,7 @@ def pictures() -> dict[str, str]:
 
 
 def link_of(match: re.Match[str], path: str) -> str:
-    """A link of a document as it is where this is installed, or its text where it leads to nothing that is."""
+    """A link of a document as it is after the installation; its text alone where its target is not installed."""
     text, target, part = match[1], match[2], match[3] or ""
     if not target or "://" in target:
         return match[0]
@@ -90,13 +90,13 @@ def link_of(match: re.Match[str], path: str) -> str:
 
 
 def document(path: str) -> bytes:
-    """A document with the links and the names of programs that hold where it is installed."""
+    """A document with links and names of programs that are right after the installation."""
     text = LINK.sub(lambda it: link_of(it, path), (ROOT / path).read_text())
     return INSTALLED_PROGRAM.sub(r"\1", text).encode()
 
 
 def programs(release: Release) -> Iterator[File]:
-    """The programs, and what those in Python are made of."""
+    """The programs, and the modules of those in Python."""
     yield File("bin/x25scan", release.program, 0o755)
     yield File(f"{SHARED}/bin/x25scan", target="../../../bin/x25scan")
     for name in LAUNCHED:
@@ -130,7 +130,7 @@ def documents() -> Iterator[File]:
 
 
 def proved(release: Release, files: Sequence[File]) -> File:
-    """By which kit and of which commit, with the sums of the files; `sha256sum -c` reads it where bin and share are."""
+    """The text of PROVED: the kit, the commit, and the sums of the files, which `sha256sum -c` reads next to bin and share."""
     sums = "".join(f"{hashlib.sha256(it.content).hexdigest()}  {it.path}\n" for it in files if not it.target)
     known = "the program is the one that was named: whether it was proved of this commit is not known"
     commit = f"# commit {release.commit}\n" + (f"# {known}\n" if release.is_named else "")

@@ -13,7 +13,7 @@ from collections.abc import Sequence
 
 from package_files import File, Refusal, Release, files_of
 
-# The machine of an ELF file, as tar archives and as Debian name it.
+# The names of an ELF machine in archives and in Debian.
 MACHINES = {62: ("x86_64", "amd64"), 183: ("aarch64", "arm64"), 243: ("riscv64", "riscv64")}
 CONTROL = """\
 Package: x25scan

@@ -35,7 +35,7 @@ def traces(names: list[str]) -> list[pathlib.Path]:
 
 
 def claim(trace: pathlib.Path) -> str:
-    """What is stated of a trace."""
+    """The statement about a trace."""
     name, refused = name_of(trace), refusal(trace)
     if not refused:
         return f"IsReported {name}-text {name}-report"
@@ -44,7 +44,7 @@ def claim(trace: pathlib.Path) -> str:
 
 
 def uses_of_kinds(worked: list[pathlib.Path]) -> str:
-    """What takes the kinds of the refusals."""
+    """The lines that import the kinds of the refusals."""
     kinds = {refused[1] for refused in map(refusal, worked) if refused}
     return "use Rattle.line_model.specs.declared.fault.Kind.TheVariants.{" + ", ".join(it for it in KINDS if it in kinds) + "}"
 
@@ -68,7 +68,7 @@ pub record WorkedGapTraces : Type 0 where
 
 
 def proof(trace: pathlib.Path) -> str:
-    """The proof of what is stated of a trace."""
+    """The proof of the statement about a trace."""
     body = "refl" if refusal(trace) else "record { sound = refl; report = refl }"
     return f"\n{name_of(trace)}-holds : {claim(trace)}\nunfolding {UNFOLDING}\n{name_of(trace)}-holds = {body}\n"
 
@@ -100,7 +100,7 @@ worked_gaps = record {{
 
 
 def files(names: list[str]) -> dict[pathlib.Path, str]:
-    """The files that are written, with what stands in each."""
+    """The files that are written, with their contents."""
     return {
         CRATE / "specs/traces/WorkedGapTraces.antt": statement_file(names),
         CRATE / "proofs/WorkedGapTraces.antt": proof_file(names),

@@ -17,7 +17,6 @@ from worked_traces import ROOT, TRACES, content, refusal, report, traces, write_
 
 TESTS = ROOT / "crates/tests_scans/src/scans/worked"
 LONGEST = 400
-INDENT = 12 * " "
 GAPS = ROOT / "tests/gaps/traces"
 TOPICS = {
     "refused": ("Texts that are refused.", r"refused-"),
@@ -35,16 +34,12 @@ settled-by-data wrong-once-settled
 
 
 def literal(text: str) -> str:
-    """A byte string, a line of the text on each line."""
-    if not text:
-        return 'b""'
-    lines = text.replace("\\", "\\\\").replace('"', '\\"').split("\n")
-    ended = [line + "\\n\\\n" + INDENT for line in lines[:-1]]
-    return 'b"\\\n' + INDENT + "".join(ended) + lines[-1] + '"'
+    """A byte string."""
+    return 'b"' + text.replace("\\", "\\\\").replace('"', '\\"').replace("\n", "\\n") + '"'
 
 
 def fault(trace: pathlib.Path) -> str:
-    """The fault that a scan answers, if it does."""
+    """The fault that a scan returns, if it does."""
     refused = refusal(trace)
     if not refused:
         return "None"
@@ -81,7 +76,7 @@ pub const {topic.upper()}: [Worked; {len(chosen)}] = [
 
 
 def files() -> dict[pathlib.Path, str]:
-    """The files that are written, with what stands in each."""
+    """The files that are written, with what each has."""
     short = [trace for trace in traces() if max(map(len, content(trace).split("\n"))) <= LONGEST]
     written = {
         TESTS / f"{topic}.rt": topic_file(topic, what, TRACES, [trace for trace in short if topic_of(trace) == topic])

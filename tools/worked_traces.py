@@ -22,7 +22,7 @@ UNFOLDING = (
     "digits decode_pairs fault head rows head_of rows_in last_number size_kind header_kind contents_kind "
     "header_numbers interface_with interface_of row_words octets_of row_kind row_of"
 )
-# a run of one or two characters that is written as so many of them
+# a run of one or two characters, which is written as their number
 RUN = re.compile(r"(..?)\1{40,}")
 REFUSAL = re.compile(r"x25scan: line (\d+): kind (\d+)\n")
 
@@ -33,12 +33,12 @@ def traces() -> list[pathlib.Path]:
 
 
 def content(path: pathlib.Path) -> str:
-    """The text of a file as it stands, each CR included."""
+    """The text of a file, with each CR."""
     return path.read_bytes().decode("utf-8")
 
 
 def refusal(trace: pathlib.Path) -> tuple[int, str] | None:
-    """The line and the kind by which a trace is refused, or None."""
+    """The line and the kind of a trace's refusal, or None."""
     errors = trace.with_suffix(".errors")
     if not errors.exists():
         return None
@@ -78,7 +78,7 @@ def name_of(trace: pathlib.Path) -> str:
 
 
 def claim(trace: pathlib.Path) -> str:
-    """What is stated of a trace."""
+    """The statement about a trace."""
     name, refused = name_of(trace), refusal(trace)
     if not refused:
         return f"IsReported {name}-text {name}-report"
@@ -105,7 +105,7 @@ use Rattle.line_model.specs.traces.Traces.{{text{repeated}}}
 
 
 def uses_of_constants(terms: str, module: str) -> str:
-    """What takes all constants of a module."""
+    """The line that imports all constants of a module."""
     names = ", ".join(re.findall(r"abbrev pub (\S+)", terms))
     return f"use Rattle.line_model.specs.{module}.{{{names}}}"
 
@@ -127,7 +127,7 @@ pub record WorkedTraces : Type 0 where
 
 
 def proof(trace: pathlib.Path) -> str:
-    """The proof of what is stated of a trace."""
+    """The proof of the statement about a trace."""
     name = name_of(trace)
     body = "refl" if refusal(trace) else "record { sound = refl; report = refl }"
     return f"\n{name}-holds : {claim(trace)}\nunfolding {UNFOLDING}\n{name}-holds = {body}\n"
@@ -163,7 +163,7 @@ worked = record {{
 
 
 def files() -> dict[pathlib.Path, str]:
-    """The files that are written, with what stands in each."""
+    """The files that are written, with their contents."""
     texts = constants("text", {trace: content(trace) for trace in traces()})
     reports = constants("report", {trace: report(trace) for trace in traces() if not refusal(trace)})
     uses = uses_of_constants(texts, "traces.WorkedTexts") + "\n" + uses_of_constants(reports, "traces.WorkedReports")

@@ -1,4 +1,4 @@
-/* scan_file [--json | --rows] [PIECE] [FILE]: scans a trace in pieces of so many bytes, and prints its report. */
+/* scan_file [--json | --rows] [PIECE] [FILE]: scans a trace in pieces of PIECE bytes, and prints its report. */
 #include <stdio.h>
 #include <stdlib.h>
 #include <string.h>

@@ -28,7 +28,7 @@ def tunnel_cases():
     yield on_ethernet("gre-with-ipv6", in_ip(47, [gre(one, 0x86DD) for one in sixes]))
     yield on_ethernet("gre-with-a-key", in_ip(47, [gre(one, flags=0x20, fields=KEY) for one in frames]))
     all_fields = [gre(one, flags=0xB0, fields=CHECK + KEY + SEQUENCE) for one in frames]
-    # The checksum is none: tshark does not look into what it takes for damaged.
+    # The checksum is none: tshark does not look into what seems damaged to it.
     yield on_ethernet("gre-with-all-fields", in_ip(47, all_fields), tshark=None)
     yield on_ethernet("gre-with-ethernet", in_ip(47, [gre(ethernet(one), 0x6558) for one in frames]))
     yield on_ethernet("gre-with-mpls", in_ip(47, [gre(mpls(one, [16]), 0x8847) for one in frames]))
@@ -91,7 +91,7 @@ def file_cases():
 
 
 def port_cases():
-    """XOT on port 2000 beside that on 1998, and a port whose segments have a length of four octets before text."""
+    """XOT on port 2000 and on 1998, and a port whose segments have a length of four octets before text."""
     talk, other = Talk(ports=(1026, 2000)), Talk(ports=(1027, 3000))
     frames = conversation() + talk.open() + [talk.a("10010B0000"), talk.b("10010F")]
     frames += other.open() + [other.segment(at % 2, b"\0\0\0\5hello") for at in range(9)]

@@ -22,7 +22,7 @@ class Case:
 
 
 def text(lines):
-    """The lines of a text that is indented as it stands in a case."""
+    """The lines of an indented text of a case."""
     return "".join(line.strip() + "\n" for line in lines.strip().splitlines())
 
 

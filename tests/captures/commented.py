@@ -1,4 +1,4 @@
-"""Tests of captures that are written again with comments: octet by octet what is written here beside them."""
+"""Tests of captures that are written again with comments: octet by octet what is expected here."""
 import pathlib
 import subprocess
 import tempfile
@@ -104,7 +104,7 @@ def from_pcapng():
         before = [obsolete(one, order=order, time=at) for at, one in enumerate(frames())]
         after = [one if at not in COMMENTS else block(2, one[8:-4] + said(at, order), order)
                  for at, one in enumerate(before)]
-        # Wireshark numbers the custom block as a frame: it stands behind those with packets.
+        # Wireshark numbers the custom block as a frame: it comes after those with packets.
         yield f"pcapng with obsolete blocks {order}", file([*before, custom], -1), file([*after, custom], -1)
 
 
@@ -134,7 +134,7 @@ def complaints(scanner, capture, wanted, status=0):
         if (done.returncode, done.stdout) != (status, b"") or b"2 comments, in 2 frames of " not in done.stderr:
             return [f"status {done.returncode}: {done.stdout} {done.stderr.decode()}"]
         octets = out.read_bytes()
-        said = [] if octets == wanted else [f"got {octets.hex(' ', 4)}", f"wanted {wanted.hex(' ', 4)}"]
+        said = [] if octets == wanted else [f"got {octets.hex(' ', 4)}", f"expected {wanted.hex(' ', 4)}"]
         return said + (tshark_complaints(out) if TSHARK else [])
 
 

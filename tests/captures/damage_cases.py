@@ -77,7 +77,7 @@ def pcapng_cases():
 
     yield case("pcapng-ends-in-a-head", file + blocks[0][:7])
     yield case("pcapng-ends-in-a-block", file + blocks[0][:30])
-    # The last block is cut behind its frame, of which nothing is missing.
+    # The last block is cut after its frame, of which nothing is missing.
     yield case("pcapng-ends-behind-a-frame", start + b"".join(blocks[:9])[:-3])
     differ = blocks[4][:-4] + struct.pack("<I", 100)
     yield case("pcapng-lengths-differ", start + b"".join(blocks[:4]) + differ + b"".join(blocks[5:]))
@@ -108,7 +108,7 @@ def dump_cases():
         return Case(name, octets.encode(), rows, "--as x25", status=1, report=report, ending="txt", tshark=None, **more)
 
     yield case("dump-line-without-a-beginning", "0010  00 11\n" + good, LINE_ROWS, LINE_REPORT)
-    # A line of the data packet is missing: the packet is left out, and a gap row tells of it.
+    # A line of the data packet is missing: the packet is left out, and a gap row is in its place.
     broken = good.replace("0000  10 01 00 aa", "0000  10 01 00 aa\n0010  bb")
     rows = gaps_header() + "".join(LINE_ROWS.splitlines(keepends=True)[1:]).replace("5 T 100100AA", "5 ? 1")
     yield case("dump-line-missing", broken, rows, text("""
@@ -139,7 +139,7 @@ def dump_cases():
 
 
 def link_type_cases():
-    """A file with an unknown link type beside a known one."""
+    """A file with an unknown link type and a known one."""
     frames = [ethernet(one) for one in conversation()]
     file = section() + interface(1) + interface(148) + b"".join(map(enhanced, frames)) + enhanced(b"abcd", 1) * 2
     yield Case("pcapng-unknown-link-type", file, ROWS, status=1, report=REPORT, ending="pcapng", tshark=None)

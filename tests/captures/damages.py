@@ -48,7 +48,7 @@ def trace_fault(trace):
 
 
 def damaged(octets, source):
-    """The octets of a file with a few of them changed, taken out, put in or said twice."""
+    """The octets of a file with a few of them changed, removed, added or doubled."""
     octets = bytearray(octets)
     for _ in range(source.choice((1, 1, 2, 5))):
         at, many = source.randrange(len(octets)), source.choice((1, 2, 4, 30))

@@ -54,7 +54,7 @@ def repeat_cases():
         rows += f"{5 + 2 * at} T {packet}\n{6 + 2 * at} N 1001{(at + 1) % 8 << 5 | 1:02X}\n"
     yield user("lapb-numbers-wrap", many, rows, report=CALL_1.format(sent=10, rows=24))
     sent = [information("T", 2 + at, 2, data(at)) for at in range(3)]
-    # The receiver does not take N(S) 4 without N(S) 3, rejects it, and both come again.
+    # The receiver does not accept N(S) 4 without N(S) 3, rejects it, and both come again.
     frames = head() + [sent[0], sent[2], ready("N", 3, True), sent[1], sent[2], ready("N", 5)]
     yield user("lapb-rejected-frame", frames, first(3) + HEAD_ROWS + text("""
         5 T 100100A0

@@ -24,7 +24,7 @@ REPORT = text("""
 """)
 SIX = (("T", CALL), ("N", ACCEPTED), ("T", DATA), ("N", READY), ("T", CLEAR), ("N", CONFIRMED))
 
-# The same packets on a line, behind a restart: frames 1 to 8.
+# The same packets on a line, after a restart: frames 1 to 8.
 LINE = (("T", RESTART), ("N", RESTARTED)) + SIX
 LINE_ROWS = text("""
     X25 1 MOD 8 WIN 1 SIZE 16 PVC 0 SVC 1
@@ -132,7 +132,7 @@ def check_that_ends_like_a_flag():
 
 
 def packet_cases():
-    """Packets without a link header; cooked captures and pcapng tell who sent them, or an octet does."""
+    """Packets without a link header; cooked captures, pcapng or an octet show who sent them."""
     packets = packets_of()
     cooked = [cooked_1(octets, 4 if side == "T" else 0, 0x0805) for side, octets in packets]
     yield on_line("x25-in-cooked-1", pcap(113, cooked), tshark=None)

@@ -38,7 +38,7 @@ CHANNEL = f"# connection 1 is channel 1: {ENDS}, logical channel 1 in the captur
 
 
 def said_by(stream, many):
-    """The next lines of a pipe, as soon as there are so many, or those that come before time is up."""
+    """The next lines of a pipe, as soon as that number is there, or those that come before time is up."""
     octets = b""
     end = time.monotonic() + SECONDS
     while octets.count(b"\n") < many and select.select([stream], [], [], max(end - time.monotonic(), 0))[0]:
@@ -83,7 +83,7 @@ class Rows(unittest.TestCase):
         self.assertEqual(self.follow([], [(pcap(1, []), [])], 2), [])
 
     def test_other_carrier(self):
-        """Packets of a line beside those of XOT are left out and counted."""
+        """In a capture of XOT, packets of a line are left out and counted."""
         from forms import cooked_1
         frames = [cooked_1(one, 4) for one in conversation()] + [cooked_1(one, 4, 0x0805) for _, one in packets_of()]
         lines = self.follow([], [(pcap(113, frames), [])], 1)
@@ -119,7 +119,7 @@ class Cases(unittest.TestCase):
     """Each capture gives the rows and messages that it gives at its end."""
 
     def written(self, case, kind):
-        """The lines of a trace without its head, and without what is said of channels; its numbers are those wanted."""
+        """The lines of a trace without its head and without the comments on channels; its numbers are the expected ones."""
         given = [word for pair in zip(OPTIONS, NUMBERS.search(case.rows).groups()) if pair[1] for word in pair]
         words = [word for word in case.words.split() if word not in ("--join", "--no-join")]
         for option in OPTIONS:
@@ -176,4 +176,4 @@ def interrupted_complaints(program):
     said = ["x25trace: interrupted: the trace is of what was read before, 6 frames",
             "x25trace: left out: TCP segments without octets: 3"]
     got, wanted = (first, rest, errors, running.returncode), (*FOLLOWED, said, 1)
-    return [] if got == wanted else [f"got {got}, wanted {wanted}"]
+    return [] if got == wanted else [f"got {got}, expected {wanted}"]

@@ -44,7 +44,7 @@ class Members(unittest.TestCase):
             with self.subTest(step):
                 found, words = unpacked(octets, step)
                 self.assertEqual(words, list(said))
-                self.assertTrue(found == wanted, f"{len(found)} octets, wanted {len(wanted)}")
+                self.assertTrue(found == wanted, f"{len(found)} octets, expected {len(wanted)}")
 
     def test_whole(self):
         self.same(self.packed, OCTETS)

@@ -127,7 +127,7 @@ class Asked(unittest.TestCase):
         return next(it for it in done.stdout.splitlines() if it.startswith("X25 ")), done.stderr
 
     def test_best(self):
-        """The first line that has the numbers that are given is taken."""
+        """The first line with the numbers of the options is used."""
         script = f"cat > /dev/null; printf '{HEADING + line(4, 64, 2) + line(3, 32, 1)}'".replace("\n", "\\n")
         self.assertIn(" WIN 4 SIZE 64 ", self.traced(script)[0])
         self.assertIn(" WIN 3 SIZE 32 ", self.traced(script, "--win", "3")[0])
@@ -141,7 +141,7 @@ class Asked(unittest.TestCase):
             self.assertNotIn("asked", errors)
 
     def test_failures(self):
-        """Without a table the largest values are taken, and it is said."""
+        """Without a table the largest values are used, and a message says so."""
         for script in ("exit 3", "cat > /dev/null", "kill -9 $$"):
             header, errors = self.traced(script)
             self.assertIn(" WIN 1 SIZE 16 ", header)

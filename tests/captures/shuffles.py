@@ -1,4 +1,4 @@
-"""Random connections and links, recorded badly: what is read is what was sent, but for what was not recorded."""
+"""Random connections and links, recorded badly: what is read is what was sent, except what was not recorded."""
 import unittest
 
 from forms import Talk, information, ready, xot
@@ -122,7 +122,7 @@ class Link:
         self.missed = 0
 
     def send(self, lost, unrecorded):
-        """The next frame of the window goes out; it may be lost behind the recorder, or the recorder may miss it."""
+        """The next frame of the window goes out; it may be lost after the recorder, or the recorder may miss it."""
         window = self.modulus - 1
         if self.following == min(self.base + window, len(self.packets)):
             self.following = self.base

@@ -61,7 +61,7 @@ def without_times():
 
 
 def frames_of_packets():
-    """Frame 6 has two packets and the head of a third, which ends in frame 8; that was recorded behind frame 7."""
+    """Frame 6 has two packets and the head of a third, which ends in frame 8; that was recorded after frame 7."""
     talk = Talk()
     octets = b"".join(map(xot, SENT[:3]))
     frames = talk.open() + [talk.a(CALL), talk.b(ACCEPTED), talk.segment(0, octets[:19])]

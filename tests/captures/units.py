@@ -94,7 +94,7 @@ class Kinds(unittest.TestCase):
             self.assertEqual(kind_of(bytes.fromhex(frame)), "lapb", frame)
 
     def test_others(self):
-        # Other addresses, UI and XID, S and U frames with octets behind them, I frames without a packet, and packets.
+        # Other addresses, UI and XID, S and U frames with octets after them, I frames without a packet, and packets.
         other = ("", "01", "003F", "0F3F", "FF03", "0103", "01AF", "013F00", "03970000", "012100", "010100000000", "0100",
                  "01001001", "0100000000", "010033333333", "1000FB0700", "10010B0000", "4500001C", "7E7E")
         for frame in other:
@@ -133,7 +133,7 @@ class Memory(unittest.TestCase):
     """What waits for a missing octet is bounded: then the octet is given up."""
 
     def waiting(self, acknowledged, most):
-        """How many segments come behind a missing octet until it is given up, and the events of the last one."""
+        """How many segments come after a missing octet until it is given up, and the events of the last one."""
         ledger, budget = Ledger(), Budget()
         connection = Connection(ledger, budget, ENDS)
         connection.feed(0, segment(100, b"a"))
@@ -242,7 +242,7 @@ class Gaps(unittest.TestCase):
         self.assertEqual(self.items(*self.sent("ab d"), SABM), "ab?")
 
     def test_of_windows_of_a_link(self):
-        """A frame beyond the window shows that the next one was taken, whose number comes again with the one after."""
+        """A frame beyond the window shows that the next one was accepted, whose number comes again with the one after."""
         self.assertEqual(self.items(*self.sent("ab defghij")), "ab?defghij")
 
     def test_of_a_number_that_comes_while_others_wait(self):

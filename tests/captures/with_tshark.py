@@ -35,7 +35,7 @@ def listed(value):
 
 
 def packets_of_tshark(file, options):
-    """The same of each X.25 layer; user data that another dissector took is missing, then the octets end early."""
+    """The same of each X.25 layer; user data that another dissector reads is missing; then the octets end early."""
     words = [PROGRAM, "-n", "-r", file, "--no-duplicate-keys", "-T", "json", "-x", "-Y", "x25", *options]
     done = subprocess.run(words, capture_output=True, timeout=SECONDS)
     if done.returncode:

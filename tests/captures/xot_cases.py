@@ -188,7 +188,7 @@ def long_packets():
 
 
 def permanent_circuit():
-    """Packets of type F5 set up a permanent circuit and are none of X.25; the call beside it has channel 2."""
+    """Packets of type F5 set up a permanent circuit and are none of X.25; the call has channel 2."""
     one, two = Talk(), Talk(ports=(1026, 1998))
     setup = "1001F5" + "00" + "08" + "0001" + "08" + "0001" + "02020707" + b"Serial0/Serial1/".hex()
     frames = one.open() + [one.a(setup), one.b(setup)] + two.open() + call(two, SIX[:2]) + call(one, [DATA, READY])

@@ -51,7 +51,7 @@ def watching(scanner: str | pathlib.Path, *words: str) -> Iterator[subprocess.Po
 
 
 def read_until(stream: int, text: bytes) -> bytes:
-    """What comes of a stream until a text is in it, until it ends, or until time is up."""
+    """Reads a stream until it has these bytes, until it ends, or until time is up."""
     found, end = b"", time.monotonic() + SECONDS
     while text not in found and select.select([stream], [], [], max(0, end - time.monotonic()))[0]:
         try:

@@ -19,7 +19,7 @@ from x25page_lib import command as page_command
 from x25tools_lib.streams import Waiting
 from x25trace_lib import command
 
-# Other lines than those of the traces, and of so many captures so many have to get the true window and size.
+# Other interfaces than those of the traces; how many captures there are, and how many have to get the true window and size.
 SEEDS, ENOUGH = range(100, 148), 44
 # Every eighth capture becomes a page.
 EVERY = 8

@@ -1,4 +1,4 @@
-"""Traces of calls with planted faults: the DTE breaks its window or its packet size, and the DCE answers by a reset.
+"""Traces of calls with planted faults: the DTE breaks its window or its packet size, and the DCE answers with a reset.
 
 Everything follows from a seed. A packet of the DCE may be on its way while an error reaches it, and the DTE goes on
 until the reset reaches it, as on a real line.

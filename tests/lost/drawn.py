@@ -80,7 +80,7 @@ def link(source: random.Random) -> tuple[list[str], int, list[bytes]]:
 
 
 class Frames:
-    """The frames of a link, whose receivers take all of them."""
+    """The frames of a link, whose receivers accept all of them."""
 
     def __init__(self, source: random.Random) -> None:
         self.source = source

@@ -178,7 +178,7 @@ class Called(unittest.TestCase):
         self.refused(3, "reading or writing failed: ", "--scanner", "/nowhere/x25scan", TRACE)
 
     def test_part_of_a_page(self):
-        """Where writing ends early, the old file stands, and nothing else."""
+        """Where writing ends early, the old file is there, and nothing else."""
         page = self.folder / "a.html"
         page.write_bytes(OLD)
         with self.assertRaises(KeyboardInterrupt), written(page) as out:

@@ -1,4 +1,4 @@
-"""Tests of the fast path: what lanes take of data and RR is what rows give, by all that a page has of them."""
+"""Tests of the fast path: a page has the same facts of data and RR with it as without it."""
 import copy
 import pathlib
 import random
@@ -18,7 +18,7 @@ END = ({"line": "peak", "count": 1, "packet": 1}, {"line": "sums", "packets": 1,
 
 
 class Talk:
-    """The rows of a line whose calls begin, send data, are reset and end, as x25scan says them."""
+    """The rows of an interface whose calls begin, send data, are reset and end, as x25scan prints them."""
 
     def __init__(self, seed, has_times):
         self.random, self.has_times = random.Random(seed), has_times
@@ -27,7 +27,7 @@ class Talk:
         self.rows = []
 
     def put(self, channel, call, kind, states=("d1", "d1"), **more):
-        """Adds a row; more replaces what it says without."""
+        """Adds a row; `more` replaces its other members."""
         self.packet += 1
         self.now += self.random.choice((0, 0.000007, 0.25, 90))
         self.ahead += self.random.random() < 0.02
@@ -80,21 +80,21 @@ class Talk:
 
 class Flowing(unittest.TestCase):
     @staticmethod
-    def facts_of(objects, budget, has_lanes):
-        """What a page of so many octets has of objects, and how many rows did not take the fast path."""
+    def facts_of(objects, budget, has_fast_path):
+        """The facts of a page with this budget of octets, and how many rows did not use the fast path."""
         with mock.patch("x25page_lib.facts.PAGE", WORDS + budget):
             facts = Facts(Halves(Head()))
             facts.ladders.budget = budget
             facts.use.begin(2, 8)
-            if not has_lanes:
-                facts.lanes.take = lambda rest: next(rest, None)
+            if not has_fast_path:
+                facts.fast_path.take = lambda rest: next(rest, None)
             with mock.patch.object(facts, "row", wraps=facts.row) as rows:
                 facts.take(copy.deepcopy(objects))
             found = [dict(facts.ladders.texts()), facts.ladders.level, facts.use.facts(), facts.times.all(facts.forms), facts.rows_of]
             return [*found, facts.first, facts.last, facts.marks.text, facts.frame_text, facts.forms.types.values()], rows.call_count
 
-    def test_lanes(self):
-        """Lanes take most rows of data and RR, and the page is the same."""
+    def test_fast_path(self):
+        """Most rows of data and RR use the fast path, and the page is the same."""
         for seed, (has_times, budget) in enumerate((times, budget) for times in (True, False) for budget in (2_000_000, 300_000, 90_000)):
             objects = Talk(seed, has_times).whole(3000)
             found, slow = self.facts_of(objects, budget, True)

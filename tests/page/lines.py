@@ -83,7 +83,7 @@ def several():
 
 
 def many_calls(many=400):
-    """So many calls on four channels, each with four packets of data."""
+    """Calls on four channels, each with four packets of data."""
     line = Line()
     for at in range(many):
         channel = 1 + at % 4
@@ -96,7 +96,7 @@ def many_calls(many=400):
 
 
 def long_list(many=300):
-    """A call with so many rounds of data and acknowledgement."""
+    """A call with rounds of data and acknowledgement."""
     line = Line()
     line.call(1)
     for at in range(many):

@@ -71,7 +71,7 @@ def ladders(facts):
 
 
 class Ladders(unittest.TestCase):
-    """Where a gap stands."""
+    """Where a gap is."""
 
     def test_of_a_call(self):
         said = Said()
@@ -144,7 +144,7 @@ class Headline(unittest.TestCase):
 
 
 class Waiting(unittest.TestCase):
-    """Nobody knows what a gap answered: what waits there is no wait without an answer."""
+    """A gap may hide an answer: a request before it does not count as one without an answer."""
 
     def waits(self, gap):
         """The lines on waits and closed windows of a trace where a request and a full window come before a gap."""

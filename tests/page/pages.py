@@ -83,7 +83,7 @@ def report_complaints(page, report):
         "findings": (marks, [[it[0], it[1], it[3]] for it in report["F"]]),
         "counts": ([it[3] for it in facts["codes"]], counts),
     }
-    return [f"{name}: got {got}, wanted {want}" for name, (got, want) in compared.items() if got != want]
+    return [f"{name}: got {got}, expected {want}" for name, (got, want) in compared.items() if got != want]
 
 
 def row_complaints(page, trace):

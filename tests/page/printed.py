@@ -14,16 +14,32 @@ POINTS = 72 / 25.4
 # Somewhat less than the margins of the page, 12 millimetres.
 MARGIN = 11 * POINTS
 WORD = re.compile(r'<word xMin="([-\d.]+)" yMin="([-\d.]+)" xMax="([-\d.]+)" yMax="([-\d.]+)">(.*?)</word>')
-# What stands at the right of the ladder, of the strip and of each table.
+# What is at the right edge of the ladder, of the strip and of each table.
 SAID = ("diagnostic 1 (invalid P(S))", "Code 1: Invalid P(S)", "channel 30", "How it ended", "number busy", "packet 28",
         "CLEAR INDICATION", "What was wrong")
 NARROW = 400
-# The texts of the drawings and of the tables, each by itself.
+# Widths between those of a telephone and of a wide screen, in pixels.
+WIDTHS = (640, 641, 900, 1100, 1240, 1241)
+# Each text of the drawings and of the tables.
 TEXTS = """[...document.querySelectorAll('#ladder-room text, #lanes text, table.cards td')].flatMap((it) => {
   const walker = document.createTreeWalker(it, NodeFilter.SHOW_TEXT), found = [];
   while (walker.nextNode()) found.push(walker.currentNode.data);
   return found;
 })"""
+# What hides a part of a chip of the ladder, and the texts that lie on a chip or on a lifeline.
+HIDDEN = """(() => {
+  const all = (selector) => [...document.querySelectorAll(`#ladder-room ${selector}`)];
+  const meet = (one, other) => {
+    const [a, b] = [one.getBoundingClientRect(), other.getBoundingClientRect()];
+    return a.left < b.right && b.left < a.right && a.top < b.bottom && b.top < a.bottom;
+  };
+  const isAbove = (one, other) => other.compareDocumentPosition(one) & Node.DOCUMENT_POSITION_FOLLOWING;
+  const chips = all('.state rect'), lifelines = all('.life'), texts = all('text').filter((it) => !it.closest('.state'));
+  const over = (chip) => [...lifelines, ...all('.back')].filter((it) => isAbove(it, chip) && meet(it, chip));
+  const found = chips.flatMap((chip) => over(chip).map((it) => `${it.classList} over ${chip.parentNode.textContent}`));
+  found.push(...texts.filter((text) => [...chips, ...lifelines].some((it) => meet(text, it))).map((it) => it.textContent));
+  return found.join('; ');
+})()"""
 
 
 def words_on(path):
@@ -34,7 +50,7 @@ def words_on(path):
 
 
 def cut_words(path):
-    """The words that do not lie within the margins: a page cuts what goes on behind them."""
+    """The words that do not lie within the margins: a page cuts what goes beyond them."""
     found, width, height = words_on(path)
     return [f"{word} lies at {left}, {top} to {right}, {bottom} of {width}, {height}" for left, top, right, bottom, word in found
             if left < MARGIN or right > width - MARGIN or top < MARGIN or bottom > height - MARGIN]
@@ -117,11 +133,43 @@ def narrow(shown, folder, scanner):
     shown.is_so("document.querySelector('.ladder').viewBox.baseVal.width > 1000")
 
 
+def of_widths(shown, folder, scanner):
+    """At no width between is anything wider than the screen."""
+    browser = shown.browser
+    open_page(shown, folder, scanner, lines.several(), "#call-3/28")
+    for width in WIDTHS:
+        browser.resize(width, 800)
+        shown.is_so("document.documentElement.scrollWidth", width)
+    browser.resize(browser.width, browser.height)
+
+
+def of_narrow_ladders(shown, folder, scanner):
+    """At 400 pixels no lifeline and no row lies on a chip, and no text on a chip or a lifeline."""
+    browser, line = shown.browser, lines.Line()
+    line.call(1)
+    # Code 43, whose name is as long as a line, after a row with chips and without a note.
+    line.on(1, "T", "27")
+    line.on(1, "N", "1B0501")
+    line.on(1, "T", "1F")
+    line.data(1, "T", (0, 0))
+    line.clear(1)
+    browser.resize(NARROW, 800)
+    open_page(shown, folder, scanner, line, "#call-1/3")
+    shown.is_so("document.querySelectorAll('#ladder-room .state').length", 14)
+    shown.is_so("document.querySelector('#row-3').textContent.includes('Code 43')")
+    shown.is_so(HIDDEN, "")
+    browser.resize(browser.width, browser.height)
+
+
 def outcomes(shown, scanner, folder):
     """Names of tests, and what is wrong with each."""
     folder = pathlib.Path(folder)
     narrow(shown, folder, scanner)
     yield "at 400 pixels", shown.faults()
+    of_narrow_ladders(shown, folder, scanner)
+    yield "ladders at 400 pixels", shown.faults()
+    of_widths(shown, folder, scanner)
+    yield "from 640 to 1241 pixels", shown.faults()
     if shutil.which("pdftotext") is None:
         print("pdftotext is not installed: no printed page is read")
         return

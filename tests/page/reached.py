@@ -209,7 +209,7 @@ def named(shown, folder, scanner):
 
 
 def listed(shown, folder, scanner):
-    """All packets stand in their order, a hundred at once; a filter keeps those that it names."""
+    """All packets are listed in their order, a hundred at once; a filter keeps those that it names."""
     browser = shown.browser
     open_page(shown, folder, scanner, lines.long_list(300))
     numbers = "[...document.querySelectorAll('#packet-lines tr td:first-child')].map((it) => it.textContent).join()"

@@ -16,7 +16,7 @@ SEVEN, GUESSED = (ROOT / "examples" / f"{name}.trace" for name in ("seven-calls"
 # Traces whose tables of calls are saved: with times, with gaps, with reverse charging, and with a permanent circuit.
 TABLES = [SEVEN, *(ROOT / "examples" / f"{name}.trace" for name in ("overlapping-calls", "packets-missing", "reverse-charging")),
           ROOT / "tests" / "calls" / "expected" / "permanent-circuit.trace"]
-# How long something may take to be so.
+# How long the page may need to show something.
 SECONDS = 5
 TAG = '"><script>hacked=1</script><img src=x onerror=hacked=1>\''
 HOSTILE_NAME = "<img src=x onerror=hacked=1>'\"&amp;.trace"
@@ -44,7 +44,7 @@ class Shown:
         while (got := self.browser.value(expression)) != wanted and time.monotonic() < end:
             time.sleep(0.05)
         if got != wanted:
-            self.said.append(f"{expression} is {got!r}, wanted {wanted!r}")
+            self.said.append(f"{expression} is {got!r}, expected {wanted!r}")
 
     def texts(self, selector):
         return self.browser.value(f"[...document.querySelectorAll({selector!r})].map((it) => it.textContent)")
@@ -70,7 +70,7 @@ def tables(shown, page):
     sums = facts["sums"]
     wanted = [str(it) for it in (sums["packets"], sums["calls"], sums["octets"], sums["segments"], facts["peak"][0], 1)]
     if numbers != wanted:
-        shown.said.append(f"the tiles have {numbers}, wanted {wanted}")
+        shown.said.append(f"the tiles have {numbers}, expected {wanted}")
     accounts = shown.texts("#account-table tbody td")
     if accounts != ["12345", "4", "13", "67890", "3", "9"]:
         shown.said.append(f"the accounts are {accounts}")
@@ -113,7 +113,7 @@ def saves(shown, folder, scanner):
             time.sleep(0.05)
         wanted = subprocess.run([scanner, "--calls", trace], capture_output=True, check=False).stdout
         if not saved.exists() or saved.read_bytes() != wanted:
-            shown.said.append(f"{trace.stem}: saved {saved.exists() and saved.read_bytes()}, wanted {wanted}")
+            shown.said.append(f"{trace.stem}: saved {saved.exists() and saved.read_bytes()}, expected {wanted}")
 
 
 def uses(shown):
@@ -182,7 +182,7 @@ def folds(shown, folder, scanner):
 
 
 def after_a_gap(shown, folder, scanner):
-    """The stretch of a ladder whose state is not known after a gap has a key: in light, in dark, at 400 pixels, in print."""
+    """The part of a ladder whose state is not known after a gap has a key: in light, in dark, at 400 pixels, in print."""
     browser, page = shown.browser, folder / "gap.html"
     run("--scanner", scanner, "-o", page, ROOT / "examples" / "packets-missing.trace")
     browser.open(page, "#call-1")

@@ -147,7 +147,7 @@ def annotation_cases():
 
 
 def full_device_cases():
-    """Standard output that takes nothing."""
+    """Standard output that accepts nothing."""
     for words in ((), ("--alone",), ("--follow",)):
         yield RunCase(f"the report goes to a full device {words}", words, FOUND, 3, b"", FULL, device="/dev/full")
     for words in (("--help",), ("--version",)):

@@ -137,7 +137,7 @@ TWENTY_SIX = b"""26 (diagnostic code): Packet type invalid for state p7
 
 
 def meanings(count, first):
-    """So many meanings, of which the first has this name."""
+    """A number of meanings, of which the first has this name."""
     heading = rb"[^\n ][^\n]* \([^\n]*\): "
     rest = rb"(?:  [^\n]*\n)+"
     return re.compile(heading + re.escape(first.encode()) + rb"\n" + rest + (rb"(?:" + heading + rb"[^\n]*\n" + rest + rb")") * (count - 1))

@@ -115,7 +115,7 @@ def noting_terminal(program):
 
 
 def full_errors(program):
-    """A note that standard error does not take changes nothing."""
+    """A note that standard error does not accept changes nothing."""
     with open("/dev/full", "wb") as full:
         outcome = runner.run([program, "--notes"], GUESSED, stderr=full)
     return runner.differences(outcome, (1, GUESSED_REPORT, None))

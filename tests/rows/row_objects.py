@@ -5,7 +5,7 @@ import runner
 
 
 def objects(program, words, text):
-    """The objects that `--rows` prints of a text with some words."""
+    """The objects that `--rows` prints of a trace with these options."""
     return [json.loads(line) for line in runner.run([program, "--rows", *words], text).output.splitlines()]
 
 

@@ -159,7 +159,7 @@ class Each(InFolder):
             self.assertRegex(link, r"^[A-Za-z0-9%_.~-]+\.html$")
 
     def test_signal(self):
-        """A signal while x25scan runs ends the program: the pages before it stand, and there is no index."""
+        """A signal while x25scan runs ends the program: the pages before it are there, and there is no index."""
         slow = self.folder / "slow"
         slow.write_text(f'#!/bin/sh\nif [ -e started ]; then exec sleep 30; fi\n[ $1 = --rows ] && touch started\nexec "{lists.SCANNER}" "$@"\n')
         slow.chmod(0o755)

@@ -1,4 +1,4 @@
-"""Pages of tables as the tests read them: the rows of their tables, and what stands before these."""
+"""Pages of tables as the tests read them: the rows of their tables, and what comes before these."""
 from __future__ import annotations
 
 import html
@@ -38,7 +38,7 @@ class Lists:
         self.policy = POLICY.search(self.text)[1]
 
     def outside(self) -> list[str]:
-        """What of it asks for something from outside; links to pages beside it do not."""
+        """What of it asks for something from outside; links to pages in the same folder do not."""
         return OUTSIDE.findall(LINK.sub("<a>", self.text))
 
 

@@ -1,4 +1,4 @@
-"""Texts that are refused or taken, with what is wanted of the program."""
+"""Texts that are refused or accepted, with what the program has to print."""
 import pathlib
 import sys
 from dataclasses import dataclass
@@ -41,7 +41,7 @@ class Text:
     # None where only the first line of the refusal is compared.
     said: Optional[str] = None
     rows: int = 0
-    # What comes first: rows, and then so many bytes of comments.
+    # What comes first: rows, and then how many bytes of comments.
     first: bytes = b""
     comments: int = 0
 
@@ -104,7 +104,7 @@ ROWS = [
     (b"1 T " + b"00" * 4201 + b"\n" + BEHIND, 2, HEX, None),
 ]
 
-# Bytes that are no hex digit, most of them beside one.
+# Bytes that are no hex digit, most of them next to one in ASCII.
 WRONG = b"/:@G`g\0\x1f\x80\xbf\xff"
 
 
@@ -184,7 +184,7 @@ GAPS = [
     (HEADER + MANY + b"20000 ? 1\n", 20001, SIDE, NO_SIDE.format("?")),
 ]
 
-# Texts that are taken, with the number of their rows.
+# Texts that are accepted, with the number of their rows.
 TAKEN = [
     (HEADER, 0),
     (HEADER + b"1 T -\n", 1),
@@ -210,7 +210,7 @@ LONG = [
     (b"1" * 8501 + b"\n", 1, LINE_LONG, LONG_LINE),
 ]
 
-# How many bytes of the text's limit are left after the header and comments; the last line; its kind, or 0 where it is taken.
+# How many bytes of the text's limit are left after the header and comments; the last line; its kind, or 0 where it is accepted.
 LAST_LINES = [
     (6, b"1 X 1\n", SIDE),
     (5, b"1 X 1\n", TEXT_LARGE),

@@ -4,7 +4,7 @@ inputs      what is named, as a trace in an open file, and what its first lines 
 scanner     x25scan: the objects of a trace, and the explanations of words
 gathering   what is read of one input: the header, the facts, and what was said of it
 facts       what a page keeps of the objects: ladders and their rows, calls, and suspicions of the header
-lanes       the fast path of data and RR with which all goes well
+fast_path   data that was counted and RR in d1, without an object for each row
 use         what was used and waited for: segments, packets over time, causes; waits has the requests and their
             time-outs, windows the flow of data; evenly keeps some of many values
 verdicts    what is said first: who broke the protocol, as far as both sides were recorded

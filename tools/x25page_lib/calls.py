@@ -14,9 +14,9 @@ MEMBERS = ("call", "epoch", "channel", "direction", "called", "calling", "opened
 FACTS = ("pays", "payer", "cleared_by", "cause", "diagnostic", "findings", "start", "seconds", "gaps", "segments_t")
 COLUMNS = (*MEMBERS, *FACTS)
 PACKETS = tuple(map(MEMBERS.index, ("opened", "up", "ended")))
-# What the array of a call has at most, mostly.
+# Bytes: few arrays of calls are longer.
 BYTES = 130
-# Multiples of the one, modulo the other, lie evenly over the range: the golden section of 2^32.
+# Multiples of the first, modulo the second, are spread evenly over the range: the golden section of 2^32.
 SPREADING, RANGE = 2_654_435_769, 1 << 32
 
 
@@ -34,19 +34,19 @@ class Calls:
         self.most = budget // BYTES
 
     def count(self, call: int) -> None:
-        """A row of the call has a finding."""
+        """Counts a finding of a row of the call."""
         self.findings[call] = self.findings.get(call, 0) + 1
 
     def share(self, call: int, segments: int) -> None:
-        """Data of the DTE was counted in the call."""
+        """Counts data of the DTE in the call."""
         if call >= len(self.segments_t):
             self.segments_t.frombytes(bytes(self.segments_t.itemsize * (call + 1 - len(self.segments_t))))
         self.segments_t[call] += segments
 
     def add(self, it: dict[str, Any]) -> None:
-        """Takes what the report says of a call; those with the fewest findings and segments are left out.
+        """Adds what the report says of a call; those with the fewest findings and segments are left out.
 
-        Of equal ones those are kept that lie evenly over the trace.
+        Of calls with equal numbers some are kept, spread evenly over the trace.
         """
         number = it["call"]
         rank = (self.findings.get(number, 0), it["segments"], number * SPREADING % RANGE, number)
@@ -61,7 +61,7 @@ class Calls:
         self.left_out += 1
 
     def facts(self, it: dict[str, Any]) -> None:
-        """Takes what is said of a call besides."""
+        """Adds what objects other than the call's line of the report have of the call."""
         if it["call"] in self.kept:
             it["segments_t"] = self.segments_t[it["call"]] if it["call"] < len(self.segments_t) else 0
             it["cause"], it["diagnostic"] = map(self.named, (it["cause"], it["diagnostic"]))
@@ -69,7 +69,7 @@ class Calls:
             self.kept[it["call"]] += [it[name] for name in FACTS]
 
     def named(self, value: dict[str, Any] | None) -> int | None:
-        """The place of a cause or a diagnostic code with its name."""
+        """The index of a cause or a diagnostic code, with its name, in its table."""
         return None if value is None else self.names.place((value["value"], value["name"]))
 
     def packets(self) -> Iterator[int | None]:

@@ -27,7 +27,7 @@ TERMINATED = 128 + signal.SIGTERM
 
 
 def write(page: Page, path: pathlib.Path) -> None:
-    """Writes a page, and says what is in it."""
+    """Writes a page, and prints what is in it."""
     with written(path) as out:
         for part in page.parts():
             out.write(part)
@@ -48,7 +48,7 @@ def make(job: Job, messages: Messages) -> None:
 
 
 def run(words: argparse.Namespace, arguments: Sequence[str], waiting: Waiting) -> Status:
-    """Does what the words ask for; returns the status."""
+    """Runs the parsed command line, and returns the exit status."""
     messages, job = Messages(), Job(words, arguments, Scanner(words.scanner), waiting)
     try:
         if words.is_each:
@@ -65,7 +65,7 @@ def run(words: argparse.Namespace, arguments: Sequence[str], waiting: Waiting) -
 
 
 def main(arguments: Sequence[str], waiting: Waiting) -> Status:
-    """Runs in a process whose streams and signals are as they are."""
+    """Runs without changing the streams and signals of the process."""
     words = parsed(arguments)
     try:
         return run(words, arguments, waiting)
@@ -78,7 +78,7 @@ def main(arguments: Sequence[str], waiting: Waiting) -> Status:
 
 
 def fill_gaps() -> None:
-    """Gives closed standard streams a place, so that no file takes theirs; a closed standard error shows nothing."""
+    """Opens a replacement for each closed standard stream, so that no file gets its number; a closed standard error shows nothing."""
     is_mute = sys.stderr is None or not is_open(2)
     for descriptor, is_closed in enumerate((sys.stdin is None, sys.stdout is None, is_mute)):
         if is_closed:
@@ -96,7 +96,7 @@ def program(arguments: Sequence[str]) -> Status:
     """Runs as a program: SIGINT ends the reading, and no signal that can be handled leaves a part of a page."""
     fill_gaps()
     waiting = Waiting()
-    # Little that is made for a row refers to itself, so there is little to search for.
+    # Few objects that are made for a row are in cycles, so the collector would find little.
     gc.disable()
     signal.signal(signal.SIGPIPE, signal.SIG_DFL)
     waiting.handle(signal.SIGINT)

@@ -20,7 +20,7 @@ LABELS = ("before", "after")
 
 
 def totals(job: Job, label: str, name: str) -> tuple[Totals, bool]:
-    """The totals of an input, and whether no packet of it may be missing."""
+    """The totals of an input, and whether it surely has all packets."""
     words = copy.copy(job.words)
     words.captures = [name]
     waiting = Waiting()
@@ -43,7 +43,7 @@ def path_of(job: Job) -> pathlib.Path | None:
 
 
 def count(found: list[Section]) -> str:
-    """How many lines differ, in words."""
+    """The number of lines that differ, in words."""
     many = sum(len(it.differing) for it in found)
     return f"{many:,} line{'' if many == 1 else 's'} differ{'s' if many == 1 else ''}"
 

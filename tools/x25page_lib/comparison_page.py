@@ -16,14 +16,14 @@ def side_of(label: str, it: Totals) -> Markup:
 
 
 def kind_of(section: Section, before: int, after: int) -> str:
-    """The class of a difference: more of what is bad is worse."""
+    """The CSS class of a difference, better or worse; more of a bad thing is worse."""
     if not section.is_bad or before == after:
         return "number"
     return f"number {'worse' if after > before else 'better'}"
 
 
 def apart(section: Section, before: int | None, after: int | None) -> Iterator[Cell]:
-    """The cells of a number before and after, and of the difference."""
+    """The cells of a number: before, after and the difference."""
     yield cell(before)
     yield cell(after)
     if before is None or after is None:
@@ -33,7 +33,7 @@ def apart(section: Section, before: int | None, after: int | None) -> Iterator[C
 
 
 def together(before: int | None, after: int | None) -> Cell:
-    """The cell of a number before and after, sorted by the difference."""
+    """One cell with a number before and after, sorted by the difference."""
     if before is None or after is None:
         return cell(None)
     change = element("small", f"{after - before:+,}" if after != before else "no difference")
@@ -41,7 +41,7 @@ def together(before: int | None, after: int | None) -> Cell:
 
 
 def cells(section: Section, line: Line) -> Iterator[Cell]:
-    """The cells of a line: of several numbers each has one."""
+    """The cells of a line; where it has several numbers, one cell for each."""
     yield from map(Cell, line.words)
     for before, after in zip(line.before, line.after):
         if len(section.counted) == 1:

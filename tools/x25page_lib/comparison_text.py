@@ -6,7 +6,7 @@ from collections.abc import Iterator, Sequence
 from .differences import Line, Section, other_headers
 from .totals import Totals
 
-# The width of a number, and so many lines of a section.
+# The width of a number in columns, and the most lines of a section.
 NUMBER, MOST_LINES = 12, 40
 
 
@@ -20,7 +20,7 @@ def heading(before: Totals, after: Totals) -> Iterator[str]:
 
 
 def words_of(line: Line) -> str:
-    """The words of a line, and what its number counts."""
+    """The label of a line, and what its number counts."""
     return ", ".join(filter(None, line.words))
 
 

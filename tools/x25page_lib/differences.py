@@ -7,7 +7,7 @@ from dataclasses import dataclass
 from .totals import Totals
 
 LAST_CHANNELS = {"SVC", "OUT", "TWO"}
-# Numbers, None where one is not known, and the same by the words that they are of.
+# Numbers, None where one is not known; and such numbers by their labels.
 Numbers = tuple["int | None", ...]
 Counts = Mapping[tuple[str, ...], Numbers]
 
@@ -15,7 +15,7 @@ Counts = Mapping[tuple[str, ...], Numbers]
 
 @dataclass(frozen=True)
 class Line:
-    """What is compared, in words, and its numbers before and after."""
+    """A label and its numbers before and after."""
 
     words: tuple[str, ...]
     before: Numbers
@@ -23,7 +23,7 @@ class Line:
 
     @property
     def changes(self) -> list[int]:
-        """The differences of the numbers that are known of both."""
+        """The differences of the numbers that both have."""
         return [after - before for before, after in zip(self.before, self.after) if before is not None and after is not None]
 
     @property
@@ -33,7 +33,7 @@ class Line:
 
 @dataclass(frozen=True)
 class Section:
-    """Lines of one kind: the heads of their words, what their numbers count, and whether fewer are better."""
+    """Lines of one kind: the heads of their labels, what the numbers count, and whether fewer are better."""
 
     title: str
     heads: tuple[str, ...]
@@ -50,12 +50,12 @@ class Section:
 
     @property
     def same(self) -> int:
-        """How many lines do not differ."""
+        """The number of lines that do not differ."""
         return sum(not it.differs for it in self.lines)
 
 
 def pairs(before: Counts, after: Counts, nothing: Numbers) -> tuple[Line, ...]:
-    """A line for each key of either; what one of them does not have is nothing."""
+    """A line for each key that one of them has; a missing count is 0."""
     keys = dict.fromkeys((*before, *after))
     return tuple(Line(key, before.get(key, nothing), after.get(key, nothing)) for key in keys)
 
@@ -91,9 +91,9 @@ def sections(before: Totals, after: Totals) -> Iterator[Section]:
 
 
 def other_headers(before: Totals, after: Totals) -> str | None:
-    """What of the headers differs, which findings and sums may differ for; None where nothing does."""
+    """What differs in the headers, as findings and sums may differ for this reason alone; None where nothing does."""
     names = dict.fromkeys((*before.header, *after.header))
-    # An estimated last channel is the last one that was used, and takes nothing away.
+    # An estimated last channel is the last one that was used, and refuses no channel.
     harmless = LAST_CHANNELS & (before.estimated | after.estimated)
     differing = [name for name in names if before.header.get(name) != after.header.get(name) and name not in harmless]
     if not differing:

@@ -1,4 +1,4 @@
-"""Some of many values, evenly over all of them."""
+"""Some of many values, spread evenly over all of them."""
 from __future__ import annotations
 
 from collections.abc import Sequence
@@ -6,14 +6,14 @@ from typing import Any
 
 
 class Evenly:
-    """Values of a trace: beyond a limit each second one, or fourth one."""
+    """Values of a trace: all of them up to a limit, then each second one, then each fourth one, and so on."""
 
     def __init__(self, kept: Any, most: int) -> None:
-        # The list or the array of what is kept, and how many there were.
+        # The list or the array of the values kept, and how many values there were.
         self.kept, self.most, self.step, self.seen = kept, most, 1, 0
 
     def add_all(self, values: Sequence[Any]) -> None:
-        """Takes the next values."""
+        """Adds the next values."""
         at = -self.seen % self.step
         while at < len(values):
             end = at + self.step * (self.most + 1 - len(self.kept))

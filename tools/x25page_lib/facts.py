@@ -1,4 +1,4 @@
-"""What a page shows of a trace: gathered from the objects of x25scan, each of which is looked at once."""
+"""What a page shows of a trace, gathered from the objects of x25scan in one pass."""
 from __future__ import annotations
 
 from collections.abc import Callable, Iterable, Iterator, Sequence
@@ -10,15 +10,15 @@ from x25tools_lib.json_text import names
 
 from .calls import BYTES, Calls
 from .evenly import Evenly
+from .fast_path import FastPath
 from .ladders import Flowing, Ladders
-from .lanes import Lanes
 from .rows import SECOND, SIDES, Missing, Row, RowForms, in_seconds, microseconds
 from .suspicions import Debts
 from .texts import encoded
 from .use import UNRECORDED, Use
 from .verdicts import Verdict, of_halves, verdict_of
 
-# What a page may have, in bytes: its markup, its words and its other parts, and its ladders what these leave.
+# The bytes that a page may have, and its markup, its words and its other parts; its ladders may have the rest.
 PAGE, WORDS = 25_000_000, 600_000
 CALLS, MARKS, ACCOUNTS, SETTINGS, CHANNELS = 4_500_000, 1_000_000, 500_000, 500_000, 200_000
 MOST_TIMES = 1024
@@ -28,7 +28,7 @@ LINE, = names("line")
 
 
 class Budgeted:
-    """Texts of a list, as many as its bytes allow."""
+    """Texts of a list, as many as a limit of bytes allows."""
 
     def __init__(self, budget: int) -> None:
         self.budget, self.size, self.left_out = budget, 0, 0
@@ -48,14 +48,14 @@ class Budgeted:
 
 
 class Thinned:
-    """Texts of a list, evenly over the trace: where its bytes do not allow all, each second one, or fourth one."""
+    """Texts of a list, spread evenly over the trace: all, or each second or fourth one, as a limit of bytes allows."""
 
     def __init__(self, budget: int) -> None:
         self.budget, self.size, self.step, self.seen = budget, 0, 1, 0
         self.texts: list[str] = []
 
     def takes_next(self) -> bool:
-        """Whether the next value is kept; another one need not be made."""
+        """Whether the next value is kept, so that others need not be made."""
         self.seen += 1
         return (self.seen - 1) % self.step == 0
 
@@ -81,18 +81,18 @@ class Thinned:
 
 
 class Times(Evenly):
-    """The times of some rows, evenly over the trace."""
+    """The times of some rows, spread evenly over the trace."""
 
     def __init__(self) -> None:
         super().__init__([], MOST_TIMES)
         self.last: tuple[int, int] = (0, 0)
 
     def add(self, packet: int, time: int) -> None:
-        """Takes the time of a row."""
+        """Adds the time of a row."""
         self.add_all([(packet, time)])
 
     def add_all(self, values: Sequence[tuple[int, int]]) -> None:
-        """Takes rows with their times."""
+        """Adds rows with their times."""
         super().add_all(values)
         self.last = values[-1] if values else self.last
 
@@ -108,7 +108,7 @@ class Times(Evenly):
 
 @dataclass
 class Broken:
-    """How often each side had a code, and where first."""
+    """How often each side had a code, and the first row of each."""
 
     name: str
     clause: str
@@ -118,7 +118,7 @@ class Broken:
 
 @dataclass(slots=True)
 class LastCall:
-    """The last call of a channel, which its clear confirmation still belongs to, and the key of its ladder."""
+    """The last call of a channel, to which its clear confirmation still belongs, and the key of its ladder."""
 
     number: int
     key: str
@@ -135,13 +135,13 @@ class Facts:
         self.unrecorded_ends: list[int] = []
         self.forms, self.ladders, self.calls = RowForms(), Ladders(PAGE - WORDS), Calls(CALLS)
         self.times, self.debts, self.use = Times(), Debts(self.forms.frames), Use()
-        self.lanes = Lanes(self)
+        self.fast_path = FastPath(self)
         self.broken: dict[str, Broken] = {}
         self.marks, self.restarts, self.gaps = Thinned(MARKS), Thinned(MARKS // 4), Thinned(MARKS // 4)
-        # The gaps of channels that have no call, up to the next row of theirs.
+        # The gaps of channels without a call, until the channel's next row.
         self.missing: dict[int | None, Missing] = {}
         self.accounts, self.settings = Budgeted(ACCOUNTS), Budgeted(SETTINGS)
-        # Of each channel the findings of both sides and where the first is.
+        # For each channel the findings of both sides and the row of the first one.
         self.by_channel: dict[int | None, tuple[int | None, list[int], tuple[int, str]]] = {}
         self.found_channels = Budgeted(CHANNELS)
         self.not_counted: list[list[Any]] = []
@@ -163,16 +163,16 @@ class Facts:
         }
 
     def take(self, objects: Iterable[dict[str, Any]]) -> None:
-        """Takes all objects of a trace."""
+        """Reads all objects of a trace."""
         rest = iter(objects)
-        while (it := self.lanes.take(rest)) is not None:
+        while (it := self.fast_path.take(rest)) is not None:
             if taker := self.takers.get(it[LINE]):
                 taker(it)
         self.finish()
 
     def finish(self) -> None:
-        """All objects are taken: the ladders may have what the other parts of the page leave."""
-        self.lanes.settle()
+        """Ends the facts after the last object: the ladders may use the bytes that other parts of the page leave."""
+        self.fast_path.settle()
         self.use.finish()
         self.call_text = self.calls.text()
         for channel, counts, first in sorted(self.by_channel.values(), key=lambda it: -sum(it[1])):
@@ -184,7 +184,7 @@ class Facts:
         self.ladders.limit(PAGE - WORDS - parts)
 
     def packets(self) -> Iterator[int | None]:
-        """The packets that the page names outside of its ladders."""
+        """The numbers of the packets that the page names outside of its ladders."""
         yield from (self.first, self.last, self.peak[1] if self.peak else None)
         yield from (first[0] for it in self.broken.values() for first in it.first if first)
         yield from (first[0] for *_, first in self.by_channel.values())
@@ -193,7 +193,7 @@ class Facts:
         yield from self.use.packets()
 
     def other_frames(self) -> dict[str, int]:
-        """The frames of the packets that the page names, except those with the packet's number; 0 where one is not known."""
+        """The frames of the packets that the page names, where they differ from the packet's number; 0 where unknown."""
         frames = self.forms.frames
         begun = frames.begun
         if begun is None:
@@ -207,8 +207,8 @@ class Facts:
         self.ladders.budget = PAGE - WORDS - calls - self.marks.size - self.restarts.size - self.gaps.size
 
     def row(self, row: Row) -> None:
-        """Takes a row."""
-        self.lanes.settle()
+        """Adds a row."""
+        self.fast_path.settle()
         packet = self.last = row.packet
         self.rows_of[row.side] += 1
         self.first = self.first or packet
@@ -224,25 +224,25 @@ class Facts:
         if row.is_quiet and not self.has_halves:
             self.use.flow(row, key)
             self.ladders.add(key, row)
-            self.lanes.begin(row, key)
+            self.fast_path.begin(row, key)
         else:
-            self.lanes.end(row.channel)
+            self.fast_path.end(row.channel)
             self.news(row, key)
 
     def gap(self, it: dict[str, Any]) -> None:
-        """Takes a gap row: packets of a channel may be missing, or of all, where it has none."""
-        self.lanes.settle()
+        """Adds a gap row: packets of its channel may be missing, or of all channels where it names none."""
+        self.fast_path.settle()
         packet, channel = it["packet"], it["channel"]
         self.first, self.last = self.first or packet, packet
         missing = Missing(packet, channel, self.forms.frame_of(packet, it.get("frame")))
-        self.lanes.end(channel)
+        self.fast_path.end(channel)
         self.use.miss(channel)
         self.debts.miss(channel)
         if self.gaps.takes_next():
             self.gaps.add([packet, channel])
         call = self.last_calls.get(channel)
         if channel is None:
-            # Each ladder has it before its next row.
+            # Each ladder gets it before its next row.
             self.ladders.gap = missing
         elif call is not None:
             self.ladders.miss(call.key, missing)
@@ -250,7 +250,7 @@ class Facts:
             self.missing[channel] = missing
 
     def count(self, rows: Sequence[Flowing]) -> None:
-        """Takes what quiet rows used, whose lanes take the rest."""
+        """Counts the octets and segments of quiet rows; the fast path does the rest."""
         packets, sides, times, octets, segments, *_ = zip(*rows)
         self.last = packets[-1]
         self.rows_of[1] += sum(sides)
@@ -262,7 +262,7 @@ class Facts:
             self.use.pass_time(times, octets)
 
     def news(self, row: Row, key: str) -> None:
-        """Takes a row that is more than data that flows."""
+        """Reads a row that is not on the fast path."""
         packet = row.packet
         if row.code:
             self.finding(row, key)
@@ -278,18 +278,18 @@ class Facts:
         self.ladders.add(key, row)
 
     def half(self, row: Row) -> bool:
-        """Counts a row of what was recorded of one side alone; returns whether it is one."""
+        """Counts a row of a part of the line that was recorded in one direction; returns whether it is such a row."""
         if not self.halves.side(row.channel, row.packet):
             return False
         self.half_rows += 1
         if row.finding:
             self.half_counts[row.side] += 1
-            # What the other side did after it was not recorded.
+            # What the other side sent after it was not recorded.
             row.finding["then"] = ""
         return True
 
     def key(self, row: Row) -> str:
-        """Which ladder a row stands in."""
+        """The key of the ladder of a row."""
         channel, call = row.channel, row.call
         last = self.last_calls.get(channel)
         if last is not None and call == last.number:
@@ -311,13 +311,13 @@ class Facts:
         return last.key
 
     def end_all(self) -> None:
-        """A restart ended the calls."""
+        """Ends all calls after a restart."""
         for call in self.last_calls.values():
             self.ladders.finish(call.key)
         self.last_calls.clear()
 
     def finding(self, row: Row, key: str) -> None:
-        """Counts what is wrong with a row."""
+        """Counts the finding of a row."""
         packet, side, finding = row.packet, row.side, row.finding or {}
         broken = self.broken.get(finding["code"])
         if broken is None:
@@ -335,7 +335,7 @@ class Facts:
             self.reserve()
 
     def call(self, it: dict[str, Any]) -> None:
-        """Takes what the report says of a call."""
+        """Adds what the report says of a call."""
         side = self.halves.side(it["channel"], it["opened"]) if self.has_halves else None
         is_unrecorded = bool(side and it["how"] in SIDES and it["how"] != side)
         if is_unrecorded:
@@ -344,7 +344,7 @@ class Facts:
         self.calls.add(it)
 
     def call_facts(self, it: dict[str, Any]) -> None:
-        """Takes what is said of a call besides its line of the report."""
+        """Adds what objects other than the call's line of the report have of it."""
         self.use.causes.facts_of(it)
         time, begun = microseconds(it["start"]), self.forms.begun
         it["start"] = None if time is None or begun is None else in_seconds(time - begun)
@@ -353,12 +353,12 @@ class Facts:
         self.calls.facts(it)
 
     def codes(self) -> list[list[Any]]:
-        """Each code with its name, the counts of both sides and where each had it first; the most frequent first."""
+        """Each code with its name, and the count and first row of each side; the most frequent code first."""
         ordered = sorted(self.broken.items(), key=lambda it: -sum(it[1].counts))
         return [[code, it.name, it.clause, it.counts, it.first] for code, it in ordered]
 
     def verdict(self) -> Verdict:
-        """Who broke the protocol, as far as what was recorded shows it."""
+        """Who broke the protocol, as far as the recording shows."""
         counts = [self.count_of(side) - half for side, half in zip(SIDES, self.half_counts)]
         if self.halves:
             return of_halves(self.halves.all, counts, self.half_rows < self.sums["packets"])
@@ -366,5 +366,5 @@ class Facts:
         return verdict_of(self.sums["packets"], counts, late, self.gaps.seen)
 
     def count_of(self, side: str) -> int:
-        """How many findings a side has."""
+        """The number of findings of a side."""
         return sum(it.counts[SIDES.index(side)] for it in self.broken.values())

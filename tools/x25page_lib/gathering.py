@@ -25,7 +25,7 @@ from .scanner import Explained, Scanner, Watch
 from .suspicions import Again
 from .words import line_with, of_captures, parser
 
-# The options of the numbers that a page may advise to change.
+# The options of the numbers for which a page may suggest other values.
 OPTIONS = {"WIN": "--win", "SIZE": "--size"}
 
 
@@ -34,7 +34,7 @@ def say(words: object) -> None:
 
 
 class Messages(Ledger):
-    """What is said of an input: on standard error, unless it is quiet, and in the page."""
+    """The messages about an input: in the page and, unless --quiet is given, on standard error."""
 
     def __init__(self, say_it: Callable[[object], None] | None = say) -> None:
         super().__init__(self.add)
@@ -43,19 +43,19 @@ class Messages(Ledger):
         self.is_capture = self.is_packed = False
 
     def add(self, words: str) -> None:
-        """Keeps and says a message."""
+        """Keeps a message, and prints it."""
         self.all.append(words)
         self.show(words)
 
     def show(self, words: str) -> None:
-        """Says something that is no message of the page."""
+        """Prints a line that is no message of the page."""
         if self.say_it:
             self.say_it(words)
 
 
 @dataclass
 class Job:
-    """What is to be read: the words of the command line, as they were parsed and as they stand, and who judges."""
+    """What is to be read: the command line, parsed and as written, and the scanner."""
 
     words: argparse.Namespace
     arguments: Sequence[str]
@@ -65,7 +65,7 @@ class Job:
 
 @dataclass
 class Read:
-    """What was read of an input: its name, what it says besides its rows, its facts, and what was said of it."""
+    """What was read of an input: its name, what it has besides rows, its facts, and the messages about it."""
 
     name: str
     head: Head
@@ -77,7 +77,7 @@ class Read:
 
 @contextlib.contextmanager
 def opened_trace(words: argparse.Namespace, messages: Messages, waiting: Waiting) -> Iterator[tuple[BinaryIO, Head]]:
-    """The trace that is named, or that of the captures that are, and what it says besides its rows."""
+    """The named trace, or the trace of the named captures, and what it has besides rows."""
     inputs.take_pipe(words)
     name = words.captures[0]
     with first_source(words.captures, waiting) as source:
@@ -96,21 +96,21 @@ def opened_trace(words: argparse.Namespace, messages: Messages, waiting: Waiting
 
 
 def show_header(head: Head, messages: Messages) -> None:
-    """Says which header was taken, and what of it was estimated; and what a trace says of halves."""
+    """Prints which header was used, which of its numbers were estimated, and what was recorded in one direction."""
     if head.header.startswith(HEADER.decode()):
-        # What has none is refused.
+        # A trace without a header is refused.
         messages.show(f"header: {head.header}")
     if head.estimates:
         messages.show(f"estimated from what was seen: {', '.join(it.text for it in head.estimates)}")
     if not messages.is_capture:
-        # Of a capture it was said.
+        # For a capture this was printed before.
         messages.lack(head.halves)
 
 
 def again(words: argparse.Namespace, arguments: Sequence[str], messages: Messages) -> Again:
-    """What stands in a command that reads the same again: of a capture, also without a number that is changed."""
+    """The words of a command that reads the same input again; of a capture, without a number that is changed."""
     if messages.is_capture:
-        # The page may be for other people: it has no folder of this machine.
+        # The page may be given to others: it names no folder of this machine.
         shown = [os.path.basename(word) if word in words.captures else word for word in arguments]
         return {"all": line_with(shown), **{name: line_with(shown, option) for name, option in OPTIONS.items()}}
     name = words.captures[0]
@@ -119,10 +119,10 @@ def again(words: argparse.Namespace, arguments: Sequence[str], messages: Message
 
 
 def read(job: Job, messages: Messages, watch: Watch | None = None) -> Read:
-    """Reads what is named; the watch sees the objects of the report before the facts take them."""
+    """Reads the named input; `watch` gets the objects of the report before the facts do."""
     words, scanner = job.words, job.scanner
     with opened_trace(words, messages, job.waiting) as (trace, head):
-        # What was read is to be shown: a signal ends the program from here on.
+        # The reading is over: from here on a signal ends the program.
         signal.signal(signal.SIGINT, signal.default_int_handler)
         for line in messages.lines():
             messages.add(line)

@@ -17,7 +17,7 @@ HEADS = (("Capture or trace", None), ("What is said first of it", None), ("DTE",
 
 @dataclass
 class Line:
-    """What the index says of an input: its page, or why there is none."""
+    """The line of an input in the index: its page, or why there is none."""
 
     path: str
     page: str
@@ -25,9 +25,9 @@ class Line:
     counts: Sequence[int] = (0, 0)
     sums: dict[str, int] = field(default_factory=dict)
     gaps: int = 0
-    # The words of the header, their values, and whether each was estimated.
+    # The numbers of the header, by name, and whether each was estimated.
     header: Sequence[tuple[str, str, bool]] = ()
-    # What a reader should know before the page: that packets may be missing, or that the header may be wrong.
+    # What to know before the page: that packets may be missing, or that the header may be wrong.
     notes: Sequence[str] = ()
 
     @classmethod
@@ -48,13 +48,13 @@ class Line:
         return [Cell(name, self.path), self.said(), *found, *sums, gaps, Cell(Markup("".join(self.words())), header)]
 
     def said(self) -> Cell:
-        """What is said first of the page, and its notes."""
+        """The verdict of the page, and its notes."""
         notes = (element("small", note) for note in self.notes)
         sentence = element("span", self.verdict.sentence, kind=f"said {self.verdict.kind}")
         return Cell(Markup("".join((sentence, *notes))), self.verdict.sentence)
 
     def words(self) -> Iterator[Markup]:
-        """The words of the header; those that were estimated are marked."""
+        """The header; numbers that were estimated are marked."""
         for word, value, is_estimated in self.header:
             yield element("span", f"{word} {value}".strip(), kind="chip estimated" if is_estimated else "chip",
                           title="estimated from what was seen" if is_estimated else None)

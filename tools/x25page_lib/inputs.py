@@ -1,4 +1,4 @@
-"""The trace that a page is of: one that was named, or that of a capture, with what it says besides its rows."""
+"""The trace of a page: a named trace, or that of a capture, with what it has besides rows."""
 from __future__ import annotations
 
 import argparse
@@ -25,7 +25,7 @@ RECORDED_AT = notes.RECORDED_AT.encode()
 
 
 def take_pipe(words: argparse.Namespace) -> None:
-    """A pipe that has a name is read as standard input: what it begins with can be looked at there, and is read again."""
+    """Opens a named pipe as standard input, whose first octets can be looked at and read again."""
     name = words.captures[0]
     if len(words.captures) == 1 and name != "-" and is_pipe(name):
         with open_input(name) as stream:
@@ -35,14 +35,14 @@ def take_pipe(words: argparse.Namespace) -> None:
 
 
 def start_of(source: Source) -> bytes:
-    """The first octets of a source, which are read again; after an interruption those that came before."""
+    """The first octets of a source, which are read again; after an interruption those that had come."""
     with contextlib.suppress(Interrupted):
         return source.peek(LOOK)
     return source.ahead
 
 
 def head_of(trace: BinaryIO) -> Head:
-    """What a trace in an open file says besides its rows; the file is left at its beginning."""
+    """What a trace in an open file has besides rows; the file is left at its beginning."""
     head, circuit = Head(), None
     while line := trace.readline(LONGEST_LINE):
         if not line.startswith(b"#"):
@@ -76,7 +76,7 @@ def shown(octets: bytes) -> str:
 
 
 def add_comment(head: Head, words: str) -> None:
-    """Takes a comment before the header, which may say what of it was estimated."""
+    """Reads a comment before the header, which may name the numbers that were estimated."""
     head.estimates += notes.estimates_of(words)
     if half := notes.half_of(words):
         head.halves.append(half)
@@ -86,9 +86,9 @@ def add_comment(head: Head, words: str) -> None:
 
 @contextlib.contextmanager
 def named_trace(name: str, source: Source, ledger: Ledger) -> Iterator[tuple[BinaryIO, Head]]:
-    """A trace in an open file, and what it says besides its rows.
+    """Returns a trace in an open file, and what it has besides rows.
 
-    It is the file itself, or a copy of standard input or of what a gzip file holds.
+    The file is the named one, or a copy of standard input or of the contents of a gzip file.
     """
     if name != "-" and not source.is_packed:
         with open_input(name) as file:
@@ -99,7 +99,7 @@ def named_trace(name: str, source: Source, ledger: Ledger) -> Iterator[tuple[Bin
         for lines in lines_of(source, ledger):
             copy.write(lines)
             size += len(lines)
-            # x25scan refuses it, and needs no more to do so.
+            # x25scan refuses it, and needs no more of it.
             if size > LARGEST_TEXT:
                 break
         copy.seek(0)

@@ -1,4 +1,4 @@
-"""The ladders of a page: the rows that are kept of each call, and the sums of those that are left out."""
+"""The ladders of a page: the rows kept of each call, and the sums of the rows left out."""
 from __future__ import annotations
 
 from collections import deque
@@ -11,20 +11,20 @@ from .texts import encoded, plain_texts
 
 # A ladder keeps its first rows, which show how the call was set up.
 BEGINNING = 2
-# So many rows of a ladder that is probably left out wait for a finding, before their texts are made.
+# The rows of a ladder that is probably left out whose texts are not made until it has a finding.
 WAITING = 16
-# What a row counts for, in bytes, that waits for one to be kept beside.
+# The bytes counted for a row that waits for a kept row near it.
 COST = 150
 ALL = 1 << 30
-# What the key of a ladder has in a page, in bytes.
+# The bytes of a ladder's key in a page.
 KEY = 18
 
 
 @dataclass(frozen=True)
 class Level:
-    """How much is kept. The budget of a page is kept by going on to the next level."""
+    """How much is kept. Where the budget of a page is exceeded, the next level keeps less."""
 
-    # Rows without a mark that are kept beside one with a mark, hex digits of a row, rows of a ladder.
+    # The rows without a mark kept next to one with a mark, the hex digits of a row, and the rows of a ladder.
     edge: int
     digits: int
     most: int
@@ -41,13 +41,13 @@ LEVELS = (
     Level(2, 32, 400),
     Level(2, 32, 60),
 )
-# From this level on ladders without a finding go before more is left out of others.
+# From this level on, ladders without a finding are dropped before others lose more.
 DROPPING = 6
 
 
 @dataclass(slots=True)
 class Run:
-    """The sums of rows that are left out one after the other."""
+    """The sums of consecutive rows that are left out."""
 
     first: int = 0
     last: int = 0
@@ -56,12 +56,12 @@ class Run:
     data: list[int] = field(default_factory=lambda: [0, 0])
     octets: list[int] = field(default_factory=lambda: [0, 0])
     findings: dict[str, int] = field(default_factory=dict)
-    # The frames of the first and the last row, as the page has them.
+    # The frames of the first and the last row, as the page shows them.
     frames: list[int | None] = field(default_factory=lambda: [None, None])
     text: str = ""
 
     def add(self, row: Row | Kept) -> None:
-        """Takes a row."""
+        """Adds a row."""
         if not self.first:
             self.first, self.frames[0] = row.packet, row.frame
         self.last, self.frames[1] = row.packet, row.frame
@@ -74,7 +74,7 @@ class Run:
             self.findings[row.code] = self.findings.get(row.code, 0) + 1
 
     def join(self, other: Run) -> None:
-        """Takes the sums of a run that follows."""
+        """Adds the sums of a run that follows."""
         if not self.first:
             self.first, self.frames[0] = other.first, other.frames[0]
         self.last, self.frames[1] = other.last, other.frames[1]
@@ -87,7 +87,7 @@ class Run:
             self.findings[code] = self.findings.get(code, 0) + count
 
     def kept(self, _level: Level) -> Run:
-        """The same with its text."""
+        """The array of the run, with its text."""
         names = ["first", "last", "packets", "data", "octets", "findings"]
         if self.frames != [None, None]:
             names.append("frames")
@@ -106,29 +106,29 @@ class Ladder:
 
     def __init__(self, is_waiting: bool = False, gap: Missing | None = None) -> None:
         self.begin()
-        # The last gap of all channels that it has, or that was before it.
+        # The last gap of all channels in it or before it.
         self.gap = gap
         self.findings, self.is_closed, self.is_waiting = 0, False, is_waiting
-        # The most digits of a row, and how many rows without a mark there were.
+        # The most hex digits of a row, and the number of rows without a mark.
         self.widest = self.unmarked = 0
 
     def begin(self) -> None:
         """Forgets all rows."""
-        # Of a quiet row this is its text; of a ladder that waits these are rows without a text.
+        # A quiet row is kept as its text; a ladder whose texts are not made yet has rows.
         self.items: list[Row | Kept | Run | str] = []
         self.run: Run | None = None
         self.tail: deque[Row | Kept] | tuple[()] = ()
         self.following, self.size = 0, KEY
 
     def keeps(self, row: Row | Kept, level: Level) -> bool:
-        """Whether a row is kept for itself, and not for those beside it."""
+        """Whether a row is kept, whatever its neighbours are."""
         many = len(self.items)
         if many >= (level.most if row.code else level.most // 2):
             return False
         return row.is_marked or level.edge == ALL or many < BEGINNING
 
     def place(self, row: Row | Kept, level: Level) -> None:
-        """Keeps a row, or has it wait for one that is kept, or leaves it out."""
+        """Keeps a row, holds it until a row near it is kept, or leaves it out."""
         if self.is_closed:
             self.sum_up(row)
         elif self.keeps(row, level):
@@ -172,7 +172,7 @@ class Ladder:
         self.size += len(text) + 1
 
     def show(self, level: Level) -> None:
-        """Makes the texts of what waited."""
+        """Makes the texts of the rows that waited for a finding."""
         self.is_waiting = False
         items, self.items = self.items, []
         for item in items:
@@ -180,7 +180,7 @@ class Ladder:
                 self.keep(item, level)
 
     def release(self, level: Level) -> None:
-        """Keeps the sums of what was left out, and the rows that wait."""
+        """Adds the sums of the rows left out, and the rows held."""
         if self.run:
             self.keep(self.run, level)
             self.run = None
@@ -190,14 +190,14 @@ class Ladder:
         self.tail = ()
 
     def fits(self, level: Level) -> bool:
-        """Whether all that it has kept stays by another level: short rows, few of them or none without a mark."""
+        """Whether another level would keep all that is kept now."""
         many = len(self.items) + len(self.tail)
         if self.is_closed or self.widest > level.digits:
             return False
         return many <= level.edge or not self.unmarked and many < level.most // 2
 
     def fold(self, level: Level) -> None:
-        """Keeps by another level what it has kept so far."""
+        """Applies another level to what was kept so far."""
         if self.fits(level):
             self.following = min(self.following, level.edge)
             return
@@ -219,7 +219,7 @@ class Ladder:
         self.widest = min(self.widest, level.digits)
 
     def close(self) -> None:
-        """Keeps nothing but sums, of what was and of what comes."""
+        """Keeps only sums, of the rows so far and of those that follow."""
         self.is_closed = True
         self.fold(LEVELS[-1])
 
@@ -234,7 +234,7 @@ def quiet_texts(rows: Sequence[Flowing], level: Level, forms: RowForms) -> list[
     if level.edge != ALL:
         for *_, members in rows:
             if "frame" in members and "c" in members:
-                # A row that may be left out again has its frame before its segments.
+                # A row that may still be left out has its frame before its segments.
                 members["c"] = members.pop("c")
     arrays = forms.arrays(rows, level.digits)
     if is_plain("".join([array[OCTETS] for array in arrays])):
@@ -243,7 +243,7 @@ def quiet_texts(rows: Sequence[Flowing], level: Level, forms: RowForms) -> list[
 
 
 class Ladders:
-    """The ladders of all calls, within a budget of bytes: those with the most findings are kept first."""
+    """The ladders of all calls, within a budget of bytes, which those with the most findings get first."""
 
     def __init__(self, budget: int) -> None:
         self.budget, self.size, self.level = budget, 0, 0
@@ -251,13 +251,13 @@ class Ladders:
         self.ladders: dict[str, Ladder] = {}
         self.finished: set[str] = set()
         self.left_out = 0
-        # Whether a ladder without a finding was left out, as all further ones are then.
+        # Whether a ladder without a finding was left out; then all further ones are.
         self.is_full = False
         # The last gap of all channels.
         self.gap: Missing | None = None
 
     def ladder(self, key: str) -> Ladder:
-        """The ladder with a key, which begins where there is none."""
+        """The ladder with a key; a new one where there is none."""
         ladder = self.ladders.get(key)
         if ladder is None:
             ladder = self.ladders[key] = Ladder(self.is_full, self.gap)
@@ -265,14 +265,14 @@ class Ladders:
         return ladder
 
     def miss(self, key: str, gap: Missing) -> None:
-        """Takes a gap of the ladder with a key."""
+        """Adds a gap to the ladder with a key."""
         ladder = self.ladder(key)
         before = ladder.size
         ladder.place(gap, LEVELS[self.level])
         self.size += ladder.size - before
 
     def add(self, key: str, row: Row) -> None:
-        """Takes a row of the ladder with a key, after the gap of all channels that came before it."""
+        """Adds a row to the ladder with a key, after the gap of all channels that came before it."""
         ladder = self.ladder(key)
         if ladder.gap is not self.gap and self.gap is not None:
             ladder.gap = self.gap
@@ -295,7 +295,7 @@ class Ladders:
             self.shrink()
 
     def flow(self, rows: Sequence[Flowing], forms: RowForms) -> int:
-        """Takes quiet rows, up to one after which less is kept; returns how many it took."""
+        """Adds quiet rows, up to one after which less is kept; returns how many it added."""
         keeps, texts = self.keeps, quiet_texts(rows, self.keeps, forms)
         sizes = list(map(len, texts))
         size = self.size + sum(sizes) + len(sizes)
@@ -310,7 +310,7 @@ class Ladders:
         return len(rows)
 
     def flow_singly(self, rows: Sequence[Flowing], texts: Sequence[str]) -> int:
-        """Takes quiet rows of which some may be left out."""
+        """Adds quiet rows of which some may be left out."""
         keeps = self.keeps
         for many, (row, text) in enumerate(zip(rows, texts), 1):
             *_, ladder, _, digits, _ = row
@@ -327,7 +327,7 @@ class Ladders:
         return len(rows)
 
     def finish(self, key: str) -> None:
-        """No more rows will come for a ladder."""
+        """Ends a ladder: no more rows will be added."""
         ladder = self.ladders.get(key)
         if ladder is None:
             return
@@ -346,13 +346,13 @@ class Ladders:
         self.left_out += 1
 
     def limit(self, budget: int) -> None:
-        """Takes the last budget: no more rows come."""
+        """Applies the final budget, after the last row."""
         self.budget = budget
         if self.size > budget:
             self.shrink()
 
     def shrink(self) -> None:
-        """Keeps less: first of rows, then of ladders without a finding, and last of those with the fewest findings."""
+        """Leaves out more: first rows, then ladders without a finding, then those with the fewest findings."""
         enough = self.budget * 3 // 4
         while self.size > enough and self.level + 1 < len(LEVELS):
             if self.level >= DROPPING:
@@ -366,14 +366,14 @@ class Ladders:
             self.close_some(enough)
 
     def fold_all(self) -> None:
-        """Keeps all ladders by the level."""
+        """Applies the level to all ladders."""
         level = LEVELS[self.level]
         for ladder in self.ladders.values():
             ladder.fold(level)
         self.size = sum(ladder.size for ladder in self.ladders.values())
 
     def drop_quiet(self, enough: int) -> None:
-        """Leaves out finished ladders without a finding, the last ones first."""
+        """Leaves out ended ladders without a finding, the last ones first."""
         for key in reversed([it for it in self.ladders if it in self.finished and not self.ladders[it].findings]):
             if self.size <= enough:
                 break
@@ -381,7 +381,7 @@ class Ladders:
             self.is_full = True
 
     def close_some(self, enough: int) -> None:
-        """Keeps only sums of some ladders, those with the fewest findings first."""
+        """Reduces ladders to sums, those with the fewest findings first."""
         for key in sorted(self.ladders, key=lambda it: self.ladders[it].findings):
             ladder = self.ladders[key]
             if self.size <= enough:
@@ -395,7 +395,7 @@ class Ladders:
                 self.drop(key)
 
     def texts(self) -> Iterator[tuple[str, str]]:
-        """The key of each ladder that has more than sums, and its text."""
+        """The key and the text of each ladder that has more than sums."""
         level = LEVELS[self.level]
         for key, ladder in self.ladders.items():
             if ladder.is_waiting and self.size < self.budget:

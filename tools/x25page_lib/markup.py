@@ -1,4 +1,4 @@
-"""Pages that are whole without a script: elements as text, and the file that they stand in."""
+"""Pages that need no script: elements as text, and the file that has them."""
 from __future__ import annotations
 
 import base64
@@ -14,16 +14,16 @@ LOOK = 2000
 
 
 class Markup(str):
-    """A text that is markup, and not to be escaped."""
+    """Text that is markup, and is not escaped."""
 
 
 def source_of(text: str) -> str:
-    """How a policy names a style or a script that stands in the page."""
+    """The source expression of a style or a script in the policy of a page."""
     return f"'sha256-{base64.b64encode(hashlib.sha256(text.encode()).digest()).decode()}'"
 
 
 def policy_of(style: str, script: str) -> str:
-    """The policy of a page: it runs this script, has this style, and asks for nothing."""
+    """The content security policy of a page: only this script and this style, and no request."""
     allowed = f"style-src {source_of(style)}; script-src {source_of(script)}"
     return f"default-src 'none'; {allowed}; base-uri 'none'; form-action 'none'"
 
@@ -52,7 +52,7 @@ def filled(name: str, parts: dict[str, Iterable[str]]) -> Iterator[str]:
 
 
 def ascii_of(text: str) -> str:
-    """A text in which nothing is markup, in ASCII; what is no character is a question mark."""
+    """A text in ASCII with all markup escaped; what is not a character becomes a question mark."""
     escaped = html.escape(text.encode("utf-8", "replace").decode())
     return escaped.encode("ascii", "xmlcharrefreplace").decode()
 
@@ -67,19 +67,19 @@ def element(tag: str, *children: object, **attributes: object) -> Markup:
 
 @dataclass(frozen=True)
 class Cell:
-    """A cell of a table: what it has, what it is sorted by where that is another text, and its class."""
+    """A cell of a table: its content, its sort key where that differs, and its class."""
 
     content: object
     order: object = None
     kind: str | None = None
 
     def markup(self, name: str) -> Markup:
-        """The cell in a column of this name, which stands beside it on a small screen."""
+        """The cell in a column of this name, which a small screen shows next to it."""
         return element("td", self.content, kind=self.kind, role="cell", data_name=name, data_order=self.order)
 
 
 def cell(value: int | None, kind: str = "number") -> Cell:
-    """The cell of a number, which has commas and is sorted as a number; of one that is not known."""
+    """The cell of a number, written with commas and sorted as a number; the number may be unknown."""
     return Cell("-", -1, kind) if value is None else Cell(f"{value:,}", value, kind)
 
 

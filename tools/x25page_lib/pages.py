@@ -1,4 +1,4 @@
-"""The file of a page: its markup, its style, its scripts and its facts, in one text that asks nothing of a network."""
+"""The file of a page: its markup, style, scripts and facts in one text, which makes no network request."""
 from __future__ import annotations
 
 from collections.abc import Iterable, Iterator
@@ -56,14 +56,14 @@ class Page:
         yield "settings", [facts.settings.text]
         yield "found_channels", [facts.found_channels.text]
         yield "ladders", self.ladders()
-        # What was left out is known when all else was written.
+        # What was left out is known when everything else is written.
         yield "left_out", [encoded(self.left_out())]
 
     def small(self) -> dict[str, Any]:
         """The members that are small."""
         facts, head, codes = self.read.facts, self.read.head, self.read.facts.codes()
         verdict = facts.verdict()
-        # Of half a recording the header can't be judged.
+        # Where only half was recorded, the header cannot be judged.
         self.warnings = [] if facts.halves else warnings(head.numbers, codes, facts.debts)
         return {
             "name": self.read.name,
@@ -84,11 +84,11 @@ class Page:
             "warnings": self.warnings,
             "not_counted": facts.not_counted,
             "rows": [facts.first, facts.last],
-            # The first packet whose frame is known: from there on a frame is the packet's number, or another one.
+            # The first packet whose frame is known: from there on a row without a frame has the packet's number as its frame.
             "framed": facts.forms.frames.begun,
             "channels": sorted(facts.channels),
             "times": facts.times.all(facts.forms),
-            # In nanoseconds, as a text: a script has no whole number so great.
+            # In nanoseconds, as a text: a script has no integers that large.
             "begun": None if facts.forms.begun is None else f"{facts.forms.begun}000",
             "types": facts.forms.types.values(),
             "states": facts.forms.states.values(),
@@ -99,7 +99,7 @@ class Page:
         }
 
     def ladders(self) -> Iterator[str]:
-        """The ladders by their keys."""
+        """The ladders by key."""
         yield "{"
         for at, (key, text) in enumerate(self.read.facts.ladders.texts()):
             yield f"{',' if at else ''}\n{encoded(key)}:{text}"
@@ -121,7 +121,7 @@ class Page:
         }
 
     def summary(self) -> str:
-        """What is said of the page on standard error."""
+        """The line about the page for standard error."""
         facts = self.read.facts
         sums, of_sides = facts.sums, [facts.count_of(side) for side in SIDES]
         said = ", ".join(number(sums[f"{noun}s"], noun) for noun in ("packet", "call", "finding"))

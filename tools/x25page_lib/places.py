@@ -1,4 +1,4 @@
-"""Where a page is written: the name of its file, and how it takes the place of what stands there."""
+"""Where a page is written: the name of its file, and how it replaces an older one."""
 from __future__ import annotations
 
 import argparse
@@ -26,7 +26,7 @@ def path_of(words: argparse.Namespace) -> pathlib.Path:
 
 
 def checked(path: pathlib.Path, inputs: Iterable[str], is_named: bool) -> pathlib.Path:
-    """A file that may be written: another page if it was not named, and none of the inputs."""
+    """Returns a path that may be written: not an input and, unless the user named it, no file other than a page."""
     if not is_named and path.exists() and not path.is_dir() and not is_page(path):
         raise Refusal(PageWhy.OUTPUT, f"{path} stands there and is no page of x25page: -o names another file")
     if path.is_dir():
@@ -38,7 +38,7 @@ def checked(path: pathlib.Path, inputs: Iterable[str], is_named: bool) -> pathli
 
 @contextlib.contextmanager
 def written(path: pathlib.Path) -> Iterator[TextIO]:
-    """A stream for a page, which takes its place once it is whole; what is no file of its own is written to."""
+    """A stream for a page, which gets its name when it is complete; a device or a pipe is written to directly."""
     with contextlib.suppress(FileNotFoundError):
         if not stat.S_ISREG(path.stat().st_mode):
             with open(path, "w", encoding="ascii") as out:

@@ -1,4 +1,4 @@
-"""The rows of a page: what x25scan says of each, and its array; words that many rows have stand in tables beside it."""
+"""The rows of a page: what x25scan prints of each, and its array; words that many rows have are in tables."""
 from __future__ import annotations
 
 from collections.abc import Hashable, Iterable
@@ -16,17 +16,17 @@ FLOWING = {"data", "rr", "rnr", "interrupt", "interrupt_confirmation"}
 SHORT = {"send": "s", "receive": "r", "octets": "o", "more": "m", "qualified": "q", "delivery": "d"}
 BITS = (("more", "m"), ("qualified", "q"), ("delivery", "d"))
 OCTETS_TEXT, FRAME_TEXT = '"o":', '"frame":'
-# The members that each row has, and that a page has in other places than the others.
+# The members that each row has, and which a page keeps apart from the others.
 EACH = ("packet", "side", "channel", "before", "after", "counted", "finding", "owed", "call", "time", "type", "hex")
 BASE, APART = itemgetter(*EACH), frozenset((*EACH, "line", "epoch", "frame"))
 SECOND = 1_000_000
-# The state of a channel of which packets may be missing.
+# The state of a channel after a gap.
 ADRIFT = "adrift"
-# No clock of a recorder is so late, and a number of seconds before it has whole microseconds.
+# Seconds: no recorder's clock is later, and up to it a float has whole microseconds.
 LATEST = 1 << 32
-# Many rows have the same kind and states.
+# The most triples of a kind and two states that are cached.
 REMEMBERED = 1 << 15
-# The place of a quiet row's octets in its array.
+# The index of a quiet row's octets in its array.
 OCTETS = 6
 # A quiet row: its packet, its side, its time, its octets and segments of data, its ladder, its kind, its hex digits, and what
 # else it has.
@@ -52,7 +52,7 @@ class Level(Protocol):
 
 
 class Row:
-    """A row that may be kept: what x25scan says of it. Its members are all that its object has."""
+    """A row that may be kept; `members` is the whole object of x25scan."""
 
     is_gap = False
     __slots__ = (
@@ -87,18 +87,18 @@ class Row:
             self.code is not None or self.before != self.after or self.kind not in FLOWING
             or it["begins"] or it["up"] or bool(it["ends"]) or "message" in it or "settings" in it
         )
-        # Data that was counted, or an RR in d1, and nothing else: the common case.
+        # The common case: counted data or an RR in d1, and nothing else to show.
         self.is_quiet: bool = (
             not self.is_marked and not self.owed and self.after == "d1" and (counted is not None or self.kind == "rr")
         )
 
     def kept(self, level: Level) -> Kept:
-        """What a page keeps of it, with as many digits as a level keeps; a finding keeps eight times as many."""
+        """What a page keeps of the row, with the hex digits of a level; a finding keeps eight times as many."""
         return Kept(self.forms.text(self, level.digits * 8 if self.code else level.digits), self)
 
 
 def cut(text: str, digits: int) -> str:
-    """The text of a row with so many digits of its octets at most."""
+    """The text of a row with at most this number of digits of its octets."""
     if len(text) > digits:
         begin = text.index('"') + 1
         end = text.index('"', begin)
@@ -108,13 +108,13 @@ def cut(text: str, digits: int) -> str:
 
 
 def is_plain(text: str) -> bool:
-    """Whether a text stands in JSON as it is, as hex digits do."""
-    # isalnum of bytes takes a tenth of the time.
+    """Whether a text needs no escape in JSON, like hex digits."""
+    # isalnum of bytes is ten times as fast.
     return text.encode("ascii", "replace").isalnum()
 
 
 class Kept:
-    """A row that a page keeps: its text, and its place in sums."""
+    """A row that a page keeps: its text, and what a sum needs of it."""
 
     is_gap = False
     __slots__ = ("packet", "side", "octets", "code", "is_data", "is_marked", "frame", "text")
@@ -142,13 +142,13 @@ class Kept:
         return kept
 
     def kept(self, level: Level) -> Kept:
-        """The same with as many digits as a level keeps."""
+        """The row with the hex digits that a level keeps."""
         self.text = cut(self.text, level.digits * 8 if self.code else level.digits)
         return self
 
 
 class Missing(Kept):
-    """A gap in a ladder: packets of a channel may be missing there, or of all where it has none."""
+    """A gap in a ladder: packets of its channel may be missing there, or of all channels where it names none."""
 
     is_gap = True
     __slots__ = ()
@@ -164,7 +164,7 @@ class Missing(Kept):
 
 
 def members_of(it: dict[str, Any]) -> dict[str, Any]:
-    """What a quiet row says besides, by its object."""
+    """The other members of a quiet row, from its object."""
     if it["type"] != "data":
         return {"r": it["receive"]}
     bits = {short: True for name, short in BITS if it[name]}
@@ -172,7 +172,7 @@ def members_of(it: dict[str, Any]) -> dict[str, Any]:
 
 
 class Table:
-    """Values that have a place each."""
+    """Values, each with an index."""
 
     def __init__(self) -> None:
         self.places: dict[Hashable, int] = {}
@@ -196,14 +196,14 @@ class RowForms:
         self.steps: dict[str, list[int]] = {}
 
     def begin(self, time: int) -> None:
-        """Takes the first time of the trace."""
+        """Sets the first time of the trace."""
         if self.begun is None:
             self.begun = time
 
     def frame_of(self, packet: int, frame: int | None) -> int | None:
-        """Takes the frame of the next packet; returns it as the page has it.
+        """Reads the frame of the next packet; returns it as the page shows it.
 
-        That is nothing where it is the packet's number, or no packet so far has one; and 0 where it is not known.
+        That is None where it is the packet's number, or where no packet so far has a frame; and 0 where it is unknown.
         """
         frames = self.frames
         if frame is None:
@@ -217,7 +217,7 @@ class RowForms:
         return (time - (self.begun or 0)) / SECOND
 
     def text(self, row: Row, digits: int) -> str:
-        """The array of a row, as the page has it, with so many digits of its octets."""
+        """The array of a row in the page, with this number of hex digits of its octets."""
         time = "null" if row.time is None else self.since_begin(row.time)
         shown = row.hex[:digits]
         text = f'"{shown}"' if is_plain(shown) else encoded(shown)
@@ -225,7 +225,7 @@ class RowForms:
         return f"[{row.packet},{row.side},{step},{time},{text},{len(row.hex) // 2},{self.more(row)}]"
 
     def places(self, kind: str, before: str, after: str) -> str:
-        """The kind of packet and the states before and after it, by their places."""
+        """The kind of packet and the states before and after it, by index."""
         return f"{self.types.place(kind)},{self.states.place(before)},{self.states.place(after)}"
 
     def quiet(self, row: Row, digits: int) -> str:
@@ -240,7 +240,7 @@ class RowForms:
         return plain(array)
 
     def arrays(self, rows: Iterable[Flowing], digits: int) -> list[list[Any]]:
-        """The arrays of quiet rows, with so many digits of their octets."""
+        """The arrays of quiet rows, with this number of hex digits of their octets."""
         begun, steps = self.begun or 0, self.steps
         return [
             [packet, side, *(steps.get(kind) or self.quiet_step(kind)), None if time is None else (time - begun) / SECOND,
@@ -249,12 +249,12 @@ class RowForms:
         ]
 
     def quiet_step(self, kind: str) -> list[int]:
-        """The kind of a quiet row and its state, by their places."""
+        """The kind of a quiet row and its state, by index."""
         self.steps[kind] = [self.types.place(kind), *[self.states.place("d1")] * 2]
         return self.steps[kind]
 
     def more(self, row: Row) -> str:
-        """What a row says besides: its members that are not null, false or empty."""
+        """The other members of a row that are not null, false or empty."""
         found: dict[str, Any] = {"owed": True} if row.owed else {}
         for name, value in row.members.items():
             if (value or value == 0 and value is not False) and name not in APART:
@@ -268,6 +268,6 @@ class RowForms:
         return encoded(found) if found else "0"
 
     def fault(self, finding: dict[str, str]) -> list[int | str]:
-        """What is wrong with a row: the place of the finding among all, and its words."""
+        """The finding of a row: its index among all, and its words."""
         place = self.faults.place(tuple(finding[name] for name in ("code", "name", "then", "clause")))
         return [place, finding["wrong"]]

@@ -1,4 +1,4 @@
-"""What x25scan says: the objects of a trace, and the explanations of words."""
+"""The output of x25scan: the objects of a trace, and the explanations of words."""
 from __future__ import annotations
 
 import os
@@ -12,7 +12,7 @@ from x25tools_lib.refusals import PageWhy, Refusal
 
 from .facts import Facts
 
-# The topics whose words stand in a page, each with what stands in parentheses after a word of it.
+# The topics whose words are in a page, each with the text in parentheses after its words.
 TOPICS = {
     "code": "diagnostic code",
     "message": "code of a PAD message",
@@ -31,7 +31,7 @@ PARTS_LEFT_OUT = ("Example: ", "See: ")
 REFUSED = 2
 # The name and the sentences of each word.
 Explained = dict[str, list[Any]]
-# What sees the objects of a trace on their way.
+# A filter that sees the objects of a trace before they are used.
 Watch = Callable[[Iterator[dict[str, Any]]], Iterator[dict[str, Any]]]
 
 
@@ -57,7 +57,7 @@ class Scanner:
         self.judge(running.returncode, said)
 
     def report(self, facts: Facts, trace: BinaryIO, watch: Watch | None = None) -> None:
-        """Has facts take the objects of a trace, and a watch see them before."""
+        """Passes the objects of a trace through a watch to the facts."""
         try:
             objects = self.objects(trace)
             facts.take(watch(objects) if watch else objects)
@@ -65,7 +65,7 @@ class Scanner:
             raise OSError(f"{self.words[0]} --rows printed what is no object of this x25scan") from fault
 
     def judge(self, status: int, said: str) -> None:
-        """Refuses a trace that the program refused."""
+        """Raises a refusal where the program refused the trace."""
         if status in (0, 1):
             return
         lines = [line.removeprefix("x25scan: ").strip() for line in said.splitlines()]
@@ -80,7 +80,7 @@ class Scanner:
         return self.explained_topics
 
     def explained(self, topic: str) -> Explained:
-        """The words of a topic. Where the program is built first, standard error says so."""
+        """The words of a topic. Where the program has to be built first, standard error says so."""
         words = [*self.words, "--explain", topic]
         done = subprocess.run(words, stdin=subprocess.DEVNULL, stdout=subprocess.PIPE, encoding="utf-8", check=False)
         if done.returncode:

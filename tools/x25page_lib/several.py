@@ -38,14 +38,14 @@ class Input:
 
 @dataclass
 class Outcome:
-    """What came of an input: its line of the index, and the status of it."""
+    """The result of an input: its line of the index, and its status."""
 
     line: Line
     status: Status
 
 
 def inputs_of(names: Iterable[str]) -> Iterator[Input]:
-    """The files that are named, and those of folders with the folders in them, by their names."""
+    """The named files, and those in named folders and their subfolders, sorted by name."""
     for name in names:
         if not os.path.isdir(name):
             yield Input(name, False)
@@ -56,7 +56,7 @@ def inputs_of(names: Iterable[str]) -> Iterator[Input]:
 
 
 def without_repeats(found: Iterable[Input]) -> list[Input]:
-    """The inputs, each file once, however often it was named."""
+    """The inputs without repetitions of a file."""
     kept: dict[str, Input] = {}
     for one in found:
         kept.setdefault(os.path.realpath(one.path), one)
@@ -64,7 +64,7 @@ def without_repeats(found: Iterable[Input]) -> list[Input]:
 
 
 def names_of(found: Iterable[Input]) -> dict[Input, str]:
-    """The file of the page of each input: of two inputs with one name the later one's has a number."""
+    """The name of the page of each input; where two inputs have one name, the later page gets a number."""
     taken, names = {INDEX}, {}
     for one in found:
         stem, number = stem_of(one.path), 1
@@ -78,7 +78,7 @@ def names_of(found: Iterable[Input]) -> dict[Input, str]:
 
 
 def is_foreign(one: Input, job: Job, folder: pathlib.Path) -> bool:
-    """Whether a file of a folder is neither a capture nor a trace, or a page of an earlier run."""
+    """Whether a file of a folder is to be passed over: neither a capture nor a trace, or a page of an earlier run."""
     path = pathlib.Path(one.path)
     if path.suffix == ".html" and folder.resolve() in path.resolve().parents or is_pipe(one.path):
         return True
@@ -129,7 +129,7 @@ def write_page(job: Job, one: Input, place: pathlib.Path) -> Outcome:
 
 
 def outcome_of(job: Job, one: Input, place: pathlib.Path) -> Outcome:
-    """Writes the page of an input, or says why there is none."""
+    """Writes the page of an input, or prints why there is none."""
     try:
         return write_page(job_of(job, one.path), one, checked(place, [one.path], False))
     except Refusal as refusal:

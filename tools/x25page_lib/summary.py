@@ -11,7 +11,7 @@ from .use import UNRECORDED
 from .verdicts import NAMES, times
 from .waits import ANSWERED, GIVEN_UP, OPEN, RESTARTED
 
-# Times before this one, in seconds, are no dates.
+# Times before this one, in seconds since 1970, are not dates.
 EARLIEST_DATE = 100_000_000
 MOST_LINES, MOST_PARTS = 20, 5
 MINUTE = 60
@@ -26,7 +26,7 @@ def decimals(value: float, most: int) -> str:
 
 
 def length(seconds: float) -> str:
-    """A time in the units of a reader."""
+    """A length of time, in ms, seconds, minutes or hours."""
     if seconds < 1:
         return f"{decimals(seconds * 1000, 1)} ms"
     if seconds < 120:
@@ -46,7 +46,7 @@ def moment(seconds: float) -> str:
 
 
 def place(key: str) -> str:
-    """What a ladder is of."""
+    """The call, the channel or the interface of a ladder, in words."""
     return "the interface" if key == "interface" else key.replace("-", " ")
 
 
@@ -137,7 +137,7 @@ class Summary:
         return ["octets a segment (64 is best)", *lines] if lines else []
 
     def minutes(self) -> list[str]:
-        """The busiest minutes, or the busiest parts of a long trace."""
+        """The busiest minutes; of a long trace, the busiest parts."""
         parts = self.use["parts"]
         if not parts:
             return []

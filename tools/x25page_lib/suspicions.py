@@ -1,4 +1,4 @@
-"""What makes a header doubtful: errors of both sides, those the DCE went on after, and those that only the DCE shows."""
+"""What makes a header doubtful: errors of both sides, errors that the DCE ignored, and errors that only the DCE reports."""
 from __future__ import annotations
 
 from collections.abc import Iterator
@@ -10,17 +10,17 @@ from x25tools_lib.frames import Frames
 from .rows import ADRIFT, SIDES, Row
 
 DTE = SIDES.index("T")
-# So many packets of the DCE may be on their way while it does not know of the error yet.
+# The packets of the DCE that may be on their way before it knows of the error.
 ON_THEIR_WAY = 3
-# How often each side has a code where a wrong header gives it.
+# A code that each side has so often may come from a wrong header.
 OFTEN = 2
-# Codes that a wrong number of the header gives, with the number.
+# Codes that a wrong number of the header gives, each with the number.
 NUMBERS = {"1": "WIN", "2": "WIN", "39": "SIZE", "36": "SVC", "34": "SVC", "40": "MOD"}
-# Diagnostic codes of errors that a number hides which is too great, and how the DCE says that the error was the DTE's.
+# Diagnostic codes of errors that too great a number hides, and the causes by which the DCE reports an error of the DTE.
 HIDDEN = {"1": "WIN", "39": "SIZE"}
 LOCAL_ERROR = {"reset_indication": 5, "clear_indication": 19}
 OWED = ("d3", "p7")
-# The numbers of a header by their words; and what stands in a command that reads the same again.
+# The numbers of a header by their words; and the words of a command that reads the same again.
 Numbers = dict[str, str]
 Again = dict[str, str] | str
 
@@ -36,9 +36,9 @@ class Debt:
 
 
 class Debts:
-    """The errors of the DTE that the DCE went on after, and those that the DCE names and the trace does not show.
+    """The errors of the DTE that the DCE did not react to, and those that the DCE names without a finding in the trace.
 
-    All are of codes that a wrong header gives or hides.
+    All have codes that a wrong header gives or hides.
     """
 
     def __init__(self, frames: Frames) -> None:
@@ -46,18 +46,18 @@ class Debts:
         self.open: dict[int, Debt] = {}
         self.unpaid: dict[str, int] = {}
         self.first = 0
-        # Codes of the DTE in each call, and of each code that the DCE named the first packet and how many they are.
+        # The codes of the DTE in each call; and for each code that the DCE named, the first packet and the number of packets.
         self.known: set[tuple[int, int | None, str]] = set()
         self.unseen: dict[str, tuple[int, int]] = {}
 
     def concerns(self, row: Row) -> bool:
-        """Whether a row is to be seen, as few are."""
+        """Whether a row has to be added with `see`; few have."""
         return bool(row.code) or row.channel is None or row.channel in self.open or row.kind in LOCAL_ERROR
 
     def see(self, row: Row) -> None:
-        """Takes a row."""
+        """Adds a row."""
         if row.channel is None:
-            # A restart pays all debts.
+            # A restart settles all debts.
             if row.kind.startswith("restart_") and not row.code:
                 self.open.clear()
             return
@@ -79,14 +79,14 @@ class Debts:
                 self.count(debt)
 
     def miss(self, channel: int | None) -> None:
-        """Packets of a channel may be missing, or of all: an indication that was owed may have been among them."""
+        """Reads a gap of a channel, or of all: an indication that was owed may be among the missing packets."""
         if channel is None:
             self.open.clear()
         else:
             self.open.pop(channel, None)
 
     def named(self, row: Row, channel: int) -> None:
-        """The DCE ends something, perhaps for an error of the DTE that no finding is of."""
+        """Reads a reset, clear or restart of the DCE that may be for an error of the DTE without a finding."""
         cause, diagnostic = row.members.get("cause"), row.members.get("diagnostic")
         if not cause or not diagnostic or cause["value"] != LOCAL_ERROR[row.kind]:
             return
@@ -96,14 +96,14 @@ class Debts:
             self.unseen[code] = first, many + 1
 
     def count(self, debt: Debt) -> None:
-        """Counts an error that the DCE went on after."""
+        """Counts an error that the DCE did not react to."""
         if debt.sent and not debt.is_counted:
             debt.is_counted = True
             self.unpaid[debt.code] = self.unpaid.get(debt.code, 0) + 1
             self.first = self.first or debt.packet
 
     def end(self) -> None:
-        """No indication comes any more."""
+        """Ends the debts: no further indication will come."""
         for debt in self.open.values():
             self.count(debt)
         self.open.clear()
@@ -115,7 +115,7 @@ def number(many: int, noun: str) -> str:
 
 
 def words_of(header: Numbers, name: str) -> str:
-    """A number of the header as it stands there; where SVC is missing, it is OUT."""
+    """A number of the header as it is written; OUT where SVC is missing."""
     name = "OUT" if name == "SVC" and "SVC" not in header else name
     return f"{name} {header[name]}" if name in header else name
 
@@ -150,7 +150,7 @@ def of_both_sides(header: Numbers, codes: list[list[Any]]) -> Iterator[tuple[str
 
 
 def of_debts(debts: Debts) -> Iterator[tuple[str, str]]:
-    """The sentence on errors after which the DCE went on."""
+    """The sentence on errors that the DCE did not react to."""
     many = sum(debts.unpaid.values())
     if not many:
         return
@@ -163,7 +163,7 @@ def of_debts(debts: Debts) -> Iterator[tuple[str, str]]:
 
 
 def of_unseen(header: Numbers, debts: Debts) -> Iterator[tuple[str, str]]:
-    """Sentences on errors that only the DCE shows."""
+    """Sentences on errors that only the DCE reports."""
     for code, (first, many) in debts.unseen.items():
         words = words_of(header, HIDDEN[code])
         yield HIDDEN[code], (
@@ -173,7 +173,7 @@ def of_unseen(header: Numbers, debts: Debts) -> Iterator[tuple[str, str]]:
 
 
 def trial(again: Again) -> str:
-    """The command that tries other headers on what is read again."""
+    """The command that reads the input again and tries other headers."""
     tried = "x25scan --try-headers"
     return f"{tried} {again}" if isinstance(again, str) else f"x25trace {again['all']} | {tried}"
 

@@ -1,4 +1,4 @@
-"""How facts become text of a page: JSON in which nothing can be read as markup."""
+"""The facts as text of a page: JSON that cannot be read as markup."""
 import json
 from collections.abc import Sequence
 from typing import Any
@@ -13,7 +13,7 @@ WRITER = json.JSONEncoder(separators=(",", ":"), ensure_ascii=True)
 
 
 def encoded(value: Any) -> str:
-    """JSON in ASCII without a letter that means something in HTML."""
+    """JSON in ASCII without a character that has a meaning in HTML."""
     text = written(value)
     for letter, escape in ESCAPES:
         if letter in text:
@@ -22,7 +22,7 @@ def encoded(value: Any) -> str:
 
 
 def plain(value: Any) -> str:
-    """JSON of a value whose texts are letters and digits alone."""
+    """JSON of a value whose texts have only letters and digits."""
     if dumps:
         text: str = dumps(value).decode()
         return text
@@ -30,12 +30,12 @@ def plain(value: Any) -> str:
 
 
 def plain_texts(arrays: Sequence[Any]) -> list[str]:
-    """JSON of arrays without arrays in them, whose texts are letters and digits alone."""
+    """JSON of flat arrays whose texts have only letters and digits."""
     return [f"[{text}]" for text in plain(arrays)[2:-2].split("],[")]
 
 
 def written(value: Any) -> str:
-    """JSON in ASCII, by orjson where it is installed and can, which is faster."""
+    """JSON in ASCII; by orjson, which is faster, where it is installed and takes the value."""
     if dumps:
         try:
             text: str = dumps(value).decode()

@@ -10,18 +10,18 @@ from .gathering import Read
 from .rows import SIDES
 from .verdicts import NAMES, Verdict
 
-# Counts by the words that they are of.
+# Counts by label.
 ByWords = dict[tuple[str, ...], int]
 
 
 @dataclass
 class Accounts:
-    """The accounts, of which a page may leave out some."""
+    """All accounts of a report; a page may leave out some."""
 
     by_address: dict[str | None, tuple[int, int]] = field(default_factory=dict)
 
     def watch(self, objects: Iterator[dict[str, Any]]) -> Iterator[dict[str, Any]]:
-        """Sees the objects of a report on their way."""
+        """Takes the accounts from the objects of a report, and passes all objects on."""
         for it in objects:
             if it["line"] == "account":
                 self.by_address[it["address"]] = (it["calls"], it["segments"])
@@ -43,12 +43,12 @@ class Totals:
     accounts: Accounts
     # By how, cause and diagnostic code.
     ends: ByWords
-    # By the request, its side and its time-out: how many, without an answer, past the time-out, and the longest in ms.
+    # By request, side and time-out: requests, those without an answer, those past the time-out, and the longest wait in ms.
     waits: dict[tuple[str, ...], tuple[int | None, ...]]
 
 
 def waits_of(facts: Facts) -> dict[tuple[str, ...], tuple[int | None, ...]]:
-    """The requests of a report and how they waited; without times the longest wait is not known."""
+    """The requests of a report and how long they waited; without times the longest wait is unknown."""
     found: dict[tuple[str, ...], tuple[int | None, ...]] = {}
     for it in facts.use.waits.sums():
         key = (it.of.request, NAMES[it.of.side], f"{it.of.name}, {it.of.seconds} s")

@@ -11,7 +11,7 @@ from .waits import Waits
 from .windows import Windows
 
 SEGMENT, SMALL = 64, 32
-# The lengths of the parts of a chart in seconds, each a multiple of the one before; the chart has at most so many.
+# The lengths of the parts of a chart in seconds, each a multiple of the one before; and the most parts of the chart.
 STEPS = (1, 5, 15, 60, 300, 900, 3600, 14_400, 86_400, 604_800)
 MOST_PARTS = 480
 # How a call ended whose last packet was not recorded.
@@ -24,7 +24,7 @@ class Segments:
     """The segments of the data that was counted, and those that hold few octets, by side."""
 
     def __init__(self) -> None:
-        # How many packets of a side had so many octets and segments, which other packets than data have none of.
+        # How many packets of a side there were, by their octets and segments; packets other than data have none.
         self.packets: Counter[tuple[int, int, int | None]] = Counter()
 
     def facts(self) -> list[list[int]]:
@@ -32,7 +32,7 @@ class Segments:
         sums = [[0, 0, 0] for _ in SIDES]
         for (side, octets, segments), many in self.packets.items():
             if segments:
-                # The last segment has what the full ones before it leave.
+                # The last segment has the octets that do not fill one.
                 is_small = octets - SEGMENT * (segments - 1) < SMALL
                 sums[side] = [it + many * more for it, more in zip(sums[side], (octets, segments, is_small))]
         return sums
@@ -43,7 +43,7 @@ class Parts:
 
     def __init__(self) -> None:
         self.at, self.unit = 0, STEPS[0] * SECOND
-        # Of each part with a packet its packets and octets.
+        # The packets and octets of each part that has a packet.
         self.parts: dict[int, list[int]] = {}
 
     @property
@@ -51,7 +51,7 @@ class Parts:
         return STEPS[self.at]
 
     def add(self, time: int, octets: int) -> None:
-        """Takes a packet by its time in microseconds."""
+        """Adds a packet by its time in microseconds."""
         part = time // self.unit
         counts = self.parts.get(part)
         if counts is None:
@@ -63,7 +63,7 @@ class Parts:
         counts[1] += octets
 
     def add_all(self, times: Sequence[int], octets: Sequence[int]) -> None:
-        """Takes packets by their times and octets: those of one part at once, of others by halves."""
+        """Adds packets by their times and octets: at once where all are in one part, else half by half."""
         part, middle = min(times) // self.unit, len(times) // 2
         counts = self.parts.get(part)
         if counts is not None and max(times) // self.unit == part:
@@ -76,12 +76,12 @@ class Parts:
             self.add(times[0], octets[0])
 
     def join(self) -> None:
-        """Goes on to longer parts until few are kept."""
+        """Makes the parts longer until few are kept."""
         while len(self.parts) > MOST_PARTS // 2 and self.at + 1 < len(STEPS):
             self.lengthen()
 
     def finish(self) -> None:
-        """Makes the parts so long that one chart shows the whole time, with the parts that have nothing."""
+        """Makes the parts so long that one chart shows the whole time, including parts without packets."""
         while self.span() > MOST_PARTS and self.at + 1 < len(STEPS):
             self.lengthen()
 
@@ -100,7 +100,7 @@ class Parts:
         return max(self.parts) - min(self.parts) + 1 if self.parts else 0
 
     def facts(self) -> dict[str, Any] | None:
-        """The seconds of a part, when the first begins, and of each that has a packet its place, packets and octets."""
+        """The seconds of a part, the time of the first one, and for each part with a packet its index, packets and octets."""
         if not self.parts:
             return None
         first = min(self.parts)
@@ -112,19 +112,19 @@ class Causes:
     """How many calls ended in each way."""
 
     def __init__(self) -> None:
-        # How each call ended, by its place in WAYS, and its segments: the calls are numbered from 1.
+        # How each call ended, as an index of WAYS, and its segments; calls are numbered from 1.
         self.ways, self.segments = bytearray(), array("Q")
         self.counts: dict[tuple[Any, ...], list[int]] = {}
 
     def add(self, call: dict[str, Any]) -> None:
-        """Takes how a call ended."""
+        """Adds how a call ended."""
         if call["call"] != len(self.ways) + 1:
             raise ValueError("a call that is not the next one")
         self.ways.append(WAYS.index(call["how"]))
         self.segments.append(call["segments"])
 
     def facts_of(self, call: dict[str, Any]) -> None:
-        """Takes the cause and the diagnostic code of the end of a call."""
+        """Adds the cause and the diagnostic code of the end of a call."""
         place = call["call"] - 1
         names = [None if it is None else (it["value"], it["name"]) for it in (call["cause"], call["diagnostic"])]
         counts = self.counts.setdefault((WAYS[self.ways[place]], *names), [0, 0, call["call"]])
@@ -146,21 +146,21 @@ class Use:
         self.time: int | None = None
 
     def begin(self, window: int, modulus: int) -> None:
-        """Takes the window and the modulus of the header."""
+        """Sets the window and the modulus of the header."""
         self.windows = Windows(window, modulus)
 
     def flow(self, row: Row, key: str) -> None:
-        """Takes a quiet row: data that was counted, or an RR."""
+        """Adds a quiet row: data that was counted, or an RR."""
         self.count(row)
         if row.time is not None:
             self.windows.data(row, key, row.time)
 
     def count(self, row: Row) -> None:
-        """Takes what a row used."""
+        """Adds what a row used."""
         self.add(row.side, row.time, row.octets, row.segments)
 
     def add(self, side: int, time: int | None, octets: int, segments: int | None) -> None:
-        """Takes the octets of a packet of a side, which count where they have segments."""
+        """Adds the octets of a packet of a side, which count where they have segments."""
         if segments is not None:
             self.segments.packets[side, octets, segments] += 1
         if time is not None:
@@ -168,12 +168,12 @@ class Use:
             self.parts.add(time, 0 if segments is None else octets)
 
     def pass_time(self, times: Sequence[int], octets: Sequence[int]) -> None:
-        """Takes the times of quiet rows, and their octets of data."""
+        """Adds the times of quiet rows, and their octets of data."""
         self.parts.add_all(times, octets)
         self.time = times[-1]
 
     def see(self, row: Row, key: str) -> None:
-        """Takes what a row asks and answers, with the key of its ladder; no row of half a recording."""
+        """Reads what a row requests and answers, with the key of its ladder; not of a recording of one side."""
         time = row.time
         if row.kind in DATA_TRANSFER and row.before == row.after == "d1" and not row.code:
             if time is not None:
@@ -184,18 +184,18 @@ class Use:
             self.windows.signal(row, time)
 
     def miss(self, channel: int | None) -> None:
-        """Packets of a channel may be missing, or of all: what they answered is unknown."""
+        """Reads a gap of a channel, or of all: what the missing packets answered is unknown."""
         self.waits.miss(channel)
         self.windows.miss(channel)
 
     def finish(self) -> None:
-        """The rows end."""
+        """Ends the rows."""
         self.waits.finish(self.time)
         self.windows.finish(self.time)
         self.parts.finish()
 
     def packets(self) -> Iterator[int | None]:
-        """The packets that the waits and the windows name."""
+        """The numbers of the packets that the waits and the windows name."""
         yield from (it.packet for it in self.waits.sums())
         yield from (packet for _, packet, *_ in self.waits.lines())
         yield from (packet for *_, first, last in self.windows.lines() for packet in (first, last))

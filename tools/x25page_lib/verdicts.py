@@ -1,4 +1,4 @@
-"""What is said first of a trace: who broke the protocol, as far as what was recorded shows it."""
+"""The verdict on a trace: who broke the protocol, as far as the recording shows."""
 from __future__ import annotations
 
 from collections.abc import Sequence
@@ -12,7 +12,7 @@ BAD, GOOD, UNKNOWN = "bad", "good", "unknown"
 
 @dataclass(frozen=True)
 class Verdict:
-    """A sentence, and whether it is bad or good news, or none."""
+    """A sentence, and whether it is bad, good or neither."""
 
     kind: str
     sentence: str
@@ -36,7 +36,7 @@ def upper(text: str) -> str:
 
 
 def of_halves(halves: Sequence[Half], counts: Sequence[int], has_wholes: bool) -> Verdict:
-    """What is said where something was recorded in one direction alone; the counts are of the rest."""
+    """The verdict where something was recorded in one direction only; the counts are of the rest."""
     sentence = upper(", and ".join(half.text for half in halves))
     if not has_wholes:
         return Verdict(UNKNOWN, f"{sentence}: it is not known who broke the protocol.")
@@ -46,13 +46,13 @@ def of_halves(halves: Sequence[Half], counts: Sequence[int], has_wholes: bool) -
 
 
 def rests_on(sentence: str, gaps: int) -> str:
-    """A sentence with what it rests on: what was recorded, where there are gaps."""
+    """A sentence with its basis: what was recorded, where there are gaps."""
     counted = f"{gaps:,} gap{'' if gaps == 1 else 's'}"
     return f"{sentence.removesuffix('.')}, in what was recorded: {counted}." if gaps else sentence
 
 
 def verdict_of(packets: int, counts: Sequence[int], late: int, gaps: int = 0) -> Verdict:
-    """What is said where both sides were recorded, perhaps with gaps; late are the requests that outlasted their timers."""
+    """The verdict where both sides were recorded, perhaps with gaps; `late` has the requests that outlasted their timers."""
     if not packets:
         return Verdict(UNKNOWN, "The trace has no packets.")
     if blamed := blame(counts):

@@ -8,7 +8,7 @@ from typing import Any
 from .rows import SECOND, SIDES, Row
 
 DTE, DCE = (SIDES.index(side) for side in "TN")
-# So many waits are listed: those without an answer and those past their time-out, the longest first.
+# The most waits that are listed: those without an answer and those past their time-out, the longest first.
 MOST_LISTED = 2000
 ANSWERED, GIVEN_UP, RESTARTED, OPEN = "answered", "given up", "restart", "open"
 
@@ -39,7 +39,7 @@ TIME_OUTS = {
 
 @dataclass(slots=True)
 class Wait:
-    """A request that waits, from its first packet on; it may be sent again."""
+    """A request without an answer so far; it may be sent several times."""
 
     of: TimeOut
     packet: int
@@ -52,7 +52,7 @@ class Wait:
 
 @dataclass
 class Waited:
-    """How the requests of a time-out fared: how many there were, how they ended, and the longest wait."""
+    """The requests of a time-out: how many there were, how they ended, and the longest wait."""
 
     of: TimeOut
     requests: int = 0
@@ -75,12 +75,12 @@ class Waits:
         self.open: dict[int | None, Wait] = {}
         self.kinds = {kind: Waited(it) for kind, it in TIME_OUTS.items()}
         self.by_name = {it.of.name: it for it in self.kinds.values()}
-        # A heap of what is listed, the shortest waits first, as those are left out.
+        # A heap of the listed waits, the shortest first, which are left out first.
         self.listed: list[tuple[float, int, list[Any]]] = []
         self.left_out = 0
 
     def see(self, row: Row, key: str) -> None:
-        """A row that is more than data that flows: it may end a wait, and begin one."""
+        """Reads a row other than flowing data, which may end a wait and begin one."""
         if row.channel is None and row.kind.startswith("restart_") and row.before == "r1" and row.after != "r1":
             self.end_channels(row.time)
         wait = self.open.get(row.channel)
@@ -97,19 +97,19 @@ class Waits:
             wait.sent += 1
 
     def end_channels(self, time: int | None) -> None:
-        """A restart ends what waits on the channels."""
+        """Ends the waits on all channels after a restart."""
         for channel in [it for it in self.open if it is not None]:
             self.end(self.open.pop(channel), RESTARTED, time)
 
     def miss(self, channel: int | None) -> None:
-        """Packets of a channel may be missing, or of all: what waits may have been answered, and counts no more."""
+        """Reads a gap of a channel, or of all: its requests may have been answered, and are dropped."""
         if channel is None:
             self.open.clear()
         else:
             self.open.pop(channel, None)
 
     def finish(self, time: int | None) -> None:
-        """The trace ends, and the last time of it is known."""
+        """Ends the trace, whose last time is known now."""
         for wait in self.open.values():
             self.end(wait, OPEN, time)
         self.open.clear()
@@ -134,9 +134,9 @@ class Waits:
             self.left_out += 1
 
     def sums(self) -> list[Waited]:
-        """The time-outs of which there was a request."""
+        """The time-outs that had a request."""
         return [it for it in self.kinds.values() if it.requests]
 
     def lines(self) -> list[list[Any]]:
-        """What is listed, the longest wait first: time-out, packet, ladder, channel, times sent, seconds, and the end."""
+        """The listed waits, the longest first: time-out, packet, ladder, channel, times sent, seconds, and how it ended."""
         return [line for *_, line in sorted(self.listed, reverse=True)]

@@ -11,7 +11,7 @@ from typing import Any
 from .evenly import Evenly
 from .rows import ADRIFT, SECOND, SIDES, Row
 
-# So many times of a side are kept, evenly over the trace.
+# The most times of a side that are kept, spread evenly over the trace.
 MOST_TIMES = 1 << 18
 MOST_CLOSED = 1000
 MOST_WAITING = 256
@@ -27,17 +27,17 @@ class Spread(Evenly):
     def __init__(self) -> None:
         super().__init__(array("q"), MOST_TIMES)
         self.longest: tuple[int, int, str] | None = None
-        # Times that are not taken yet, which is quicker for many at once, with their packets and ladders.
+        # Times that are not added yet, with their packets and ladders: adding many at once is faster.
         self.waiting: list[tuple[int, int, str]] = []
 
     def add(self, time: int, packet: int, key: str) -> None:
-        """Takes a time with its packet and its ladder."""
+        """Adds a time with its packet and its ladder."""
         self.waiting.append((time, packet, key))
         if len(self.waiting) >= MOST_WAITING:
             self.settle()
 
     def settle(self) -> None:
-        """Takes the times that wait."""
+        """Adds the times that are not added yet."""
         waiting, self.waiting = self.waiting, []
         if waiting:
             longest = max(waiting, key=itemgetter(0))
@@ -60,22 +60,22 @@ class Spread(Evenly):
 
 
 class Direction:
-    """The data of one side on a channel in d1: what waits for its acknowledgement, and since when its window is closed."""
+    """The data of one side on a channel in d1: the packets without an acknowledgement, and since when the window is closed."""
 
     __slots__ = ("waiting", "edge", "window", "modulus", "is_not_ready", "closed", "longest", "spread", "key")
 
     def __init__(self, window: int, modulus: int, spread: Spread, key: str, edge: int | None = 0) -> None:
-        # The packets that wait, with their times.
+        # The packets without an acknowledgement, with their times.
         self.waiting: deque[Pair] = deque()
         # The last P(R) of the other side, None where a gap hides it.
         self.edge, self.is_not_ready = edge, False
-        # The packet that closed the window, with its time; and the longest time, with the packets that began and ended it.
+        # The packet that closed the window, with its time; and the longest closed time, with the packets at its beginning and end.
         self.closed: Pair | None = None
         self.longest: tuple[int, int, int | None] | None = None
         self.window, self.modulus, self.spread, self.key = window, modulus, spread, key
 
     def acknowledge(self, receive: int, time: int) -> None:
-        """P(R) of the other side acknowledges data."""
+        """Reads a P(R) of the other side, which acknowledges data."""
         waiting, edge = self.waiting, self.edge
         self.edge = receive
         if edge is None:
@@ -88,7 +88,7 @@ class Direction:
             self.spread.add(time - sent if time > sent else 0, packet, self.key)
 
     def look(self, packet: int, time: int) -> None:
-        """Looks whether the window is closed after a packet."""
+        """Checks whether the window is closed after a packet."""
         is_closed = self.is_not_ready or len(self.waiting) >= self.window
         closed = self.closed
         if is_closed and closed is None:
@@ -115,7 +115,7 @@ class Flow:
         self.key = key
 
     def data(self, side: int, sent: Pair, receive: int | None) -> None:
-        """Data of a side that was accepted, with its packet and its time."""
+        """Reads accepted data of a side, with its packet and its time."""
         own, other = self.directions[side], self.directions[1 - side]
         if receive is not None and receive != other.edge:
             other.acknowledge(receive, sent[1])
@@ -126,7 +126,7 @@ class Flow:
             other.look(*sent)
 
     def ready(self, side: int, sent: Pair, receive: int | None, is_ready: bool = True) -> None:
-        """An RR of a side, or an RNR, with its packet and its time."""
+        """Reads an RR or an RNR of a side, with its packet and its time."""
         other = self.directions[1 - side]
         if receive is not None and receive != other.edge:
             other.acknowledge(receive, sent[1])
@@ -143,14 +143,14 @@ class Windows:
         self.flows: dict[int | None, Flow] = {}
         # The windows that a call agreed on, by its channel: of the DTE's data and of the DCE's.
         self.agreed: dict[int | None, Pair] = {}
-        # The channels whose numbers a gap hid since they began.
+        # The channels with a gap since their numbers began.
         self.unsure: set[int | None] = set()
         self.spreads = (Spread(), Spread())
         self.closed: list[tuple[int, int, list[Any]]] = []
         self.left_out = 0
 
     def data(self, row: Row, key: str, time: int) -> None:
-        """Data that was accepted, an RR or an RNR in d1."""
+        """Reads accepted data, an RR or an RNR in d1."""
         flow, sent = self.flow(row.channel, key), (row.packet, time)
         if row.is_data:
             flow.data(row.side, sent, row.receive)
@@ -158,7 +158,7 @@ class Windows:
             flow.ready(row.side, sent, row.receive, row.kind != "rnr")
 
     def flow(self, channel: int | None, key: str) -> Flow:
-        """The flow of a channel, which begins where there is none."""
+        """The flow of a channel; a new one where there is none."""
         flow = self.flows.get(channel)
         if flow is None:
             windows = self.agreed.get(channel, self.standard)
@@ -167,7 +167,7 @@ class Windows:
         return flow
 
     def signal(self, row: Row, time: int) -> None:
-        """Another row: one that changes the state ends the flow of its channel, and a restart that of all."""
+        """Reads another row: a change of state ends the flow of its channel, and a restart that of all channels."""
         if row.channel is None:
             if row.before != row.after:
                 for channel in list(self.flows):
@@ -186,7 +186,7 @@ class Windows:
             self.agree(row)
 
     def agree(self, row: Row) -> None:
-        """Takes the windows that a call packet carries."""
+        """Reads the windows that a call packet carries."""
         windows = row.members.get("windows")
         if not windows:
             return
@@ -195,14 +195,14 @@ class Windows:
         self.agreed[row.channel] = (windows[dte], windows[dce])
 
     def miss(self, channel: int | None) -> None:
-        """Packets of a channel may be missing, or of all: a window that is closed may have been opened by one."""
+        """Reads a gap of a channel, or of all: a missing packet may have opened a closed window."""
         for each in list(self.flows) if channel is None else self.flows.keys() & {channel}:
             for direction in self.flows[each].directions:
                 direction.closed = None
             self.end(each, 0)
 
     def end(self, channel: int | None, time: int) -> None:
-        """The flow of a channel ends: what was closed stays so until now."""
+        """Ends the flow of a channel: a closed window counts as closed until now."""
         flow = self.flows.pop(channel)
         for side, it in enumerate(flow.directions):
             if it.closed is not None:
@@ -212,21 +212,21 @@ class Windows:
                 self.keep(took, first, [flow.key, channel, side, took / SECOND, first, last])
 
     def keep(self, took: int, first: int, line: list[Any]) -> None:
-        """Lists a window, and leaves out the shortest one of too many."""
+        """Lists a window, and drops the shortest one where there are too many."""
         heapq.heappush(self.closed, (took, -first, line))
         if len(self.closed) > MOST_CLOSED:
             heapq.heappop(self.closed)
             self.left_out += 1
 
     def finish(self, time: int | None) -> None:
-        """The trace ends."""
+        """Ends the trace."""
         for channel in list(self.flows):
             self.end(channel, time or 0)
         for spread in self.spreads:
             spread.settle()
 
     def lines(self) -> list[list[Any]]:
-        """The longest time of each call or channel and side that its window was closed, the longest first.
+        """The longest time that the window of each call or channel and side was closed, the longest first.
 
         A line has the ladder, the channel, the side, the seconds, the packet that closed the window and the one that
         opened it, or none.

@@ -1,4 +1,4 @@
-"""The command line of x25page: its words, and which of them are of captures alone."""
+"""The command line of x25page: its options, and which of them are for captures only."""
 from __future__ import annotations
 
 import argparse
@@ -36,7 +36,7 @@ exit status:
 """
 
 
-# The options that are not of captures.
+# The options that are not about captures.
 OF_PAGES = ("page", "scanner", "summary", "is_each", "is_comparison")
 
 
@@ -72,7 +72,7 @@ def parser() -> Words:
 
 
 def parsed(arguments: Sequence[str]) -> argparse.Namespace:
-    """The words of a command line, which may be refused."""
+    """The parsed command line; exits the program where it is refused."""
     words = parser().parse_args(arguments)
     check(words, parser())
     words.scanner = words.scanner or str(SCANNER)
@@ -87,7 +87,7 @@ def parsed(arguments: Sequence[str]) -> argparse.Namespace:
 
 
 def check_several(words: argparse.Namespace) -> None:
-    """Refuses words of several pages that contradict each other."""
+    """Refuses options for several pages that contradict each other."""
     if words.is_each and words.is_comparison:
         parser().error("--each and --compare do not go together")
     if "-" in words.captures:
@@ -101,7 +101,7 @@ def check_several(words: argparse.Namespace) -> None:
 
 
 def of_captures(words: argparse.Namespace) -> str | None:
-    """An option among the words that is of captures alone, or None."""
+    """An option of the command line that is for captures only, or None."""
     return option_among(words, parser(), OF_PAGES)
 
 

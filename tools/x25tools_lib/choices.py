@@ -7,13 +7,13 @@ from dataclasses import dataclass, field
 from .sides import Side
 
 XOT_PORT = 1998
-# What frames of a link type may hold, as --as names it.
+# What frames of a link type may hold, by the names of --as.
 KINDS = ("ethernet", "sll", "sll2", "ip", "lapb", "lapb-dir", "hdlc", "x25", "x25-dir")
 KINDS_TEXT = f"{', '.join(KINDS[:-1])} or {KINDS[-1]}"
 
 
 class Carrier(enum.Enum):
-    """What carries packets; a trace is of one."""
+    """What carries packets; a trace has one carrier."""
 
     XOT = "xot"
     LAPB = "lapb"
@@ -23,7 +23,7 @@ class Carrier(enum.Enum):
 
 
 class SideBy(enum.Enum):
-    """What decides the side of a LAPB frame first."""
+    """What decides first which side sent a LAPB frame."""
 
     ADDRESS = "address"
     DIRECTION = "direction"
@@ -31,7 +31,7 @@ class SideBy(enum.Enum):
 
 @dataclass
 class Choices:
-    """How a capture is to be read: the kinds are by link type, None is a hex dump and all unknown link types."""
+    """How a capture is read. The key of `kinds` is a link type; None means a hex dump and all unknown link types."""
 
     kinds: dict[int | None, str] = field(default_factory=dict)
     ports: list[int] = field(default_factory=lambda: [XOT_PORT])

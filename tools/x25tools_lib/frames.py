@@ -1,15 +1,15 @@
-"""The frames of packets, whose numbers are those of Wireshark."""
+"""The frames of packets, numbered as Wireshark numbers them."""
 from __future__ import annotations
 
 from array import array
 from bisect import bisect_right
 
-# What stands for the distance of a frame that is not known: no frame is so far before its packet.
+# The distance of an unknown frame: no frame is so far before its packet.
 UNKNOWN = -(1 << 62)
 
 
 def frame_name(packet: int, frame: int | None, form: str = ",") -> str:
-    """What a packet is called: by its frame where that is known, with its own number where that is another one."""
+    """The name of a packet: its frame where that is known, with the packet's number where that differs."""
     own = f"packet {packet:{form}}"
     if frame is None:
         return own
@@ -17,14 +17,14 @@ def frame_name(packet: int, frame: int | None, form: str = ",") -> str:
 
 
 class Frames:
-    """The frames of the packets of a trace, in runs of packets whose frames are as far ahead."""
+    """The frames of the packets of a trace, in runs of packets with equal distance to their frames."""
 
     def __init__(self) -> None:
         self.firsts, self.distances = array("q"), array("q")
         self.distance = UNKNOWN
 
     def add(self, packet: int, frame: int | None) -> None:
-        """Takes the frame of the next packet, where it is known."""
+        """Adds the frame of the next packet, where it is known."""
         distance = UNKNOWN if frame is None else frame - packet
         if distance != self.distance:
             self.distance = distance
@@ -43,5 +43,5 @@ class Frames:
         return packet + self.distances[at] if known else None
 
     def name(self, packet: int, form: str = ",") -> str:
-        """What a packet is called."""
+        """The name of a packet."""
         return frame_name(packet, self.of(packet), form)

@@ -1,4 +1,4 @@
-"""Which rows of a trace are of something that was recorded in one direction alone."""
+"""Which rows of a trace belong to something that was recorded in one direction only."""
 from __future__ import annotations
 
 from bisect import bisect_right
@@ -8,14 +8,14 @@ from .notes import MOST_CIRCUITS, Half, Head
 
 
 class Halves:
-    """The channels, from a row on, of which one side alone was recorded."""
+    """The channels of which, from a row on, one side only was recorded."""
 
     def __init__(self, head: Head) -> None:
         self.all, self.circuits = head.halves, head.circuits
         self.is_whole_line = any(not half.connections for half in self.all)
         self.is_cut = len(head.circuits) >= MOST_CIRCUITS
         self.alone = {number: half.side for half in self.all for number in half.connections}
-        # Of each channel the first rows of its circuits, and of each the only side that was recorded.
+        # For each channel the first rows of its circuits, and for each circuit the only side that was recorded.
         self.rows: dict[int, list[int]] = {}
         self.sides: dict[int, list[str | None]] = {}
         for circuit in head.circuits if self.alone else ():
@@ -26,7 +26,7 @@ class Halves:
         return bool(self.all)
 
     def side(self, channel: int | None, packet: int) -> str | None:
-        """The only side that was recorded of what a packet is part of; None where both were."""
+        """The only side that was recorded of a packet's circuit or line; None where both were."""
         if self.is_whole_line:
             return self.all[0].side
         at = bisect_right(self.rows.get(channel or 0, ()), packet) - 1
@@ -35,7 +35,7 @@ class Halves:
         return self.all[0].side if self.all and self.is_cut else None
 
     def sentences(self, first: int) -> Iterator[tuple[int, str]]:
-        """What was recorded alone in words, each with its first row; that of the whole line is the first one."""
+        """Sentences on what was recorded in one direction, each with its first row; the one on the whole line comes first."""
         if self.is_whole_line:
             yield first, self.all[0].text
             return

@@ -10,7 +10,7 @@ LAST_CHANNEL = 4095
 
 @dataclass
 class Wishes:
-    """The numbers of the header that options give; None is to be estimated."""
+    """The numbers of the header that options give; a number that is None is estimated."""
 
     modulus: int | None = None
     window: int | None = None
@@ -50,7 +50,7 @@ class Header:
     two_way: int
     outgoing: int
     join: bool
-    # The form of the line: 2 has one-way channels, and 3 has JOIN and gap rows too.
+    # The form of the header: 2 has one-way channels, and 3 JOIN and gap rows too.
     form: int
 
     def line(self) -> str:
@@ -61,7 +61,7 @@ class Header:
         return f"X25 {self.form} {start} IN {self.incoming} TWO {self.two_way} OUT {self.outgoing}{join}"
 
     def fault(self) -> str | None:
-        """What x25scan would refuse, or None."""
+        """What x25scan would refuse in the header, or None."""
         if not 1 <= self.window < self.modulus:
             return f"WIN {self.window} is not 1 to {self.modulus - 1}"
         if not 0 <= self.permanent <= self.incoming <= self.two_way <= self.outgoing:

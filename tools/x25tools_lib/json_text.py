@@ -1,4 +1,4 @@
-"""JSON, read by orjson where it is installed, which is faster, else by Python's own parser."""
+"""JSON, read by orjson, which is faster, where it is installed, else by Python's parser."""
 from __future__ import annotations
 
 from collections.abc import Iterator
@@ -10,28 +10,28 @@ try:
 except ImportError:
     from json import loads
 
-# So many octets are parsed at once, which takes less time than line after line.
+# The octets that are parsed at once: this is faster than line by line.
 CHUNK = 1 << 14
 
 
 def read(text: str | bytes) -> Any:
-    """The value of a JSON text. Raises ValueError where it is none."""
+    """The value of a JSON text. Raises ValueError where the text is not JSON."""
     return loads(text)
 
 
 def names(*words: str) -> tuple[str, ...]:
-    """Names of members as the parser keeps them, which are found quicker in its objects than others."""
+    """Names of members as the parser keeps them: looking these up in its objects is faster."""
     members = ",".join([f'"{word}":0' for word in words])
     return tuple(read(f"{{{members}}}"))
 
 
 def objects(stream: BinaryIO) -> Iterator[Any]:
-    """The values of a stream that has a JSON text in each line. Raises ValueError where a line is none."""
+    """The values of a stream with a JSON text in each line. Raises ValueError where a line is not JSON."""
     return chain.from_iterable(parts(stream))
 
 
 def parts(stream: BinaryIO) -> Iterator[list[Any]]:
-    """The same values, those that were parsed at once together."""
+    """The same values, in lists of those that were parsed at once."""
     rest = b""
     while octets := stream.read(CHUNK):
         whole, end, after = octets.rpartition(b"\n")

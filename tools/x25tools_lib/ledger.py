@@ -1,4 +1,4 @@
-"""What is reported besides the rows: what is damaged, and how much was left out, by reason."""
+"""What is reported besides rows: damage, and how much was left out, by reason."""
 from __future__ import annotations
 
 import enum
@@ -9,7 +9,7 @@ from .notes import Half
 
 
 class Reason(enum.Enum):
-    """What is counted of a capture: the words of its count, whether that is a damage, and where it is."""
+    """What is counted of a capture: the words of the count, whether it is damage, and where."""
 
     OTHER_BLOCK = ("blocks of the file that hold no frame", False)
     OTHER_INTERFACE = ("frames of interfaces that --interface does not name", False)
@@ -58,7 +58,7 @@ class Reason(enum.Enum):
 
 
 class Topic(enum.Enum):
-    """What is reported without being a damage of its own."""
+    """What is reported and is not damage."""
 
     INTERRUPTED = "the end of the reading by a signal"
     UNKNOWN_LINK = "link types that are not known"
@@ -79,7 +79,7 @@ def ignore(words: str) -> None:
 
 
 class Ledger:
-    """Counts what is left out or missing and says what is wrong: the trace keeps all of it, standard error the first few."""
+    """Counts what is left out or missing, and reports what is wrong: all in the trace, the first few on standard error."""
 
     # Messages of one topic on standard error: a capture that is read as the wrong kind has one for each frame.
     MOST_SAID = 5
@@ -89,7 +89,7 @@ class Ledger:
         self.reported: Counter[Topic | Reason] = Counter()
         self.say = say
         self.keep: Say = ignore
-        # What was recorded of one side alone.
+        # What was recorded in one direction only.
         self.halves: list[Half] = []
 
     def left_out(self, reason: Reason, many: int = 1) -> None:
@@ -98,11 +98,11 @@ class Ledger:
             self.counts[reason] += many
 
     def note(self, words: str) -> None:
-        """Explains something in the trace alone."""
+        """Adds a comment to the trace only."""
         self.keep(words)
 
     def report(self, topic: Topic | Reason, words: str) -> None:
-        """Says something of a topic."""
+        """Reports something under a topic."""
         self.keep(words)
         self.reported[topic] += 1
         if self.reported[topic] <= self.MOST_SAID:
@@ -111,19 +111,19 @@ class Ledger:
             self.say("more messages like the last one are not shown; a trace has them as comments")
 
     def damaged(self, reason: Reason, words: str, many: int = 1) -> None:
-        """Counts a damage and reports it."""
+        """Counts damage, and reports it."""
         self.counts[reason] += many
         self.report(reason, words)
 
     def lack(self, halves: Iterable[Half]) -> None:
-        """Takes what was recorded of one side alone."""
+        """Adds something that was recorded in one direction only."""
         self.halves += halves
         for half in self.halves:
             self.say(half.text)
 
     @property
     def whole(self) -> bool:
-        """Whether no packet may be missing."""
+        """Whether surely no packet is missing."""
         return not self.halves and not any(reason.damage for reason in self.counts)
 
     def lines(self) -> list[str]:

@@ -1,6 +1,6 @@
 """Comments of a trace that have a form: their values, how they are written, and how they are read again.
 
-x25trace writes them, and x25page reads them of a trace that is in a file; of a capture it gets the values themselves.
+x25trace writes them, and x25page reads them in a trace; for a capture it gets the values themselves.
 """
 from __future__ import annotations
 
@@ -10,19 +10,19 @@ from dataclasses import dataclass, field
 # The nanoseconds of a second.
 SECOND = 1_000_000_000
 LONGEST_COMMENT = 8_000
-# So many circuits are kept.
+# The most circuits that are kept.
 MOST_CIRCUITS = 2000
 ESTIMATED = "estimated from what was seen: "
 # How the comment with the time and the frame of the next row begins.
 RECORDED_AT = "#@ "
 RECORDED = {"T": "only the DTE was recorded", "N": "only the DCE was recorded"}
-# So many runs of connections are in a sentence.
+# The most ranges of connections in a sentence.
 MOST_RUNS = 20
 
 
 @dataclass(frozen=True)
 class Estimate:
-    """A number of the header that was estimated, and from what."""
+    """An estimated number of the header, and what it is estimated from."""
 
     name: str
     value: int
@@ -35,7 +35,7 @@ class Estimate:
 
 @dataclass(frozen=True)
 class Circuit:
-    """What an XOT connection is in a trace: the number of its first row, its channel, and the words for it."""
+    """An XOT connection in a trace: the number of its first row, its channel, and its comment."""
 
     row: int
     channel: int
@@ -49,7 +49,7 @@ class Circuit:
 
 @dataclass(frozen=True)
 class Half:
-    """The only side that was recorded, T or N: on some XOT connections, on a LAPB link, or on the whole line."""
+    """The only recorded side, T or N, of some XOT connections, of a LAPB link, or of the whole line."""
 
     side: str
     connections: tuple[int, ...] = ()
@@ -61,7 +61,7 @@ class Half:
 
     @property
     def place(self) -> str:
-        """Where it was recorded alone, in words that follow others."""
+        """Where it was recorded, in words that continue a sentence."""
         if self.connections:
             return f" on connection{'s' if len(self.connections) > 1 else ''} {ranges_text(self.connections)}"
         return " on the link" if self.is_link else ""
@@ -69,7 +69,7 @@ class Half:
 
 @dataclass
 class Head:
-    """What a trace says before its rows and beside them: its header, comments before that, and its circuits."""
+    """What a trace has before and between its rows: its header, the comments before it, and its circuits."""
 
     header: str = ""
     comments: list[str] = field(default_factory=list)
@@ -89,12 +89,12 @@ class Head:
 
     @property
     def sources(self) -> dict[str, str]:
-        """From what each number was estimated that was."""
+        """What each estimated number is estimated from."""
         return {it.name: it.source for it in self.estimates}
 
 
 def comment(words: str) -> str:
-    """A comment line: printable ASCII, far below the longest line."""
+    """A comment line, of printable ASCII and far shorter than the longest line allowed."""
     return "# " + "".join(letter if " " <= letter <= "~" else "?" for letter in words[:LONGEST_COMMENT]) + "\n"
 
 
@@ -108,23 +108,23 @@ def time_text(time: int | None) -> str:
 
 
 def recorded_line(time: str, frame: int) -> str:
-    """The comment before a row: the text of its time, and the frame that holds its last octet."""
+    """The comment before a row: its time, and the frame that has its last octet."""
     return f"{RECORDED_AT}{time} {frame}\n"
 
 
 def frame_of(line: str) -> int | None:
-    """The frame that a line says the next row is of; None where it says none."""
+    """The frame that a comment names for the next row; None where it names none."""
     words = line.removeprefix(RECORDED_AT).split()
     return int(words[1]) if line.startswith(RECORDED_AT) and len(words) == 2 and words[1].isdecimal() else None
 
 
 def estimates_text(estimates: Iterable[Estimate]) -> str:
-    """The words for what was estimated."""
+    """The comment on estimated numbers."""
     return ESTIMATED + ", ".join(it.text for it in estimates)
 
 
 def estimates_of(words: str) -> list[Estimate]:
-    """What a comment says was estimated; nothing where it is another comment."""
+    """The estimated numbers that a comment names; none where it is another comment."""
     if not words.startswith(ESTIMATED):
         return []
     found = []
@@ -137,12 +137,12 @@ def estimates_of(words: str) -> list[Estimate]:
 
 
 def circuit_text(connection: int, channel: int | None, rest: str) -> str:
-    """The words for the circuit of a connection."""
+    """The comment on the circuit of a connection."""
     return f"connection {connection} is channel {channel}{rest}"
 
 
 def channel_of_circuit(words: str) -> int | None:
-    """The channel of the circuit that a comment is of; None where it is another comment."""
+    """The channel of the circuit that a comment introduces; None where it is another comment."""
     connection, is_circuit, rest = words.partition(" is channel ")
     kind, _, number = connection.partition(" ")
     channel = rest.split(":")[0].split(",")[0]
@@ -152,7 +152,7 @@ def channel_of_circuit(words: str) -> int | None:
 
 
 def ranges_text(numbers: Sequence[int]) -> str:
-    """Rising numbers in words: '1 to 6, 8 and 9'."""
+    """Ascending numbers in words: '1 to 6, 8 and 9'."""
     runs: list[list[int]] = []
     for number in numbers:
         if runs and runs[-1][-1] == number - 1:
@@ -174,7 +174,7 @@ def numbers_of(words: str) -> Iterator[int]:
 
 
 def half_of(words: str) -> Half | None:
-    """What a comment says was recorded of one side alone; None where it is another comment."""
+    """What a comment names as recorded in one direction only; None where it is another comment."""
     for side, start in RECORDED.items():
         if words.startswith(start):
             place = words.removeprefix(start).partition(" on connection")[2]

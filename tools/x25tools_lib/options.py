@@ -33,7 +33,7 @@ class Words(argparse.ArgumentParser):
 
 
 def number(first: int, last: int) -> Callable[[str], int]:
-    """What reads a number of an option."""
+    """Returns a parser of an option's number."""
     def parse(word: str) -> int:
         if not word.isascii() or not word.isdigit() or not first <= int(word) <= last:
             raise argparse.ArgumentTypeError(f"{word!r} is not a number from {first} to {last}")
@@ -59,7 +59,7 @@ def address(word: str) -> bytes:
 
 
 def kind(word: str) -> tuple[int | None, str]:
-    """A link type, None for those that are not known, and what its frames hold."""
+    """A link type, None for unknown ones, and what its frames hold."""
     link, parted, name = word.rpartition("=")
     if name not in KINDS:
         raise argparse.ArgumentTypeError(f"{name!r} is no kind: it is {KINDS_TEXT}")
@@ -122,7 +122,7 @@ def header_words(group: argparse._ArgumentGroup) -> None:
 
 
 def chosen(words: argparse.Namespace) -> tuple[Choices, Wishes]:
-    """The choices and the wishes of parsed words."""
+    """How a capture is read and the numbers of the header, from the parsed command line."""
     given = vars(words)
     wishes = Wishes(**{name: given[name] for name in Wishes.__dataclass_fields__})
     choices = Choices(
@@ -140,7 +140,7 @@ def chosen(words: argparse.Namespace) -> tuple[Choices, Wishes]:
 
 
 def option_among(words: argparse.Namespace, parser: argparse.ArgumentParser, others: Collection[str]) -> str | None:
-    """An option among parsed words that is none of these others; None where there is none."""
+    """An option of the parsed command line that is not among these; None where there is none."""
     given, bare = vars(words), vars(parser.parse_args(["-"]))
     for action in parser._actions:
         if action.option_strings and action.dest in given and action.dest not in others:
@@ -150,7 +150,7 @@ def option_among(words: argparse.Namespace, parser: argparse.ArgumentParser, oth
 
 
 def check(words: argparse.Namespace, parser: argparse.ArgumentParser) -> None:
-    """Refuses words of a capture that contradict each other."""
+    """Refuses options for a capture that contradict each other."""
     if words.calls is not None and (words.incoming, words.two_way, words.outgoing) != (None, None, None):
         parser.error("--svc does not go with --in, --two and --out")
     if words.captures.count("-") > 1:

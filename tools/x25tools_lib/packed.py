@@ -9,25 +9,25 @@ MAGIC = b"\x1f\x8b"
 ENDING = ".gz"
 # The window of zlib for gzip, with its header and its sums.
 GZIP = 16 + zlib.MAX_WBITS
-# So many octets are unpacked at once: at most 16 MiB come of them.
+# The octets that are unpacked at once; they give at most 16 MiB.
 SLICE = 1 << 14
-# What returns the next octets, none at the end; and what reports a damage in words.
+# A function that returns the next octets, none at the end; and one that reports damage.
 More = Callable[[], bytes]
 Damaged = Callable[[str], object]
 
 
 class Packed:
-    """A gzip stream: one member after the other, as gzip writes and joins them. It ends at the first damage."""
+    """A gzip stream: the members one after the other, up to the first damage."""
 
     def __init__(self, start: bytes, more: More, damaged: Damaged) -> None:
         self.more, self.damaged = more, damaged
-        # The octets that came and are not unpacked yet, and what unpacks the member that they are of.
+        # The octets read and not unpacked yet, and the object that unpacks their member.
         self.ahead = start
         self.member = zlib.decompressobj(GZIP)
         self.is_over = False
 
     def octets(self) -> bytes:
-        """The octets that come next; none at the end."""
+        """Returns the next octets; none at the end."""
         while not self.is_over:
             if not self.ahead and not self.comes():
                 self.end()
@@ -36,7 +36,7 @@ class Packed:
         return b""
 
     def comes(self) -> bool:
-        """Whether more octets of the file came."""
+        """Whether the file has more octets."""
         coming = self.more()
         self.ahead += coming
         return bool(coming)
@@ -56,7 +56,7 @@ class Packed:
         return found
 
     def begins_again(self) -> bool:
-        """Whether another member comes; zeros may fill up the file before it."""
+        """Whether another member follows; zeros may come before it."""
         self.ahead = self.ahead.lstrip(b"\0")
         while 0 < len(self.ahead) < len(MAGIC) and self.comes():
             pass
@@ -68,19 +68,19 @@ class Packed:
         return False
 
     def end(self) -> None:
-        """The file has ended, where its last member may not have."""
+        """Ends the file; the last member may be cut off."""
         self.is_over = True
         if not self.member.eof:
             self.damaged("its gzip data is cut off")
 
     def stop(self, words: str) -> None:
-        """Nothing after a damage is read."""
+        """Ends the reading after damage."""
         self.is_over = True
         self.damaged(f"{words}: the rest is left out")
 
 
 def up_to_damage(member: zlib._Decompress, octets: bytes) -> bytes:
-    """What octets hold before the first damaged one."""
+    """What octets unpack to before the first damaged one."""
     parts = []
     with contextlib.suppress(zlib.error):
         for at in range(len(octets)):
@@ -89,7 +89,7 @@ def up_to_damage(member: zlib._Decompress, octets: bytes) -> bytes:
 
 
 def beginning(more: More) -> bytes:
-    """The first octets of a stream: enough of them to see whether they are of a gzip file."""
+    """The first octets of a stream, enough to recognise a gzip file."""
     start = b""
     while len(start) < len(MAGIC) and (coming := more()):
         start += coming

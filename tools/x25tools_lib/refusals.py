@@ -25,7 +25,7 @@ class PageWhy(enum.Enum):
 
 
 class Refusal(Exception):
-    """There is no output; the reason has a name."""
+    """There is no output, for a reason that has a name."""
 
     def __init__(self, why: Why | PageWhy, words: str) -> None:
         super().__init__(f"{why.value}: {words}")

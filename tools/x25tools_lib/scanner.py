@@ -6,11 +6,11 @@ import pathlib
 ROOT = pathlib.Path(__file__).resolve().parents[2]
 # The launcher builds the program where there is none.
 SCANNER = ROOT / "bin" / "x25scan"
-# What the launcher builds. An installed program has no launcher.
+# The program that the launcher builds. An installed program has no launcher.
 BUILT = ROOT / "crates" / "x25scan" / "out" / "x25scan"
 
 
 def built() -> str | None:
-    """The program that is there without a build; None where there is none."""
+    """The program, where it is already built; else None."""
     program = BUILT if (ROOT / "crates").is_dir() else SCANNER
     return str(program) if program.exists() else None

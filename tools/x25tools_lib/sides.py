@@ -10,7 +10,7 @@ class Side(enum.Enum):
     T = "T"
     N = "N"
 
-    # An enumeration hashes and reads its members' values in Python, which is slow for what is done with each packet.
+    # An Enum hashes its members and reads their values in Python code, which is slow for each packet.
     __hash__ = object.__hash__
 
     letter: str

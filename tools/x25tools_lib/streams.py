@@ -21,17 +21,17 @@ CHUNK = 1 << 18
 
 
 def shown_name(name: str) -> str:
-    """The words for a file in messages."""
+    """The name of a file in messages."""
     return "standard input" if name == "-" else name
 
 
 def title_of(names: Sequence[str]) -> str:
-    """What an output says that it is from."""
+    """The name of an input in an output."""
     return shown_name(pathlib.PurePath(names[0]).name) if len(names) == 1 else f"{len(names)} captures"
 
 
 def stem_of(name: str) -> str:
-    """The name of a file without its folder and without its ending, also where it is packed: day, of day.pcap.gz."""
+    """The name of a file without its folder and its endings: day for day.pcap.gz."""
     return pathlib.PurePath(pathlib.PurePath(name).name.removesuffix(ENDING)).stem
 
 
@@ -40,13 +40,13 @@ def write_text(text: str) -> None:
     if sys.stdout is None:
         raise OSError(errno.EBADF, os.strerror(errno.EBADF), "standard output")
     if isinstance(sys.stdout, io.TextIOWrapper):
-        # A name of a file may have octets that are no letters.
+        # The name of a file may have octets that are not valid characters.
         sys.stdout.reconfigure(errors="backslashreplace")
     try:
         sys.stdout.write(text)
         sys.stdout.flush()
     except OSError:
-        # What was not written yet can't be: nothing may try it again at the end.
+        # The rest cannot be written: Python must not try again at the end.
         os.dup2(os.open(os.devnull, os.O_WRONLY), sys.stdout.fileno())
         raise
 
@@ -68,7 +68,7 @@ def open_input(name: str) -> BinaryIO:
 
 
 def is_pipe(name: str) -> bool:
-    """Whether the octets of a file come as they are written, and only once."""
+    """Whether a file is a pipe: its octets come as they are written, and only once."""
     try:
         mode = os.fstat(sys.stdin.fileno()).st_mode if name == "-" else os.stat(name).st_mode
     except (OSError, AttributeError):
@@ -77,7 +77,7 @@ def is_pipe(name: str) -> bool:
 
 
 def is_same(name: str | os.PathLike[str], other: str | os.PathLike[str]) -> bool:
-    """Whether two names are of one file."""
+    """Whether two names mean the same file."""
     try:
         return os.path.samefile(name, other)
     except OSError:
@@ -85,7 +85,7 @@ def is_same(name: str | os.PathLike[str], other: str | os.PathLike[str]) -> bool
 
 
 def is_open(descriptor: int) -> bool:
-    """Whether a stream can be written, however full the disk is."""
+    """Whether a stream is open for writing, whether or not the disk is full."""
     try:
         os.write(descriptor, b"")
     except OSError as fault:
@@ -94,34 +94,34 @@ def is_open(descriptor: int) -> bool:
 
 
 def mute_errors() -> None:
-    """Gives a closed standard error a place, so that no file takes it."""
+    """Opens a replacement for a closed standard error, so that no file gets its number."""
     os.dup2(os.open(os.devnull, os.O_WRONLY), 2)
     sys.stderr = open(2, "w", encoding="ascii", errors="replace", closefd=False)
 
 
 class Interrupted(Exception):
-    """The reading is to end here."""
+    """Ends the reading."""
 
 
-# Signals that come within so many seconds are one: timeout sends its signal to its command, and then to its group.
+# Signals within this number of seconds count as one: timeout sends its signal to its command, and then to its group.
 TOGETHER = 0.25
 
 
 def nothing() -> None:
-    """What is done before waiting, unless something else is asked for."""
+    """The default of what is done before waiting: nothing."""
 
 
 class Waiting:
-    """Where octets are waited for: what is done before, and how SIGINT ends it: at once, else before more are read."""
+    """Waiting for octets: what is done before it, and how SIGINT ends it: at once, else before more are read."""
 
     def __init__(self) -> None:
         self.before: Callable[[], object] = nothing
-        # Whether a signal ended the reading, and when; whether it is over for any reason; whether octets are waited for.
+        # Whether a signal ended the reading, and when; whether the reading is over; whether the program waits for octets.
         self.interrupted = self.is_over = self.inside = False
         self.since = 0.0
 
     def handle(self, *numbers: signal.Signals) -> None:
-        """Has signals end the reading."""
+        """Installs the handler that ends the reading."""
         WAKER.start()
         for number in numbers:
             signal.signal(number, self.interrupt)
@@ -142,7 +142,7 @@ class Waiting:
             raise Interrupted
 
     def octets(self, stream: BinaryIO) -> bytes:
-        """The octets that come next, as soon as there are any; none at the end."""
+        """Returns the next octets as soon as there are any; none at the end."""
         self.before()
         self.inside = True
         try:

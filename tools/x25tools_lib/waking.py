@@ -1,4 +1,4 @@
-"""A pipe that each signal writes into, so that none is missed which comes just before a call that waits."""
+"""A pipe into which each signal is written, so that a signal just before a call that waits is not missed."""
 from __future__ import annotations
 
 import contextlib
@@ -10,7 +10,7 @@ READABLE = select.POLLIN | select.POLLHUP | select.POLLERR | select.POLLNVAL
 
 
 class Waker:
-    """What wakes the program: octets of a stream, or a signal that has a handler."""
+    """Waits for octets of a stream or for a signal that has a handler."""
 
     def __init__(self) -> None:
         self.reader: int | None = None
@@ -24,7 +24,7 @@ class Waker:
             signal.set_wakeup_fd(writer, warn_on_full_buffer=False)
 
     def wait(self, stream: int | None = None) -> bool:
-        """Waits until a stream has octets or has ended, or until a signal has come. Returns whether it is the stream."""
+        """Waits until a stream has octets or has ended, or a signal has come. Returns whether it was the stream."""
         if self.reader is None:
             return True
         poll = select.poll()

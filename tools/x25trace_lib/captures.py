@@ -1,4 +1,4 @@
-"""The files of a capture: how each is opened, what it is by its first octets, and the frames of all in their order."""
+"""The files of a capture: opens each, recognises its format by its first octets, and reads the frames in order."""
 from __future__ import annotations
 
 import contextlib
@@ -29,10 +29,10 @@ COMPRESSED = {
     b"PK\x03\x04": "unzip",
 }
 BOMS_OF_UTF16 = (b"\xff\xfe", b"\xfe\xff")
-# So many octets of a text are shown.
+# The octets of a text that a message shows.
 SHOWN = 24
 TURN = "editcap -F pcapng FILE OUT.pcapng"
-# Other files of recorded frames, which Wireshark reads.
+# Other formats of recorded frames, which Wireshark reads.
 OTHER_FORMS = {
     b"TRSNIFF data": "Sniffer",
     b"XCP\0": "NetXRay",
@@ -49,7 +49,7 @@ Form = Pcap | Pcapng | Snoop | HexDump
 
 
 def form_of(source: Source, kinds: dict[int | None, str]) -> type[Form]:
-    """The class that reads a file, by what it begins with."""
+    """The class that reads a file, by its first octets."""
     start = source.peek(len(MAGIC))
     if start in MAGICS:
         return Pcap
@@ -82,7 +82,7 @@ def form_of(source: Source, kinds: dict[int | None, str]) -> type[Form]:
 
 
 def unknown_form(start: bytes) -> str:
-    """What a file is that is not read, by what it begins with, and what to do with it."""
+    """What a file of another format is, by its first octets, and what to do with it."""
     if start.startswith(BOMS_OF_UTF16):
         return "a text in UTF-16; iconv -f UTF-16 -t ASCII FILE turns a trace or a hex dump into one that is read"
     words = f"no pcap, pcapng, snoop, hex dump or trace; it begins with {beginning(start)}"
@@ -90,7 +90,7 @@ def unknown_form(start: bytes) -> str:
 
 
 def beginning(start: bytes) -> str:
-    """What a file begins with: the first words of a text, else octets in hex."""
+    """The beginning of a file: the first words of a text, else octets in hex."""
     line = start.lstrip()[:SHOWN].partition(b"\n")[0].rstrip()
     if line and line.isascii() and line.decode("ascii").isprintable():
         return f'"{line.decode("ascii")}"'
@@ -101,7 +101,7 @@ BINARY = (*MAGICS, MAGIC, SNOOP_MAGIC, *COMPRESSED, *OTHER_FORMS)
 
 
 def is_trace(start: bytes) -> bool:
-    """Whether what begins so is a trace, good or faulty, and not a capture."""
+    """Whether a file that begins so is a trace, good or faulty, and not a capture."""
     lines = (line for line in start.split(b"\n") if not line.startswith(b"#"))
     if next(lines, b"").startswith(b"X25 "):
         return True
@@ -110,7 +110,7 @@ def is_trace(start: bytes) -> bool:
 
 
 class Captures:
-    """The frames of files, numbered on from each to the next. The first one may be open, and looked at."""
+    """The frames of files, numbered through all of them. The first file may be open, and looked at."""
 
     def __init__(
         self, names: Sequence[str], kinds: dict[int | None, str], ledger: Ledger, waiting: Waiting,
@@ -119,11 +119,11 @@ class Captures:
         self.names, self.kinds, self.ledger, self.waiting, self.first = names, kinds, ledger, waiting, first
         self.several = len(names) > 1
         self.number = 0
-        # The time of the last frame that was read, where the capture says it.
+        # The time of the last frame that was read, where the capture has it.
         self.time: int | None = None
 
     def frames(self) -> Iterator[Frame | Dropped]:
-        """The frames of all files, up to an interruption, and where some were dropped."""
+        """The frames of all files, up to an interruption, and the places where frames were dropped."""
         try:
             if self.several:
                 self.check()
@@ -138,7 +138,7 @@ class Captures:
             self.ledger.report(Topic.INTERRUPTED, words)
 
     def check(self) -> None:
-        """Refuses what is no capture before anything is read; a pipe can't be looked at twice."""
+        """Refuses a file that is not a capture, before anything is read; a pipe cannot be looked at twice."""
         for name in self.names:
             if name != "-" and not is_pipe(name):
                 with open_input(name) as stream:
@@ -158,13 +158,13 @@ class Captures:
                 self.time = frame.time
 
     def compare(self, name: str, time: int | None, before: int) -> None:
-        """Tells where a file begins before the one before it ends; a recorder without a clock says 0."""
+        """Reports a file that begins before the previous one ends; a recorder without a clock writes 0."""
         if time and time < before:
             words = f"{os.path.basename(name)} begins before the file before it ends"
             self.ledger.report(Topic.ORDER, f"{words}: give the files in the order of their times, or join them with mergecap")
 
     def forms(self) -> Iterator[Form]:
-        """What reads each file, open while it is asked for; the numbers of its frames go on from the file before."""
+        """The reader of each file, open while it is used; the numbers of frames continue from the previous file."""
         for name in self.names:
             with self.opened(name) as form:
                 yield form
@@ -172,7 +172,7 @@ class Captures:
 
     @contextlib.contextmanager
     def opened(self, name: str) -> Iterator[Form]:
-        """What reads a file."""
+        """Returns the reader of a file."""
         with contextlib.ExitStack() as held:
             source, self.first = self.first, None
             if source is None:

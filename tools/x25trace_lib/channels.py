@@ -1,4 +1,4 @@
-"""Which channel of the trace an XOT circuit gets: one of its own while there are some, then one that is free again."""
+"""Which channel of the trace an XOT circuit gets: a new one while there are some, then one that is free again."""
 from __future__ import annotations
 
 import heapq
@@ -14,20 +14,20 @@ from .xot import Circuit
 
 @dataclass
 class Range:
-    """The channels that circuits of one kind may have; following is the first one that was not asked for yet."""
+    """The channels that circuits of one kind may have; `following` is the first one that was not given yet."""
 
     first: int
     last: int
     following: int
 
     def fresh(self, taken: set[int]) -> int | None:
-        """The next channel that no circuit had, or None."""
+        """Returns the next channel that no circuit had, or None."""
         while self.following <= self.last and self.following in taken:
             self.following += 1
         return self.following if self.following <= self.last else None
 
     def again(self, free: list[int]) -> int | None:
-        """The channel that was free first, taken from the list, or None."""
+        """Removes and returns the channel that was free first, or None."""
         for at, channel in enumerate(free):
             if self.first <= channel <= self.last:
                 return free.pop(at)
@@ -39,7 +39,7 @@ class Channels:
 
     def __init__(self, header: Header) -> None:
         self.permanent = Range(1, header.permanent, 1)
-        # Calls of the DTE may not use the channels for incoming calls, those of the DCE not those for outgoing ones.
+        # Calls of the DTE may not use the channels for incoming calls, and calls of the DCE not those for outgoing calls.
         self.calls = {
             Side.T: Range(header.incoming + 1, header.outgoing, header.incoming + 1),
             Side.N: Range(header.permanent + 1, header.two_way, header.permanent + 1),
@@ -48,7 +48,7 @@ class Channels:
         self.free: list[int] = []
 
     def give(self, circuit: Circuit) -> bool:
-        """Gives a circuit its channel, 1 to PVC for permanent ones, those behind for calls; whether one was left."""
+        """Gives a circuit its channel, 1 to PVC for permanent ones, those after them for calls; returns whether one was left."""
         places = self.permanent if circuit.permanent else self.calls[circuit.caller or Side.T]
         channel = places.fresh(self.taken) or places.again(self.free)
         if channel is not None:

@@ -35,7 +35,7 @@ def say(words: object) -> None:
 
 
 def say_failure(fault: OSError) -> None:
-    """Says what failed."""
+    """Prints what failed."""
     name = f"{fault.filename}: " if isinstance(fault.filename, str) else ""
     say(f"reading or writing failed: {name}{fault.strerror or fault}")
 
@@ -51,7 +51,7 @@ def is_live(words: argparse.Namespace, wishes: Wishes, waiting: Waiting) -> bool
 
 
 def write(words: argparse.Namespace, ledger: Ledger, waiting: Waiting, out: TextIO) -> None:
-    """Reads what is named, and writes its trace, or comments into captures."""
+    """Reads the named files, and writes their trace, or captures with comments."""
     waiting.before = out.flush
     if len(words.captures) > 1:
         write_captures(words, ledger, waiting, None, out)
@@ -68,7 +68,7 @@ def write(words: argparse.Namespace, ledger: Ledger, waiting: Waiting, out: Text
 def write_captures(
     words: argparse.Namespace, ledger: Ledger, waiting: Waiting, first: Source | None, out: TextIO,
 ) -> None:
-    """Writes the trace of captures, or comments into them; the first one may be open, and looked at."""
+    """Writes the trace of captures, or the captures with comments; the first one may be open, and looked at."""
     choices, wishes = chosen(words)
     if words.comments is not None:
         write_comments(words, ledger, waiting)
@@ -81,9 +81,9 @@ def write_captures(
 
 
 def write_comments(words: argparse.Namespace, ledger: Ledger, waiting: Waiting) -> None:
-    """Has x25scan read the trace, and writes the captures again with what it says."""
+    """Has x25scan read the trace, and writes the captures again with its findings as comments."""
     trace = gathered(words, ledger, waiting, True)
-    # The first reading reported what is damaged.
+    # The first reading reported the damage.
     again = [Captures(words.captures, dict(words.kinds), Ledger(), Waiting()) for _ in range(2)]
     comments.check(again[0])
     with file_of(trace, words.captures) as (file, head):
@@ -110,14 +110,14 @@ def run(words: argparse.Namespace, waiting: Waiting, out: TextIO) -> Status:
 
 
 def follow(words: argparse.Namespace, waiting: Waiting) -> int:
-    """Has x25scan follow the trace; returns its status, or that of a trace that could not be made."""
+    """Has x25scan follow the trace; returns its status, or that of the failure where no trace could be made."""
     follower = Follower(words.scanner, forms_of(words), waiting)
     try:
         if run(words, waiting, follower.out) is Status.REFUSED:
             return Status.INTERRUPTED if waiting.interrupted else Status.REFUSED
         status = follower.end()
     except (BrokenPipeError, Interrupted):
-        # x25scan has ended, and said why.
+        # x25scan has ended, and printed why.
         status = follower.end()
     except OSError as fault:
         say_failure(fault)
@@ -131,7 +131,7 @@ def follow(words: argparse.Namespace, waiting: Waiting) -> int:
 
 
 def main(arguments: Sequence[str], waiting: Waiting | None = None) -> int:
-    """Runs in a process whose streams and signals are as they are."""
+    """Runs without changing the streams and signals of the process."""
     words = parsed(arguments)
     waiting = waiting or Waiting()
     try:
@@ -140,7 +140,7 @@ def main(arguments: Sequence[str], waiting: Waiting | None = None) -> int:
         status = run(words, waiting, sys.stdout)
         return Status.INTERRUPTED if waiting.interrupted else status
     except OSError as fault:
-        # What was not written yet cannot be: nothing may try it again at the end.
+        # The rest cannot be written: Python must not try again at the end.
         os.dup2(os.open(os.devnull, os.O_WRONLY), sys.stdout.fileno())
         say_failure(fault)
         return Status.FAILED
@@ -156,7 +156,7 @@ def program(arguments: Sequence[str]) -> int:
         say("reading or writing failed: standard output is closed")
         return Status.FAILED
     waiting = Waiting()
-    # Nothing that is made for a frame refers to itself, so there is nothing to search for.
+    # No object that is made for a frame is in a cycle, so the collector would find nothing.
     gc.disable()
     signal.signal(signal.SIGPIPE, signal.SIG_DFL)
     waiting.handle(signal.SIGINT)

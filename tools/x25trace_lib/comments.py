@@ -1,4 +1,4 @@
-"""A capture written again as pcapng, with what x25scan finds in its trace as comments of its frames."""
+"""Writes a capture again as pcapng, with the findings of x25scan as comments of its frames."""
 from __future__ import annotations
 
 import contextlib
@@ -35,14 +35,14 @@ COMMENT = 1
 END = b"\0\0\0\0"
 BYTE_ORDER_MAGIC = 0x1A2B3C4D
 FLAGS_OF = {Direction.RECEIVED: 1, Direction.SENT: 2}
-# Where an enhanced or an obsolete packet block says how many octets were kept, and where these begin.
+# The offsets of the number of octets kept, and of these octets, in an enhanced or obsolete packet block.
 KEPT_AT, OCTETS_AT = 12, 20
 
 
 def found(trace: IO[str], scanner: str | None, halves: Halves) -> Comments:
-    """What x25scan says of the frames of a trace in a file: the comments of each, calls with their first one.
+    """The comments of x25scan on the frames of a trace in a file; those on a call are on its first frame.
 
-    Of what was recorded in one direction alone there is only that.
+    Where something was recorded in one direction only, its comments say no more than that.
     """
     words = [str(scanner or SCANNER), "--annotate"]
     with subprocess.Popen(words, stdin=trace, stdout=subprocess.PIPE, text=True, encoding="ascii") as running:
@@ -54,7 +54,7 @@ def found(trace: IO[str], scanner: str | None, halves: Halves) -> Comments:
 
 
 def named(words: str, frames: Frames) -> str:
-    """The words with the frames of the packets that they name."""
+    """The text with the frames of the packets that it names."""
     return PACKET.sub(lambda packet: frames.name(int(packet[1]), ""), words)
 
 
@@ -106,7 +106,7 @@ def comment_options(order: str, texts: Iterable[str]) -> bytes:
 
 
 def end_of_options(order: str, body: bytes, at: int) -> int:
-    """Where the options of a block end that begin at a place."""
+    """The end of a block's options that begin at an offset."""
     while at + 4 <= len(body):
         code, length = struct.unpack_from(order + "HH", body, at)
         after = at + 4 + length + -length % 4
@@ -123,7 +123,7 @@ def enhanced(order: str, body: bytes, kept: int, length: int) -> bytes:
 
 
 def commented(order: str, body: bytes, texts: Iterable[str]) -> bytes:
-    """The body of a block of a frame with comments behind its other options."""
+    """The body of a block of a frame with comments after its other options."""
     kept = struct.unpack_from(order + "I", body, KEPT_AT)[0]
     begin = OCTETS_AT + kept + -kept % 4
     body += bytes(max(begin - len(body), 0))
@@ -131,11 +131,11 @@ def commented(order: str, body: bytes, texts: Iterable[str]) -> bytes:
 
 
 def whole(order: str, kind: int, octets: bytes) -> bytes:
-    """The body of a block as it was recorded: a frame that the file ends in keeps what is there of it."""
+    """The body of a block as it was recorded; a frame in which the file ends keeps the octets that are there."""
     length = struct.unpack_from(order + "I", octets, 4)[0]
     body = octets[8:min(len(octets), length - 4)]
     if kind == Block.SECTION:
-        # Sections become longer: -1 says that their length is not known.
+        # Sections become longer: -1 means an unknown length.
         return body[:8] + b"\xff" * 8 + body[16:]
     if kind in (Block.ENHANCED, Block.PACKET) and len(body) >= OCTETS_AT:
         kept, length = struct.unpack_from(order + "II", body, KEPT_AT)
@@ -150,7 +150,7 @@ def section(order: str) -> bytes:
 
 
 def of_pcapng(form: Pcapng, comments: Comments) -> Generator[bytes, None, None]:
-    """The blocks of a pcapng file; before the first one a section's header, where that is damaged."""
+    """The blocks of a pcapng file; before them a section header where the file's own is damaged."""
     begun = False
     for start, kind, octets in form.blocks():
         frame = form.frame_of(kind, start, form.body(octets))
@@ -163,7 +163,7 @@ def of_pcapng(form: Pcapng, comments: Comments) -> Generator[bytes, None, None]:
         body = whole(form.order, kind, octets)
         if texts:
             if kind == Block.SIMPLE:
-                # It has no options, and so no comments.
+                # Such a block has no options, so it cannot have comments.
                 _, _, kept, length, _ = form.simple(body)
                 kind, body = Block.ENHANCED, enhanced(form.order, body, kept, length)
             body = commented(form.order, body, texts)

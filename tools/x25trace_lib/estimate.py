@@ -1,4 +1,4 @@
-"""What the header of a trace says, by options or by what was seen."""
+"""The header of a trace, from options or from what was seen."""
 from __future__ import annotations
 
 from dataclasses import dataclass, field
@@ -20,9 +20,9 @@ FLOW = frozenset((1, 5, 9))
 
 @dataclass(slots=True)
 class Seen:
-    """What was seen on a channel: the lower edge of each side's window, None where that is not known.
+    """What was seen on a channel: the lower edge of each side's window, None where it is unknown.
 
-    And whether data counts now, and which values its call agreed on.
+    Also whether data counts now, and the values that its call agreed on.
     """
 
     edges: dict[Side, int | None]
@@ -41,14 +41,14 @@ class Estimator:
         self.restarted = False
         self.first_is_restart: bool | None = None
         self.highest = 0
-        # Channels of a line with calls, and with data where no call is known of.
+        # Channels of a line with calls, and those with data and no known call.
         self.with_calls: set[int] = set()
         self.with_data: set[int] = set()
-        # Those of which packets are missing, perhaps calls.
+        # Channels with missing packets, perhaps calls.
         self.with_gaps: set[int] = set()
 
     def see(self, key: int, known: bool, side: Side, octets: bytes, line: bool) -> None:
-        """A packet of a channel; known says that its state was known from its beginning."""
+        """Reads a packet of a channel; `known` means that the channel's state was known from its beginning."""
         if self.first_is_restart is None:
             self.first_is_restart = line and len(octets) >= 3 and octets[2] == Type.RESTART and not channel_of(octets)
         if len(octets) < 3:
@@ -76,14 +76,14 @@ class Estimator:
             self.signal(seen, kind, octets)
 
     def forget(self, circuit: Circuit) -> None:
-        """A circuit has no more packets."""
+        """Removes a circuit: it has no more packets."""
         self.seen.pop(circuit.number, None)
 
     def miss(self, missing: Missing) -> None:
-        """Packets are missing: what they acknowledged is not known, and data may flow."""
+        """Reads a gap: what the missing packets acknowledged is unknown, and data may flow."""
         key = missing.circuit.number if missing.circuit else missing.channel
         if key is None:
-            # A restart may be among them.
+            # A restart may be among the missing packets.
             self.restarted = False
         elif not missing.circuit:
             self.highest = max(self.highest, key)
@@ -119,12 +119,12 @@ class Estimator:
 
     @staticmethod
     def signal(seen: Seen, kind: int, octets: bytes) -> None:
-        """A packet that begins or ends the flow of data."""
+        """Reads a packet that begins or ends the flow of data."""
         if kind in (Type.CALL, Type.CLEAR):
             seen.flows = False
             seen.agreed = facilities_of(octets) if kind == Type.CALL else set()
         elif kind == Type.RESET:
-            # The second one of two that cross is a confirmation.
+            # Where two requests collide, the second one is a confirmation.
             seen.flows = not seen.flows
         elif kind == Type.ACCEPTED:
             seen.flows = True
@@ -150,7 +150,7 @@ class Estimator:
 
     @property
     def permanent(self) -> int:
-        """The last channel that had data after a restart and no call, below all channels with calls."""
+        """The last channel with data after a restart and without a call, below all channels with calls."""
         first_call = min(self.with_calls, default=LAST_CHANNEL + 1)
         return max((channel for channel in self.with_data if channel < first_call), default=0)
 
@@ -181,7 +181,7 @@ def header_of(wishes: Wishes, estimator: Estimator, permanent: int, highest: int
 
 
 def seen_of(wishes: Wishes, header: Header, estimator: Estimator) -> dict[str, int]:
-    """The window and the packet size of a header that no option gives, and data shows."""
+    """The window and the packet size of a header, where data shows them and no option gives them."""
     seen = {}
     if wishes.window is None and estimator.most:
         seen["WIN"] = header.window

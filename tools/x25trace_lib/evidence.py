@@ -1,4 +1,4 @@
-"""On what the window and the packet size of a header rest where no option gives them."""
+"""The basis of the window and the packet size of a header, where no option gives them."""
 from __future__ import annotations
 
 import enum
@@ -18,7 +18,7 @@ UNDECIDED = f"the first {MOST_ROWS:,} packets decide nothing"
 
 
 class Basis(enum.Enum):
-    """On what a number rests: on answers of the DCE, on the largest value seen, or on nothing."""
+    """The basis of a number: answers of the DCE, the largest value seen, or none."""
 
     ANSWERS = enum.auto()
     LARGEST = enum.auto()
@@ -36,7 +36,7 @@ class Evidence:
     why: str = ""
 
     def source(self, name: str) -> str:
-        """From what a number was estimated."""
+        """What a number was estimated from."""
         basis = self.bases.get(name)
         if basis is Basis.ANSWERS:
             return f"with it {self.answers}"
@@ -46,13 +46,13 @@ class Evidence:
 
     @property
     def answers(self) -> str:
-        """How many findings the DCE answers."""
+        """The number of findings that the DCE answers, in words."""
         answered, unanswered = self.best.counts[:2] if self.best else (0, 0)
         owed = answered + unanswered
         return "the DCE answers the one finding" if owed == 1 else f"the DCE answers {answered:,} of {owed:,} findings"
 
     def sentences(self) -> Iterator[str]:
-        """What the numbers rest on, and which of them options should give."""
+        """Sentences on the basis of the numbers, and on which of them options should give."""
         if names := self.on(Basis.ANSWERS):
             yield f"{self.shown(names)}: with {'them' if len(names) > 1 else 'it'} {self.answers}"
         if names := self.on(Basis.GUESS):
@@ -63,7 +63,7 @@ class Evidence:
             yield f"{self.shown(names)} {are}: data that broke a smaller value is not found, so {advice(names)}"
 
     def on(self, basis: Basis) -> list[str]:
-        """The numbers with a basis."""
+        """The numbers that have this basis."""
         return [name for name, it in self.bases.items() if it is basis]
 
     def shown(self, names: Sequence[str]) -> str:
@@ -84,7 +84,7 @@ def largest(seen: dict[str, int], why: str) -> Evidence:
 def ranked_first(ranking: Sequence[Tried], header: Header, seen: dict[str, int], is_whole: bool) -> Evidence:
     """The evidence of the header that ranks first of those that have the numbers that were not seen.
 
-    A ranking of the first rows alone guesses nothing: what it does not decide is the largest seen.
+    A ranking of only the first rows guesses nothing: a number that it does not decide is the largest seen.
     """
     others = {"MOD": header.modulus, "WIN": header.window, "SIZE": header.size}
     fixed = {name: value for name, value in others.items() if name not in seen}
@@ -98,7 +98,7 @@ def ranked_first(ranking: Sequence[Tried], header: Header, seen: dict[str, int],
 
 
 def best_of(candidates: Sequence[Tried], seen: dict[str, int]) -> Tried:
-    """The first one. Where the DCE answers nothing, it is the one with the largest numbers seen, if that has the same counts."""
+    """The first header; where the DCE answers nothing, the one with the largest numbers seen, if it has the same counts."""
     best = candidates[0]
     same = (it for it in candidates if it.numbers == seen and it.counts == best.counts)
     return best if best.answered else next(same, best)

@@ -1,4 +1,4 @@
-"""x25scan --follow, which reads the trace while it is written; the signals that end the reading don't end it."""
+"""x25scan --follow, which reads the trace while it is written; the signals that end the reading do not end it."""
 from __future__ import annotations
 
 import contextlib
@@ -17,21 +17,21 @@ ENDINGS = (signal.SIGINT, signal.SIGTERM)
 
 
 def shield() -> None:
-    """Runs in the new process: what ends the reading must not end the report of what was read."""
+    """Runs in the new process: a signal that ends the reading must not end the report."""
     for number in ENDINGS:
         signal.signal(number, signal.SIG_IGN)
 
 
 class Follower:
-    """A program x25scan that follows the trace, in a session of its own, so Ctrl-C at the terminal doesn't reach it.
+    """A program x25scan that follows the trace, in its own session, so that Ctrl-C at the terminal does not reach it.
 
-    Forms are options of x25scan for the form of its report.
+    `forms` has the options of x25scan for the form of its report.
     """
 
     def __init__(self, scanner: str | None, forms: Sequence[str], waiting: Waiting) -> None:
         self.waiting, self.name = waiting, str(scanner or SCANNER)
         waiting.handle(*ENDINGS)
-        # Where x25scan has ended, the next write fails.
+        # If x25scan has ended, the next write fails.
         signal.signal(signal.SIGPIPE, signal.SIG_IGN)
         self.process = subprocess.Popen(
             [self.name, "--follow", *forms], stdin=subprocess.PIPE, encoding="ascii", start_new_session=True,
@@ -46,7 +46,7 @@ class Follower:
         return cast(TextIO, self.process.stdin)
 
     def look(self, _number: int = 0, _frame: FrameType | None = None) -> None:
-        """Ends the reading where x25scan has ended: the handler of SIGCHLD."""
+        """The handler of SIGCHLD: ends the reading when x25scan has ended."""
         if self.process.poll() is not None:
             self.waiting.end()
 
@@ -54,13 +54,13 @@ class Follower:
         """Ends the trace, and waits for the end of the report; returns the status, below 0 where a signal ended x25scan."""
         with contextlib.suppress(BrokenPipeError):
             self.out.close()
-        # Its end is a signal too.
+        # Its end raises SIGCHLD too.
         while (status := self.process.poll()) is None:
             WAKER.wait()
         return status
 
     def kill(self) -> None:
-        """Ends x25scan at once, where it runs: it reports nothing."""
+        """Kills x25scan where it runs, without a report."""
         if self.process.poll() is None:
             with contextlib.suppress(ProcessLookupError):
                 os.killpg(self.process.pid, signal.SIGKILL)

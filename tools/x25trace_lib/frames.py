@@ -6,14 +6,14 @@ from dataclasses import dataclass
 
 
 class Direction(enum.Enum):
-    """What a capture says of a frame's way, seen from the host that recorded."""
+    """The direction of a frame in a capture, seen from the recording host."""
 
     UNKNOWN = 0
     RECEIVED = 1
     SENT = 2
 
 
-# What a Linux cooked header says of a frame's way; 3 is one of other hosts to each other.
+# The direction by the packet type of a Linux cooked header; 3 means a frame between other hosts.
 KINDS_OF_PACKET = {
     0: Direction.RECEIVED,
     1: Direction.RECEIVED,
@@ -24,9 +24,9 @@ KINDS_OF_PACKET = {
 
 @dataclass(slots=True)
 class Dropped:
-    """A place where the capture says that so many frames were dropped: before a frame, or after the last one so far.
+    """A place where the capture has a number of dropped frames: before a frame, or after the last one so far.
 
-    There are 0 where the file is damaged, and some may be missing.
+    The number is 0 where the file is damaged and frames may be missing.
     """
 
     number: int
@@ -37,7 +37,7 @@ class Dropped:
 
 @dataclass(slots=True)
 class Frame:
-    """One frame: its number as Wireshark counts, its link type, what was kept of it and how long it was."""
+    """One frame: its number as Wireshark counts, its link type, the octets kept, and its length on the line."""
 
     number: int
     link: int | str | None
@@ -45,12 +45,12 @@ class Frame:
     length: int
     direction: Direction
     interface: int = 0
-    # Nanoseconds since 1970, where the capture says them.
+    # Nanoseconds since 1970, where the capture has them.
     time: int | None = None
-    # How many tunnels it was taken out of.
+    # The number of tunnels around it.
     depth: int = 0
 
     def within(self, begin: int, end: int, octets: bytes) -> Frame:
-        """The frame that octets of a tunnel hold, of which those up to the end may not all be there."""
+        """The frame in the octets of a tunnel, which may be cut off before its end."""
         return Frame(self.number, self.link, octets[begin:end], end - begin, self.direction, self.interface, self.time,
                      self.depth + 1)

@@ -1,4 +1,4 @@
-"""Which connections, or whether the whole line, were recorded in one direction alone."""
+"""Which connections were recorded in one direction only, or whether the whole line was."""
 from __future__ import annotations
 
 from collections.abc import Collection
@@ -11,7 +11,7 @@ from .reading import Reading
 
 
 def halves_of(reading: Reading, carrier: Carrier, sides: Collection[Side]) -> list[Half]:
-    """What was recorded of one side alone, where the other side surely or probably sent packets too.
+    """What was recorded of one side only, where the other side surely or probably sent packets too.
 
     The sides are those of all packets that a capture has in a carrier.
     """

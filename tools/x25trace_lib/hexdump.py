@@ -40,7 +40,7 @@ class HexDump:
     def __init__(self, source: Source, ledger: Ledger, number: int) -> None:
         self.source, self.ledger, self.number = source, ledger, number
         self.octets: bytearray | None = None
-        # The offset of the last line, and how long the frame is: longer than its octets once a line was not placed.
+        # The offset of the last line, and the frame's length: greater than its octets once a line could not be placed.
         self.begun = self.length = 0
         self.direction = self.coming = Direction.UNKNOWN
 
@@ -62,14 +62,14 @@ class HexDump:
         yield from self.finished()
 
     def said(self, line: bytes) -> Direction:
-        """The direction in a line that is no dump: its first word, unless it is a comment or empty."""
+        """The direction in a line other than a dump: its first word, unless the line is a comment or empty."""
         words = line.split()
         if not words or words[0].startswith(b"#"):
             return self.coming
         return DIRECTIONS.get(words[0], Direction.UNKNOWN)
 
     def place(self, at: int, octets: bytes) -> bool:
-        """Puts a line's octets where it says: after those before, of which the text column may have given some."""
+        """Puts a line's octets at its offset: after those before, whose end may be characters of the text column."""
         if self.octets is None:
             return False
         if not self.begun < at <= len(self.octets) or at + len(octets) > LARGEST or self.length > len(self.octets):

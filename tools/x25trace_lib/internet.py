@@ -14,7 +14,7 @@ from .other_ports import OtherPorts
 from .tunnels import GRE, IP_IN_IP, IPV6_IN_IP, opened
 
 TCP = 6
-# The protocols whose fragments are put together.
+# The protocols whose fragments are reassembled.
 KEPT = frozenset((TCP, GRE, IP_IN_IP, IPV6_IN_IP))
 FRAGMENT_HEADER = 44
 # Extension headers whose second octet counts units of eight octets after the first eight.
@@ -28,7 +28,7 @@ TCP_HEADER = struct.Struct(">2s2sIIBB")
 SYN, FIN, RST, ACK = 2, 1, 4, 16
 
 
-# What the fragments of a datagram have in common: the protocol, the two addresses, and the identification.
+# The key of a datagram's fragments: the protocol, the two addresses, and the identification.
 Identity = tuple[int, bytes, bytes, "int | bytes"]
 
 
@@ -52,7 +52,7 @@ def port_of(end: bytes) -> int:
 
 
 class Fragments:
-    """Datagrams of which not all fragments were seen: at most so many, the oldest is given up first."""
+    """Datagrams of which not all fragments were seen, up to a limit; the oldest is given up first."""
 
     MOST = 64
     LARGEST = 65_535
@@ -88,7 +88,7 @@ class Fragments:
 
 
 class Internet:
-    """Finds the TCP segments of the ports that are asked for."""
+    """Finds the TCP segments of the wanted ports."""
 
     def __init__(self, ledger: Ledger, ports: Iterable[int]) -> None:
         self.ledger = ledger
@@ -104,12 +104,12 @@ class Internet:
             self.ledger.report(Topic.PORT, words)
 
     def bad(self, frame: Frame, words: str) -> Segment | None:
-        """No segment: a header is damaged."""
+        """Counts a packet with a damaged header; there is no segment."""
         self.ledger.damaged(Reason.BAD_HEADER, f"frame {frame.number}: {words}")
         return None
 
     def segment(self, frame: Frame, at: int) -> Segment | None:
-        """The segment of an Internet packet, or None, which is counted."""
+        """The segment of an Internet packet; None, counted, where there is none."""
         octets = frame.octets
         there = len(octets) - at
         version = octets[at] >> 4 if there > 0 else 0
@@ -157,7 +157,7 @@ class Internet:
     def fragment(self, frame: Frame, identity: Identity, span: tuple[int, int], place: int, last: bool) -> Segment | None:
         """Keeps a fragment; the segment of the datagram that it completes.
 
-        The span is where its octets are in the frame, the place where they are in the datagram.
+        `span` is where its octets are in the frame, `place` where they are in the datagram.
         """
         protocol, source, target, _ = identity
         begin, end = span
@@ -175,7 +175,7 @@ class Internet:
         return self.tunnel(frame, protocol, whole, 0, len(whole))
 
     def tunnel(self, frame: Frame, protocol: int, octets: bytes, begin: int, end: int) -> Segment | None:
-        """The segment in what a packet of another protocol carries."""
+        """The segment in a packet of another protocol, which may be a tunnel."""
         inner = frame.within(begin, end, octets)
         carried, at = opened(protocol, inner)
         if carried is Carried.IP:
@@ -186,7 +186,7 @@ class Internet:
         return None
 
     def tcp(self, frame: Frame, octets: bytes, begin: int, end: int, ends: tuple[bytes, bytes]) -> Segment | None:
-        """The segment that begins somewhere in octets; None where it is of another port, or damaged."""
+        """The segment at an offset; None where it is of another port, or damaged."""
         there = len(octets)
         if there < begin + 20 or end < begin + 20:
             return self.bad(frame, "its TCP header is cut")

@@ -1,4 +1,4 @@
-"""LAPB: the packets in the I frames of a link, each once, as its receiver took them.
+"""LAPB: the packets in the I frames of a link, each once, as its receiver accepted them.
 
 What the recorder knows of one direction, on the circle of the sequence numbers:
 
@@ -48,7 +48,7 @@ NAMES = {kind.value: kind.name for kind in Unnumbered}
 
 
 def remainder(rest: int) -> int:
-    """A step of the frame check sequence: eight bits by x^16 + x^12 + x^5 + 1, low bit first."""
+    """A step of the frame check sequence: eight bits divided by x^16 + x^12 + x^5 + 1, low bit first."""
     for _ in range(8):
         rest = rest >> 1 ^ 0x8408 if rest & 1 else rest >> 1
     return rest
@@ -66,7 +66,7 @@ def is_checked(octets: bytes) -> bool:
 
 
 def unframe(octets: bytes) -> bytes | None:
-    """What stands between the flags of a frame, without its check sequence, which may end like a flag; None if wrong."""
+    """The octets between the flags of a frame, without its check sequence, which may end like a flag; None if wrong."""
     octets = octets.lstrip(FLAG)
     while not is_checked(octets):
         if octets[-1:] != FLAG:
@@ -106,7 +106,7 @@ class Held:
     octets: bytes
     is_cut: bool
     time: int | None
-    # How many gaps of the link were written before it came.
+    # The number of gaps of the link written before it.
     gaps: int
 
 
@@ -117,17 +117,17 @@ class Way:
     next: int | None = None
     acknowledged: int | None = None
     held: dict[int, Held] = field(default_factory=dict)
-    # Whether a frame of its sender was recorded, and whether some of its I frames surely were not.
+    # Whether a frame of the sender was recorded, and whether some of its I frames surely were not.
     is_seen: bool = False
     is_missed: bool = False
-    # Whether it isn't sure where the frames held belong.
+    # Whether the place of the held frames is uncertain.
     is_doubtful: bool = False
-    # The last frame of each number, and whether all since the link was set up are there.
+    # The last frame of each number, and whether all since the set-up of the link were recorded.
     sent: dict[int, Held] = field(default_factory=dict)
     is_set_up: bool = False
 
     def is_same(self, send: int, packet: Held) -> bool:
-        """Whether a frame that comes again with a number may be the last one that had it: it carries the same packet."""
+        """Whether a frame with a number used before may repeat the last frame with it: it carries the same packet."""
         last = self.sent.get(send)
         if last is None:
             return not self.is_set_up
@@ -179,7 +179,7 @@ class Lapb:
         return side.other if self.swapped else side
 
     def take(self, frame: Frame, octets: bytes, cut: bool) -> Sequence[Item]:
-        """The packets that a frame of address, control and information gives, and the gaps between them."""
+        """The packets that a frame (address, control, information) completes, and the gaps between them."""
         wide = self.modulus == 128
         if len(octets) < 2 or wide and octets[1] & 3 != 3 and len(octets) < 3:
             self.ledger.damaged(Reason.BAD_HEADER, f"frame {frame.number}: its LAPB header is cut")
@@ -206,9 +206,9 @@ class Lapb:
         return [*before, *packets] if before else packets
 
     def unnumbered(self, frame: Frame, address: int, kind: int) -> Sequence[Item]:
-        """A frame that sets up the link begins its numbers anew; each such frame is reported.
+        """Reads an unnumbered frame, and reports it; one that sets up the link resets its numbers.
 
-        Frames that were held may have been taken, with those before them.
+        Held frames may have been accepted, with those before them.
         """
         if kind not in NAMES:
             return ()
@@ -228,7 +228,7 @@ class Lapb:
         return [self.gap(frame.number, frame.time)] if is_held else ()
 
     def supervisory(self, frame: Frame, octets: bytes, receive: int, final: int) -> Sequence[Item]:
-        """An RR, RNR or REJ. Without a direction it may be a command or a response; then it proves no loss."""
+        """Reads an RR, RNR or REJ. Where it may be a command or a response, it proves no loss."""
         side = self.directed(frame.direction)
         proves = side is not None
         if side is None:
@@ -242,12 +242,12 @@ class Lapb:
             way.acknowledged = receive
             return ()
         if octets[1] & 0x0F == REJECT and way.next == receive:
-            # All that is held was refused, and comes again.
+            # The receiver refused all held frames; they will be repeated.
             self.drop_held(way)
         return self.acknowledge(frame, side.other, receive, proves)
 
     def acknowledge(self, frame: Frame, side: Side, receive: int, proves: bool) -> Sequence[Item]:
-        """Takes an N(R) for the frames of a side; beyond the next one it proves that frames were not recorded."""
+        """Reads an N(R) for the frames of a side; one beyond the next frame proves that frames were not recorded."""
         way = self.ways[side]
         if way.next is None:
             before, way.acknowledged = way.acknowledged, receive
@@ -269,7 +269,7 @@ class Lapb:
         return ()
 
     def catch_up(self, frame: Frame, side: Side, way: Way, receive: int) -> Sequence[Item]:
-        """Goes on to the frame that the receiver waits for: those held are given out, the others are lost."""
+        """Advances to the frame that the receiver expects: held frames are returned, the others are lost."""
         lost, items, before = 0, list[Item](), self.gaps
         is_missing = is_doubtful = way.is_doubtful
         while way.next != receive:
@@ -277,7 +277,7 @@ class Lapb:
             if packet is None:
                 lost, is_missing = lost + 1, True
             else:
-                # A gap of the other side that came between two held ones is between them here too.
+                # A gap of the other side between two held frames is kept between them.
                 if is_missing or packet.gaps > before:
                     items.append(self.gap(packet.frame, packet.time))
                 items += self.given_out(packet)
@@ -303,7 +303,7 @@ class Lapb:
         self.ledger.damaged(Reason.LOST_FRAME, f"frame {frame.number}: {words}, but acknowledged", lost)
 
     def information(self, frame: Frame, side: Side, send: int, packet: Held) -> Sequence[Item]:
-        """An I frame: the next one, one that repeats, or one to hold."""
+        """Reads an I frame: the next one, a repetition, or one to hold."""
         way, packets = self.ways[side], tuple[Item, ...]()
         way.is_seen = True
         if way.next not in (None, send):
@@ -312,7 +312,7 @@ class Lapb:
                 if way.is_same(send, packet):
                     self.ledger.left_out(Reason.UNTAKEN_FRAME if is_held else Reason.REPEATED_FRAME)
                     return ()
-                # All numbers passed since that one: those held were taken, and the others are missing.
+                # All numbers have passed since that frame: held frames were accepted, and the others are missing.
                 packets = (*self.catch_up(frame, side, way, (send + is_held) % self.circle),)
                 packets += (*self.catch_up(frame, side, way, send),)
         way.sent[send] = packet
@@ -322,14 +322,14 @@ class Lapb:
             way.held[send] = packet
             return packets
         if way.held:
-            # They were refused, or taken, or a whole modulus of frames passed since they came.
+            # The held frames were refused, or accepted, or a whole modulus of frames has passed since them.
             packets = (*packets, self.gap(packet.frame, packet.time))
             way.is_doubtful = True
         way.next = (send + 1) % self.circle
         return [*packets, *self.given_out(packet)] if packets else self.given_out(packet)
 
     def reaches(self, way: Way, send: int) -> bool:
-        """Whether a new frame shows that the one that is next was taken.
+        """Whether a new frame shows that the next expected one was accepted.
 
         No window reaches to all numbers: the sender had an N(R) that lets it go so far, which may not have been recorded.
         """
@@ -341,14 +341,14 @@ class Lapb:
         return False
 
     def taken(self, way: Way, send: int) -> int:
-        """Up to which number frames were taken before such a frame: those that follow, and were recorded, too."""
+        """The number up to which frames were accepted before such a frame, including recorded ones that follow."""
         number = (send + 2) % self.circle
         while number in way.held:
             number = (number + 1) % self.circle
         return number
 
     def repeats(self, way: Way, send: int) -> bool:
-        """Whether N(S) is one that was taken: not acknowledged yet, or just before those, where no window reaches."""
+        """Whether N(S) is one that was accepted: not acknowledged yet, or just before those, where no window reaches."""
         follows_held = (send - 1) % self.circle in way.held
         if way.acknowledged is None:
             return not follows_held and (way.following - send) % self.circle <= self.circle // 2
@@ -369,7 +369,7 @@ class Lapb:
             way.is_doubtful = False
 
     def given_out(self, packet: Held) -> Sequence[Item]:
-        """A packet as the receiver took it, a gap where the recorder cut it."""
+        """A packet that the receiver accepted; a gap where the recorder cut it."""
         if packet.is_cut:
             words = f"frame {packet.frame}: an I frame of {packet.side.name} that was cut off"
             self.ledger.damaged(Reason.CUT_PACKET, words)

@@ -1,4 +1,4 @@
-"""What a frame carries, by its link type: an Internet packet, a LAPB frame, or a packet of X.25."""
+"""What a frame carries, by its link type: an Internet packet, a LAPB frame or an X.25 packet."""
 from __future__ import annotations
 
 import enum
@@ -14,7 +14,7 @@ VLAN_TAGS = frozenset((0x8100, 0x88A8, 0x9100))
 
 
 class Carried(enum.Enum):
-    """What stands behind the link header of a frame."""
+    """What comes after the link header of a frame."""
 
     IP = "ip"
     LAPB = "lapb"
@@ -28,7 +28,7 @@ class Carried(enum.Enum):
     __hash__ = object.__hash__
 
 
-# What a link header carries, and where that begins.
+# What a link header is followed by, and the offset of that.
 Found = tuple[Carried, int]
 Opener = Callable[[Frame], Found]
 # Protocols of Ethernet and cooked captures: IPv4, IPv6, X.25, LAPB on a Linux HDLC device.
@@ -39,7 +39,7 @@ MPLS = frozenset((0x8847, 0x8848))
 PPP_MPLS = frozenset((0x0281, 0x0283))
 PPP_PROTOCOLS = {0x0021: Carried.IP, 0x0057: Carried.IP}
 IPV4 = (Carried.IP, 14)
-# Frames in frames in frames: no network nests them deeper.
+# The most tunnels in tunnels: no network nests more.
 DEEPEST = 8
 
 
@@ -60,7 +60,7 @@ def by_protocol(frame: Frame, protocol: int, at: int) -> Found:
 
 
 def lapb_over_ethernet(frame: Frame, at: int) -> Found:
-    """LAPB over Ethernet has its length before it, the low octet first."""
+    """LAPB over Ethernet, after its length, the low octet first."""
     if len(frame.octets) < at + 2:
         return Carried.BROKEN, at
     end = at + 2 + int.from_bytes(frame.octets[at:at + 2], "little")
@@ -71,7 +71,7 @@ def lapb_over_ethernet(frame: Frame, at: int) -> Found:
 
 
 def typed(frame: Frame, at: int) -> Found:
-    """What comes after addresses or tags: an Ethernet type, before it perhaps VLAN tags."""
+    """What follows the addresses: an Ethernet type, perhaps after VLAN tags."""
     octets = frame.octets
     while True:
         if len(octets) < at + 2:
@@ -88,7 +88,7 @@ def ethernet(frame: Frame) -> Found:
 
 
 def mpls(frame: Frame, at: int) -> Found:
-    """What comes after labels: IPv4, IPv6, or Ethernet with a control word before it."""
+    """What follows the labels: IPv4, IPv6, or Ethernet after a control word."""
     octets = frame.octets
     while len(octets) >= at + 5:
         last = octets[at + 2] & 1
@@ -116,7 +116,7 @@ def by_ppp(frame: Frame, at: int) -> Found:
 
 
 def cooked(frame: Frame, kind_at: int, protocol_at: int, size: int) -> Found:
-    """A Linux cooked header, with its packet type and its protocol somewhere."""
+    """A Linux cooked header, with its packet type and its protocol at given offsets."""
     if len(frame.octets) < size:
         return Carried.BROKEN, 0
     frame.direction = KINDS_OF_PACKET.get(frame.octets[kind_at], Direction.UNKNOWN)
@@ -141,7 +141,7 @@ def loopback(frame: Frame) -> Found:
 
 
 def cisco(frame: Frame) -> Found:
-    """Cisco's HDLC has an address of its own (0F or 8F) and a protocol; other addresses are LAPB's."""
+    """Cisco HDLC: address 0F or 8F and a protocol; other addresses mean LAPB."""
     octets = frame.octets
     if len(octets) < 2:
         return Carried.BROKEN, 0
@@ -151,7 +151,7 @@ def cisco(frame: Frame) -> Found:
 
 
 def ppp(frame: Frame) -> Found:
-    """PPP, with or without its address and control octets; the addresses 01 and 03 are LAPB's."""
+    """PPP, with or without its address and control octets; the addresses 01 and 03 mean LAPB."""
     octets = frame.octets
     if octets[:1] in (b"\x01", b"\x03"):
         return Carried.LAPB, 0
@@ -159,7 +159,7 @@ def ppp(frame: Frame) -> Found:
 
 
 def directed(frame: Frame, carried: Carried) -> Found:
-    """A first octet that is 0 for a frame received, else not."""
+    """The direction by a first octet, which is 0 for a received frame."""
     if not frame.octets:
         return Carried.BROKEN, 0
     frame.direction = Direction.SENT if frame.octets[0] else Direction.RECEIVED
@@ -203,7 +203,7 @@ LINKS: dict[int | str | None, Opener] = {
     276: cooked_2,
 }
 
-# Link types that everybody may use for their own: DLT_USER0 to DLT_USER15.
+# Link types for private use: DLT_USER0 to DLT_USER15.
 USER_LINKS = range(147, 163)
 
 # What reads the frames of each kind, in the order of the kinds.

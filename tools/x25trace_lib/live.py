@@ -1,4 +1,4 @@
-"""The trace of a capture that is still being written: rows go out with their frames, under a header of options."""
+"""The trace of a capture that is still being written: each row is written with its frame, under a header from options."""
 from __future__ import annotations
 
 from collections.abc import Iterable
@@ -22,7 +22,7 @@ from .xot import Circuit
 
 
 class Live:
-    """A trace on its way out. Comments and gaps before the first packet wait for it: without one there is no trace."""
+    """A trace being written. Comments and gaps before the first packet are kept back: without a packet there is no trace."""
 
     def __init__(self, ledger: Ledger, reading: Reading, wishes: Wishes, has_comments: bool) -> None:
         self.ledger, self.reading, self.wishes = ledger, reading, wishes
@@ -39,7 +39,7 @@ class Live:
         ledger.keep = self.note
 
     def write(self, frames: Iterable[Frame | Dropped], name: str, out: TextIO) -> None:
-        """Writes the whole trace, as its frames come."""
+        """Writes the whole trace as its frames are read."""
         start = comment(f"from {name} by x25trace, as its frames come; a row has the number of its frame")
         for carrier, packet in self.reading.packets(frames):
             if isinstance(packet, Missing):
@@ -98,7 +98,7 @@ class Live:
             self.put(comment(words))
 
     def miss(self, carrier: Carrier | None, missing: Missing) -> None:
-        """Writes a gap row, or keeps it until there is a packet. Options say whether there is one before the beginning."""
+        """Writes a gap row, or keeps it until there is a packet; options decide about a gap before the beginning."""
         if missing.is_beginning and self.wishes.join is not None:
             return
         if self.out is None:
@@ -107,7 +107,7 @@ class Live:
             self.write_gap(carrier, missing)
 
     def write_gap(self, carrier: Carrier | None, missing: Missing) -> None:
-        """Writes a gap row, of a circuit after the comment on it where that has no row yet."""
+        """Writes a gap row; for a circuit without a row, after the comment on the circuit."""
         circuit, channel = missing.circuit, missing.channel
         if carrier not in (None, self.carrier):
             return
@@ -121,7 +121,7 @@ class Live:
         self.ledger.counts[Reason.GAP_ROW] += self.put_row(missing.frame, gap_words(channel), missing.time)
 
     def put_row(self, frame: int, words: str, time: int | None) -> bool:
-        """Writes a row; whether a number was left for it."""
+        """Writes a row; returns whether a number was left for it."""
         if self.rows.number >= LAST_NUMBER:
             return False
         self.rows.by_frames = frame <= LAST_NUMBER
@@ -146,7 +146,7 @@ class Live:
             self.ledger.left_out(Reason.LATE_ROW)
 
     def begin_circuit(self, circuit: Circuit) -> None:
-        """Gives a circuit its channel before its first row, and says which."""
+        """Gives a circuit its channel before its first row, and writes the comment on it."""
         if circuit.begun:
             return
         circuit.begun = True
@@ -157,6 +157,6 @@ class Live:
             self.ledger.damaged(Reason.NO_CHANNEL, words, 0)
 
     def release(self, circuit: Circuit) -> None:
-        """The connection of a circuit has ended: its channel may be used again where it is surely free."""
+        """Ends the connection of a circuit: its channel may be used again if it is surely free."""
         if circuit.channel is not None and circuit.is_free:
             self.channels.release(circuit.channel)

@@ -28,7 +28,7 @@ def ranker_of(words: argparse.Namespace) -> Ranker:
 def gathered(
     words: argparse.Namespace, ledger: Ledger, waiting: Waiting, has_comments: bool, first: Source | None = None,
 ) -> Trace:
-    """What the trace of the captures that are named is made of; the first one may be open, and looked at."""
+    """What the trace of the named captures is made of; the first one may be open, and looked at."""
     choices, wishes = chosen(words)
     captures = Captures(words.captures, choices.kinds, ledger, waiting, first)
     trace = Trace(ledger, Reading(ledger, choices), wishes, has_comments, ranker_of(words))
@@ -38,7 +38,7 @@ def gathered(
 
 @contextlib.contextmanager
 def file_of(trace: Trace, names: Sequence[str]) -> Iterator[tuple[IO[str], Head]]:
-    """A trace in an open file that is at its beginning, and what it says besides its rows."""
+    """A trace in an open file, at its beginning, and what it has besides rows."""
     with tempfile.TemporaryFile("w+", encoding="ascii", newline="\n") as file:
         head = trace.write(title_of(names), file)
         file.flush()

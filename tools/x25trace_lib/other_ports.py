@@ -1,4 +1,4 @@
-"""TCP ports that were not asked for and look like XOT: so that a capture on another port does not seem empty."""
+"""Finds unwanted TCP ports that look like XOT, so that a capture on another port does not seem empty."""
 from __future__ import annotations
 
 import struct
@@ -8,7 +8,7 @@ from collections.abc import Iterator
 from .packets import LONGEST, SET_UP, modulus_of
 
 HEAD = struct.Struct(">HH")
-# Many protocols begin with a length of four octets. What looks like XOT is named after so many segments; one that sets
+# Many protocols begin with a length of four octets. What looks like XOT is named after this number of segments; one that sets
 # up or clears a call counts as many.
 ENOUGH = 3
 MOST_PAIRS = 10_000
@@ -17,7 +17,7 @@ Pair = tuple[bytes, bytes]
 
 
 def weight(payload: bytes) -> int:
-    """How much a segment's octets look like whole XOT packets: 0, 1, or ENOUGH where one sets up or clears a call."""
+    """The weight of a segment's octets as whole XOT packets: 0, 1, or ENOUGH where one sets up or clears a call."""
     at, found = 0, 0
     while at < len(payload):
         if len(payload) - at < HEAD.size + 3:
@@ -37,11 +37,11 @@ class OtherPorts:
     def __init__(self) -> None:
         self.weights: Counter[Pair] = Counter()
         self.segments: Counter[Pair] = Counter()
-        # The ports to which connections were opened: of two that say as much it is these that are asked for.
+        # The ports to which connections were opened: of a pair with equal weights, this one is reported.
         self.servers: set[bytes] = set()
 
     def see(self, one: bytes, other: bytes, payload: bytes) -> None:
-        """Takes a segment from one port to another."""
+        """Reads a segment from one port to another."""
         many = weight(payload)
         pair = (one, other) if one < other else (other, one)
         if many and (pair in self.weights or len(self.weights) < MOST_PAIRS):
@@ -49,7 +49,7 @@ class OtherPorts:
             self.segments[pair] += 1
 
     def ports(self) -> Iterator[tuple[int, int]]:
-        """Each port that looks like XOT, the one with the most segments first, and how many they are."""
+        """Each port that looks like XOT, with the number of its segments, the greatest number first."""
         left = dict(self.weights)
         while left:
             weights, segments = Counter[bytes](), Counter[bytes]()

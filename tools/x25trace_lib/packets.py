@@ -1,4 +1,4 @@
-"""A packet of X.25 with its frame and side, and what is read of its octets."""
+"""An X.25 packet with its frame and side, and functions that read its octets."""
 from __future__ import annotations
 
 import enum
@@ -11,12 +11,12 @@ from x25tools_lib.sides import Side
 if TYPE_CHECKING:
     from .xot import Circuit
 
-# What a row of a trace takes.
+# The limits of a row of a trace.
 LONGEST = 4200
 
 
 class Type(enum.IntEnum):
-    """The third octet of a packet, with sequence numbers that are 0."""
+    """The third octet of a packet, with sequence numbers of 0."""
 
     READY = 0x01
     CALL = 0x0B
@@ -54,18 +54,18 @@ class Packet:
 class Missing:
     """A place where packets may be missing: of an XOT circuit, of a channel of a line, or, where both are None, of all.
 
-    The frame is the one that shows it, or the last one before.
+    The frame is the one that shows the gap, or the last one before it.
     """
 
     frame: int
     time: int | None
     circuit: Circuit | None = None
     channel: int | None = None
-    # Whether it is what a circuit had before the recording began.
+    # Whether the gap is what a circuit had before the recording began.
     is_beginning: bool = False
 
 
-# What comes out of a capture, in its order.
+# What a capture has, in its order.
 Item = Packet | Missing
 
 
@@ -74,23 +74,23 @@ def channel_of(octets: bytes) -> int:
 
 
 def left_out(frame: int, time: int | None, octets: bytes) -> Missing:
-    """The place of a packet of a line that is left out: on the channel that its octets show, else on any."""
+    """The gap of a packet of a line that is left out: on the channel in its octets, else on all."""
     return Missing(frame, time, None, channel_of(octets) or None if len(octets) >= 2 else None)
 
 
 def without(packet: Packet) -> Missing:
-    """The place of a packet that is left out."""
+    """The gap of a packet that is left out."""
     if packet.circuit:
         return Missing(packet.frame, packet.time, packet.circuit)
     return left_out(packet.frame, packet.time, packet.octets)
 
 
-# What the general format identifier says of the modulus.
+# The modulus by the general format identifier.
 MODULI = {0x10: 8, 0x20: 128}
 
 
 def modulus_of(octets: bytes) -> int | None:
-    """What the general format identifier says: 8, 128, or None."""
+    """The modulus by the general format identifier: 8, 128, or None."""
     return MODULI.get(octets[0] & 0x30)
 
 

@@ -1,4 +1,4 @@
-"""A trace that is read in place of a capture, and goes on as it is."""
+"""A trace that is read in place of a capture, and is copied unchanged."""
 from __future__ import annotations
 
 from collections.abc import Iterator
@@ -9,14 +9,14 @@ from x25tools_lib.streams import Interrupted
 from .source import Source
 
 HEADER = b"X25 "
-# So many octets of comments may come before a header that is looked for.
+# The most octets of comments before a header.
 LOOK = 1 << 16
-# Of a trace that x25scan takes no line is longer.
+# The longest line of a trace that x25scan accepts, in octets.
 LONGEST_LINE = 8501
 
 
 def is_next(source: Source) -> bool:
-    """Whether a trace comes: a header, perhaps after comments. Of a text that grows it waits for no more than that."""
+    """Whether a trace follows: a header, perhaps after comments. Reads no further, as the trace may grow."""
     try:
         return has_header(source)
     except Interrupted:
@@ -26,7 +26,7 @@ def is_next(source: Source) -> bool:
 
 
 def has_header(source: Source) -> bool:
-    """Whether a header comes next, or after comments."""
+    """Whether a header follows, perhaps after comments."""
     start, before = source.look(len(HEADER)), -1
     while before < len(start) <= LOOK:
         lines = start.split(b"\n")
@@ -44,7 +44,7 @@ def has_header(source: Source) -> bool:
 def lines_of(source: Source, ledger: Ledger) -> Iterator[bytes]:
     """The text of a trace in whole lines, as they come.
 
-    Where the reading is interrupted, or a gzip file is cut off or damaged, a line that was begun is left out.
+    Where the reading is interrupted, or a gzip file is cut off or damaged, an incomplete last line is left out.
     """
     rest = b""
     try:

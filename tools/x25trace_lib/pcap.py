@@ -21,9 +21,9 @@ FILE_HEADER = 24
 RECORD_HEADERS = (16, 24, 20)
 MODIFIED_HEADERS = (24, 28)
 NANOSECOND_HEADERS = (16,)
-# The modified forms have the interface, the protocol and the kind of a packet after the header that all forms have.
+# The modified forms have the interface, protocol and packet type after the header that all forms have.
 KIND_AT = 22
-# The magic number as it stands in the file: byte order, the parts of a second, and the sizes of a record's header.
+# By magic number as in the file: byte order, units of a second, and the sizes of a record's header.
 MAGICS = {
     b"\xa1\xb2\xc3\xd4": (">", 1_000_000, RECORD_HEADERS),
     b"\xd4\xc3\xb2\xa1": ("<", 1_000_000, RECORD_HEADERS),
@@ -50,7 +50,7 @@ class Pcap:
             raise Refusal(Why.UNKNOWN_FORMAT, f"{source.name} ends at offset {len(header)}, inside of the pcap header")
         self.snap, network = struct.unpack(order + "16xII", header)
         self.link = network & 0xFFFF
-        # The octets of a frame check sequence that each frame ends with: counted in two octets, where bit 26 is set.
+        # The octets of the frame check sequence at the end of each frame: given in pairs, where bit 26 is set.
         self.check = 2 * (network >> 28) if network & 1 << 26 else 0
         self.largest = max(self.snap, LARGEST)
         self.seconds = None
@@ -59,7 +59,7 @@ class Pcap:
         self.recorded = b"", 0
 
     def fitting(self, sizes: Sequence[int]) -> int:
-        """The first size of a record's header by which the first records follow each other, else that of the form."""
+        """The first size of a record's header with which the first records follow each other, else the form's own size."""
         if not self.source.can_wait:
             return sizes[0]
         window = self.source.peek(WINDOW)
@@ -107,7 +107,7 @@ class Pcap:
             self.damage(start, f"the file ends inside of a record's header, {len(header)} octets are left out")
 
     def seek(self, what: str) -> None:
-        """Goes to the next place where records may begin again, and reports how far it was."""
+        """Skips to the next place where records may begin again, and reports how far it is."""
         start = self.source.offset
         while True:
             window = self.source.peek(WINDOW)
@@ -126,7 +126,7 @@ class Pcap:
         return next((at for at in self.places(window) if self.is_record(window, at)), None)
 
     def is_record(self, window: bytes, at: int) -> bool:
-        """Whether a record is here, and after it another one or the end of the file."""
+        """Whether a record is at an offset, followed by another one or the end of the file."""
         kept = self.plausible(window, at)
         if kept is None:
             return False
@@ -134,7 +134,7 @@ class Pcap:
         return after == len(window) < WINDOW or self.plausible(window, after) is not None
 
     def places(self, window: bytes) -> Iterable[int]:
-        """Where a record may begin: anywhere, or where the highest octet of its seconds is near the last record's."""
+        """Offsets where a record may begin: all, or those where the highest octet of the seconds is near the last record's."""
         if self.seconds is None:
             return range(1, len(window))
         near = {(self.seconds + way * DAYS) >> 24 & 255 for way in (-1, 0, 1)}
@@ -142,7 +142,7 @@ class Pcap:
         return (match.start() - self.highest for match in octets.finditer(window, self.highest + 1))
 
     def plausible(self, window: bytes, at: int) -> int | None:
-        """How many octets the record keeps that may begin here, or None."""
+        """The number of octets that a record at an offset keeps; None where no record can begin there."""
         if at + self.header_size > len(window):
             return None
         seconds, part, kept, length = self.record.unpack_from(window, at)

@@ -44,22 +44,22 @@ class Block(enum.IntEnum):
 
 
 KNOWN = frozenset(Block)
-# What an obsolete block has where it doesn't know how many frames were dropped.
+# The number of dropped frames in an obsolete block that does not know it.
 UNKNOWN_DROPS = 0xFFFF
 DIRECTIONS = {0: Direction.UNKNOWN, 1: Direction.RECEIVED, 2: Direction.SENT, 3: Direction.UNKNOWN}
 
 
 @dataclass(slots=True)
 class Interface:
-    """What the blocks of an interface need of its description."""
+    """The part of an interface's description that its blocks need."""
 
     link: int
     snap: int
     check: int = 0
-    # How many units of its timestamps a second has, and the seconds to add to them.
+    # The units of its timestamps in a second, and the seconds to add to them.
     units: int = 1_000_000
     offset: int = 0
-    # How many frames its last statistics say were dropped.
+    # The number of dropped frames in its last statistics.
     dropped: int = 0
 
     def time(self, high: int, low: int) -> int:
@@ -94,11 +94,11 @@ class Pcapng:
                 yield frame
 
     def body(self, octets: bytes) -> bytes:
-        """What is there of a block's body."""
+        """The body of a block, as far as it is in the file."""
         return octets[8:min(len(octets), self.word(octets, 4) - 4)]
 
     def blocks(self) -> Iterator[tuple[int, int, bytes]]:
-        """Each block that can be walked over: its offset, its type and its octets, which may end early."""
+        """Each block with a usable length: its offset, its type and its octets, which may end early."""
         while True:
             start = self.source.offset
             head = self.source.peek(SMALLEST)
@@ -125,7 +125,7 @@ class Pcapng:
         self.ledger.damaged(Reason.BAD_FILE, f"{self.source.place(start)}: {words}")
 
     def measure(self, head: bytes) -> tuple[int, int]:
-        """Type and length of a block; a section's byte order holds from its own header on."""
+        """The type and length of a block; a section's byte order applies from its header on."""
         if head[:4] == MAGIC and head[8:12] in ORDERS:
             self.order = ORDERS[head[8:12]]
         kind, length = struct.unpack_from(self.order + "II", head)
@@ -133,7 +133,7 @@ class Pcapng:
 
     @staticmethod
     def fault(kind: int, length: int) -> str | None:
-        """What forbids to walk over a block, or None."""
+        """Why a block's length is not usable, or None."""
         if length < SMALLEST or length % 4 or length > LARGEST:
             return f"a block of type {kind} and {length} octets"
         return None
@@ -144,7 +144,7 @@ class Pcapng:
             self.damage(start, f"the file ends inside of a block's head, {len(head)} octets are left out")
 
     def seek(self, start: int, what: str) -> None:
-        """Goes to the next place with a whole block, and reports how far it was."""
+        """Skips to the next place with a whole block, and reports how far it is."""
         while True:
             window = self.source.peek(WINDOW)
             at = next((at for at in range(4, len(window) - SMALLEST + 1, 4) if self.stands(window, at)), None)
@@ -158,7 +158,7 @@ class Pcapng:
         self.damage(start, f"{what} cannot be: {passed} octets are left out, frame numbers go on after them")
 
     def stands(self, window: bytes, at: int) -> bool:
-        """Whether a block of a known type, with two equal lengths, is here."""
+        """Whether a block of a known type, with two equal lengths, is at an offset."""
         order = self.order
         if window[at:at + 4] == MAGIC:
             order = ORDERS.get(window[at + 8:at + 12], order)
@@ -169,7 +169,7 @@ class Pcapng:
         return window[at + 4:at + 8] == window[end - 4:end]
 
     def frame_of(self, kind: int, start: int, body: bytes) -> Frame | None:
-        """The frame that a block holds, or None for a block without."""
+        """The frame of a block; None where it has none."""
         if kind == Block.SECTION:
             self.first_interface += len(self.interfaces)
             self.interfaces = []
@@ -205,7 +205,7 @@ class Pcapng:
             at += 4 + length + -length % 4
 
     def dropped_in(self, body: bytes) -> Dropped | None:
-        """The frames that were dropped since the last statistics of an interface, by it or by the system."""
+        """The number of frames dropped since the last statistics of an interface, by it or by the system."""
         if len(body) < SMALLEST:
             return None
         which, high, low = struct.unpack_from(self.order + "III", body)
@@ -220,7 +220,7 @@ class Pcapng:
         return Dropped(self.number, interface.time(high, low), many, self.first_interface + which)
 
     def dropped_before(self, kind: int, body: bytes) -> int:
-        """How many frames were dropped between that of a block and the one before of its interface."""
+        """The number of frames dropped between the frame of a block and the previous one of its interface."""
         if kind == Block.PACKET:
             many = int(struct.unpack_from(self.order + "H", body, 2)[0])
             return many if many != UNKNOWN_DROPS else 0

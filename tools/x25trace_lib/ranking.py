@@ -7,7 +7,7 @@ from typing import IO
 
 from x25tools_lib.notes import Head
 
-# So many rows are tried.
+# The number of rows that are tried.
 MOST_ROWS = 100_000
 COLUMNS = ["#", "answered", "unanswered", "unexplained", "findings", "uncounted", "octets", "header"]
 # Why no headers are tried.
@@ -29,13 +29,13 @@ class Tried:
 
     @property
     def reactions(self) -> tuple[int, ...]:
-        """How the DCE reacts under it: findings that it answers, those that it does not, and answers to none."""
+        """How the DCE reacts under it: findings answered, findings not answered, and answers without a finding."""
         return self.counts[:3]
 
 
 @dataclass(frozen=True)
 class Ranker:
-    """The x25scan that tries headers; where there is none, why."""
+    """The x25scan that tries headers, or why none tries them."""
 
     program: str | None = None
     why: str = NO_SCANNER
@@ -52,7 +52,7 @@ class Ranker:
 
 
 def ranking_of(output: str) -> list[Tried]:
-    """The headers of what x25scan prints, the best first; none where it is no such table."""
+    """The headers of a table that x25scan prints, the best first; none where the text is not such a table."""
     heading, *lines = output.split("\n")
     if heading.split() != COLUMNS:
         return []

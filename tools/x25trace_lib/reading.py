@@ -33,17 +33,17 @@ class Reading:
         self.xot = Xot(ledger, choices.ports, choices.dte, choices.swapped)
         self.lapb = Lapb(ledger, choices.link_modulus, choices.side_by, choices.swapped)
         self.frames = 0
-        # Whether frames may be missing before the next one, of which only numbers of their own would tell.
+        # Whether frames may be missing before the next one; only sequence numbers in them would show it.
         self.is_damaged = False
         self.openers: dict[int | str | None, Opener] = dict(LINKS)
         self.openers.update({link: OPENERS[kind] for link, kind in choices.kinds.items() if link is not None})
         self.other = OPENERS.get(choices.kinds.get(None, ""))
         self.unknown_links: set[int | str | None] = set()
-        # The kinds of link types that --as does not name, as their first frames look.
+        # The kinds found by first frames for link types that --as does not name.
         self.tried: set[str] = set()
 
     def packets(self, frames: Iterable[Frame | Dropped]) -> Iterator[tuple[Carrier | None, Item]]:
-        """Pairs of a carrier and a packet, and between them gaps; frames that were dropped have no carrier."""
+        """Pairs of a carrier and a packet or a gap; a gap of dropped frames has no carrier."""
         wanted, only, openers = self.choices.interfaces, self.choices.only, self.openers
         segment_of, take = self.internet.segment, self.xot.take
         for frame in frames:
@@ -135,7 +135,7 @@ class Reading:
     def from_packet(self, frame: Frame, carried: Carried, at: int) -> Sequence[Item]:
         """A packet without a link header, or its gap; before one of a Linux device an octet says what it is."""
         if self.is_damaged:
-            # Such packets have no numbers of their own that show whether one is missing.
+            # Such packets have no link numbers that would show whether one is missing.
             self.is_damaged = False
             return [Missing(frame.number, frame.time), *self.from_packet(frame, carried, at)]
         octets = frame.octets

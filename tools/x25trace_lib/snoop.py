@@ -13,7 +13,7 @@ from .source import Source
 
 MAGIC = b"snoop\0\0\0"
 FILE_HEADER = struct.Struct(">8xII")
-# The length on the line, what was kept of it, the length of the record, the frames dropped so far, and the time.
+# The length on the line, the octets kept, the length of the record, the frames dropped so far, and the time.
 RECORD = struct.Struct(">IIIIII")
 LARGEST = 262_144
 # The link types of pcap files for those of snoop.

@@ -1,6 +1,6 @@
-"""The octets of a file or a pipe, with the offset of what comes next; what was looked at is read again.
+"""The octets of a file or a pipe, with the offset of the next one; octets that were peeked at are read again.
 
-A gzip file is read as what it holds, and offsets are those of what it holds.
+A gzip file is read unpacked, and offsets are those of the unpacked octets.
 """
 from __future__ import annotations
 
@@ -15,14 +15,14 @@ LONGEST_LINE = 1 << 20
 
 
 class Source:
-    """A stream, and what was taken from it: ahead has the octets, of which those before at were read."""
+    """A stream, and what was read from it: `ahead` has the octets, of which those before `at` were used."""
 
     def __init__(self, stream: BinaryIO, waiting: Waiting, name: str, several: bool) -> None:
         self.stream, self.waiting, self.name, self.several = stream, waiting, name, several
-        # The octets that came and are not dropped yet, where they begin in the file, and how many of them were read.
+        # The octets kept, their offset in the file, and how many of them were read.
         self.ahead = b""
         self.begun = self.at = 0
-        # What returns the octets that come next, once the first ones came; and what is wrong with a gzip file.
+        # A function that returns the next octets, set with the first ones; and what is wrong with a gzip file.
         self.more: More | None = None
         self.is_packed = False
         self.damages: list[str] = []
@@ -34,15 +34,15 @@ class Source:
 
     @property
     def offset(self) -> int:
-        """Where in the file the next octet is."""
+        """The offset of the next octet in the file."""
         return self.begun + self.at
 
     def place(self, offset: int) -> str:
-        """The words for an offset, with the name of the file where there are several."""
+        """An offset in words, with the name of the file where there are several."""
         return f"{self.name}, offset {offset}" if self.several else f"offset {offset}"
 
     def fill(self, many: int) -> None:
-        """Takes octets from the stream until so many are ahead, or it ends. An interruption leaves those that came."""
+        """Reads from the stream until this number of octets is ahead, or it ends. An interruption keeps those that were read."""
         parts = [self.ahead[self.at:]]
         there = len(parts[0])
         try:
@@ -54,7 +54,7 @@ class Source:
             self.ahead, self.at = b"".join(parts), 0
 
     def coming(self) -> bytes:
-        """The octets that come next from the stream, of a gzip file what they hold; none at the end."""
+        """Returns the next octets of the stream, unpacked for a gzip file; none at the end."""
         if self.more is None:
             stream, wait = self.stream, self.waiting.octets
             start = beginning(lambda: wait(stream))
@@ -66,13 +66,13 @@ class Source:
         return self.more()
 
     def rest(self) -> bytes:
-        """The octets that are ahead, or those that come next; none at the end."""
+        """Returns the octets that are ahead, else the next ones; none at the end."""
         if self.at == len(self.ahead):
             self.fill(1)
         return self.read(len(self.ahead) - self.at)
 
     def read(self, many: int) -> bytes:
-        """The next octets; fewer where the file ends."""
+        """Returns the next octets; fewer where the file ends."""
         octets = self.ahead[self.at:self.at + many]
         if len(octets) < many:
             self.fill(many)
@@ -85,18 +85,18 @@ class Source:
         self.at -= len(octets)
 
     def peek(self, many: int) -> bytes:
-        """What read would give, without reading it."""
+        """Returns what `read` would return, without consuming it."""
         if len(self.ahead) - self.at < many:
             self.fill(many)
         return self.ahead[self.at:self.at + many]
 
     def look(self, many: int) -> bytes:
-        """All that is ahead, without reading it: at least so many octets, unless the file ends before."""
+        """Returns all octets ahead without consuming them: at least this number, unless the file ends before."""
         self.peek(many)
         return self.ahead[self.at:]
 
     def skip(self, many: int) -> int:
-        """Reads over octets, in pieces; returns how many there were."""
+        """Skips octets, in pieces; returns how many there were."""
         skipped = 0
         while skipped < many:
             octets = self.read(min(many - skipped, CHUNK))
@@ -106,7 +106,7 @@ class Source:
         return skipped
 
     def lines(self) -> Iterator[tuple[int, bytes]]:
-        """The lines of the rest, without their ends, each with its offset."""
+        """The remaining lines, without their ends, each with its offset."""
         while rest := self.read(self.line_length()):
             at = self.offset - len(rest)
             for line in rest.splitlines(keepends=True):

@@ -1,4 +1,4 @@
-"""The rows and comments of a trace: how they are written, and where they wait for a header that is not known yet."""
+"""Writes the rows and comments of a trace, and keeps them in a file while the header is unknown."""
 from __future__ import annotations
 
 import tempfile
@@ -11,12 +11,12 @@ from . import xot
 from .packets import Missing, Packet
 
 LAST_NUMBER = 999_999_999
-# What stands in a gap row in place of a side.
+# The word of a gap row in place of a side.
 GAP = "?"
 
 
 class Rows:
-    """Numbers rows: by their frames, or on from the row before where that number is taken, or frames are too many.
+    """Numbers rows: by frame, or one after the other where the frame's number is used or frame numbers are too large.
 
     A gap row takes the number before that of its frame, whose own row may follow.
     """
@@ -26,7 +26,7 @@ class Rows:
         self.number = 0
 
     def row(self, frame: int, words: str, time: str) -> str:
-        """The line of a row, after a comment with its time and its frame. The words are those after the number."""
+        """The line of a row, after a comment with its time and its frame. `words` is the text after the number."""
         wanted = frame - (words[0] == GAP) if self.by_frames else 0
         self.number = number = wanted if wanted > self.number else self.number + 1
         line = f"{number} {words}"
@@ -44,7 +44,7 @@ class Spool:
         self.rows = self.gaps = 0
         self.has_comments, self.last_number = has_comments, last_number
         self.number = 0
-        # How many rows were written again, and the first circuits of these.
+        # The number of rows replayed, and their first circuits.
         self.replayed = 0
         self.circuits: list[Circuit] = []
 
@@ -53,7 +53,7 @@ class Spool:
         self.lines.append(comment(words))
 
     def add(self, packet: Packet, circuit: int) -> None:
-        """Keeps a row: its circuit, 0 on a line, its time, its frame, and what stands after its number."""
+        """Keeps a row: its circuit, 0 on a line, its time, its frame, and the text after its number."""
         self.rows += 1
         frame, lines = packet.frame, self.lines
         self.number = frame if frame > self.number else self.number + 1
@@ -77,15 +77,15 @@ class Spool:
 
     @property
     def by_frames(self) -> bool:
-        """Whether frame numbers can number the rows, or there are too many."""
+        """Whether frame numbers are small enough to number the rows."""
         return self.number <= self.last_number
 
     def replay(
         self, circuits: Sequence[xot.Circuit], first: int = 0, last_channel: int = LAST_CHANNEL,
     ) -> Iterator[str]:
-        """The text of the trace after its header, in parts, of which one ends with the last of the first rows.
+        """The text of the trace after its header, in parts; one part ends with the last of the first rows.
 
-        A gap on a channel past the last one is written as one of all channels.
+        A gap of a channel beyond the last one is written as a gap of all channels.
         """
         self.write()
         self.file.seek(0)
@@ -120,7 +120,7 @@ class Spool:
         yield "".join(lines)
 
     def keep(self, circuit: xot.Circuit, row: int) -> None:
-        """Keeps what a circuit is that begins with a row."""
+        """Notes the circuit that begins with a row."""
         if circuit.channel is not None and len(self.circuits) < MOST_CIRCUITS:
             self.circuits.append(Circuit(row, circuit.channel, circuit.shown_words()))
 
@@ -136,11 +136,11 @@ def on_channel(words: str, channel: int) -> str:
 
 
 def gap_words(channel: int | None) -> str:
-    """What stands after the number of a gap row: its channel, or that it is of all."""
+    """The text after the number of a gap row: its channel, or all channels."""
     return f"{GAP} {channel or '*'}\n"
 
 
 def within(words: str, last_channel: int) -> str:
-    """The words of a gap row, of all channels where its own is past the last one."""
+    """The text of a gap row, which becomes one of all channels where its own is beyond the last one."""
     channel = words[2:-1]
     return words if channel == "*" or int(channel) <= last_channel else gap_words(None)

@@ -22,7 +22,7 @@ CIRCLE = 1 << 32
 HALF = 1 << 31
 # Flags of segments that begin or end a direction.
 ENDS = SYN | FIN | RST
-# What may wait: octets, with a segment's own cost, of one connection and of all.
+# The most octets that wait, including a cost for each segment, of one connection and of all.
 SEGMENT_COST = 512
 MOST_OF_ONE = 1 << 20
 MOST_OF_ALL = 1 << 26
@@ -30,9 +30,9 @@ MOST_OF_ALL = 1 << 26
 # which nothing is known.
 PATIENCE = 8
 PATIENCE_ONE_WAY = 64
-# How octets are missing; nothing is said of each gap in a direction of which nothing was recorded.
+# Why octets are missing; gaps in a direction that was not recorded at all are not reported one by one.
 NOT_RECORDED, CUT_OFF, UNSAID = "before it were not recorded", "were cut off", ""
-# An acknowledgement further ahead than this is a damage.
+# An acknowledgement further ahead than this is damaged.
 FARTHEST = 1 << 24
 
 
@@ -53,7 +53,7 @@ class Chunk:
 
 @dataclass(slots=True)
 class Gap:
-    """Octets of one direction that are not there, and the frame where that showed."""
+    """Missing octets of one direction, and the frame that shows it."""
 
     index: int
     frame: int
@@ -89,14 +89,14 @@ class Stream:
 
 
 class Budget:
-    """What all connections together keep waiting."""
+    """The octets that wait in all connections, including a cost for each segment."""
 
     def __init__(self) -> None:
         self.used = 0
 
 
 class Connection:
-    """Two ends and the stream from each: index 0 is the one that opened, as far as that is known."""
+    """Two ends and the stream from each: index 0 is the end that opened the connection, as far as that is known."""
 
     def __init__(self, ledger: Ledger, budget: Budget, ends: tuple[bytes, bytes]) -> None:
         self.ledger, self.budget, self.ends = ledger, budget, ends
@@ -106,7 +106,7 @@ class Connection:
         self.over = False
 
     def begin(self, index: int, segment: Segment) -> None:
-        """Takes the sequence number of an opening segment."""
+        """Reads the sequence number of an opening segment."""
         stream = self.streams[index]
         if stream.next is None:
             stream.first = segment.sequence
@@ -116,11 +116,11 @@ class Connection:
         segment.sequence = (segment.sequence + 1) % CIRCLE
 
     def was_seen(self, index: int) -> bool:
-        """Whether a segment of an end was recorded: one that began its direction, or acknowledged the other one."""
+        """Whether a segment of an end was recorded: one that opened its direction, or acknowledged the other direction."""
         return self.streams[index].first is not None or self.streams[1 - index].acknowledged is not None
 
     def takes(self, index: int, segment: Segment) -> bool:
-        """Takes a segment of octets that simply follows all that both sides sent, as most do; others are to be fed."""
+        """The fast path: takes a segment whose octets follow all that both sides sent; others go to `feed`."""
         stream, other, payload = self.streams[index], self.streams[1 - index], segment.payload
         if segment.sequence != stream.next or segment.acknowledged != other.next or not payload:
             return False
@@ -162,13 +162,13 @@ class Connection:
         return events
 
     def acknowledge(self, index: int, segment: Segment, events: list[Event]) -> None:
-        """Takes what a segment acknowledges. What it names of a direction of which nothing was recorded is a gap at once."""
+        """Reads an acknowledgement. In a direction that was not recorded, what it acknowledges is a gap at once."""
         if segment.acknowledged is None:
             return
         stream = self.streams[index]
         if stream.next is None and stream.acknowledged is not None:
             many = ahead(segment.acknowledged, stream.acknowledged)
-            # One side's last word has a number of its own, which the other side may acknowledge after its own one.
+            # A FIN takes a sequence number, which the other side may acknowledge after its own FIN.
             if many > self.leaving[1 - index]:
                 events.append(Gap(index, segment.frame, many, UNSAID, segment.time))
         elif stream.next is None:
@@ -176,23 +176,23 @@ class Connection:
         stream.acknowledged = segment.acknowledged
 
     def miss_opening(self, index: int, segment: Segment, events: list[Event]) -> None:
-        """The answer to the opening is missing where the opening was recorded, and octets after it may be missing too."""
+        """Adds the gap of a direction whose opening is missing while the other side's was recorded; octets may be missing too."""
         if self.streams[1 - index].first is not None:
             events.append(Gap(index, segment.frame, 0, UNSAID, segment.time))
 
     def keep(self, stream: Stream, segment: Segment) -> None:
-        """Has a segment wait."""
+        """Holds a segment until it can be delivered."""
         stream.hold(segment)
         self.charge(len(segment.payload) + SEGMENT_COST)
 
     def take_back(self, stream: Stream) -> Segment:
-        """The first segment that waits, which waits no longer."""
+        """Removes and returns the first segment that waits."""
         segment = stream.held.pop(0)
         self.charge(-len(segment.payload) - SEGMENT_COST)
         return segment
 
     def charge(self, cost: int) -> None:
-        """Adds to what all connections keep waiting."""
+        """Adds to the octets that wait, here and in all connections."""
         self.cost += cost
         self.budget.used += cost
 
@@ -205,7 +205,7 @@ class Connection:
         return beyond == 0 or beyond > FARTHEST
 
     def pump(self, events: list[Event]) -> None:
-        """Delivers what waits no longer, the lower frame first."""
+        """Delivers the segments that need not wait any longer, the lower frame first."""
         while True:
             ready = []
             for index, stream in enumerate(self.streams):
@@ -218,7 +218,7 @@ class Connection:
             self.deliver(index, self.take_back(self.streams[index]), events)
 
     def deliver(self, index: int, segment: Segment, events: list[Event]) -> None:
-        """Adds the octets of a segment that were not delivered before, and takes its end."""
+        """Delivers the octets of a segment that were not delivered before, and its FIN."""
         stream, payload = self.streams[index], segment.payload
         old = ahead(stream.following, segment.sequence)
         past, fin = len(payload) + segment.missing, segment.flags & FIN
@@ -237,7 +237,7 @@ class Connection:
             self.over = self.streams[1 - index].ended
 
     def give_up(self) -> None:
-        """Counts what waits as left out."""
+        """Counts the segments that wait as left out."""
         for stream in self.streams:
             self.ledger.left_out(Reason.AFTER_BREAK, len(stream.held))
             stream.held.clear()
@@ -245,14 +245,14 @@ class Connection:
         self.cost = 0
 
     def judge(self, events: list[Event]) -> None:
-        """Gives up octets that will not come, as long as something waits for them."""
-        # Both ends had all when they said their last word.
+        """Gives up octets that will not come, while segments wait for them."""
+        # Both ends sent FIN and had acknowledged all octets.
         ended = all(self.leaving) and self.acknowledged_all()
         while self.cost and (ended or self.is_overdue()):
             self.lose(events)
 
     def acknowledged_all(self) -> bool:
-        """Whether the last octet that waits was acknowledged, in both directions."""
+        """Whether the last octet that waits in each direction was acknowledged."""
         return all(
             not stream.held
             or stream.acknowledged is not None
@@ -261,7 +261,7 @@ class Connection:
         )
 
     def is_overdue(self) -> bool:
-        """Whether more waits than may, or for octets that are surely in no later segment."""
+        """Whether too much waits, or a segment waits for octets that surely no later segment has."""
         if self.cost > MOST_OF_ONE or self.budget.used > MOST_OF_ALL:
             return True
         many = sum(len(stream.held) for stream in self.streams)
@@ -272,7 +272,7 @@ class Connection:
         return many > PATIENCE and ahead(stream.acknowledged, stream.following) > 0
 
     def missing(self) -> tuple[int, int, Segment]:
-        """The first octets that something waits for: their direction, how many they are, and the segment that waits."""
+        """The first octets that a segment waits for: their direction, their number, and the segment."""
         _, index = min((stream.held[0].frame, index) for index, stream in enumerate(self.streams) if stream.held)
         head, other = self.streams[index].held[0], self.streams[1 - index]
         many = ahead(head.sequence, self.streams[index].following)
@@ -284,7 +284,7 @@ class Connection:
         return 1 - index, many, head
 
     def lose(self, events: list[Event]) -> None:
-        """Gives up the first octets that something waits for."""
+        """Gives up the first octets that a segment waits for."""
         index, many, head = self.missing()
         stream = self.streams[index]
         if many > 0:
@@ -296,7 +296,7 @@ class Connection:
         self.pump(events)
 
     def flush(self) -> list[Event]:
-        """What still waits, with its gaps: no more segments come."""
+        """Delivers the segments that still wait, with their gaps, after the last segment."""
         events: list[Event] = []
         while self.cost:
             self.lose(events)

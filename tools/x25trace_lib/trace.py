@@ -31,7 +31,7 @@ LARGEST_TEXT = 1 << 30
 
 
 class Trace:
-    """What is gathered of a capture until its trace can be written."""
+    """Everything gathered from a capture until its trace can be written."""
 
     def __init__(
         self, ledger: Ledger, reading: Reading, wishes: Wishes, has_comments: bool, ranker: Ranker = Ranker(),
@@ -45,7 +45,7 @@ class Trace:
         ledger.keep = self.spool.note
 
     def gather(self, frames: Iterable[Frame | Dropped]) -> None:
-        """Takes all packets of the frames, and the gaps between them."""
+        """Reads all packets of the frames, and the gaps between them."""
         see, add, carriers, sides = self.estimator.see, self.spool.add, self.carriers, self.sides
         for carrier, packet in self.reading.packets(frames):
             if isinstance(packet, Missing):
@@ -75,7 +75,7 @@ class Trace:
                 circuit.first_row = circuit.last_row
 
     def miss(self, missing: Missing) -> None:
-        """Takes a gap. Options say whether there is one before the beginning."""
+        """Adds a gap; options decide about a gap before the beginning."""
         if not missing.is_beginning or self.wishes.join is None:
             self.estimator.miss(missing)
             self.spool.add_gap(missing)
@@ -119,9 +119,9 @@ class Trace:
         return head
 
     def evidence(self, header: Header, rows: Iterator[str], beginning: IO[str]) -> Evidence:
-        """What the window and the packet size rest on, which data shows and no option gives.
+        """The basis of the window and the packet size, where data shows them and no option gives them.
 
-        The text of the rows that are tried goes to a file, which is left where it begins.
+        The text of the rows that are tried is written to a file, which is then at its beginning.
         """
         seen = seen_of(self.wishes, header, self.estimator)
         if not seen or self.ranker.program is None:
@@ -138,7 +138,7 @@ class Trace:
         return ranked_first(ranking, header, seen, self.spool.rows <= MOST_ROWS)
 
     def doubts(self, header: Header) -> Iterator[str]:
-        """What a reader of the header should know."""
+        """Sentences on doubts about the header."""
         moduli = self.estimator.moduli
         strange = sum(moduli.values()) - moduli[header.modulus]
         if strange:
@@ -155,7 +155,7 @@ class Trace:
         yield from map(comment, self.ledger.lines())
 
     def write(self, name: str, out: IO[str]) -> Head:
-        """Writes the trace; returns what it says besides its rows."""
+        """Writes the trace; returns what it has besides rows."""
         header, size = self.header(), 0
         rows = self.spool.replay(self.reading.xot.circuits, MOST_ROWS, header.outgoing)
         with tempfile.TemporaryFile("w+", encoding="ascii", newline="\n") as beginning:

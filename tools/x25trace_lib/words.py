@@ -87,7 +87,7 @@ def forms_of(words: argparse.Namespace) -> list[str]:
 
 
 def parsed(arguments: Sequence[str]) -> argparse.Namespace:
-    """The words of a command line, which may be refused."""
+    """The parsed command line; exits the program where it is refused."""
     words = parser().parse_args(arguments)
     check(words, parser())
     if (forms := forms_of(words)) and not words.is_followed:
@@ -102,7 +102,7 @@ def parsed(arguments: Sequence[str]) -> argparse.Namespace:
 
 
 def check_trace(words: argparse.Namespace) -> None:
-    """Refuses the words of a trace that are of captures."""
+    """Refuses options for captures where the input is a trace."""
     if option := option_among(words, parser(), OF_TRACES):
         name = shown_name(words.captures[0])
         parser().error(f"{option} is of captures, and {name} is a trace, which has its header and its sides")

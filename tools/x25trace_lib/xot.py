@@ -24,7 +24,7 @@ CALL_TYPES = frozenset((Type.CALL, Type.CLEAR, Type.CLEAR_CONFIRM))
 
 @dataclass(slots=True)
 class Circuit:
-    """What one connection is in the trace. The first end is the one that opened it."""
+    """One connection of the trace. The first end is the one that opened it."""
 
     number: int
     ends: tuple[bytes, bytes]
@@ -40,7 +40,7 @@ class Circuit:
     cleared_by: Side | None = None
     confirmed: bool = False
     spoiled: bool = False
-    # Whether a channel was asked for while frames came.
+    # Whether a channel was requested while frames were read.
     begun: bool = False
     rows: int = 0
     first_row: int = 0
@@ -50,13 +50,13 @@ class Circuit:
     rests: list[bytes] = field(default_factory=lambda: [b"", b""])
     synchronised: list[bool] = field(default_factory=lambda: [True, True])
     has_gaps: bool = False
-    # The side of its last packet, whether both sides have some, and from which end something surely is missing.
+    # The side of its last packet, whether both sides have packets, and from which end octets surely are missing.
     side: Side | None = None
     both: bool = False
     lacks: list[bool] = field(default_factory=lambda: [False, False])
     # The gap before its next packet, or None.
     missing: Missing | None = None
-    # Whether its packets are left out from here on: where it broke, and where its connection ended.
+    # Whether its packets are left out from here on; whether it broke; whether its connection ended.
     left: bool = False
     broken: bool = False
     ended: bool = False
@@ -67,39 +67,39 @@ class Circuit:
         return " and ".join(ends)
 
     def shown_words(self) -> str:
-        """What stands before the first row."""
+        """The comment before its first row."""
         again = ", which another one had before" if self.again else ""
         line = "" if self.line_channel is None else f", logical channel {self.line_channel} in the capture"
         return circuit_text(self.number, self.channel, f"{again}: {self.who()}{line}")
 
     @property
     def is_free(self) -> bool:
-        """Whether its channel is surely in p1: its call was cleared, that was confirmed, and no error came after it."""
+        """Whether its channel is surely in p1: its call was cleared and that was confirmed, without an error after it."""
         return self.confirmed and not self.spoiled and not self.permanent
 
     def see(self, side: Side) -> None:
-        """Takes a packet of another side than the last one."""
+        """Reads a packet whose side differs from that of the last one."""
         self.both = self.side is not None
         self.side = side
 
     def miss(self, frame: int, time: int | None) -> None:
-        """Packets may be missing here; one after the clear was confirmed may have left p1."""
+        """Notes a gap here; after a confirmed clear a missing packet may have left p1."""
         self.missing = Missing(frame, time, self)
         self.spoiled |= self.confirmed
 
     def taken_missing(self) -> Iterator[Missing]:
-        """The gap before its next packet, which is there once."""
+        """Removes and returns the gap before its next packet."""
         if self.missing:
             yield self.missing
             self.missing = None
 
     @property
     def is_half(self) -> bool:
-        """Whether it has packets of one side alone, and something of the other side is missing."""
+        """Whether it has packets of one side only, and octets of the other side are missing."""
         return self.side is not None and not self.both and self.lacks[self.sides.index(self.side.other)]
 
     def end_words(self) -> str | None:
-        """What is said where the connection ends without a confirmed clear, or None."""
+        """The message where the connection ends without a confirmed clear, or None."""
         if self.is_half:
             return None
         if self.permanent:
@@ -112,7 +112,7 @@ class Circuit:
 
     def step(self, side: Side, kind: int, length: int) -> None:
         """Follows the call by the packets that open and end it."""
-        # What the DTE sends after the clear, and a clear without a cause, are errors that leave p1 or do not reach it.
+        # Packets of the DTE after the clear, and a clear without a cause, are errors that leave p1 or do not reach it.
         self.spoiled |= self.confirmed and side is Side.T and kind != Type.CALL or kind == Type.CLEAR and length < 4
         if kind == Type.CALL:
             self.called, self.cleared_by, self.confirmed = True, None, False
@@ -157,15 +157,15 @@ class Xot:
         self.budget = Budget()
         self.circuits: list[Circuit] = []
         self.table: dict[tuple[bytes, bytes], Entry] = {}
-        # Connections that are over stay in the table for a while: their last segments may be repeated.
+        # Connections that have ended stay in the table for a while: their last segments may be repeated.
         self.over: deque[Connection] = deque()
-        # The circuits of connections that ended with the last segment, which on_end is called for with the next one: by
-        # then their packets were taken.
+        # The circuits of connections that ended with the last segment; on_end is called for them with the next one: by
+        # then their packets were read.
         self.ending: list[Circuit] = []
         self.on_end: Callable[[Circuit], object] | None = None
 
     def take(self, segment: Segment) -> Iterable[Item]:
-        """The packets that a segment completes; they are to be taken before the next segment."""
+        """The packets that a segment completes; the caller reads them before the next segment."""
         while self.ending:
             circuit = self.ending.pop()
             if self.on_end:
@@ -187,20 +187,20 @@ class Xot:
         return self.feed(connection, index, circuit, segment)
 
     def begin(self, before: Entry | None, segment: Segment) -> Iterator[Item]:
-        """A new connection, after what waits in the one before it on the same ports."""
+        """Begins a new connection, after the waiting segments of the previous one on the same ports."""
         if before:
             yield from self.finish(before[0], before[2], segment.frame)
         yield from self.feed(*self.open(segment, True), segment)
 
     def goes_on(self, connection: Connection, index: int, segment: Segment) -> bool:
-        """Whether an opening segment belongs to a connection that is there: its second one, or one repeated."""
+        """Whether an opening segment belongs to a known connection: its second one, or a repeated one."""
         first = connection.streams[index].first
         if first is not None:
             return first == segment.sequence
         return segment.acknowledged is not None and not connection.over
 
     def open(self, segment: Segment, syn: bool) -> Entry:
-        """Begins a connection; the one who opened it is the sender of the first SYN, else who has no XOT port."""
+        """Begins a connection; its opener is the sender of the first SYN, else the end without an XOT port."""
         answered = syn and segment.acknowledged is not None
         from_server = not syn and port_of(segment.source) in self.ports and port_of(segment.target) not in self.ports
         index = 1 if answered or from_server else 0
@@ -214,7 +214,7 @@ class Xot:
         return connection, index, circuit
 
     def circuit(self, ends: tuple[bytes, bytes], frame: int, syn: bool) -> Circuit:
-        """The circuit of a connection; its DTE is the host that was asked for, else the one that opened it."""
+        """The circuit of a connection; its DTE is the host that an option names, else the opener."""
         sides = self.sides if self.dte in (None, ends[0][:-2]) else self.sides[::-1]
         circuit = Circuit(len(self.circuits) + 1, ends, sides, frame, syn)
         circuit.synchronised = [syn, syn]
@@ -223,7 +223,7 @@ class Xot:
         return circuit
 
     def feed(self, connection: Connection, index: int, circuit: Circuit, segment: Segment) -> Iterator[Item]:
-        """The packets of what a segment completes."""
+        """The packets of the octets that a segment completes."""
         events: Iterable[Event] = ()
         if circuit.left:
             self.pass_over(connection, index, segment)
@@ -234,7 +234,7 @@ class Xot:
         return self.read(connection, circuit, events)
 
     def read(self, connection: Connection, circuit: Circuit, events: Iterable[Event]) -> Iterator[Item]:
-        """The packets of chunks, up to a break of the circuit; what is said of a gap comes before those after it."""
+        """The packets of chunks, up to a break of the circuit; a gap is reported before the packets after it."""
         for event in events:
             if isinstance(event, Chunk):
                 yield from self.packets(circuit, event)
@@ -249,7 +249,7 @@ class Xot:
         yield from self.finish(connection, circuit, frame)
 
     def pass_over(self, connection: Connection, index: int, segment: Segment) -> None:
-        """Counts a segment of which nothing is read any more."""
+        """Counts a segment that is not read any more."""
         end = len(segment.payload) + segment.missing
         following = connection.streams[index].next
         if not end:
@@ -260,14 +260,14 @@ class Xot:
             self.ledger.left_out(Reason.AFTER_BREAK)
 
     def lose(self, circuit: Circuit, gap: Gap) -> None:
-        """A gap: what was read of a packet is dropped, and the next one is sought at the beginnings of segments."""
+        """Reads a gap: the part of a packet is dropped, and the next packet is sought at the beginnings of segments."""
         rest = circuit.rests[gap.index]
         circuit.rests[gap.index] = b""
         circuit.synchronised[gap.index] = False
         circuit.has_gaps = True
         circuit.lacks[gap.index] |= gap.octets > 0
         circuit.miss(gap.frame, gap.time)
-        # An unknown number of octets, 0 here, is a damage too.
+        # An unknown number of octets, 0 here, is damage too.
         self.ledger.counts[Reason.LOST_OCTETS] += gap.octets
         self.ledger.left_out(Reason.PASSED_OCTETS, len(rest))
         if gap.how:
@@ -275,7 +275,7 @@ class Xot:
             self.ledger.report(Reason.LOST_OCTETS, f"{words} of {circuit.sides[gap.index].name} {gap.how}")
 
     def finish(self, connection: Connection, circuit: Circuit, frame: int) -> Iterator[Item]:
-        """Tells how a connection ended, after the packets that waited."""
+        """Writes how a connection ended, after the packets that waited."""
         if circuit.ended:
             return
         yield from self.close(connection, circuit)
@@ -291,7 +291,7 @@ class Xot:
             self.ending.append(circuit)
 
     def forget(self, connection: Connection) -> None:
-        """Takes a connection from the table, unless its ports are used again."""
+        """Removes a connection from the table, unless its ports are used again."""
         for ends in (connection.ends, connection.ends[::-1]):
             if (entry := self.table.get(ends)) and entry[0] is connection:
                 del self.table[ends]
@@ -346,7 +346,7 @@ class Xot:
         return packets
 
     def found(self, circuit: Circuit, chunk: Chunk, octets: bytes) -> bytes:
-        """The octets from where a segment begins with a packet on, or none. One that says too little waits for the next."""
+        """The octets from a segment on that begins with a packet, or none. A segment that is too short to decide is kept."""
         found = begins(octets, circuit)
         if found is False and octets is not chunk.octets:
             self.ledger.left_out(Reason.PASSED_OCTETS, len(octets) - len(chunk.octets))
@@ -366,7 +366,7 @@ class Xot:
         return b""
 
     def leave(self, circuit: Circuit, chunk: Chunk, version: int, many: int) -> None:
-        """A header of another version: a wrong place, where that was sought, else no XOT."""
+        """Reads a header of another version: a wrong place, where a packet was sought; else the circuit is not XOT."""
         circuit.rests[chunk.index] = b""
         words = f"frame {chunk.frame}: connection {circuit.number}: an XOT header of version {version}"
         if circuit.has_gaps or not circuit.from_opening:
@@ -389,7 +389,7 @@ class Xot:
         return Packet(chunk.frame, side, octets, circuit, chunk.time)
 
     def follow(self, circuit: Circuit, frame: int, side: Side, octets: bytes) -> bool:
-        """Follows the circuit by a packet other than data and RR in their place; whether it is one of the circuit."""
+        """Follows the circuit by a packet other than usual data and RR; returns whether it is one of the circuit."""
         kind, line_channel = octets[2], channel_of(octets)
         if kind == PVC_SETUP and not circuit.called:
             self.set_up(circuit, frame, side)
@@ -407,14 +407,14 @@ class Xot:
         return True
 
     def set_up(self, circuit: Circuit, frame: int, side: Side) -> None:
-        """An XOT packet that sets up a permanent circuit is none of X.25."""
+        """Reads an XOT packet that sets up a permanent circuit; it is not an X.25 packet."""
         circuit.permanent = True
         self.ledger.left_out(Reason.PVC_SETUP)
         words = f"{side.name} sets up a permanent circuit"
         self.ledger.report(Topic.PVC_SETUP, f"frame {frame}: connection {circuit.number}: {words}")
 
     def other_channel(self, circuit: Circuit, frame: int, line_channel: int) -> None:
-        """Takes the logical channel of a packet that is not that of the one before it."""
+        """Reads a logical channel that differs from that of the previous packet."""
         if circuit.line_channel is None:
             circuit.line_channel = line_channel
         else:

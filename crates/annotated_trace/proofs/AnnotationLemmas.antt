@@ -11,7 +11,7 @@ use Rattle.line_model.specs.declared.totals.Summary.{Summary}
 use Rattle.trace_text.specs.ObserverAnswers.{found_in}
 use Rattle.annotated_trace.specs.Annotation.{Annotated, AreComments, AreMarked, IsAnnotatedLine, IsAnnotation, IsAnnotationOf, IsMarked, IsMarkedWhere, IsUnmarked, all_lines, bare_lines, with_comments}
 use Rattle.annotated_trace.specs.Annotating.{HasFirstOf, IsAnnotated}
-use Rattle.annotated_trace.specs.Marking.{HasRightComments, HaveMarksOf, IsToldRightly}
+use Rattle.annotated_trace.specs.Marking.{HasRightComments, HaveMarksOf, IsPickedRightly}
 use Rattle.annotated_trace.specs.Printed.{HasAppended, IsPrintOf}
 use Rattle.annotated_trace.specs.Printers.{HasFirstPrint, HasFirstPrintOf, HasPrintBefore, HasPrinted, IsFirstOfClosing, IsFirstOfLines, IsPrinted}
 use Rattle.annotated_trace.specs.Printing.{HasPassed, StopsAtEnd, StopsPrinting, StopsReading}
@@ -21,21 +21,21 @@ use Rattle.annotated_trace.proofs.LinesOfText.{text_append}
 
 -- ---- a line with its comments
 
-marked_where : (channel call : Option ℕ) (told : Bool) (ls : List Line) (a : Annotated) (findings : List Finding) → found_in (ls ++ a.line ∷ []) ≡ found_in ls ++ findings → HaveMarksOf (Chosen channel call) told findings a.comments → IsMarkedWhere told ls a
+marked_where : (channel call : Option ℕ) (picked : Bool) (ls : List Line) (a : Annotated) (findings : List Finding) → found_in (ls ++ a.line ∷ []) ≡ found_in ls ++ findings → HaveMarksOf (Chosen channel call) picked findings a.comments → IsMarkedWhere picked ls a
 marked_where channel call true ls a findings came marks = (record { findings = findings; came = came; marks = marks.0 }, marks.1)
 marked_where channel call false ls a findings came none = none
 
-mark_line_of : (choice : Rows) (told : Bool) (ls : List Line) (a : Annotated) (findings : List Finding) → IsToldRightly choice ls a.line told → found_in (ls ++ a.line ∷ []) ≡ found_in ls ++ findings → HaveMarksOf choice told findings a.comments → IsMarked choice ls a
-mark_line_of All told ls a findings right came marks = (record { findings = findings; came = came; marks = marks.0 }, λ chosen. marks.1 (right chosen))
-mark_line_of (Chosen channel call) told ls a findings right came marks = subst (λ b. IsMarkedWhere b ls a) right (marked_where channel call told ls a findings came marks)
+mark_line_of : (choice : Rows) (picked : Bool) (ls : List Line) (a : Annotated) (findings : List Finding) → IsPickedRightly choice ls a.line picked → found_in (ls ++ a.line ∷ []) ≡ found_in ls ++ findings → HaveMarksOf choice picked findings a.comments → IsMarked choice ls a
+mark_line_of All picked ls a findings right came marks = (record { findings = findings; came = came; marks = marks.0 }, λ chosen. marks.1 (right chosen))
+mark_line_of (Chosen channel call) picked ls a findings right came marks = subst (λ b. IsMarkedWhere b ls a) right (marked_where channel call picked ls a findings came marks)
 
 pub annotated_line : (choice : Rows) (before : List Line) (l : Line) (findings : List Finding) (old mid now : List ℕ) → found_in (before ++ l ∷ []) ≡ found_in before ++ findings → mid ≡ old ++ (l ++ 10 ∷ []) → HasRightComments choice before l findings mid now → HasAppended (IsAnnotatedLine choice before l) old now
-annotated_line choice before l findings old mid now came put told =
-    let c = told.2 in
+annotated_line choice before l findings old mid now came put picked =
+    let c = picked.2 in
     record {
       bytes = text (l ∷ c.behind);
       appended = c.written ∙ ap (λ xs. xs ++ text c.behind) put ∙ append_assoc old (l ++ 10 ∷ []) (text c.behind) ∙ ap (λ xs. old ++ xs) (append_assoc l (10 ∷ []) (text c.behind));
-      formed = record { comments = c.behind; written = refl; are_comments = c.comments; marked = mark_line_of choice told.0 before (record { line = l; comments = c.behind }) findings told.1 came c.marks };
+      formed = record { comments = c.behind; written = refl; are_comments = c.comments; marked = mark_line_of choice picked.0 before (record { line = l; comments = c.behind }) findings picked.1 came c.marks };
     }
 
 -- ---- all lines
@@ -97,7 +97,7 @@ closed choice x lines bytes closing h c e = record {
 
 pub annotated_of : (choice : Rows) (x : List ℕ) (before after : Option (List ℕ)) (sums : Summary) → IsPrinted (IsPrintOf (IsAnnotatedLine choice) []) Closes x before after sums → IsAnnotated choice x before after sums
 annotated_of choice x before after sums p = record {
-  sound = p.told.sound;
+  sound = p.reported.sound;
   bytes = p.lines ++ p.closing;
   taken = p.taken;
   annotation = closed choice x p.lines (p.lines ++ p.closing) p.closing p.print p.closed refl;

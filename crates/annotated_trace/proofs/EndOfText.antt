@@ -20,7 +20,7 @@ use Rattle.trace_text.proofs.FeedLemmas.{early-none, no_fault, size-sound, size_
 use Rattle.line_model.proofs.LineLemmas.{size_kind-zero}
 use Rattle.annotated_trace.specs.Printed.{HasTaken, StopsClosing}
 use Rattle.annotated_trace.specs.Printers.{HasFirstPrintOf, HasPrinted, IsCloseRefusal, IsEndRefusal, IsFirstOfClosing, IsFirstOfLines, IsFull, IsPrinted}
-use Rattle.trace_text.specs.StandsFor.{IsFaultOf}
+use Rattle.trace_text.specs.Represents.{IsFaultOf}
 use Rattle.trace_text.specs.ObserverAnswers.{IsReportOf}
 use Rattle.trace_text.proofs.EndLemmas.{one_line, one_kind, fault-last, head-sound, rows-all}
 use Rattle.annotated_trace.proofs.PrintLemmas.{some_same}
@@ -149,36 +149,36 @@ behind before taken after sent more t a = a ∙ ap (λ o. with_more o more) t �
 -- the lines that were held, and what comes after them
 pub all_closed : (F : List Line → List ℕ → Type 0) (C : Report → List ℕ → Type 0) (x : List ℕ) (before taken after : Option (List ℕ)) (held : List ℕ) (r : Report) (result : Result Summary Fault) → begun_line x ≡ [] → HasPrinted F before taken held (ended_lines x) → IsReportOf x r
     → OnOk result (HasTaken (C r) (with_more taken held) after) → IfOk result (λ sums. sums ≡ r.summary) → IfOk result (IsPrinted F C x before after)
-all_closed F C x before taken after held r (Err f) none h told closing same = tt
-all_closed F C x before taken after held r (Ok sums) none h told closing same = record {
+all_closed F C x before taken after held r (Err f) none h reported closing same = tt
+all_closed F C x before taken after held r (Ok sums) none h reported closing same = record {
   report = r;
-  told = told;
+  reported = reported;
   lines = h.sent ++ held;
   closing = closing.bytes;
   print = all_lines F x (h.sent ++ held) none h.lines;
   closed = closing.formed;
   taken = behind before (with_more taken held) after (h.sent ++ held) closing.bytes (behind before taken (with_more taken held) h.sent held h.taken_is refl) closing.taken;
-  counted = same ∙ sums_of x r told;
+  counted = same ∙ sums_of x r reported;
 }
 
 -- a first part of them
 pub first_closed : (F : List Line → List ℕ → Type 0) (C : Report → List ℕ → Type 0) (x : List ℕ) (before taken after : Option (List ℕ)) (held : List ℕ) (r : Report) → begun_line x ≡ [] → HasPrinted F before taken held (ended_lines x) → IsReportOf x r → StopsClosing (C r) held taken after
     → HasFirstPrintOf F C x before after
-first_closed F C x before taken after held r none h told (inl p) = record {
+first_closed F C x before taken after held r none h reported (inl p) = record {
   lines = h.sent ++ held;
   front = h.sent ++ p.front;
   print = all_lines F x (h.sent ++ held) none h.lines;
   taken = behind before taken after h.sent p.front h.taken_is p.taken;
   part = inl (p.left, ap (λ xs. h.sent ++ xs) p.whole ∙ sym (append_assoc h.sent p.front p.left));
 }
-first_closed F C x before taken after held r none h told (inr p) = record {
+first_closed F C x before taken after held r none h reported (inr p) = record {
   lines = h.sent ++ held;
   front = (h.sent ++ held) ++ p.front;
   print = all_lines F x (h.sent ++ held) none h.lines;
   taken = behind before (with_more taken held) after (h.sent ++ held) p.front (behind before taken (with_more taken held) h.sent held h.taken_is refl) p.taken;
   part = inr (record {
     report = r;
-    told = told;
+    reported = reported;
     closing = p.bytes;
     left = p.left;
     closed = p.formed;
@@ -198,16 +198,16 @@ same_report x r some e h =
 
 same_printed : (F : List Line → List ℕ → Type 0) (C : Report → List ℕ → Type 0) (x : List ℕ) (before after : Option (List ℕ)) (sums : Summary) → 0 < length (begun_line x) → fault (x ++ 10 ∷ []) ≡ fault x → IsPrinted F C (x ++ 10 ∷ []) before after sums → IsPrinted F C x before after sums
 same_printed F C x before after sums some e p =
-    let told = same_report x p.report some e p.told in
+    let reported = same_report x p.report some e p.reported in
     record {
       report = p.report;
-      told = told;
+      reported = reported;
       lines = p.lines;
       closing = p.closing;
       print = subst (λ ls. F ls p.lines) (same_lines x some) p.print;
       closed = p.closed;
       taken = p.taken;
-      counted = p.counted ∙ sym (sums_of (x ++ 10 ∷ []) p.report p.told) ∙ sums_of x p.report told;
+      counted = p.counted ∙ sym (sums_of (x ++ 10 ∷ []) p.report p.reported) ∙ sums_of x p.report reported;
     }
 
 pub same_first : (F : List Line → List ℕ → Type 0) (C : Report → List ℕ → Type 0) (x : List ℕ) (before after : Option (List ℕ)) → 0 < length (begun_line x) → fault (x ++ 10 ∷ []) ≡ fault x → HasFirstPrintOf F C (x ++ 10 ∷ []) before after → HasFirstPrintOf F C x before after
@@ -215,7 +215,7 @@ same_first F C x before after some e p = record { lines = p.lines; front = p.fro
   where
     same_part : IsFirstOfLines p.lines p.front ⊎ IsFirstOfClosing C (x ++ 10 ∷ []) p.lines p.front → IsFirstOfLines p.lines p.front ⊎ IsFirstOfClosing C x p.lines p.front
     same_part (inl q) = inl q
-    same_part (inr q) = inr (record { report = q.report; told = same_report x q.report some e q.told; closing = q.closing; left = q.left; closed = q.closed; whole = q.whole })
+    same_part (inr q) = inr (record { report = q.report; reported = same_report x q.report some e q.reported; closing = q.closing; left = q.left; closed = q.closed; whole = q.whole })
 
 -- ---- steps of the end
 

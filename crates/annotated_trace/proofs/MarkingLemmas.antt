@@ -97,14 +97,14 @@ mark_comment f words n c w =
     let whole = both_short 100 8002 (finding_words f) (explained words) (finding_short f n c) (explained_short words w) in
     record { begins = refl; one = whole.one; short = omega (arith, whole.few) }
 
-told_line : (packet : ℕ) (side : Side) (state : StateName) (code : Code) → finding_line (record { packet = packet; side = side; state = state; code = code }) ≡ finding_words (record { packet = packet; side = side; state = state; code = code }) ++ 10 ∷ []
-told_line packet side state code = sym (regroup (decimal packet) (side_word side) (state_word state) (code_word code))
+finding_line_is : (packet : ℕ) (side : Side) (state : StateName) (code : Code) → finding_line (record { packet = packet; side = side; state = state; code = code }) ≡ finding_words (record { packet = packet; side = side; state = state; code = code }) ++ 10 ∷ []
+finding_line_is packet side state code = sym (regroup (decimal packet) (side_word side) (state_word state) (code_word code))
   where
     regroup : (a b c d : List ℕ) → (70 ∷ 32 ∷ (a ++ 32 ∷ (b ++ 32 ∷ (c ++ 32 ∷ d)))) ++ 10 ∷ [] ≡ 70 ∷ 32 ∷ (a ++ 32 ∷ (b ++ 32 ∷ (c ++ 32 ∷ (d ++ 10 ∷ []))))
     regroup a b c d = simp append_assoc
 
 pub is_mark_of : (f : Finding) (words : List ℕ) → IsMarkOf f (mark_line f words)
-is_mark_of f words = record { told = finding_words f; words = words; line = told_line f.packet f.side f.state f.code; mark_is = refl }
+is_mark_of f words = record { finding_text = finding_words f; words = words; line = finding_line_is f.packet f.side f.state f.code; mark_is = refl }
 
 -- ---- the marks of the first findings, and one more
 
@@ -146,5 +146,5 @@ mark_put f words out a b c d n k w ea eb ec ed = record {
   mark_of = is_mark_of f words;
 }
   where
-    regroup : (out told words : List ℕ) → (((out ++ (35 ∷ 33 ∷ 32 ∷ [])) ++ told) ++ words) ++ 10 ∷ [] ≡ out ++ ((35 ∷ 33 ∷ 32 ∷ (told ++ words)) ++ 10 ∷ [])
-    regroup out told words = simp append_assoc
+    regroup : (out finding_text words : List ℕ) → (((out ++ (35 ∷ 33 ∷ 32 ∷ [])) ++ finding_text) ++ words) ++ 10 ∷ [] ≡ out ++ ((35 ∷ 33 ∷ 32 ∷ (finding_text ++ words)) ++ 10 ∷ [])
+    regroup out finding_text words = simp append_assoc

@@ -127,12 +127,12 @@ unfolding encode_with
 no_octets line h = sym (ap (take 8000) (append-nil line) ∙ take_all 8000 line h.short)
 
 -- no octets, and one more
-pub none_told : (start taken : Option (List ℕ) × ℕ) (buffer : WriteBuffer) (said : ℕ) (notes : Remarks) → HasNoted start taken buffer said notes → HasNoted start taken buffer said (record { lines = notes.lines; line = with_words notes.line (encode_upper []) })
-none_told start taken buffer said notes h = subst (λ xs. HasNoted start taken buffer said (record { lines = notes.lines; line = xs })) (no_octets notes.line h.words) h
+pub none_added : (start taken : Option (List ℕ) × ℕ) (buffer : WriteBuffer) (said : ℕ) (notes : Remarks) → HasNoted start taken buffer said notes → HasNoted start taken buffer said (record { lines = notes.lines; line = with_words notes.line (encode_upper []) })
+none_added start taken buffer said notes h = subst (λ xs. HasNoted start taken buffer said (record { lines = notes.lines; line = xs })) (no_octets notes.line h.words) h
 
-pub one_told : (start taken : Option (List ℕ) × ℕ) (buffer : WriteBuffer) (said : ℕ) (notes : Remarks) (first all : List ℕ) (octet : ℕ) → all ≡ first ++ octet ∷ []
+pub one_added : (start taken : Option (List ℕ) × ℕ) (buffer : WriteBuffer) (said : ℕ) (notes : Remarks) (first all : List ℕ) (octet : ℕ) → all ≡ first ++ octet ∷ []
     → HasNoted start taken buffer said (record { lines = notes.lines; line = with_words (with_words notes.line (encode_upper first)) (encode_upper (octet ∷ [])) })
     → HasNoted start taken buffer said (record { lines = notes.lines; line = with_words notes.line (encode_upper all) })
-one_told start taken buffer said notes first all octet e h =
+one_added start taken buffer said notes first all octet e h =
     subst (λ xs. HasNoted start taken buffer said (record { lines = notes.lines; line = xs }))
     (words_twice notes.line (encode_upper first) (encode_upper (octet ∷ [])) ∙ ap (with_words notes.line) (sym (encode_append first (octet ∷ [])) ∙ ap encode_upper (sym e))) h

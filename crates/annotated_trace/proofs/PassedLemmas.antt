@@ -10,7 +10,7 @@ use Rattle.line_model.specs.declared.fault.Fault.TheVariants.{Memory, Trace, Wri
 use Rattle.line_model.proofs.FinalFaults.{early-append}
 use Rattle.annotated_trace.specs.Annotation.{IsOneLine}
 use Rattle.annotated_trace.specs.Printers.{HasPrinted, HasFirstPrint, HasPrintBefore, IsRefusalOf, IsStoppedAt, WasFed, is_line}
-use Rattle.trace_text.specs.StandsFor.{IsFaultOf}
+use Rattle.trace_text.specs.Represents.{IsFaultOf}
 use Rattle.annotated_trace.specs.declared.printing.TracePrinter.{TracePrinter}
 use Rattle.annotated_trace.proofs.PrintLemmas.{before_begun, before_line, first_of}
 use Rattle.line_model.proofs.DeviceLemmas.{with_more-append}

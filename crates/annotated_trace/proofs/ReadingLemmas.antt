@@ -1,5 +1,5 @@
 -- What a sink took of a trace that is printed while it is read.
-use Rattle.std.proofs.Common.{◌≡◌, ◌≢◌, ◌∙◌, sym, ap, subst, refl, ℕ, ◌<◌, ◌≤◌, ◌^◌, List, [], ◌++◌, length, Option, None, Result, Ok, Err, IfOk, IfErr, OnOk, append-nil, arith, inl, inr, ◌⊎◌}
+use Rattle.std.proofs.Common.{◌≡◌, ◌≢◌, ◌∙◌, sym, ap, subst, ℕ, ◌<◌, ◌≤◌, ◌^◌, List, [], ◌++◌, length, Option, None, Result, Ok, Err, IfOk, IfErr, OnOk, append-nil, arith, inl, inr, ◌⊎◌}
 use Rattle.line_model.specs.text.Text.{Line, early, ended_lines}
 use Rattle.line_model.specs.declared.fault.Fault.{Fault}
 use Rattle.line_model.specs.declared.fault.Fault.TheVariants.{Memory, Trace, Read, Write}
@@ -20,7 +20,7 @@ none_taken F taken nothing = record { sent = []; taken_is = sym (with_more-nil t
 pub nothing_written : {A O P : Type 0} (S : O → P → List ℕ → Type 0) (size : O → ℕ) (F : List Line → List ℕ → Type 0) (taken : Option (List ℕ)) (n : ℕ) (t : TracePrinter A O P) → F [] [] → WasFed S t [] → t.held.items ≡ [] → size t.trace ≡ 0 → HasWritten S size F taken taken n n [] t
 nothing_written S size F taken n t nothing s h none = record { fed = s; printed = none_taken F taken nothing; none_held = h; rising = omega arith; sound = early-nothing; sized = none }
 
--- what the printer's clauses are asked with
+-- what the printer's clauses require
 pub held_of : {A O P : Type 0} (S : O → P → List ℕ → Type 0) (size : O → ℕ) (F : List Line → List ℕ → Type 0) (before taken : Option (List ℕ)) (x y : ℕ) (text : List ℕ) (t : TracePrinter A O P) → HasWritten S size F before taken x y text t → HasPrinted F before taken t.held.items (ended_lines text)
 held_of S size F before taken x y text t w = subst (λ h. HasPrinted F before taken h (ended_lines text)) (sym w.none_held) w.printed
 
@@ -87,7 +87,7 @@ pub reading_stops : {A O P : Type 0} (S : O → P → List ℕ → Type 0) (size
 reading_stops S size F has_first left after asked before taken x z t f u = record {
   given = u.fed ++ u.last;
   source = u.given;
-  order = λ text told. sound_before 0 left after asked (λ y. HasWritten S size F before taken x z y t) (IsRefusedAfter F before taken x z) f text u told;
+  order = λ text shown. sound_before 0 left after asked (λ y. HasWritten S size F before taken x z y t) (IsRefusedAfter F before taken x z) f text u shown;
   why = inl (stop_is S size F before taken x z t u.fed u.last f (none_sound u.fed u.sound) u.few u.why);
 }
 
@@ -102,8 +102,8 @@ pub end_stops : {K : Type 0} → (F : List Line → List ℕ → Type 0) (has_fi
 end_stops F has_first left after asked before well was_fed took old new (Ok sums) w h refusal kept part = tt
 end_stops F has_first left after asked before well was_fed took old new (Err f) w h refusal kept part = record {
   given = w.text;
-  source = λ x told. let all = w.source x told in ([], all.0 ∙ sym (append-nil w.text), all.1);
-  order = λ x told. sound_at_end 0 left after asked was_fed x w told;
+  source = λ x shown. let all = w.source x shown in ([], all.0 ∙ sym (append-nil w.text), all.1);
+  order = λ x shown. sound_at_end 0 left after asked was_fed x w shown;
   why = inr (record {
     source = w.source;
     sound = none_sound w.text w.sound;

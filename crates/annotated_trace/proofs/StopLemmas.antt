@@ -4,7 +4,7 @@ use Rattle.line_model.specs.text.Text.{fault}
 use Rattle.line_model.specs.declared.fault.Fault.{Fault}
 use Rattle.line_model.specs.declared.fault.Fault.TheVariants.{Memory, Trace, Write}
 use Rattle.annotated_trace.specs.Printers.{IsCloseRefusal, IsPrinterFault}
-use Rattle.trace_text.specs.StandsFor.{IsTextFault}
+use Rattle.trace_text.specs.Represents.{IsTextFault}
 
 -- a sink that fails refuses a text without a fault
 pub write_refused : {T : Type 0} (r : Result T Fault) (x : List ℕ) → fault x ≡ None → IfErr r (λ f. f ≡ Write) → IfErr r (IsCloseRefusal x)
@@ -15,7 +15,7 @@ pub write_kind : {T : Type 0} (r : Result T Fault) → IfErr r (λ f. f ≡ Writ
 write_kind (Ok y) h = tt
 write_kind (Err f) h = subst IsPrinterFault (sym h) tt
 
--- no other fault is told
+-- no other fault is returned
 pub no_other : {T : Type 0} (r : Result T Fault) (P : Type 0) → IfErr r (λ f. f ≡ Write) → IfErr r (λ f. f ≢ Write → P)
 no_other (Ok y) P h = tt
 no_other (Err f) P h = λ other. absurd (other h)

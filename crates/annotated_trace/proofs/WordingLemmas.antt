@@ -171,9 +171,6 @@ notes_mark_nothing (l ∷ ls) h = subst (λ m. marks_in (m ∷ ls) ≡ []) (sym 
 abbrev pub remarks : (bytes words : List ℕ) → Remarks
 remarks bytes words = record { lines = ended_lines bytes; line = words }
 
-pub all_noted : (v : Remarks) (bytes words : List ℕ) → remarks bytes words ≡ v → AreNoteBytes bytes → IsWords words → AreNotes (notes_of v)
-all_noted v bytes words e h w = subst (λ x. AreNotes (notes_of x)) e (all_notes (remarks bytes words) h.notes w)
-
 pub noted : (v : Remarks) (out bytes words now : List ℕ) (last : List Line) → remarks bytes words ≡ v → AreNoteBytes bytes → note_or_none words ≡ last → now ≡ (out ++ bytes) ++ text last → now ≡ out ++ text (notes_of v)
 noted v out bytes words now last e h more k =
     k ∙ append_assoc out bytes (text last) ∙ ap (λ xs. out ++ xs) (ap (λ xs. xs ++ text last) (sym (whole_text bytes h.whole)) ∙ sym (text_append (ended_lines bytes) last)

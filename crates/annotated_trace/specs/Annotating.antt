@@ -1,4 +1,4 @@
--- What a scan that annotates a trace answers, and what its sink took.
+-- What a scan that annotates a trace returns, and what its sink took.
 use Rattle.std.specs.Prelude.{◌≡◌, ℕ, List, ◌++◌, Option, None}
 use Rattle.line_model.specs.basics.Device.{with_more}
 use Rattle.line_model.specs.text.Text.{fault}
@@ -32,7 +32,7 @@ IsAnnotatingFault fault = IsPrintingFault fault
 abbrev pub Annotates : (choice : Rows) (left after asked before taken : Option (List ℕ)) → Summary → Type 0
 Annotates choice left after asked before taken sums = HasPassed (IsAnnotated choice) left after asked before taken sums
 
--- a source gave some bytes, and they are refused; the sink has a first part of their annotation, at a faulty line that of all lines before it,
--- if it stood well
+-- a source gave some bytes, and they are refused; the sink has a first part of their annotation, at a faulty line that of all lines before
+-- it, if it did not fail
 abbrev pub Stops : (choice : Rows) (left after asked before taken : Option (List ℕ)) (well : Type 0) → Fault → Type 0
-Stops choice left after asked before taken well told = StopsPrinting (IsAnnotationOf choice) (HasFirstOf choice) left after asked before taken well told
+Stops choice left after asked before taken well returned = StopsPrinting (IsAnnotationOf choice) (HasFirstOf choice) left after asked before taken well returned

@@ -1,4 +1,4 @@
--- A trace with comments behind its lines.
+-- A trace with comments after its lines.
 use Rattle.std.specs.Prelude.{◌≡◌, ℕ, ◌==◌, ◌&&◌, ◌<◌, ◌≤◌, Bool, true, false, List, [], ◌∷◌, ◌++◌, filter, flat_map, map, length, codes}
 use Rattle.std.specs.List.{list_any, AllByRecursion}
 use Rattle.line_model.specs.observer.Report.{finding_line}
@@ -20,7 +20,7 @@ pub record IsComment (comment : Line) : Type 0 where
   pub one : IsOneLine comment
   pub short : length comment ≤ line_limit
 
--- each is one
+-- each line is a comment
 abbrev pub AreComments : List Line → Type 0
 AreComments comments = AllByRecursion IsComment comments
 
@@ -33,17 +33,17 @@ is_mark _ = false
 abbrev pub marks_in : List Line → List Line
 marks_in ls = filter is_mark ls
 
--- what a mark says behind its finding: nothing, or words behind a colon
+-- what a mark says after its finding: nothing, or words after a colon
 abbrev pub explained : (words : List ℕ) → List ℕ
 explained [] = []
 explained words = codes ": " ++ words
 
 -- `#! ` and the finding's line of the report, and words that explain it or none
 pub record IsMarkOf (finding : Finding) (mark : Line) : Type 0 where
-  pub told : Line
+  pub finding_text : Line
   pub words : List ℕ
-  pub line : finding_line finding ≡ told ++ 10 ∷ []
-  pub mark_is : mark ≡ codes "#! " ++ (told ++ explained words)
+  pub line : finding_line finding ≡ finding_text ++ 10 ∷ []
+  pub mark_is : mark ≡ codes "#! " ++ (finding_text ++ explained words)
 
 -- a mark for each finding, in the same order
 abbrev pub AreMarksOf : List Finding → List Line → Type 0
@@ -51,7 +51,7 @@ AreMarksOf [] [] = Unit {0}
 AreMarksOf (finding ∷ findings) (mark ∷ marks) = IsMarkOf finding mark × AreMarksOf findings marks
 AreMarksOf _ _ = ⊥
 
--- a line of a trace, and the comments behind it
+-- a line of a trace, and the comments after it
 pub record Annotated : Type 0 where
   pub line : Line
   pub comments : List Line
@@ -68,18 +68,18 @@ bare_lines annotated = map (λ a. a.line) annotated
 abbrev pub all_lines : List Annotated → List Line
 all_lines annotated = flat_map with_comments annotated
 
--- behind a line stand the marks of the findings that came with it, and of no others
+-- a line has the marks of exactly the findings that came with it
 pub record HasItsMarks (before : List Line) (a : Annotated) : Type 0 where
   pub findings : List Finding
   pub came : found_in (before ++ a.line ∷ []) ≡ found_in before ++ findings
   pub marks : AreMarksOf findings (marks_in a.comments)
 
--- at least one comment stands behind a line
+-- at least one comment follows a line
 abbrev pub HasComment : Annotated → Type 0
 HasComment a = 0 < length a.comments
 
--- behind a line that is described stand its marks and at least one comment; no comment stands behind another
-abbrev pub IsMarkedWhere : (told : Bool) → (before : List Line) → Annotated → Type 0
+-- a line that is described has its marks and at least one comment; no comment follows any other line
+abbrev pub IsMarkedWhere : (picked : Bool) → (before : List Line) → Annotated → Type 0
 IsMarkedWhere true before a = HasItsMarks before a × HasComment a
 IsMarkedWhere false before a = a.comments ≡ []
 
@@ -89,19 +89,19 @@ abbrev pub IsMarked : Rows → (before : List Line) → Annotated → Type 0
 IsMarked All before a = HasItsMarks before a × (is_chosen_line All before a.line ≡ true → HasComment a)
 IsMarked (Chosen channel call) before a = IsMarkedWhere (is_chosen_line (Chosen channel call) before a.line) before a
 
--- of lines that stand behind others
+-- the same of lines that come after others
 abbrev pub AreMarked : Rows → (before : List Line) → List Annotated → Type 0
 AreMarked choice before [] = Unit {0}
 AreMarked choice before (a ∷ annotated) = IsMarked choice before a × AreMarked choice (before ++ a.line ∷ []) annotated
 
--- bytes are a line after others as it was, with its LF, and comments behind it that mark its findings
+-- bytes are a line after others as it was, with its LF, and comments after it that mark its findings
 pub record IsAnnotatedLine (choice : Rows) (before : List Line) (l : Line) (bytes : List ℕ) : Type 0 where
   pub comments : List Line
   pub written : bytes ≡ text (l ∷ comments)
   pub are_comments : AreComments comments
   pub marked : IsMarked choice before (record { line = l; comments = comments })
 
--- bytes are some lines, each with comments behind it that mark its findings
+-- bytes are some lines, each with comments after it that mark its findings
 pub record IsAnnotationOf (choice : Rows) (ls : List Line) (bytes : List ℕ) : Type 0 where
   pub annotated : List Annotated
   pub bare : bare_lines annotated ≡ ls
@@ -116,7 +116,7 @@ pub record IsUnmarked (bytes : List ℕ) : Type 0 where
   pub comments : AreComments closing
   pub unmarked : marks_in closing ≡ []
 
--- an annotation of a whole text: that of its lines, and behind them comments that mark nothing
+-- an annotation of a whole text: that of its lines, and after them comments that mark nothing
 pub record IsAnnotation (choice : Rows) (source bytes : List ℕ) : Type 0 where
   pub front : List ℕ
   pub closing : List Line

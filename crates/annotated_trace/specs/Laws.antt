@@ -20,7 +20,7 @@ pub record SaysTheSame (source bytes : List ℕ) : Type 0 where
 abbrev pub ReportLaw : Type 0
 ReportLaw = (choice : Rows) (source bytes : List ℕ) → fault source ≡ None → IsAnnotation choice source bytes → length bytes ≤ text_limit → SaysTheSame source bytes
 
--- the marks of an annotation are those of the report's findings, in their order; those aside that the text had before
+-- the marks of an annotation are those of the report's findings, in their order, except for marks that the text had before
 abbrev pub MarksLaw : Type 0
 MarksLaw = (source bytes : List ℕ) (i : Interface) → fault source ≡ None → head source ≡ Some i → marks_in (lines_of source) ≡ [] → IsAnnotation All source bytes
     → AreMarksOf (report_of i (items_of i (rows source))).findings (marks_in (lines_of bytes))

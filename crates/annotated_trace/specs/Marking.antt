@@ -19,7 +19,7 @@ finding_words f = codes "F " ++ (decimal f.packet ++ 32 ∷ (side_word f.side ++
 abbrev pub mark_line : Finding → (words : List ℕ) → Line
 mark_line f words = codes "#! " ++ (finding_words f ++ explained words)
 
--- what a code's number is within
+-- the range of a code's number
 abbrev pub IsCode : Code → Type 0
 IsCode (Number n) = n < 2 ^ 32
 IsCode (Pad x) = Unit {0}
@@ -39,27 +39,27 @@ pub record HasMarksOf (findings : List Finding) (before after : List ℕ) : Type
   pub all : marks_in marks ≡ marks
   pub marks_are : AreMarksOf findings marks
 
--- the comments behind a line with these findings have their marks, and there is one where the line is described; where rows are chosen,
--- there are none behind another line
-abbrev pub HaveMarksOf : Rows → (told : Bool) → List Finding → List Line → Type 0
-HaveMarksOf All told findings behind = AreMarksOf findings (marks_in behind) × (told ≡ true → 0 < length behind)
+-- the comments after a line with these findings have their marks, and there is at least one where the line is described; where rows are
+-- chosen, no comment follows any other line
+abbrev pub HaveMarksOf : Rows → (picked : Bool) → List Finding → List Line → Type 0
+HaveMarksOf All picked findings behind = AreMarksOf findings (marks_in behind) × (picked ≡ true → 0 < length behind)
 HaveMarksOf (Chosen channel call) true findings behind = AreMarksOf findings (marks_in behind) × (0 < length behind)
 HaveMarksOf (Chosen channel call) false findings behind = behind ≡ []
 
--- the comments behind a line with these findings were appended to bytes
-pub record HasCommentsOf (choice : Rows) (told : Bool) (findings : List Finding) (before after : List ℕ) : Type 0 where
+-- the comments after a line with these findings were appended to bytes
+pub record HasCommentsOf (choice : Rows) (picked : Bool) (findings : List Finding) (before after : List ℕ) : Type 0 where
   pub behind : List Line
   pub written : after ≡ before ++ text behind
   pub comments : AreComments behind
-  pub marks : HaveMarksOf choice told findings behind
+  pub marks : HaveMarksOf choice picked findings behind
 
 -- what a describer says of the line after others: where all rows are described, that each line of one is; where rows are chosen, exactly
 -- whether it is described
-abbrev pub IsToldRightly : Rows → (before : List Line) → Line → (told : Bool) → Type 0
-IsToldRightly All before l told = is_chosen_line All before l ≡ true → told ≡ true
-IsToldRightly (Chosen channel call) before l told = told ≡ is_chosen_line (Chosen channel call) before l
+abbrev pub IsPickedRightly : Rows → (before : List Line) → Line → (picked : Bool) → Type 0
+IsPickedRightly All before l picked = is_chosen_line All before l ≡ true → picked ≡ true
+IsPickedRightly (Chosen channel call) before l picked = picked ≡ is_chosen_line (Chosen channel call) before l
 
--- the comments behind the line after others, which is told of or not, were appended to bytes
+-- the comments of the line after others, which is described or not, were appended to bytes
 abbrev pub HasRightComments : (choice : Rows) (before : List Line) → Line → List Finding → (bytes bytes_after : List ℕ) → Type 0
 HasRightComments choice before l findings bytes bytes_after =
-    (told : Bool) × IsToldRightly choice before l told × HasCommentsOf choice told findings bytes bytes_after
+    (picked : Bool) × IsPickedRightly choice before l picked × HasCommentsOf choice picked findings bytes bytes_after

@@ -3,12 +3,12 @@ use Rattle.std.specs.Prelude.{◌≡◌, ◌⊎◌, ℕ, List, [], ◌∷◌, �
 use Rattle.line_model.specs.basics.Device.{with_more}
 use Rattle.line_model.specs.text.Text.{Line}
 
--- the bytes are, line after line, what a form says: of lines that come after others
+-- each line after others has its bytes in a form, and these bytes are those of all lines
 abbrev pub IsPrintOf : (form : List Line → Line → List ℕ → Type 0) → (before ls : List Line) → (bytes : List ℕ) → Type 0
 IsPrintOf form before [] bytes = bytes ≡ []
 IsPrintOf form before (l ∷ ls) bytes = (own : List ℕ) × (rest : List ℕ) × (bytes ≡ own ++ rest) × form before l own × IsPrintOf form (before ++ l ∷ []) ls rest
 
--- bytes of a form were appended to others
+-- bytes of a form were appended
 pub record HasAppended (form : List ℕ → Type 0) (before after : List ℕ) : Type 0 where
   pub bytes : List ℕ
   pub appended : after ≡ before ++ bytes
@@ -20,7 +20,7 @@ pub record HasTaken (form : List ℕ → Type 0) (before after : Option (List �
   pub taken : after ≡ with_more before bytes
   pub formed : form bytes
 
--- it took a first part of some
+-- a sink took a first part of bytes of a form
 pub record HasTakenFirst (form : List ℕ → Type 0) (before after : Option (List ℕ)) : Type 0 where
   pub bytes : List ℕ
   pub front : List ℕ
@@ -29,13 +29,13 @@ pub record HasTakenFirst (form : List ℕ → Type 0) (before after : Option (Li
   pub taken : after ≡ with_more before front
   pub formed : form bytes
 
--- it took a first part of some bytes
+-- a sink took a first part of these bytes
 pub record HasFirstPart (bytes : List ℕ) (before after : Option (List ℕ)) : Type 0 where
   pub front : List ℕ
   pub left : List ℕ
   pub whole : bytes ≡ front ++ left
   pub taken : after ≡ with_more before front
 
--- it took a first part of what was held, or all of it and a first part of bytes of a form
+-- a sink took a first part of what was held, or all of it and a first part of bytes of a form
 abbrev pub StopsClosing : (form : List ℕ → Type 0) (held : List ℕ) (before after : Option (List ℕ)) → Type 0
 StopsClosing form held before after = HasFirstPart held before after ⊎ HasTakenFirst form (with_more before held) after

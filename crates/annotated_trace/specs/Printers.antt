@@ -18,7 +18,7 @@ use Rattle.annotated_trace.specs.declared.printing.TracePrinter.{TracePrinter}
 
 -- a trace was fed this text, and a printer of these rows has printed its lines
 abbrev pub HasFollowed : {A O P : Type 0} → TraceObserver O A → Printing P A O → Rows → O → P → (text : List ℕ) → Type 0
-HasFollowed reader printing choice w p text = reader.stands_for w text × printing.printed p (ended_lines text) × (printing.rows p ≡ choice)
+HasFollowed reader printing choice w p text = reader.represents w text × printing.printed p (ended_lines text) × (printing.rows p ≡ choice)
 
 -- it was fed this text, and refused none of it
 pub record WasFed {A O P : Type 0} (followed : O → P → List ℕ → Type 0) (t : TracePrinter A O P) (text : List ℕ) : Type 0 where
@@ -74,7 +74,7 @@ abbrev pub is_line : Fault → Bool
 is_line (Trace line kind) = true
 is_line _ = false
 
--- why a text is refused while it grows: memory ran out, a line is faulty however it goes on, or the sink failed
+-- why a text is refused while it grows: memory ran out, a line is faulty whatever follows, or the sink failed
 abbrev pub IsRefusalOf : Option (ℕ × Kind) → Fault → Type 0
 IsRefusalOf at Memory = Unit {0}
 IsRefusalOf at (Trace line kind) = at ≡ Some (line, kind)
@@ -109,7 +109,7 @@ IsEndRefusal x _ = ⊥
 -- the text has no fault, the sink took the print of its lines and what comes after them by its report, and the sums are those of the report
 pub record IsPrinted (is_print : List Line → List ℕ → Type 0) (closes : Report → List ℕ → Type 0) (x : List ℕ) (before after : Option (List ℕ)) (sums : Summary) : Type 0 where
   pub report : Report
-  pub told : IsReportOf x report
+  pub reported : IsReportOf x report
   pub lines : List ℕ
   pub closing : List ℕ
   pub print : is_print (lines_of x) lines
@@ -124,7 +124,7 @@ IsFirstOfLines lines front = (left : List ℕ) × (lines ≡ front ++ left)
 -- or that print, and a first part of what comes after it by the report
 pub record IsFirstOfClosing (closes : Report → List ℕ → Type 0) (x lines front : List ℕ) : Type 0 where
   pub report : Report
-  pub told : IsReportOf x report
+  pub reported : IsReportOf x report
   pub closing : List ℕ
   pub left : List ℕ
   pub closed : closes report closing

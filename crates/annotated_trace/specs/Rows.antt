@@ -24,11 +24,11 @@ is_open_on e k c = (c.epoch == e) && ((c.channel == k) && is_none c.ended)
 abbrev pub has_open : (number epoch channel : ℕ) → List CallRecord → Bool
 has_open n e k cs = list_any (λ (q : ℕ × CallRecord). (q.0 == n) && is_open_on e k q.1) (enumerate_from 1 cs)
 
--- whether a call is open in an epoch, on whatever logical channel
+-- whether a call is open in an epoch, on any logical channel
 abbrev pub is_open_in : (epoch : ℕ) → CallRecord → Bool
 is_open_in e c = (c.epoch == e) && is_none c.ended
 
--- whether the call of a number is
+-- whether the call of a number is open in an epoch
 abbrev pub has_open_in : (number epoch : ℕ) → List CallRecord → Bool
 has_open_in n e cs = list_any (λ (q : ℕ × CallRecord). (q.0 == n) && is_open_in e q.1) (enumerate_from 1 cs)
 
@@ -48,7 +48,7 @@ is_of_call i before r n =
     let o : Observer GapLine GapChannel = walk (x25 i) (start i) before in
     is_of_call_by (steps_all (x25 i) o.line r) (routed (x25 i) o.line r) n o.epoch (calls_of (events i before)) (calls_of (events i (before ++ r ∷ [])))
 
--- whether a packet names a logical channel; a gap of all channels stands for packets of any
+-- whether a packet names a logical channel; a gap of all channels represents packets of any
 abbrev pub names : (channel : ℕ) → Packet → Bool
 names n (Channel k kind) = k == n
 names n GapOfAll = true
@@ -59,7 +59,7 @@ abbrev pub names_asked : Option ℕ → Packet → Bool
 names_asked None packet = true
 names_asked (Some n) packet = names n packet
 
--- the number of the call that is asked for; 0, which no call has, where none is
+-- the number of the call that is asked for; 0, which no call has, where none is asked for
 abbrev pub asked_call : Rows → ℕ
 asked_call (Chosen channel (Some n)) = n
 asked_call _ = 0

@@ -8,7 +8,7 @@ use Rattle.annotated_trace.specs.Annotation.{IsOneLine}
 abbrev pub words_limit : ℕ
 words_limit = 8000
 
--- what stands in a line for a byte: a space for an LF
+-- the byte that a line has for a byte: a space for an LF
 abbrev pub plain_byte : ℕ → ℕ
 plain_byte b = if is_lf b then 32 else b
 
@@ -16,7 +16,7 @@ plain_byte b = if is_lf b then 32 else b
 abbrev pub plain : List ℕ → List ℕ
 plain bytes = map plain_byte bytes
 
--- words with others behind them, as far as there is room
+-- words with others after them, as far as there is room
 abbrev pub with_words : (said words : List ℕ) → List ℕ
 with_words said words = take words_limit (said ++ plain words)
 
@@ -33,13 +33,13 @@ pub record IsWords (words : List ℕ) : Type 0 where
 abbrev pub note_line : (words : List ℕ) → Line
 note_line words = codes "# " ++ words
 
--- a line that notes some words
+-- a line that is the note of some words
 pub record IsNote (line : Line) : Type 0 where
   pub words : List ℕ
   pub are_words : IsWords words
   pub line_is : line ≡ note_line words
 
--- each is one
+-- each line is a note
 abbrev pub AreNotes : List Line → Type 0
 AreNotes ls = AllByRecursion IsNote ls
 
@@ -53,7 +53,7 @@ pub record Remarks : Type 0 where
   pub lines : List Line
   pub line : List ℕ
 
--- the last line ends
+-- notes whose last line has ended
 abbrev pub ended_notes : Remarks → Remarks
 ended_notes notes = record { lines = notes.lines ++ note_line notes.line ∷ []; line = [] }
 
@@ -62,11 +62,11 @@ abbrev pub note_or_none : (words : List ℕ) → List Line
 note_or_none [] = []
 note_or_none words = note_line words ∷ []
 
--- how a line begins in which so much was said
+-- how a line begins in which `said` bytes were said
 abbrev pub hash_of : (said : ℕ) → List ℕ
 hash_of said = if said == 0 then codes "# " else []
 
--- how it ends: one that says nothing has not begun
+-- how it ends: a line without words has not begun
 abbrev pub feed_of : (said : ℕ) → List ℕ
 feed_of said = if said == 0 then [] else 10 ∷ []
 
@@ -75,10 +75,10 @@ abbrev pub begun_note : (words : List ℕ) → List ℕ
 begun_note [] = []
 begun_note words = note_line words
 
--- all notes, the last line where it says something
+-- all notes, with the last line if it has words
 abbrev pub notes_of : Remarks → List Line
 notes_of notes = notes.lines ++ note_or_none notes.line
 
--- there is at least one
+-- there is at least one note
 abbrev pub IsSaid : Remarks → Type 0
 IsSaid notes = 0 < length (notes_of notes)

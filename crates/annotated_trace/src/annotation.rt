@@ -23,7 +23,7 @@ pub struct Annotation<A: Allocator, D: Drop> {
 impl<A: Allocator + Copy, D: Drop> Annotation<A, D> {
     ghost use Rattle.std.specs.Prelude.{◌≡◌};
 
-    /// With the words of a describer. It takes no memory.
+    /// Makes the printer with the words of a describer. Allocates no memory.
     pub fn new(alloc: A, describer: D) -> Self
         ensures { result.describer ≡ describer }
     {

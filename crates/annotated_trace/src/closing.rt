@@ -1,4 +1,4 @@
-//! What comes after the last line of a text is written.
+//! Writes what comes after the last line of the trace text.
 
 ghost use Rattle.std.specs.Prelude.{◌≡◌, ◌<◌, IfErr, IfOk, OnErr, OnOk};
 ghost use Rattle.line_model.specs.basics.Device.{with_more};
@@ -35,7 +35,7 @@ fn write_to<'a, A: Allocator, O: TraceObserver<A>, P: Printer<A, O>, K: Sink, B:
     (lent.give_back(), answer)
 }
 
-/// Gives a sink what comes after the last line of a text. Where the sink fails it took a first part of it.
+/// Writes to a sink what comes after the last line of a text. Fails where the sink fails, which took a first part.
 fn write_closing<A: Allocator, O: TraceObserver<A>, P: Printer<A, O>, K: Sink>(
     report: &Report<A>,
     printer: &mut P,
@@ -53,8 +53,8 @@ fn write_closing<A: Allocator, O: TraceObserver<A>, P: Printer<A, O>, K: Sink>(
     answer
 }
 
-/// Gives a sink what is held, and what comes after the last line of a text; returns the last line of the report as
-/// numbers. Where the sink fails it took a first part of them.
+/// Writes to a sink what is held, and what comes after the last line of a text; returns the last line of the report
+/// as numbers. Fails where the sink fails, which took a first part of them.
 pub fn send_closing<A: Allocator, O: TraceObserver<A>, P: Printer<A, O>, K: Sink>(
     report: &Report<A>,
     printer: &mut P,

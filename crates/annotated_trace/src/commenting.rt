@@ -6,7 +6,7 @@ ghost use Rattle.annotated_trace.specs.Marking.{HasMarksOf, HasRightComments};
 
 use crate::describer::Describer;
 use crate::marks::append_mark;
-use crate::notes::{Notes, Words};
+use crate::notes::{NoteWords, Notes};
 use crate::rows::Rows;
 use std::alloc::{AllocError, Allocator};
 use trace_text::trace_observer::TraceObserver;
@@ -15,24 +15,24 @@ use trace_text::trace_observer::TraceObserver;
 #[derive(Drop)]
 pub struct CommentRoom<A: Allocator> {
     notes: Notes<A>,
-    words: Words<A>,
+    words: NoteWords<A>,
 }
 
 impl<A: Allocator + Copy> CommentRoom<A> {
-    /// Room in which nothing was said. It takes no memory.
+    /// Returns room without words. Allocates no memory.
     pub fn new(alloc: A) -> Self {
         CommentRoom {
             notes: Notes::new(alloc),
-            words: Words::new(alloc),
+            words: NoteWords::new(alloc),
         }
     }
 }
 
-/// Appends the marks of what the last line found.
+/// Appends a mark for each finding of the last line.
 fn append_marks<A: Allocator + Copy, O: TraceObserver<A>, D: Describer<A, O>>(
     trace: &O,
     describer: &mut D,
-    words: &mut Words<A>,
+    words: &mut NoteWords<A>,
     out: &mut Vec<u8, A>,
 ) -> Result<(), AllocError>
     ensures marks { OnOk result (HasMarksOf (O.last_found trace.now) out.old.items out.new.items) }
@@ -49,7 +49,8 @@ fn append_marks<A: Allocator + Copy, O: TraceObserver<A>, D: Describer<A, O>>(
     Ok(())
 }
 
-/// Appends the comments after the last line.
+/// Appends the comments after the last line. Fails only when memory is refused; a first part may have been appended
+/// then.
 pub fn append_comments<A: Allocator + Copy, O: TraceObserver<A>, D: Describer<A, O>>(
     trace: &O,
     choice: Rows,
@@ -59,18 +60,18 @@ pub fn append_comments<A: Allocator + Copy, O: TraceObserver<A>, D: Describer<A,
 ) -> Result<(), AllocError>
     ensures comments { (before : List Line) (line : Line) (text : List ℕ)
         → D.described describer.old before → D.rows describer.old ≡ choice
-        → O.stands_for trace.now text → ended_lines text ≡ before ++ line ∷ []
+        → O.represents trace.now text → ended_lines text ≡ before ++ line ∷ []
         → OnOk result (HasRightComments choice before line
         (O.last_found trace.now) out.old.items out.new.items) }
     ensures described { (before : List Line) (line : Line) (text : List ℕ)
-        → D.described describer.old before → O.stands_for trace.now text
+        → D.described describer.old before → O.represents trace.now text
         → ended_lines text ≡ before ++ line ∷ []
         → OnOk result (D.described describer.new (before ++ line ∷ [])) }
     ensures rows { D.rows describer.new ≡ D.rows describer.old }
 {
     room.notes.clear();
-    let told = describer.describe(trace, &mut room.notes)?;
-    match (told, choice) {
+    let picked = describer.describe(trace, &mut room.notes)?;
+    match (picked, choice) {
         (true, _) => {
             room.notes.append_to(out)?;
             append_marks(trace, describer, &mut room.words, out)

@@ -8,10 +8,10 @@ use line_model::fault::Fault;
 use line_model::write_buffer::write_all;
 use std::alloc::Allocator;
 
-/// The bytes of which no more are held while a chunk is read.
+/// The most bytes that are held while a chunk is read.
 const MUCH: usize = 1 << 18;
 
-/// Gives a sink what is held. Where the sink fails it took a first part.
+/// Writes to a sink what is held. Fails where the sink fails, which took a first part.
 pub fn send_held<A: Allocator, K: Sink>(held: &mut Vec<u8, A>, sink: &mut K) -> Result<(), Fault>
     ensures ok { OnOk result (K.taken sink.new ≡ with_more (K.taken sink.old) held.old.items) }
     ensures none_held { OnOk result (held.new.items ≡ []) }
@@ -27,7 +27,7 @@ pub fn send_held<A: Allocator, K: Sink>(held: &mut Vec<u8, A>, sink: &mut K) -> 
     Ok(())
 }
 
-/// Gives a sink what is held, if it is much; less than 2^18 bytes stay held.
+/// Writes what is held to a sink where it is 2^18 bytes or more. Fails where the sink fails, which took a first part.
 pub fn send_much<A: Allocator, K: Sink>(held: &mut Vec<u8, A>, sink: &mut K) -> Result<(), Fault>
     ensures ok { OnOk result ((sent : List ℕ)
         × (K.taken sink.new ≡ with_more (K.taken sink.old) sent)

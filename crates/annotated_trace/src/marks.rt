@@ -6,7 +6,7 @@ ghost use Rattle.annotated_trace.specs.Annotation.{explained};
 ghost use Rattle.annotated_trace.specs.Marking.{HasMarkOf, IsCode, finding_words};
 ghost use Rattle.annotated_trace.specs.Wording.{IsWords};
 
-use crate::notes::Words;
+use crate::notes::NoteWords;
 use itoa::Buffer;
 use line_model::finding::{Code, Finding};
 use report_merge::words::{pad_word, side_word, state_word};
@@ -48,8 +48,11 @@ fn append_finding<A: Allocator>(finding: &Finding, out: &mut Vec<u8, A>) -> Resu
     append_code(finding.code, out)
 }
 
-/// Appends what explains a finding: nothing, or words behind a colon.
-fn append_explained<A: Allocator>(words: &Words<A>, out: &mut Vec<u8, A>) -> Result<(), AllocError>
+/// Appends what explains a finding: nothing, or words after a colon.
+fn append_explained<A: Allocator>(
+    words: &NoteWords<A>,
+    out: &mut Vec<u8, A>,
+) -> Result<(), AllocError>
     ensures ok { OnOk result (out.new.items ≡ out.old.items ++ explained words.now) }
     ensures words { IsWords words.now }
 {
@@ -63,7 +66,7 @@ fn append_explained<A: Allocator>(words: &Words<A>, out: &mut Vec<u8, A>) -> Res
 /// Appends the mark of a finding, with words that explain it or none.
 pub(crate) fn append_mark<A: Allocator>(
     finding: &Finding,
-    words: &Words<A>,
+    words: &NoteWords<A>,
     out: &mut Vec<u8, A>,
 ) -> Result<(), AllocError>
     ensures { OnOk result (HasMarkOf finding.now out.old.items out.new.items) }

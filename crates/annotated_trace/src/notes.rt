@@ -1,4 +1,4 @@
-//! Comments in words, as they are written.
+//! The words of comments, as they are written.
 
 ghost use Rattle.std.specs.Prelude.{◌≡◌, ◌==◌, ◌++◌, ◌∷◌, ◌≤◌, ℕ, List, [], OnErr, OnOk, decimal, length};
 ghost use Rattle.hex.specs.Hex.{encode_upper};
@@ -10,10 +10,10 @@ use std::alloc::{AllocError, Allocator};
 use std::marker::Model;
 use trace_text::cuts::split_at_byte;
 
-/// The bytes that the words of a line may have (profile).
+/// The most bytes of the words of a line (profile).
 pub const WORDS_LIMIT: usize = 8000;
 
-/// Appends words to bytes, a space in place of each LF. For want of memory a first part of them may be appended.
+/// Appends words to bytes, a space in place of each LF. Fails only when memory is refused, after a first part or none.
 pub fn append_plain<A: Allocator>(words: &[u8], out: &mut Vec<u8, A>) -> Result<(), AllocError>
     ensures ok { OnOk result (out.new.items ≡ out.old.items ++ plain words.now) }
     ensures kept { BeginsWith out.old.items out.new.items }
@@ -27,8 +27,8 @@ pub fn append_plain<A: Allocator>(words: &[u8], out: &mut Vec<u8, A>) -> Result<
     out.extend_from_slice(rest)
 }
 
-/// Appends a line that notes words. For want of memory a first part of it may be appended.
-fn append_note<A: Allocator>(words: &Words<A>, out: &mut Vec<u8, A>) -> Result<(), AllocError>
+/// Appends words as a comment line. Fails only when memory is refused, after a first part or none.
+fn append_note<A: Allocator>(words: &NoteWords<A>, out: &mut Vec<u8, A>) -> Result<(), AllocError>
     ensures ok { OnOk result (out.new.items ≡ out.old.items ++ text (note_line words.now ∷ [])) }
     ensures kept { BeginsWith out.old.items out.new.items }
     ensures words { OnOk result (IsWords words.now) }
@@ -39,14 +39,14 @@ fn append_note<A: Allocator>(words: &Words<A>, out: &mut Vec<u8, A>) -> Result<(
     Ok(())
 }
 
-/// The words of a line. They have no LF, for which a space is said; what goes past 8,000 bytes is cut off.
+/// The words of a line. An LF becomes a space, and what goes past 8,000 bytes is cut off.
 #[derive(Drop)]
-pub struct Words<A: Allocator> {
-    /// As they were said, with their LFs.
+pub struct NoteWords<A: Allocator> {
+    /// As they were appended, with their LFs.
     bytes: Vec<u8, A>,
 }
 
-impl<A: Allocator> Model for Words<A> {
+impl<A: Allocator> Model for NoteWords<A> {
     ghost Value = { List ℕ };
 
     ghost view = { λ words. plain words.bytes.items };
@@ -54,24 +54,24 @@ impl<A: Allocator> Model for Words<A> {
     ghost invariant = { λ words. length words.bytes.items ≤ words_limit };
 }
 
-impl<A: Allocator> Words<A> {
-    /// No words. It takes no memory.
+impl<A: Allocator> NoteWords<A> {
+    /// Returns a value without words. Allocates no memory.
     pub fn new(alloc: A) -> Self
         ensures { result ≡ [] }
     {
-        Words {
+        NoteWords {
             bytes: Vec::new(alloc),
         }
     }
 
-    /// Forgets what was said, and keeps its room.
+    /// Removes all words; their memory is kept.
     pub fn clear(&mut self)
         ensures { self.new ≡ [] }
     {
         self.bytes.clear();
     }
 
-    /// Whether nothing was said.
+    /// Returns whether there are no words.
     pub fn is_empty(&self) -> bool
         ensures none { result ≡ (length self.now == 0) }
         ensures words { IsWords self.now }
@@ -79,7 +79,7 @@ impl<A: Allocator> Words<A> {
         self.bytes.is_empty()
     }
 
-    /// Appends what was said to bytes. For want of memory a first part of it may be appended.
+    /// Appends the words to bytes. Fails only when memory is refused, after a first part or none.
     pub(crate) fn append_to(&self, out: &mut Vec<u8, A>) -> Result<(), AllocError>
         ensures ok { OnOk result (out.new.items ≡ out.old.items ++ self.now) }
         ensures kept { BeginsWith out.old.items out.new.items }
@@ -88,7 +88,7 @@ impl<A: Allocator> Words<A> {
         append_plain(self.bytes.as_slice(), out)
     }
 
-    /// Says bytes.
+    /// Appends bytes, as `say` appends words.
     fn add(&mut self, words: &[u8]) -> Result<(), AllocError>
         ensures ok { OnOk result (self.new ≡ with_words self.old words.now) }
     {
@@ -98,14 +98,14 @@ impl<A: Allocator> Words<A> {
         Ok(())
     }
 
-    /// Says words. For want of memory a first part of them may be said.
+    /// Appends words. Fails only when memory is refused, after a first part or none.
     pub fn say(&mut self, words: &str) -> Result<(), AllocError>
         ensures ok { OnOk result (self.new ≡ with_words self.old words.now) }
     {
         self.add(words.as_bytes())
     }
 
-    /// Says a number in decimal digits, as `say` says words.
+    /// Appends a number in decimal digits, as `say` appends words.
     pub fn number(&mut self, number: u64) -> Result<(), AllocError>
         ensures ok { OnOk result (self.new ≡ with_words self.old (decimal number)) }
     {
@@ -114,8 +114,8 @@ impl<A: Allocator> Words<A> {
     }
 }
 
-impl<A: Allocator + Copy> Words<A> {
-    /// Says octets in hex digits, two for each, as `say` says words.
+impl<A: Allocator + Copy> NoteWords<A> {
+    /// Appends octets in hex digits, two for each, as `say` appends words.
     pub fn octets(&mut self, octets: &[u8]) -> Result<(), AllocError>
         ensures ok { OnOk result (self.new ≡ with_words self.old (encode_upper octets.now)) }
     {
@@ -124,13 +124,13 @@ impl<A: Allocator + Copy> Words<A> {
     }
 }
 
-/// Comment lines that mark no finding: `# ` and words, each. The last one has not ended, so words can be added to it.
+/// Comment lines that mark no finding, each `# ` and words. The last one has not ended, and words are added to it.
 #[derive(Drop)]
 pub struct Notes<A: Allocator> {
     /// The lines that ended, with their LFs.
     lines: Vec<u8, A>,
     /// The words of the one that has not.
-    line: Words<A>,
+    line: NoteWords<A>,
 }
 
 impl<A: Allocator> Model for Notes<A> {
@@ -147,17 +147,17 @@ impl<A: Allocator> Model for Notes<A> {
 impl<A: Allocator + Copy> Notes<A> {
     ghost use Rattle.annotated_trace.specs.Wording.{AreNotes, IsSaid, Remarks, ended_notes};
 
-    /// No notes. It takes no memory.
+    /// Returns a value without notes. Allocates no memory.
     pub fn new(alloc: A) -> Self
         ensures { result ≡ record { lines = []; line = [] } }
     {
         Notes {
             lines: Vec::new(alloc),
-            line: Words::new(alloc),
+            line: NoteWords::new(alloc),
         }
     }
 
-    /// Forgets all notes, and keeps their room.
+    /// Removes all notes; their memory is kept.
     pub fn clear(&mut self)
         ensures { self.new ≡ record { lines = []; line = [] } }
     {
@@ -165,7 +165,7 @@ impl<A: Allocator + Copy> Notes<A> {
         self.line.clear();
     }
 
-    /// Adds words to the last line. For want of memory a first part of them may be added.
+    /// Adds words to the last line. Fails only when memory is refused, after a first part or none.
     pub fn say(&mut self, words: &str) -> Result<(), AllocError>
         ensures ok { OnOk result (self.new ≡ record self.old {
           line = with_words self.old.line
@@ -195,7 +195,7 @@ impl<A: Allocator + Copy> Notes<A> {
         self.line.octets(octets)
     }
 
-    /// Ends the last line, and begins a further one. For want of memory nothing has changed.
+    /// Ends the last line, and begins a further one. Fails only when memory is refused; nothing has changed then.
     pub fn next(&mut self) -> Result<(), AllocError>
         ensures ok { OnOk result (self.new ≡ ended_notes self.old) }
         ensures said { OnOk result (IsSaid self.new) }
@@ -214,7 +214,7 @@ impl<A: Allocator + Copy> Notes<A> {
         }
     }
 
-    /// Appends the notes to bytes, the last line only where it says something.
+    /// Appends the notes to bytes, the last line only if it has words.
     pub(crate) fn append_to(&self, out: &mut Vec<u8, A>) -> Result<(), AllocError>
         ensures ok { OnOk result (out.new.items ≡ out.old.items ++ text (notes_of self.now)) }
         ensures notes { AreNotes (notes_of self.now) }

@@ -1,4 +1,4 @@
-//! The comments behind the last line of a text, as they go to a sink.
+//! The comments after the last line of the trace text, as they go to a sink.
 
 ghost use Rattle.std.specs.Prelude.{◌≡◌, ◌∷◌, []};
 ghost use Rattle.hex.specs.Hex.{encode_upper};
@@ -14,7 +14,7 @@ use line_model::lending::LentSink;
 use line_model::write_buffer::WriteBuffer;
 use trace_text::cuts::split_at_byte;
 
-/// The hex digits of a half of an octet.
+/// The hex digits of half an octet.
 const DIGITS: &[u8; 16] = b"0123456789ABCDEF";
 
 /// An octet in hex digits.
@@ -28,7 +28,7 @@ fn digits(octet: u8) -> [u8; 2]
     ]
 }
 
-/// Begins a line in which so much was said, unless it has begun.
+/// Begins a line, unless `said`, the number of bytes written in it, shows that it has begun.
 fn begin<K: Sink>(said: usize, out: &mut WriteBuffer, sink: &mut K)
     ensures { PutsTo K.Sink sink.old sink.new out.old out.new (hash_of said) }
 {
@@ -36,7 +36,7 @@ fn begin<K: Sink>(said: usize, out: &mut WriteBuffer, sink: &mut K)
     out.put(sink, hash)
 }
 
-/// Ends a line in which so much was said; one that says nothing has not begun.
+/// Ends a line of `said` bytes; a line without words has not begun.
 fn end<K: Sink>(said: usize, out: &mut WriteBuffer, sink: &mut K)
     ensures { PutsTo K.Sink sink.old sink.new out.old out.new (feed_of said) }
 {
@@ -57,8 +57,8 @@ fn put_plain<K: Sink>(words: &[u8], out: &mut WriteBuffer, sink: &mut K)
     out.put(sink, rest)
 }
 
-/// Comment lines that mark no finding, which a sink takes in parts: `# ` and words, each. What is said takes no memory and
-/// refuses nothing: where the sink fails it is told when the page is finished, and from then on nothing is sent.
+/// Comment lines that mark no finding, each `# ` and words, on their way to a sink. Writing them allocates no memory
+/// and never fails: `finish` returns a failure of the sink, and nothing is sent after it.
 #[derive(Drop)]
 pub struct ClosingPage<S: LentSink> {
     sink: S,
@@ -74,7 +74,7 @@ impl<S: LentSink> ClosingPage<S> {
     ghost use Rattle.line_model.specs.traces.Traces.{text};
     ghost use Rattle.annotated_trace.specs.Wording.{Remarks, ended_notes, notes_of, with_words};
 
-    /// Nothing was said. The sink is as it was lent.
+    /// Returns a page without words. The sink is as it was lent.
     pub(crate) fn new(sink: S) -> Self
         requires { (S.taken sink, S.failures sink) ≡ S.before }
         ensures nothing { HasNoted S.before (S.taken result.sink, S.failures result.sink)
@@ -105,7 +105,7 @@ impl<S: LentSink> ClosingPage<S> {
         self.said += front.len();
     }
 
-    /// Adds words to the last line, as `Notes::say`: the notes that a page says are those that `Notes` would hold.
+    /// Adds words to the last line, as `Notes::say`: the notes that a page writes are those that `Notes` would hold.
     pub fn say(&mut self, words: &str)
         ensures said { (notes : Remarks) → HasNoted S.before
             (S.taken self.old.sink, S.failures self.old.sink) self.old.buffer self.old.said
@@ -170,8 +170,8 @@ impl<S: LentSink> ClosingPage<S> {
         self.said = 0;
     }
 
-    /// Ends the last line, if it says something, and gives the sink back. It took all notes, or it has failed and took a
-    /// first part of them.
+    /// Ends the last line, if it has words, and returns the sink. It took all notes, or it has failed and took a first
+    /// part of them.
     pub(crate) fn finish(self) -> (S, Result<(), Fault>)
         ensures ok { (notes : Remarks) → HasNoted S.before
             (S.taken self.sink, S.failures self.sink) self.buffer

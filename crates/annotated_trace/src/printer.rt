@@ -7,7 +7,7 @@ use line_model::report::Report;
 use std::alloc::{AllocError, Allocator};
 use trace_text::trace_observer::TraceObserver;
 
-/// Prints the lines of a trace, and what comes after the last one. `O` is the trace that it reads of, as `Live<A, C>`.
+/// Prints the lines of a trace, and what comes after the last one. `O` is the observed trace, such as `Live<A, C>`.
 pub trait Printer<A: Allocator, O: TraceObserver<A>>: Drop {
     ghost use Rattle.std.specs.Prelude.{◌≡◌, ◌<◌, ℕ, ◌++◌, ◌∷◌, [], List, IfErr, OnErr, OnOk};
     ghost use Rattle.line_model.specs.basics.Records.{Report as AnyReport};
@@ -32,27 +32,28 @@ pub trait Printer<A: Allocator, O: TraceObserver<A>>: Drop {
     fn rows(&self) -> Rows
         ensures { result ≡ rows self.now };
 
-    /// A trace begins, of which no line was printed.
+    /// Begins a trace of which no line was printed.
     fn begin(&mut self)
         ensures printed { printed self.new [] }
         ensures rows { rows self.new ≡ rows self.old };
 
-    /// Appends what the last line becomes, which the trace has just taken. `line` is its bytes with the LF.
+    /// Appends what the last line of the trace becomes. `line` is its bytes with the LF. Fails only when memory is
+    /// refused.
     fn print(&mut self, trace: &O, line: &[u8], out: &mut Vec<u8, A>) -> Result<(), AllocError>
         ensures form { (before : List Line) (l : Line) (text : List ℕ)
-            → printed self.old before → O.stands_for trace.now text
+            → printed self.old before → O.represents trace.now text
             → ended_lines text ≡ before ++ l ∷ []
             → found_in (before ++ l ∷ []) ≡ found_in before ++ O.last_found trace.now
             → line.now ≡ l ++ 10 ∷ [] → OnOk result
             (HasAppended (form (rows self.old) before l) out.old.items out.new.items) }
         ensures printed { (before : List Line) (l : Line) (text : List ℕ)
-            → printed self.old before → O.stands_for trace.now text
+            → printed self.old before → O.represents trace.now text
             → ended_lines text ≡ before ++ l ∷ []
             → found_in (before ++ l ∷ []) ≡ found_in before ++ O.last_found trace.now
             → line.now ≡ l ++ 10 ∷ [] → OnOk result (printed self.new (before ++ l ∷ [])) }
         ensures rows { rows self.new ≡ rows self.old };
 
-    /// Gives a lent sink what comes after the last line. Where the sink fails it took a first part of it.
+    /// Writes to a lent sink what comes after the last line. Fails where the sink fails, which took a first part.
     fn close<S: LentSink>(&mut self, report: &Report<A>, sink: S) -> (S, Result<(), Fault>)
         requires { (S.taken sink, S.failures sink) ≡ S.before }
         ensures ok { OnOk result.1 (HasTaken (closing (rows self.old) report.now) S.before.0

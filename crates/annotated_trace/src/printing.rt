@@ -5,7 +5,7 @@ ghost use Rattle.trace_text.proofs.SourceLemmas.{few_bytes};
 ghost use Rattle.std.specs.Prelude.{◌≡◌, ◌≢◌, ℕ, ◌+◌, ◌<◌, ◌≤◌, ◌^◌, ◌++◌, ◌∷◌, [], List, Option, Err, IfErr, IfOk, OnOk};
 ghost use Rattle.line_model.specs.text.Text.{Line, begun_line, early, ended_lines};
 ghost use Rattle.line_model.specs.declared.fault.Fault.TheVariants.{Memory};
-ghost use Rattle.trace_text.specs.StandsFor.{IsFaultOf, IsTextFault};
+ghost use Rattle.trace_text.specs.Represents.{IsFaultOf, IsTextFault};
 ghost use Rattle.trace_text.specs.ObserverAnswers.{found_in};
 ghost use Rattle.annotated_trace.specs.Annotation.{IsOneLine};
 ghost use Rattle.annotated_trace.specs.Printed.{HasAppended, IsPrintOf};
@@ -41,21 +41,21 @@ fn is_line(fault: Fault) -> bool
 ///               `--------- printed -----------'`-begun-'
 /// ```
 ///
-/// After a refusal it is of no further use.
+/// Drop it after a refusal.
 #[derive(Drop)]
 pub struct TracePrinter<A: Allocator, O: Drop, P: Drop> {
     trace: O,
     printer: P,
-    /// What stands after the last LF.
+    /// What comes after the last LF.
     begun: Vec<u8, A>,
-    /// What was printed and the sink has not taken yet.
+    /// What was printed and not yet sent to the sink.
     held: Vec<u8, A>,
 }
 
 impl<A: Allocator + Copy, O: TraceObserver<A>, P: Printer<A, O>> TracePrinter<A, O, P> {
-    /// A trace of which nothing was fed. It takes no memory.
+    /// Returns a printer of a trace of which nothing was fed. Allocates no memory.
     pub fn new(alloc: A, trace: O, mut printer: P) -> Self
-        requires fresh { O.stands_for trace [] }
+        requires fresh { O.represents trace [] }
         ensures fed { WasFed (HasFollowed O.TraceObserver P.Printer (P.rows printer)) result [] }
         ensures held { result.held.items ≡ [] }
     {
@@ -68,18 +68,18 @@ impl<A: Allocator + Copy, O: TraceObserver<A>, P: Printer<A, O>> TracePrinter<A,
         }
     }
 
-    /// Holds what a line becomes that the trace has just taken, by its end with the LF.
+    /// Holds what the last line of the trace becomes, by its end with the LF.
     #[inline(always)]
     fn print_line(&mut self, end: &[u8]) -> Result<(), AllocError>
         ensures form { (before : List Line) (l : Line) (text : List ℕ)
-            → P.printed self.old.printer before → O.stands_for self.old.trace text
+            → P.printed self.old.printer before → O.represents self.old.trace text
             → ended_lines text ≡ before ++ l ∷ []
             → found_in (before ++ l ∷ []) ≡ found_in before ++ O.last_found self.old.trace
             → self.old.begun.items ++ end.now ≡ l ++ 10 ∷ [] → OnOk result
             (HasAppended (P.form (P.rows self.old.printer) before l)
             self.old.held.items self.new.held.items) }
         ensures printed { (before : List Line) (l : Line) (text : List ℕ)
-            → P.printed self.old.printer before → O.stands_for self.old.trace text
+            → P.printed self.old.printer before → O.represents self.old.trace text
             → ended_lines text ≡ before ++ l ∷ []
             → found_in (before ++ l ∷ []) ≡ found_in before ++ O.last_found self.old.trace
             → self.old.begun.items ++ end.now ≡ l ++ 10 ∷ []
@@ -98,7 +98,7 @@ impl<A: Allocator + Copy, O: TraceObserver<A>, P: Printer<A, O>> TracePrinter<A,
         Ok(())
     }
 
-    /// Takes the end of a line with its LF, and holds what the line becomes.
+    /// Reads the end of a line with its LF, and holds what the line becomes.
     #[inline(always)]
     fn take_line(&mut self, end: &[u8]) -> Result<(), Fault>
         requires { IsFed O.TraceObserver P.Printer self.old }
@@ -123,7 +123,7 @@ impl<A: Allocator + Copy, O: TraceObserver<A>, P: Printer<A, O>> TracePrinter<A,
         Ok(())
     }
 
-    /// Takes bytes without an LF.
+    /// Reads bytes without an LF.
     fn begin(&mut self, more: &[u8]) -> Result<(), Fault>
         requires { IsFed O.TraceObserver P.Printer self.old }
         ensures fed { (choice : AnyRows) (text : List ℕ)
@@ -140,7 +140,7 @@ impl<A: Allocator + Copy, O: TraceObserver<A>, P: Printer<A, O>> TracePrinter<A,
         Ok(())
     }
 
-    /// Takes a chunk, and holds what its lines become, of which the sink is given what is much.
+    /// Reads a chunk, holds what its lines become, and sends what is held to the sink once it is 2^18 bytes.
     fn take_lines<K: Sink>(&mut self, chunk: &[u8], sink: &mut K) -> Result<(), Fault>
         requires { IsFed O.TraceObserver P.Printer self.old }
         ensures fed { IsFedOn O.TraceObserver P.Printer self.old chunk.now self.new result }
@@ -168,9 +168,9 @@ impl<A: Allocator + Copy, O: TraceObserver<A>, P: Printer<A, O>> TracePrinter<A,
         self.begin(rest)
     }
 
-    /// Takes the next chunk of the text, of any size, and writes what the lines become that its LFs ended. It refuses by
-    /// the first line that is faulty however the text goes on, and has written what the lines before it become; where the
-    /// sink fails; and for want of memory.
+    /// Reads the next chunk of the text, of any size, and writes what each line becomes that an LF of it ends. Fails
+    /// with the first line that is faulty however the text goes on, after it has written what the lines before become;
+    /// where the sink fails; and when memory is refused.
     pub fn feed<K: Sink>(&mut self, chunk: &[u8], sink: &mut K) -> Result<(), Fault>
         requires fed { IsFed O.TraceObserver P.Printer self.old }
         // Of any text that it was fed: it was fed that text with the chunk.
@@ -243,9 +243,9 @@ impl<A: Allocator + Copy, O: TraceObserver<A>, P: Printer<A, O>> TracePrinter<A,
         send_closing(&report, &mut printer, &mut held, sink)
     }
 
-    /// The text has ended: writes what its last line becomes, with an LF if it lacks one, and what comes after all lines;
-    /// returns the last line of the report as numbers. It refuses by the first faulty line; for want of memory; where the
-    /// sink fails; and where a text is so large that the LF would stand after the first 2^30 bytes.
+    /// Ends the text: writes what its last line becomes, with an LF if it lacks one, and what comes after all lines.
+    /// Returns the last line of the report as numbers. Fails with the first faulty line, when memory is refused, where
+    /// the sink fails, and where the added LF would be byte 2^30 + 1.
     pub fn end<K: Sink>(mut self, sink: &mut K) -> Result<Summary, Fault>
         requires fed { IsFed O.TraceObserver P.Printer self }
         // A sink that has the print of the lines that ended has that of the text, and what comes after it.
@@ -278,9 +278,9 @@ impl<A: Allocator + Copy, O: TraceObserver<A>, P: Printer<A, O>, K: Sink> Consum
         (IsPrintOf (P.form (P.rows first.printer)) []) (K.taken start) (K.taken sink)
         (K.failures start) (K.failures sink) text now };
 
-    ghost refused = { λ first start now sink text last told. IsRefusedAfter
+    ghost refused = { λ first start now sink text last returned. IsRefusedAfter
         (IsPrintOf (P.form (P.rows first.printer)) []) (K.taken start) (K.taken sink)
-        (K.failures start) (K.failures sink) text last told };
+        (K.failures start) (K.failures sink) text last returned };
 
     ghost expects = { λ text. Unit {0} };
 
@@ -299,11 +299,11 @@ impl<A: Allocator + Copy, O: TraceObserver<A>, P: Printer<A, O>, K: Sink> Consum
     ghost few = { λ first start now sink text fed. few_bytes text fed.sound };
 }
 
-/// Prints a trace that a source gives, line by line, and what comes after the last line; returns the last line of its
-/// report as numbers. Fails by the first faulty line, after what all lines before it become; where the source fails,
-/// after what all lines become that an LF ended; where memory is refused; where the sink fails; and as
-/// `TracePrinter::end`. The clauses speak of the end of the call; what is written before, after each read, those of
-/// `TracePrinter::feed` say.
+/// Prints the trace of a source, line by line, and what comes after the last line. Returns the last line of its report
+/// as numbers. Fails with the first faulty line, where the source or the sink fails, when memory is refused, and as
+/// `TracePrinter::end` does. The sink has what all lines before a faulty one become, what all lines become that an LF
+/// ended where the source failed, and else a first part. The clauses are about the end of the call; those of
+/// `TracePrinter::feed` say what is written after each read.
 pub fn print_trace<A: Allocator + Copy, O: TraceObserver<A>, P: Printer<A, O>, S: Source, K: Sink>(
     alloc: A,
     trace: O,
@@ -311,12 +311,12 @@ pub fn print_trace<A: Allocator + Copy, O: TraceObserver<A>, P: Printer<A, O>, S
     source: &mut S,
     sink: &mut K,
 ) -> Result<Summary, Fault>
-    requires fresh { O.stands_for trace [] }
+    requires fresh { O.represents trace [] }
     // The source gave a text without a fault, and the sink took the print of its lines and what comes after them.
     ensures printed { IfOk result (HasPassed (IsPrinted (IsPrintOf (P.form (P.rows printer)) [])
         (P.closing (P.rows printer))) (S.left source.old) (S.left source.new)
         (S.before source.new) (K.taken sink.old) (K.taken sink.new)) }
-    // A refusal is by the bytes that were given, and those before the last call of the source show no faulty line. The
+    // A refusal is by the bytes that were read, and those before the last call of the source show no faulty line. The
     // sink has the print of all lines before the faulty one, if it did not fail; of all that ended where the source
     // failed, or memory was refused at the end; else a first part.
     ensures stopped { IfErr result (StopsPrinting (IsPrintOf (P.form (P.rows printer)) [])

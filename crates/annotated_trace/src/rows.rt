@@ -18,7 +18,7 @@ pub enum Rows {
 }
 
 impl Rows {
-    /// The number of the call that is named, 0 where none is.
+    /// Returns the number of the call that is named, 0 where none is.
     pub fn asked_call(self) -> u32
         ensures { result ≡ asked_call self }
     {
@@ -31,7 +31,8 @@ impl Rows {
         }
     }
 
-    /// Whether a row is described, by its packet and by whether it is one of the rows of the call that is named.
+    /// Returns whether a row is described, by its packet and by whether it is one of the rows of the call that is
+    /// named.
     pub fn chooses(self, packet: &Packet, of_call: bool) -> bool
         ensures { result ≡ chooses self packet.now of_call }
     {

@@ -17,7 +17,7 @@ use Rattle.line_model.proofs.Rearranged.{Rearranged, rearranged-from_IsPermutati
 use Rattle.line_model.proofs.Rising.{all_rearranged}
 use Rattle.call_accounts.proofs.AddressLemmas.{order, order_total, is_same-refl, apart_from-less, same_from-apart, less_from-greater, equal_from-same, greater_from-less, all_below, Placed, placed, Ascends, ascends, all_apart, all_from_with}
 use Rattle.call_accounts.proofs.RankLemmas.{less_from-ranks, same_from-ranks}
-use Rattle.call_accounts.specs.declared.account.Entry.{Entry}
+use Rattle.call_accounts.specs.declared.account.AccountEntry.{AccountEntry}
 use Rattle.call_accounts.specs.Entries.{IsRank, IsRanked, account_of_call, account_of_entry, sum_of, summed_from, summed}
 
 -- ---- the accounts of one more call
@@ -206,11 +206,11 @@ ledger-calls (c ∷ cs) =
 -- ---- sorted entries
 
 -- ranks that do not fall, from r on
-abbrev Climbs : ℕ → List Entry → Type 0
+abbrev Climbs : ℕ → List AccountEntry → Type 0
 Climbs r [] = Unit {0}
 Climbs r (e ∷ es) = (r ≤ e.rank) × Climbs e.rank es
 
-climbs_from : (r : ℕ) (es : List Entry) → ((d : Entry) → 0 < length es → r ≤ (get_or es 0 d).rank) → IsNonDecreasingBy (λ e. e.rank) es → Climbs r es
+climbs_from : (r : ℕ) (es : List AccountEntry) → ((d : AccountEntry) → 0 < length es → r ≤ (get_or es 0 d).rank) → IsNonDecreasingBy (λ e. e.rank) es → Climbs r es
 climbs_from r [] first h = tt
 climbs_from r (e ∷ es) first h = (
   first e (omega arith),
@@ -218,14 +218,14 @@ climbs_from r (e ∷ es) first h = (
 )
 
 -- an account of a lower rank stands before the accounts of entries
-first-ledger : (k : Account) (r s : ℕ) (es : List Entry) → IsRank r k.address → r < s → Climbs s es → AllByRecursion IsRanked es → IsFirst k (ledger (map account_of_entry es))
+first-ledger : (k : Account) (r s : ℕ) (es : List AccountEntry) → IsRank r k.address → r < s → Climbs s es → AllByRecursion IsRanked es → IsFirst k (ledger (map account_of_entry es))
 first-ledger k r s [] h lt up ranked = tt
 first-ledger k r s (e ∷ es) h lt up ranked =
     let lower : r < e.rank = let le = up.0 in omega (arith, le) in
     first-put k (account_of_entry e) (ledger (map account_of_entry es)) (less_from-ranks r e.rank k.address e.address h ranked.0 lower)
     (first-ledger k r e.rank es h lower up.1 ranked.1)
 
-summed_from-ledger : (es : List Entry) (k : Account) (r : ℕ) → IsRank r k.address → Climbs r es → AllByRecursion IsRanked es → summed_from k r es ≡ ledger (k ∷ map account_of_entry es)
+summed_from-ledger : (es : List AccountEntry) (k : Account) (r : ℕ) → IsRank r k.address → Climbs r es → AllByRecursion IsRanked es → summed_from k r es ≡ ledger (k ∷ map account_of_entry es)
 summed_from-ledger [] k r h up ranked = refl
 summed_from-ledger (e ∷ es) k r h up ranked =
     at (r == e.rank) refl
@@ -251,13 +251,13 @@ summed_from-ledger (e ∷ es) k r h up ranked =
         ap (λ l. k ∷ l) apart
         ∙ sym (put-first k (put own rest) (first-put k own rest (less_from-ranks r e.rank k.address e.address h ranked.0 lower) (first-ledger k r e.rank es h lower up.1 ranked.1)))
 
-summed-ledger : (es : List Entry) → IsNonDecreasingBy (λ e. e.rank) es → AllByRecursion IsRanked es → summed es ≡ ledger (map account_of_entry es)
+summed-ledger : (es : List AccountEntry) → IsNonDecreasingBy (λ e. e.rank) es → AllByRecursion IsRanked es → summed es ≡ ledger (map account_of_entry es)
 summed-ledger [] up ranked = refl
 summed-ledger (e ∷ es) up ranked =
     summed_from-ledger es (account_of_entry e) e.rank ranked.0 (climbs_from e.rank (e ∷ es) (λ d some. omega arith) up).1 ranked.1
 
 -- the sums of the calls' entries, sorted, are the accounts
-pub summed-accounts : (cs : List CallRecord) (es sorted : List Entry) → map account_of_entry es ≡ map account_of_call cs → AllByRecursion IsRanked es → IsPermutation es sorted
+pub summed-accounts : (cs : List CallRecord) (es sorted : List AccountEntry) → map account_of_entry es ≡ map account_of_call cs → AllByRecursion IsRanked es → IsPermutation es sorted
     → IsNonDecreasingBy (λ e. e.rank) sorted → summed sorted ≡ accounts_of cs
 summed-accounts cs es sorted same ranked moved up =
     let moved' : Rearranged (map account_of_entry es) (map account_of_entry sorted) =
@@ -266,11 +266,11 @@ summed-accounts cs es sorted same ranked moved up =
     ∙ ledger-rearranged (map account_of_entry es) (map account_of_entry sorted) moved'
     ∙ ap ledger same ∙ sym (ledger-calls cs)
 
-pub segments-entries : (cs : List CallRecord) (es : List Entry) → map account_of_entry es ≡ map account_of_call cs → sum_by (λ e. e.segments) es ≡ sum_by (λ c. c.segments) cs
+pub segments-entries : (cs : List CallRecord) (es : List AccountEntry) → map account_of_entry es ≡ map account_of_call cs → sum_by (λ e. e.segments) es ≡ sum_by (λ c. c.segments) cs
 segments-entries [] [] h = refl
 segments-entries [] (e ∷ es) h = absurd (cc)
 segments-entries (c ∷ cs) [] h = absurd (cc)
 segments-entries (c ∷ cs) (e ∷ es) h =
     let first : account_of_entry e ≡ account_of_call c = cc in
     let later = segments-entries cs es cc in
-    omega (arith, sum_by-cons (λ (d : CallRecord). d.segments) c cs, sum_by-cons (λ (d : Entry). d.segments) e es, ap (λ a. a.segments) first, later)
+    omega (arith, sum_by-cons (λ (d : CallRecord). d.segments) c cs, sum_by-cons (λ (d : AccountEntry). d.segments) e es, ap (λ a. a.segments) first, later)

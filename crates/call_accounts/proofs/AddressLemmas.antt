@@ -17,7 +17,7 @@ order a b = slice_cmp nat_cmp a b
 pub order_total : IsTotalOrder order
 order_total = lists_total nat_cmp_total
 
--- what the two tests answer, by the order
+-- what the two tests return, by the order
 abbrev Tests : Ordering → (same before : Bool) → Type 0
 Tests o same before = MatchOrdering o ((same ≡ false) × (before ≡ true)) (same ≡ true) ((same ≡ false) × (before ≡ false))
 

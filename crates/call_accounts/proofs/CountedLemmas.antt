@@ -17,7 +17,7 @@ use Rattle.line_model.specs.observer.Calls.{is_up, lengths_from, all_lengths, se
 use Rattle.line_model.proofs.EventWeights.{octets_weight, segments_weight, sides_weight, fewer_segments}
 use Rattle.call_accounts.specs.declared.pad_table.PadTable.{PadTable}
 use Rattle.call_accounts.specs.declared.counts.CallCounts.{CallCounts}
-use Rattle.call_accounts.specs.Counted.{entry_at, settings_in, Tells, Counts, Adds, first_up, IsCountable}
+use Rattle.call_accounts.specs.Counted.{entry_at, settings_in, HasSettings, Counts, Adds, first_up, IsCountable}
 
 abbrev one_more : List Event → Event → List Event
 one_more own e = own ++ e ∷ []
@@ -34,8 +34,8 @@ entry-more pad n own e = ap (λ l. unwrap_or (slice_get (filter_map f l) 0) Unkn
     at (Some x) = refl
     at None = refl
 
-tells_more : (pad : Side) (old new : PadTable) (own : List Event) (e : Event) → Tells pad old own → ((n : ℕ) → 1 ≤ n → n ≤ 22 → entry_at new n ≡ unwrap_or (entry_said pad n e) (entry_at old n)) → Tells pad new (one_more own e)
-tells_more pad old new own e h more n low high =
+settings_more : (pad : Side) (old new : PadTable) (own : List Event) (e : Event) → HasSettings pad old own → ((n : ℕ) → 1 ≤ n → n ≤ 22 → entry_at new n ≡ unwrap_or (entry_said pad n e) (entry_at old n)) → HasSettings pad new (one_more own e)
+settings_more pad old new own e h more n low high =
     more n low high ∙ ap (λ x. unwrap_or (entry_said pad n e) x) (h n low high) ∙ sym (entry-more pad n own e)
 
 -- ---- sums
@@ -99,8 +99,8 @@ counts_more old new own e h a few =
       data_n = a.data_n (omega (arith, h.data_n, packets_n, shorter N all, few.packets)) ∙ omega (arith, h.data_n, packets_n);
       oct_n = a.oct_n (omega (arith, h.oct_n, octets_n, octets, sides, few.octets)) ∙ omega (arith, h.oct_n, octets_n);
       segments = a.segments (omega (arith, h.segments, loads, octets, segments, rounded, few.octets)) ∙ omega (arith, h.segments, loads);
-      settings_t = tells_more T old.settings_t new.settings_t own e h.settings_t a.settings_t;
-      settings_n = tells_more N old.settings_n new.settings_n own e h.settings_n a.settings_n;
+      settings_t = settings_more T old.settings_t new.settings_t own e h.settings_t a.settings_t;
+      settings_n = settings_more N old.settings_n new.settings_n own e h.settings_n a.settings_n;
     }
 
 -- ---- settings that are known
@@ -115,7 +115,7 @@ known-step pad t p k e le =
 abbrev settings_at : Side → List Event → List ℕ → List SettingRecord
 settings_at pad own ns = map (λ n. record { pad = pad; parameter = n; entry = entry_of pad n own }) ns
 
-known_as : (pad : Side) (t : PadTable) (own : List Event) → Tells pad t own → (from len : ℕ) → 1 ≤ from → from + len ≤ 23
+known_as : (pad : Side) (t : PadTable) (own : List Event) → HasSettings pad t own → (from len : ℕ) → 1 ≤ from → from + len ≤ 23
     → map (λ n. record { pad = pad; parameter = n; entry = entry_at t n }) (range_with_len from len) ≡ settings_at pad own (range_with_len from len)
 known_as pad t own s from zero low high = refl
 known_as pad t own s from (suc len) low high =

@@ -20,7 +20,7 @@ use Rattle.line_model.specs.observer.Calls.{is_alongside, all_lengths, calls_of,
 use Rattle.call_accounts.specs.declared.so_far.CallsSoFar.{CallsSoFar}
 use Rattle.call_accounts.specs.declared.call.Places.{Places}
 use Rattle.call_accounts.specs.Counted.{IsCountable}
-use Rattle.call_accounts.specs.SoFar.{HoldsFor, IsOf, StandsFor, Tells, TellsBy}
+use Rattle.call_accounts.specs.SoFar.{HoldsFor, IsOf, Represents, HasCalls, HasCallsBy}
 use Rattle.call_accounts.specs.declared.so_far.OpenCall.{OpenCall}
 use Rattle.call_accounts.specs.Places.{AreAdded, AreLeft, IsFound, IsKept, calls_at, own_calls, own_events, place_of, place_order}
 use Rattle.call_accounts.proofs.SoFarLemmas.{record_along}
@@ -64,7 +64,7 @@ itself a b =
 flipped : (a b c d : ℕ) → (a == c && b == d) ≡ (c == a && d == b)
 flipped a b c d = λ j. same_sym a c j && same_sym b d j
 
--- the place in hand goes into the map, and another comes out
+-- the current place goes into the map, and another comes out
 pub turned : {V : Type 0} → (a b epoch channel : ℕ) (here : V) (old removed new : BTreeMap (ℕ × ℕ) V)
     → ((q : ℕ × ℕ) → get place_order removed q ≡ cond (is_at (place_order (epoch, channel)) q) None (get place_order old q))
     → ((q : ℕ × ℕ) → get place_order new q ≡ cond (is_at (place_order (a, b)) q) (Some here) (get place_order removed q))
@@ -75,7 +75,7 @@ turned a b epoch channel here old removed new takes puts e c other =
     ∙ ap (λ x. cond x (Some here) (get place_order removed (e, c))) (same_place a b e c)
     ∙ ap (λ o. cond (a == e && b == c) (Some here) o) (takes (e, c) ∙ ap (λ x. cond x None (get place_order old (e, c))) (same_place epoch channel e c ∙ other))
 
--- what is kept of each place, where the calls in hand became others
+-- what is kept of each place, where the current calls became others
 in_hand : {A X : Type 0} → (P : ℕ → ℕ → CallsSoFar A → List X → Type 0) (old t : Places A) (after : CallsSoFar A) (own own' : ℕ → ℕ → List X) (epoch channel : ℕ)
     → t.epoch ≡ epoch → t.channel ≡ channel
     → ((e c : ℕ) → (epoch == e && channel == c) ≡ false → calls_at t e c ≡ calls_at old e c)
@@ -103,13 +103,13 @@ in_hand {A} {X} P old t after own own' epoch channel is_epoch is_channel others 
 
 -- ---- one event more
 
-pub none_heard : {A : Type 0} → (epoch channel : ℕ) (here : CallsSoFar A) (others : BTreeMap (ℕ × ℕ) (CallsSoFar A)) → ((e c : ℕ) → StandsFor here e c []) → others.entries ≡ []
+pub none_added : {A : Type 0} → (epoch channel : ℕ) (here : CallsSoFar A) (others : BTreeMap (ℕ × ℕ) (CallsSoFar A)) → ((e c : ℕ) → Represents here e c []) → others.entries ≡ []
     → AreAdded {A = A} (record { epoch = epoch; channel = channel; here = here; others = others }) []
-none_heard epoch channel first others here empty e c = at (epoch == e && channel == c)
+none_added epoch channel first others here empty e c = at (epoch == e && channel == c)
   where
-    at : (b : Bool) → IsKept (λ s. StandsFor s e c) (if b then Some first else get place_order others (e, c)) []
+    at : (b : Bool) → IsKept (λ s. Represents s e c) (if b then Some first else get place_order others (e, c)) []
     at true = here e c
-    at false = subst (λ es. IsKept (λ s. StandsFor s e c) (lookup (is_at (place_order (e, c))) es) []) (sym empty) refl
+    at false = subst (λ es. IsKept (λ s. Represents s e c) (lookup (is_at (place_order (e, c))) es) []) (sym empty) refl
 
 record AddsUp (F : List Event → ℕ) (w : Event → ℕ) : Type 0 where
   nil : F [] ≡ 0
@@ -174,12 +174,12 @@ own_more e c es v = filter-append (λ f. e == f.epoch && c == f.channel) es (v �
 pub added_more : {A : Type 0} → (old t : Places A) (after : CallsSoFar A) (es : List Event) (v : Event)
     → t.epoch ≡ v.epoch → t.channel ≡ v.channel → IsFound (calls_at old v.epoch v.channel) t.here
     → ((e c : ℕ) → (v.epoch == e && v.channel == c) ≡ false → calls_at t e c ≡ calls_at old e c)
-    → ((e c : ℕ) (own : List Event) → StandsFor t.here e c own → IsOf e c v → IsCountable (own ++ v ∷ []) → StandsFor after e c (own ++ v ∷ []))
+    → ((e c : ℕ) (own : List Event) → Represents t.here e c own → IsOf e c v → IsCountable (own ++ v ∷ []) → Represents after e c (own ++ v ∷ []))
     → AreAdded old es → IsCountable (es ++ v ∷ [])
     → AreAdded {A = A} (record { epoch = t.epoch; channel = t.channel; here = after; others = t.others }) (es ++ v ∷ [])
-added_more {A} old t after es v epoch channel found others hears kept few =
-    in_hand (λ e c s own. StandsFor s e c own) old t after (λ e c. own_events e c es) (λ e c. own_events e c (es ++ v ∷ [])) v.epoch v.channel epoch channel others kept
-    (subst (StandsFor after v.epoch v.channel) (sym here_more) (hears v.epoch v.channel (own_events v.epoch v.channel es) (before (calls_at old v.epoch v.channel) (kept v.epoch v.channel) found) (refl, refl) few_here))
+added_more {A} old t after es v epoch channel found others adds_at kept few =
+    in_hand (λ e c s own. Represents s e c own) old t after (λ e c. own_events e c es) (λ e c. own_events e c (es ++ v ∷ [])) v.epoch v.channel epoch channel others kept
+    (subst (Represents after v.epoch v.channel) (sym here_more) (adds_at v.epoch v.channel (own_events v.epoch v.channel es) (before (calls_at old v.epoch v.channel) (kept v.epoch v.channel) found) (refl, refl) few_here))
     (λ e c other. own_more e c es v ∙ ap (λ b. own_events e c es ++ cond b (v ∷ []) []) (flipped e c v.epoch v.channel ∙ other) ∙ append-nil (own_events e c es))
   where
     here_more : own_events v.epoch v.channel (es ++ v ∷ []) ≡ own_events v.epoch v.channel es ++ v ∷ []
@@ -188,9 +188,9 @@ added_more {A} old t after es v epoch channel found others hears kept few =
     few_here : IsCountable (own_events v.epoch v.channel es ++ v ∷ [])
     few_here = subst IsCountable here_more (countable_filtered (λ f. v.epoch == f.epoch && v.channel == f.channel) (es ++ v ∷ []) few)
 
-    before : (o : Option (CallsSoFar A)) → IsKept (λ s. StandsFor s v.epoch v.channel) o (own_events v.epoch v.channel es) → IsFound o t.here → StandsFor t.here v.epoch v.channel (own_events v.epoch v.channel es)
-    before None none fresh = subst (StandsFor t.here v.epoch v.channel) (sym none) (fresh v.epoch v.channel)
-    before (Some s) stands same = subst (λ x. StandsFor x v.epoch v.channel (own_events v.epoch v.channel es)) (sym same) stands
+    before : (o : Option (CallsSoFar A)) → IsKept (λ s. Represents s v.epoch v.channel) o (own_events v.epoch v.channel es) → IsFound o t.here → Represents t.here v.epoch v.channel (own_events v.epoch v.channel es)
+    before None none fresh = subst (Represents t.here v.epoch v.channel) (sym none) (fresh v.epoch v.channel)
+    before (Some s) stands same = subst (λ x. Represents x v.epoch v.channel (own_events v.epoch v.channel es)) (sym same) stands
 
 -- ---- the records of each place
 
@@ -280,37 +280,26 @@ opens_none v none = at v.what refl
     at (Setting _ _ _) is = refl
     at (Initial _) is = refl
 
--- what stands for the events of a channel tells their calls
-tells_calls : {A : Type 0} → (s : CallsSoFar A) (e c : ℕ) (es : List Event) → StandsFor s e c es → Tells s (calls_of es)
-tells_calls s e c es h = at s.call h.holds
+-- what represents the events of a channel has their calls
+has_calls_of : {A : Type 0} → (s : CallsSoFar A) (e c : ℕ) (es : List Event) → Represents s e c es → HasCalls s (calls_of es)
+has_calls_of s e c es h = at s.call h.holds
   where
-    at : (o : Option OpenCall) → HoldsFor s.closed.items o es → TellsBy s.closed.items o (calls_of es)
+    at : (o : Option OpenCall) → HoldsFor s.closed.items o es → HasCallsBy s.closed.items o (calls_of es)
     at None holds = holds.earlier
     at (Some x) holds = (e, c, es, h.of_channel, holds, refl)
 
 -- all that were added are left
 pub added_left : {A : Type 0} → (t : Places A) (es : List Event) → AreAdded t es → AreLeft t (calls_of es)
-added_left {A} t es heard e c = subst (IsKept Tells (calls_at t e c)) (sym (calls_of_place e c es)) (at (calls_at t e c) (heard e c))
+added_left {A} t es holds_at e c = subst (IsKept HasCalls (calls_at t e c)) (sym (calls_of_place e c es)) (at (calls_at t e c) (holds_at e c))
   where
-    at : (o : Option (CallsSoFar A)) → IsKept (λ s. StandsFor s e c) o (own_events e c es) → IsKept Tells o (calls_of (own_events e c es))
+    at : (o : Option (CallsSoFar A)) → IsKept (λ s. Represents s e c) o (own_events e c es) → IsKept HasCalls o (calls_of (own_events e c es))
     at None none = ap calls_of none
-    at (Some s) stands = tells_calls s e c (own_events e c es) stands
+    at (Some s) stands = has_calls_of s e c (own_events e c es) stands
 
 -- ---- one record less
 
 not_empty : {X : Type 0} → (xs : List X) (x : X) → xs ++ x ∷ [] ≡ [] → ⊥
 not_empty xs x h = absurd (omega (arith, ap (λ (l : List _). length l) h, length-append xs (x ∷ [])))
-
-pub last_same : {X : Type 0} → (xs ys : List X) (x y : X) → xs ++ x ∷ [] ≡ ys ++ y ∷ [] → (xs ≡ ys) × (x ≡ y)
-last_same [] [] x y h = (refl, cc)
-last_same [] (b ∷ ys) x y h = absurd (not_empty ys y (let tail : [] ≡ ys ++ y ∷ [] = cc in sym tail))
-last_same (a ∷ xs) [] x y h = absurd (not_empty xs x (let tail : xs ++ x ∷ [] ≡ [] = cc in tail))
-last_same (a ∷ xs) (b ∷ ys) x y h =
-    let head : a ≡ b = cc in
-    let tail : xs ++ x ∷ [] ≡ ys ++ y ∷ [] = cc in
-    let w = last_same xs ys x y tail in
-    let front = w.0 in
-    (λ j. head j ∷ front j, w.1)
 
 own_less : (e c : ℕ) (cs : List CallRecord) (r : CallRecord) → own_calls e c (cs ++ r ∷ []) ≡ own_calls e c cs ++ cond (e == r.epoch && c == r.channel) (r ∷ []) []
 own_less e c cs r = filter-append (λ x. e == x.epoch && c == x.channel) cs (r ∷ [])
@@ -318,21 +307,21 @@ own_less e c cs r = filter-append (λ x. e == x.epoch && c == x.channel) cs (r �
 own_last : (cs : List CallRecord) (r : CallRecord) → own_calls r.epoch r.channel (cs ++ r ∷ []) ≡ own_calls r.epoch r.channel cs ++ r ∷ []
 own_last cs r = own_less r.epoch r.channel cs r ∙ ap (λ b. own_calls r.epoch r.channel cs ++ cond b (r ∷ []) []) (itself r.epoch r.channel)
 
--- the calls that are found at the place of the last record tell it last
-pub last_told : {A : Type 0} → (old : Places A) (here : CallsSoFar A) (cs : List CallRecord) (r : CallRecord) → AreLeft old (cs ++ r ∷ []) → IsFound (calls_at old r.epoch r.channel) here
-    → Tells here (own_calls r.epoch r.channel cs ++ r ∷ [])
-last_told {A} old here cs r left found = at (calls_at old r.epoch r.channel) (subst (IsKept Tells (calls_at old r.epoch r.channel)) (own_last cs r) (left r.epoch r.channel)) found
+-- the calls that are found at the place of the last record have it last
+pub last_call_of : {A : Type 0} → (old : Places A) (here : CallsSoFar A) (cs : List CallRecord) (r : CallRecord) → AreLeft old (cs ++ r ∷ []) → IsFound (calls_at old r.epoch r.channel) here
+    → HasCalls here (own_calls r.epoch r.channel cs ++ r ∷ [])
+last_call_of {A} old here cs r left found = at (calls_at old r.epoch r.channel) (subst (IsKept HasCalls (calls_at old r.epoch r.channel)) (own_last cs r) (left r.epoch r.channel)) found
   where
-    at : (o : Option (CallsSoFar A)) → IsKept Tells o (own_calls r.epoch r.channel cs ++ r ∷ []) → IsFound o here → Tells here (own_calls r.epoch r.channel cs ++ r ∷ [])
+    at : (o : Option (CallsSoFar A)) → IsKept HasCalls o (own_calls r.epoch r.channel cs ++ r ∷ []) → IsFound o here → HasCalls here (own_calls r.epoch r.channel cs ++ r ∷ [])
     at None none f = absurd (not_empty (own_calls r.epoch r.channel cs) r none)
-    at (Some s) tells same = subst (λ x. Tells x (own_calls r.epoch r.channel cs ++ r ∷ [])) (sym same) tells
+    at (Some s) has_calls same = subst (λ x. HasCalls x (own_calls r.epoch r.channel cs ++ r ∷ [])) (sym same) has_calls
 
 pub one_less : {A : Type 0} → (old t : Places A) (after : CallsSoFar A) (cs : List CallRecord) (r : CallRecord) → t.epoch ≡ r.epoch → t.channel ≡ r.channel
     → ((e c : ℕ) → (r.epoch == e && r.channel == c) ≡ false → calls_at t e c ≡ calls_at old e c)
-    → AreLeft old (cs ++ r ∷ []) → Tells after (own_calls r.epoch r.channel cs)
+    → AreLeft old (cs ++ r ∷ []) → HasCalls after (own_calls r.epoch r.channel cs)
     → AreLeft {A = A} (record { epoch = t.epoch; channel = t.channel; here = after; others = t.others }) cs
-one_less {A} old t after cs r epoch channel others left tells =
-    in_hand (λ e c s own. Tells s own) old t after (λ e c. own_calls e c (cs ++ r ∷ [])) (λ e c. own_calls e c cs) r.epoch r.channel epoch channel others left tells
+one_less {A} old t after cs r epoch channel others left has_calls =
+    in_hand (λ e c s own. HasCalls s own) old t after (λ e c. own_calls e c (cs ++ r ∷ [])) (λ e c. own_calls e c cs) r.epoch r.channel epoch channel others left has_calls
     (λ e c other. sym (own_less e c cs r ∙ ap (λ b. own_calls e c cs ++ cond b (r ∷ []) []) (flipped e c r.epoch r.channel ∙ other) ∙ append-nil (own_calls e c cs)))
 
 -- the last place is that of the last record
@@ -349,7 +338,7 @@ parted (x ∷ y ∷ front) (p ∷ places) place h =
     let rest = later.3 in
     (x ∷ later.0, later.1, ap (λ l. x ∷ l) later.2, (λ j. head j ∷ rest j), later.4)
 
--- some first records are left, and the others were taken, the last first
+-- some first records are left, and the others were removed, the last first
 abbrev pub IsParted : {A : Type 0} → Places A → (openings : List (ℕ × ℕ)) → (taken cs : List CallRecord) → Type 0
 IsParted t openings taken cs = (front : List CallRecord) × (front ++ reverse taken ≡ cs) × (openings ≡ map place_of front) × AreLeft t front
 
@@ -357,7 +346,7 @@ pub taken_back : {A : Type 0} → (old new : Places A) (openings : List (ℕ × 
     → ((before : List CallRecord) (r : CallRecord) → AreLeft old (before ++ r ∷ []) → r.epoch ≡ epoch → r.channel ≡ channel → answer ≡ Some r)
     → ((before : List CallRecord) (r : CallRecord) → AreLeft old (before ++ r ∷ []) → r.epoch ≡ epoch → r.channel ≡ channel → AreLeft new before)
     → (r : CallRecord) × (answer ≡ Some r) × IsParted new openings (taken ++ r ∷ []) cs
-taken_back old new openings epoch channel taken cs answer parts told left =
+taken_back old new openings epoch channel taken cs answer parts found_at left =
     let p = parted parts.0 openings (epoch, channel) parts.2 in
     let before = p.0 in
     let r = p.1 in
@@ -366,7 +355,7 @@ taken_back old new openings epoch channel taken cs answer parts told left =
     let is_channel : r.channel ≡ channel = ap (λ x. x.1) (sym p.4) in
     let whole : before ++ reverse (taken ++ r ∷ []) ≡ cs =
     ap (λ l. before ++ l) (reverse-append taken (r ∷ [])) ∙ sym (append_assoc before (r ∷ []) (reverse taken)) ∙ ap (λ l. l ++ reverse taken) (sym p.2) ∙ parts.1 in
-    (r, told before r here is_epoch is_channel, (before, whole, p.3, left before r here is_epoch is_channel))
+    (r, found_at before r here is_epoch is_channel, (before, whole, p.3, left before r here is_epoch is_channel))
 
 -- what holds where a call has answered `Ok` may use that it has
 pub on_result : {T E : Type 0} (r : Result T E) {Q : Type 0} → (((X : Type 0) → OnOk r X → X) → Q) → OnOk r Q

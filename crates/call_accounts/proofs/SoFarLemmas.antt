@@ -12,7 +12,7 @@ use Rattle.line_model.specs.declared.event.What.{What}
 use Rattle.line_model.specs.declared.event.What.TheVariants.{Found, Open, Up, End, Data, Setting, Initial}
 use Rattle.line_model.specs.declared.event.Event.{Event}
 use Rattle.line_model.specs.basics.Records.{CallRecord}
-use Rattle.line_model.specs.observer.Calls.{is_up, is_end, is_opening, is_alongside, tells_end, lengths_from, all_lengths, segments_of, settings_of, record_of, calls_of}
+use Rattle.line_model.specs.observer.Calls.{is_up, is_end, is_opening, is_alongside, is_end_event, lengths_from, all_lengths, segments_of, settings_of, record_of, calls_of}
 use Rattle.call_accounts.specs.Counted.{Counts, Adds, IsCountable}
 use Rattle.call_accounts.proofs.CountedLemmas.{counts_more, countable_part}
 use Rattle.call_accounts.specs.SoFar.{IsOf, IsWithin, AllEnded, opening_of, call_with, ended_by, EndFirst, IsOpenIn, IsClosedIn, HoldsFor}
@@ -276,7 +276,7 @@ end_first (e ∷ es) = at e.what (end_first es)
     at (Setting _ _ _) h = h
     at (Initial _) h = h
 
--- ---- what stands for the events
+-- ---- what represents the events
 
 all_first : (P : Event → Type 0) (xs ys : List Event) → AllByRecursion P (xs ++ ys) → AllByRecursion P xs
 all_first P [] ys h = tt
@@ -338,7 +338,7 @@ ends_open closed ended new c epoch channel es a b n how all of h last r is step 
       ended = all_ended es a b n how;
     }
 
--- ---- answers
+-- ---- results
 
 -- the record of an end of the open call
 pub ends_open_at : (closed ended new : List CallRecord) (c : OpenCall) (epoch channel : ℕ) (es : List Event) (e : Event) (n : ℕ) (how : How) → AllByRecursion (IsOf epoch channel) es → IsOf epoch channel e → e.packet ≡ n → e.what ≡ End how → IsOpenIn closed c es
@@ -361,7 +361,7 @@ end_opens_none e how is = ap (λ w. elim w [ Open o a b r ↦ true | _ ↦ false
 pub other_within : (e : Event) → ((o : Bool) (a b : List ℕ) (r : Bool) → ¬ (e.what ≡ Open o a b r)) → ((how : How) → ¬ (e.what ≡ End how)) → IsWithin e
 other_within e no_open no_end = at e.what refl
   where
-    at : (w : What) → e.what ≡ w → (tells_end w || elim w [ Open o a b r ↦ true | _ ↦ false ]) ≡ false
+    at : (w : What) → e.what ≡ w → (is_end_event w || elim w [ Open o a b r ↦ true | _ ↦ false ]) ≡ false
     at (Open o a b r) is = absurd (no_open o a b r is)
     at (End how) is = absurd (no_end how is)
     at (Found _ _ _) is = refl
@@ -372,7 +372,7 @@ other_within e no_open no_end = at e.what refl
 
 -- data neither opens nor ends a call, and has one length
 pub data_within : (e : Event) (x : Side) (n : ℕ) → e.what ≡ Data x n → IsWithin e
-data_within e x n is = ap (λ w. tells_end w || elim w [ Open o a b r ↦ true | _ ↦ false ]) is
+data_within e x n is = ap (λ w. is_end_event w || elim w [ Open o a b r ↦ true | _ ↦ false ]) is
 
 pub data_lengths : (e : Event) (x : Side) (n : ℕ) → e.what ≡ Data x n → segments_of (all_lengths (e ∷ [])) ≡ segments_of (n ∷ [])
 data_lengths e x n is = ap (λ w. segments_of (all_lengths (record { epoch = e.epoch; channel = e.channel; packet = e.packet; what = w } ∷ []))) is

@@ -1,5 +1,5 @@
 -- A sweep over sorted times finds the peak.
-use Rattle.std.proofs.Common.{◌≡◌, ℕ, zero, suc, ◌+◌, ◌<◌, ◌≤◌, ◌⊎◌, ◌&&◌, option_map, false, cond, nat_le, count_by, List, [], ◌∷◌, ◌++◌, length, get_or, refl, sym, ◌∙◌, subst, arith, inl, inr, Option, Some, None, MatchOption}
+use Rattle.std.proofs.Common.{◌≡◌, ℕ, zero, suc, ◌+◌, ◌<◌, ◌≤◌, ◌⊎◌, ◌&&◌, option_map, false, cond, nat_le, count_by, List, [], ◌∷◌, length, get_or, refl, sym, ◌∙◌, subst, arith, inl, inr, Option, Some, None, MatchOption}
 use Rattle.std.proofs.lemmas.List.Sums.{sum_by-cons}
 use Rattle.std.proofs.lemmas.Bool.Decides.{nat_tests}
 use Rattle.std.specs.List.{filter_map, cons_option}
@@ -160,9 +160,3 @@ highest_kept ups ends n count packet h le = record {
         → MatchOption packet (count ≡ 0) (λ u. (0 < count) × ((i : ℕ) × (i < n + 1) × (get_or ups i 0 ≡ u) × (height ups ends i ≡ count) × ((k : ℕ) → k < i → height ups ends k < count)))
     at None w = w
     at (Some u) w = let v = w.1 in (w.0, (v.0, omega (arith, v.1), v.2, v.3, v.4))
-
-pub up_to_push : (n : ℕ) (xs : List ℕ) (x : ℕ) → up_to n (xs ++ x ∷ []) ≡ up_to n xs + cond (nat_le x n) 1 0
-up_to_push n [] x = grind (arith, sum_by-cons (λ y. cond (nat_le y n) 1 0) x [])
-up_to_push n (y ∷ xs) x =
-    let later = up_to_push n xs x in
-    omega (arith, sum_by-cons (λ y. cond (nat_le y n) 1 0) y (xs ++ x ∷ []), sum_by-cons (λ y. cond (nat_le y n) 1 0) y xs)

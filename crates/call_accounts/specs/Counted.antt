@@ -19,8 +19,8 @@ abbrev pub settings_in : Side → PadTable → List ℕ → List SettingRecord
 settings_in pad t ns = filter (λ s. is_known s.entry) (map (λ n. record { pad = pad; parameter = n; entry = entry_at t n }) ns)
 
 -- a table has the last word on each parameter
-abbrev pub Tells : Side → PadTable → List Event → Type 0
-Tells pad t own = (n : ℕ) → 1 ≤ n → n ≤ 22 → entry_at t n ≡ entry_of pad n own
+abbrev pub HasSettings : Side → PadTable → List Event → Type 0
+HasSettings pad t own = (n : ℕ) → 1 ≤ n → n ≤ 22 → entry_at t n ≡ entry_of pad n own
 
 -- counts are those of the events of a call
 pub record Counts (c : CallCounts) (own : List Event) : Type 0 where
@@ -30,8 +30,8 @@ pub record Counts (c : CallCounts) (own : List Event) : Type 0 where
   pub data_n : c.data_n ≡ length (lengths_from N own)
   pub oct_n : c.oct_n ≡ sum (lengths_from N own)
   pub segments : c.segments ≡ segments_of (all_lengths own)
-  pub settings_t : Tells T c.settings_t own
-  pub settings_n : Tells N c.settings_n own
+  pub settings_t : HasSettings T c.settings_t own
+  pub settings_n : HasSettings N c.settings_n own
 
 -- a sum with a number added, where it fits
 abbrev pub Grows : (old by new : ℕ) → Type 0

@@ -1,11 +1,11 @@
--- The calls of many channels in many epochs: those of each place by themselves.
+-- The calls of many channels in many epochs: those of each place apart.
 use Rattle.std.specs.Prelude.{◌≡◌, ℕ, ◌==◌, ◌&&◌, List, [], Option, Some, None, if◌then◌else◌, filter}
 use Rattle.std.specs.BTreeMap.{get}
 use Rattle.std.specs.declared.cmp.Ordering.{Ordering}
 use Rattle.std.specs.Ordering.{ordering_then, nat_cmp}
 use Rattle.line_model.specs.declared.event.Event.{Event}
 use Rattle.line_model.specs.basics.Records.{CallRecord}
-use Rattle.call_accounts.specs.SoFar.{StandsFor, Tells}
+use Rattle.call_accounts.specs.SoFar.{Represents, HasCalls}
 use Rattle.call_accounts.specs.declared.so_far.CallsSoFar.{CallsSoFar}
 use Rattle.call_accounts.specs.declared.call.Places.{Places}
 
@@ -29,20 +29,20 @@ place_order x y = ordering_then (nat_cmp x.0 y.0) (nat_cmp x.1 y.1)
 abbrev pub calls_at : {A : Type 0} → Places A → ℕ → ℕ → Option (CallsSoFar A)
 calls_at t e c = if t.epoch == e && t.channel == c then Some t.here else get place_order t.others (e, c)
 
--- what is kept of a place is of these things, and where nothing is kept there are none
+-- the state kept for a place represents these values; where none is kept, there are no values
 abbrev pub IsKept : {A X : Type 0} → (CallsSoFar A → List X → Type 0) → Option (CallsSoFar A) → List X → Type 0
 IsKept P None xs = xs ≡ []
 IsKept P (Some s) xs = P s xs
 
 -- these events were added, each at its place
 abbrev pub AreAdded : {A : Type 0} → Places A → List Event → Type 0
-AreAdded t es = (e c : ℕ) → IsKept (λ s. StandsFor s e c) (calls_at t e c) (own_events e c es)
+AreAdded t es = (e c : ℕ) → IsKept (λ s. Represents s e c) (calls_at t e c) (own_events e c es)
 
 -- these records are left, each at its place
 abbrev pub AreLeft : {A : Type 0} → Places A → List CallRecord → Type 0
-AreLeft t cs = (e c : ℕ) → IsKept Tells (calls_at t e c) (own_calls e c cs)
+AreLeft t cs = (e c : ℕ) → IsKept HasCalls (calls_at t e c) (own_calls e c cs)
 
--- the calls of a place that is turned to: those that are kept, or a beginning
+-- the calls of a place that becomes current: those that are kept, or none yet
 abbrev pub IsFound : {A : Type 0} → Option (CallsSoFar A) → CallsSoFar A → Type 0
-IsFound None s = (e c : ℕ) → StandsFor s e c []
+IsFound None s = (e c : ℕ) → Represents s e c []
 IsFound (Some t) s = s ≡ t

@@ -19,7 +19,7 @@ IsOf e k f = (f.epoch ≡ e) × (f.channel ≡ k)
 abbrev pub IsWithin : Event → Type 0
 IsWithin f = (is_end f || is_opening f) ≡ false
 
--- each call has ended: behind its opening there is an end
+-- each call has ended: an end comes after its opening
 abbrev pub AllEnded : List Event → Type 0
 AllEnded [] = Unit {0}
 AllEnded (f ∷ later) = (is_opening f ≡ true → is_some (find is_end later) ≡ true) × AllEnded later
@@ -53,12 +53,12 @@ call_with c own ended how = record {
 abbrev pub ended_by : (packet : ℕ) → How → CallRecord → CallRecord
 ended_by n h c = elim c.ended [ Some m ↦ c | None ↦ record c { ended = Some n; how = Some h } ]
 
--- the calls that have ended stand before those that have not
+-- the calls that have ended come before those that have not
 abbrev pub EndFirst : List CallRecord → Type 0
 EndFirst [] = Unit {0}
 EndFirst (c ∷ cs) = (c.ended ≡ None → AllByRecursion (λ d. d.ended ≡ None) cs) × EndFirst cs
 
--- a call is open: the events that belong to it stand behind its opening, and the records are those of the calls before it
+-- a call is open: the events that belong to it come after its opening, and the records are those of the calls before it
 pub record IsOpenIn (closed : List CallRecord) (c : OpenCall) (es : List Event) : Type 0 where
   pub before : List Event
   pub own : List Event
@@ -78,24 +78,24 @@ HoldsFor closed None es = IsClosedIn closed es
 HoldsFor closed (Some c) es = IsOpenIn closed c es
 
 -- the calls so far are those of these events, all of one channel in one epoch
-pub record StandsFor {A : Type 0} (s : CallsSoFar A) (epoch channel : ℕ) (es : List Event) : Type 0 where
+pub record Represents {A : Type 0} (s : CallsSoFar A) (epoch channel : ℕ) (es : List Event) : Type 0 where
   pub of_channel : AllByRecursion (IsOf epoch channel) es
   pub holds : HoldsFor s.closed.items s.call es
 
 -- the records, where a call that may be open is closed without an end
-abbrev pub TellsBy : List CallRecord → Option OpenCall → List CallRecord → Type 0
-TellsBy closed None cs = closed ≡ cs
-TellsBy closed (Some o) cs = (epoch : ℕ) × (channel : ℕ) × (es : List Event) × AllByRecursion (IsOf epoch channel) es × IsOpenIn closed o es × (cs ≡ calls_of es)
+abbrev pub HasCallsBy : List CallRecord → Option OpenCall → List CallRecord → Type 0
+HasCallsBy closed None cs = closed ≡ cs
+HasCallsBy closed (Some o) cs = (epoch : ℕ) × (channel : ℕ) × (es : List Event) × AllByRecursion (IsOf epoch channel) es × IsOpenIn closed o es × (cs ≡ calls_of es)
 
 -- the records of the calls so far, where no more events come
-abbrev pub Tells : {A : Type 0} → CallsSoFar A → List CallRecord → Type 0
-Tells s cs = TellsBy s.closed.items s.call cs
+abbrev pub HasCalls : {A : Type 0} → CallsSoFar A → List CallRecord → Type 0
+HasCalls s cs = HasCallsBy s.closed.items s.call cs
 
--- of any events that were added: they were added with this one behind them, if it is of their channel
+-- of any events that were added: they were added with this one after them, if it is of their channel
 abbrev pub AddsEvent : {A T E : Type 0} → (before : CallsSoFar A) → Event → (after : CallsSoFar A) → Result T E → Type 0
 AddsEvent before e after result =
-    (epoch channel : ℕ) (es : List Event) → StandsFor before epoch channel es → IsOf epoch channel e → IsCountable (es ++ e ∷ []) → OnOk result (StandsFor after epoch channel (es ++ e ∷ []))
+    (epoch channel : ℕ) (es : List Event) → Represents before epoch channel es → IsOf epoch channel e → IsCountable (es ++ e ∷ []) → OnOk result (Represents after epoch channel (es ++ e ∷ []))
 
 -- of any events that were added: these are the records of their calls
 abbrev pub AreCallsOf : {A : Type 0} → CallsSoFar A → List CallRecord → Type 0
-AreCallsOf s cs = (epoch channel : ℕ) (es : List Event) → StandsFor s epoch channel es → cs ≡ calls_of es
+AreCallsOf s cs = (epoch channel : ℕ) (es : List Event) → Represents s epoch channel es → cs ≡ calls_of es

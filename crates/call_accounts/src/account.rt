@@ -13,15 +13,15 @@ use std::alloc::{AllocError, Allocator};
 
 /// A call by the address that pays for it.
 #[derive(Drop)]
-struct Entry {
+struct AccountEntry {
     /// A number that is in the order of the addresses, so that a sort compares numbers.
     rank: u128,
-    /// It stands in the entry itself, so that what reads the sorted entries reads no record of a call.
+    /// A copy in the entry, so that reading sorted entries reads no record of a call.
     address: Address,
     segments: u64,
 }
 
-impl Entry {
+impl AccountEntry {
     /// The account of the call alone.
     fn account(&self) -> Account
         ensures { result ≡ account_of_entry self.now }
@@ -69,7 +69,10 @@ fn rank(address: &Address) -> u128
 }
 
 /// The calls as entries, in their order.
-fn entries<A: Allocator>(alloc: A, calls: &[CallRecord<A>]) -> Result<Vec<Entry, A>, AllocError>
+fn entries<A: Allocator>(
+    alloc: A,
+    calls: &[CallRecord<A>],
+) -> Result<Vec<AccountEntry, A>, AllocError>
     ensures entries { IfOk result (λ v.
         map account_of_entry v.items ≡ map account_of_call calls.now) }
     ensures ranked { IfOk result (λ v. AllByRecursion IsRanked v.items) }
@@ -77,7 +80,7 @@ fn entries<A: Allocator>(alloc: A, calls: &[CallRecord<A>]) -> Result<Vec<Entry,
     let mut entries = Vec::with_capacity(alloc, calls.len())?;
     for call in calls {
         let address = payer(call);
-        entries.push(Entry {
+        entries.push(AccountEntry {
             rank: rank(address),
             address: address.copied(),
             segments: call.segments,
@@ -87,7 +90,7 @@ fn entries<A: Allocator>(alloc: A, calls: &[CallRecord<A>]) -> Result<Vec<Entry,
 }
 
 /// Entries in the order of their addresses.
-fn by_address<A: Allocator>(mut entries: Vec<Entry, A>) -> Vec<Entry, A>
+fn by_address<A: Allocator>(mut entries: Vec<AccountEntry, A>) -> Vec<AccountEntry, A>
     ensures permutation { IsPermutation entries.items result.items }
     ensures sorted { IsNonDecreasingBy (λ e. e.rank) result.items }
 {
@@ -95,8 +98,8 @@ fn by_address<A: Allocator>(mut entries: Vec<Entry, A>) -> Vec<Entry, A>
     entries
 }
 
-/// The accounts of sorted entries: those of one address are neighbours, and are added up.
-fn added_up<A: Allocator>(alloc: A, entries: &[Entry]) -> Result<Vec<Account, A>, AllocError>
+/// Adds up the accounts of sorted entries, in which those of one address are neighbours.
+fn added_up<A: Allocator>(alloc: A, entries: &[AccountEntry]) -> Result<Vec<Account, A>, AllocError>
     requires few_segments { sum_by (λ e. e.segments) entries.now ≤ 2 ^ 63 }
     ensures { IfOk result (λ v. v.items ≡ summed entries.now) }
 {
@@ -120,9 +123,9 @@ fn added_up<A: Allocator>(alloc: A, entries: &[Entry]) -> Result<Vec<Account, A>
     Ok(accounts)
 }
 
-/// The accounts of the addresses that pay for some calls, each once, by the bytes of the addresses, the absent one
+/// Returns the accounts of the addresses that pay for calls, each once, by the bytes of the addresses, the absent one
 /// first: how many calls it pays for, and their segments. The called address pays where the opening packet asks
-/// reverse charging (X.25, 6.18), else the calling one. The order is profile. It answers `Memory` alone.
+/// reverse charging (X.25, 6.18), else the calling one. The order is profile. Fails only when memory is refused.
 pub fn accounts_of<A: Allocator + Clone>(
     alloc: A,
     calls: &[CallRecord<A>],

@@ -1,4 +1,4 @@
-//! The records of calls, off a list of events of any channels.
+//! The records of calls, from a list of events of any channels.
 
 ghost use Rattle.std.specs.Prelude.{◌≡◌, ℕ, ◌≤◌, ◌^◌, ◌==◌, ◌&&◌, List, [], ◌∷◌, ◌++◌, Some, false, map, OnOk, IfOk, IfErr, sum};
 ghost use Rattle.line_model.specs.declared.event.Event.{Event};
@@ -15,7 +15,7 @@ use std::alloc::{AllocError, Allocator};
 use std::collections::BTreeMap;
 use std::mem::replace;
 
-/// The calls of each channel in each epoch so far: one place in hand, the others in a map.
+/// The calls of each channel in each epoch so far: one current place, the others in a map.
 #[derive(Drop)]
 struct Places<A: Allocator> {
     epoch: u32,
@@ -25,8 +25,8 @@ struct Places<A: Allocator> {
 }
 
 impl<A: Allocator + Clone> Places<A> {
-    /// Nothing was added. The place of the first event is in hand, so that the events of one place take no room in the
-    /// map.
+    /// Returns places without events. The place of the first event is current, so the events of one place need no room
+    /// in the map.
     fn new(alloc: &A, events: &[Event]) -> Result<Self, AllocError>
         ensures { IfOk result (λ places. AreAdded places []) }
     {
@@ -42,8 +42,8 @@ impl<A: Allocator + Clone> Places<A> {
         })
     }
 
-    /// Takes the calls of a place in hand.
-    fn turn_to(&mut self, alloc: &A, epoch: u32, channel: u16) -> Result<(), AllocError>
+    /// Makes (epoch, channel) the current place.
+    fn select(&mut self, alloc: &A, epoch: u32, channel: u16) -> Result<(), AllocError>
         ensures turned { OnOk result ((self.new.epoch ≡ epoch) × (self.new.channel ≡ channel)) }
         ensures here { OnOk result (IsFound (calls_at self.old epoch channel) self.new.here) }
         ensures others { OnOk result ((e c : ℕ) → (epoch == e && channel == c) ≡ false
@@ -68,11 +68,11 @@ impl<A: Allocator + Clone> Places<A> {
         ensures { (es : List Event) → AreAdded self.old es → IsCountable (es ++ event.now ∷ [])
             → OnOk result (AreAdded self.new (es ++ event.now ∷ [])) }
     {
-        self.turn_to(alloc, event.epoch, event.channel)?;
+        self.select(alloc, event.epoch, event.channel)?;
         self.here.add_event(event, segments_in(event))
     }
 
-    /// Takes the record of the call that was opened last at a place.
+    /// Removes and returns the record of the call that was opened last at a place.
     fn pop(
         &mut self,
         alloc: &A,
@@ -86,12 +86,12 @@ impl<A: Allocator + Clone> Places<A> {
             → AreLeft self.old (cs ++ r ∷ []) → r.epoch ≡ epoch → r.channel ≡ channel
             → OnOk result (AreLeft self.new cs) }
     {
-        self.turn_to(alloc, epoch, channel)?;
+        self.select(alloc, epoch, channel)?;
         self.here.pop()
     }
 }
 
-/// The records that are left, in the order in which their calls were opened, of which these are the places.
+/// Returns the records that are left, in the order of `openings`, which has the places of their calls.
 fn in_order<A: Allocator + Clone>(
     alloc: &A,
     mut places: Places<A>,
@@ -110,10 +110,10 @@ fn in_order<A: Allocator + Clone>(
     Ok(calls)
 }
 
-/// The records of the calls that events open, in their order (X.25, clause 4; the record is profile). A call ends with
-/// the first end after its opening in its epoch and channel. What stands before that end and before the next opening
+/// Returns the records of the calls that events open, in order (X.25 clause 4; the record is profile). A call ends with
+/// the first end after its opening in its epoch and channel. What comes before that end and before the next opening
 /// there belongs to it: when it came up, its data packets and their octets by side, segments of 64 octets rounded up,
-/// and what the last word on each PAD parameter was. It answers `Memory` alone.
+/// and what the last word on each PAD parameter was. Fails only when memory is refused.
 pub fn calls_of<A: Allocator + Clone>(
     alloc: A,
     events: &[Event],

@@ -32,7 +32,7 @@ pub struct CallCounts {
 }
 
 impl CallCounts {
-    /// Nothing was added.
+    /// Returns counts that are all 0.
     pub(crate) fn new() -> CallCounts
         ensures { Counts result [] }
     {
@@ -48,7 +48,7 @@ impl CallCounts {
         }
     }
 
-    /// Counts the next event, which has so many segments. A sum that would not fit stays at the greatest number.
+    /// Counts the next event, which has `segments` segments. A sum that would not fit stays at the greatest number.
     pub(crate) fn add_event(&mut self, event: &Event, segments: u64)
         requires segments { segments ≡ segments_of (all_lengths (event.now ∷ [])) }
         ensures { Adds self.old self.new event.now }
@@ -66,7 +66,7 @@ impl CallCounts {
         }
     }
 
-    /// The call comes up, where it was not up.
+    /// Records the packet that brings the call up, where it was not up.
     fn rise(&mut self, packet: u32)
         ensures { (e : Event) → e.packet ≡ packet → e.what ≡ What.Up
             → Adds self.old self.new e }
@@ -76,7 +76,7 @@ impl CallCounts {
         }
     }
 
-    /// A data packet.
+    /// Counts a data packet.
     #[inline(always)]
     pub(crate) fn add_data(&mut self, side: Side, octets: u32, segments: u64)
         ensures { (e : Event) → e.what ≡ Data side octets
@@ -95,7 +95,7 @@ impl CallCounts {
         }
     }
 
-    /// A message says what a parameter of a PAD is.
+    /// Records what a message says of a parameter of a PAD.
     fn say(&mut self, pad: Side, parameter: u8, entry: Entry)
         ensures { (e : Event) → e.what ≡ Setting pad parameter entry
             → Adds self.old self.new e }
@@ -106,7 +106,7 @@ impl CallCounts {
         }
     }
 
-    /// The parameters of a PAD are initial again, and so unknown.
+    /// Forgets the parameters of a PAD, which are initial again.
     fn forget(&mut self, pad: Side)
         ensures { (e : Event) → e.what ≡ Initial pad → Adds self.old self.new e }
     {

@@ -1,4 +1,4 @@
-//! Calls, what each address pays for, and the greatest number of calls at once, read off events and records of calls.
+//! Calls, what each address pays for, and the greatest number of calls at once, from events and records of calls.
 #![tactic(auto)]
 
 pub mod account;

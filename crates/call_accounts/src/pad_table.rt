@@ -1,4 +1,4 @@
-//! What the messages of a call said so far of the parameters of one PAD.
+//! What the messages of a call have said of the parameters of one PAD.
 
 ghost use Rattle.std.specs.Prelude.{◌≡◌, ℕ, ◌≤◌, ◌==◌, ◌++◌, if◌then◌else◌, OnOk};
 ghost use Rattle.std.specs.List.{range_with_len};
@@ -18,7 +18,7 @@ pub struct PadTable {
 }
 
 impl PadTable {
-    /// Nothing is known.
+    /// Returns a table in which nothing is known.
     pub(crate) fn new() -> PadTable
         ensures { (n : ℕ) → entry_at result n ≡ Unknown }
     {
@@ -27,7 +27,7 @@ impl PadTable {
         }
     }
 
-    /// A message says what a parameter is.
+    /// Records what a message says of a parameter.
     pub(crate) fn say(&mut self, parameter: u8, entry: Entry)
         ensures { (n : ℕ) → 1 ≤ n → n ≤ 22
             → entry_at self.new n ≡ (if parameter == n then entry else entry_at self.old n) }
@@ -37,7 +37,7 @@ impl PadTable {
         }
     }
 
-    /// Adds the parameters that are known.
+    /// Appends the parameters that are known.
     pub(crate) fn push_known<A: Allocator>(
         &self,
         pad: Side,

@@ -11,8 +11,8 @@ use line_model::fault::Fault;
 use line_model::report::Peak;
 use std::alloc::{AllocError, Allocator};
 
-/// The greatest number of calls that were up at once, and the least row number after which so many were, none for 0.
-/// A call is up from the row with which it came up to the one before its end (profile). It answers `Memory` alone.
+/// Returns the greatest number of calls up at once, and the least row number after which it was reached, none for 0.
+/// A call is up from the row that brought it up to the one before its end (profile). Fails only when memory is refused.
 pub fn peak_of<A: Allocator + Clone>(alloc: A, calls: &[CallRecord<A>]) -> Result<Peak, Fault>
     ensures peak { IfOk result (λ p. IsPeakOfTimes (up_at calls.now) p.count p.packet) }
     ensures memory { IfErr result (λ f. f ≡ Fault.Memory) }
@@ -67,7 +67,7 @@ fn times<A: Allocator + Clone>(alloc: A, calls: &[CallRecord<A>]) -> Result<UpTi
     Ok(times)
 }
 
-/// How many ends lie at or before a time, where the first `from` are known to.
+/// Returns how many ends are at or before a time, given that the first `from` are.
 fn ended_by(ends: &[u32], from: usize, time: u32) -> usize
     requires within { from ≤ length ends.now }
     requires sorted { IsNonDecreasing ends.now }
@@ -83,7 +83,8 @@ fn ended_by(ends: &[u32], from: usize, time: u32) -> usize
     ended
 }
 
-/// The greatest number of ups up to a time less the ends up to it, over the times of the ups.
+/// Returns the greatest number of calls that were up after one of `ups`: those that came up by then, less those that
+/// ended by then.
 fn highest(ups: &[u32], ends: &[u32]) -> Peak
     requires ups_sorted { IsNonDecreasing ups.now }
     requires ends_sorted { IsNonDecreasing ends.now }

@@ -4,7 +4,7 @@ ghost use Rattle.std.specs.Prelude.{◌≡◌, ℕ, List, [], ◌∷◌, ◌++�
 ghost use Rattle.line_model.specs.declared.event.Event.{Event};
 ghost use Rattle.line_model.specs.declared.event.What.TheVariants.{Data, Open, End};
 ghost use Rattle.call_accounts.specs.Counted.{Counts, IsCountable};
-ghost use Rattle.call_accounts.specs.SoFar.{AddsEvent, AreCallsOf, IsOf, StandsFor, Tells, call_with, opening_of, ended_by, EndFirst};
+ghost use Rattle.call_accounts.specs.SoFar.{AddsEvent, AreCallsOf, IsOf, Represents, HasCalls, call_with, opening_of, ended_by, EndFirst};
 ghost use Rattle.line_model.specs.basics.Records as records;
 ghost use Rattle.line_model.specs.observer.Calls.{all_lengths, segments_of};
 
@@ -16,14 +16,14 @@ use line_model::fault::Fault;
 use line_model::state::Side;
 use std::alloc::{AllocError, Allocator};
 
-/// The segments of 64 octets of a data packet; the last one begun counts whole.
+/// Returns the segments of 64 octets of a data packet; the last one begun counts whole.
 pub fn segments_for(octets: u32) -> u64
     ensures { result ≡ segments_of (octets ∷ []) }
 {
     u64::from(octets).div_ceil(64)
 }
 
-/// The segments of 64 octets of an event, the last one begun counts whole; 0 where it is no data packet.
+/// Returns the segments of 64 octets of an event, the last one begun counts whole; 0 where it is not a data packet.
 pub fn segments_in(event: &Event) -> u64
     ensures { result ≡ segments_of (all_lengths (event.now ∷ [])) }
 {
@@ -65,7 +65,7 @@ impl OpenCall {
         }
     }
 
-    /// Its record, with an end or none.
+    /// Returns its record, with an end or without.
     fn record<A: Allocator>(
         &self,
         alloc: A,
@@ -113,7 +113,7 @@ fn end_last<A: Allocator>(calls: &mut Vec<CallRecord<A>, A>, packet: u32, how: H
     }
 }
 
-/// Adds a record; the first one takes the room of one.
+/// Appends a record. The first one gets room for one record alone.
 fn push_record<A: Allocator>(
     calls: &mut Vec<CallRecord<A>, A>,
     call: CallRecord<A>,
@@ -136,9 +136,9 @@ pub struct CallsSoFar<A: Allocator> {
 }
 
 impl<A: Allocator + Clone> CallsSoFar<A> {
-    /// No event was added. It takes no memory.
+    /// Returns the calls before any event. It needs no memory.
     pub fn new(alloc: A) -> Self
-        ensures { (epoch channel : ℕ) → StandsFor result epoch channel [] }
+        ensures { (epoch channel : ℕ) → Represents result epoch channel [] }
     {
         CallsSoFar {
             closed: Vec::new(alloc),
@@ -146,8 +146,8 @@ impl<A: Allocator + Clone> CallsSoFar<A> {
         }
     }
 
-    /// Adds the next event of the channel, which has so many segments (`segments_in`). Where memory is refused it
-    /// stands for nothing any more.
+    /// Adds the next event of the channel, which has `segments` segments (`segments_in`). Fails only when memory is
+    /// refused; drop the value then.
     pub fn add_event(&mut self, event: &Event, segments: u64) -> Result<(), AllocError>
         requires segments { segments ≡ segments_of (all_lengths (event.now ∷ [])) }
         ensures added { AddsEvent self.old event.now self.new result }
@@ -173,24 +173,24 @@ impl<A: Allocator + Clone> CallsSoFar<A> {
         }
     }
 
-    /// Adds the event of a data packet of a side, which has so many segments (`segments_for`). It takes no memory.
+    /// Adds the event of a data packet of a side, which has `segments` segments (`segments_for`). It needs no memory.
     #[inline(always)]
     pub fn add_data(&mut self, side: Side, octets: u32, segments: u64)
         ensures { (epoch channel : ℕ) (es : List Event) (e : Event)
-            → StandsFor self.old epoch channel es → IsOf epoch channel e
+            → Represents self.old epoch channel es → IsOf epoch channel e
             → e.what ≡ Data side octets → segments ≡ segments_of (octets ∷ [])
-            → IsCountable (es ++ e ∷ []) → StandsFor self.new epoch channel (es ++ e ∷ []) }
+            → IsCountable (es ++ e ∷ []) → Represents self.new epoch channel (es ++ e ∷ []) }
     {
         if let Some(call) = &mut self.call {
             call.counts.add_data(side, octets, segments);
         }
     }
 
-    /// A call that is open is open no more, and has no end.
+    /// Closes the call that is open, without an end.
     fn close(&mut self) -> Result<(), AllocError>
         ensures none { OnOk result (self.new.call ≡ None) }
         ensures closed { OnOk result (AreCallsOf self.old self.new.closed.items) }
-        ensures tells { (cs : List records.CallRecord) → Tells self.old cs
+        ensures has_calls { (cs : List records.CallRecord) → HasCalls self.old cs
             → OnOk result (self.new.closed.items ≡ cs) }
     {
         let Some(call) = &self.call else {
@@ -203,12 +203,12 @@ impl<A: Allocator + Clone> CallsSoFar<A> {
         Ok(())
     }
 
-    /// The call that is open ends, and with it those that have no end.
+    /// Ends the call that is open, and with it those without an end.
     fn end(&mut self, packet: u32, how: How) -> Result<(), AllocError>
         ensures { (epoch channel : ℕ) (es : List Event) (e : Event)
-            → StandsFor self.old epoch channel es
+            → Represents self.old epoch channel es
             → IsOf epoch channel e → e.packet ≡ packet → e.what ≡ End how
-            → OnOk result (StandsFor self.new epoch channel (es ++ e ∷ [])) }
+            → OnOk result (Represents self.new epoch channel (es ++ e ∷ [])) }
     {
         let Some(call) = &self.call else {
             return Ok(());
@@ -221,18 +221,18 @@ impl<A: Allocator + Clone> CallsSoFar<A> {
         Ok(())
     }
 
-    /// Takes the record of the call that was opened last, which is closed first if it is open.
+    /// Removes and returns the record of the call that was opened last, which is closed first if it is open.
     pub(crate) fn pop(&mut self) -> Result<Option<CallRecord<A>>, AllocError>
         ensures popped { (cs : List records.CallRecord) (r : records.CallRecord)
-            → Tells self.old (cs ++ r ∷ []) → IfOk result (λ call. call ≡ Some r) }
+            → HasCalls self.old (cs ++ r ∷ []) → IfOk result (λ call. call ≡ Some r) }
         ensures left { (cs : List records.CallRecord) (r : records.CallRecord)
-            → Tells self.old (cs ++ r ∷ []) → OnOk result (Tells self.new cs) }
+            → HasCalls self.old (cs ++ r ∷ []) → OnOk result (HasCalls self.new cs) }
     {
         self.close()?;
         Ok(self.closed.pop())
     }
 
-    /// The records of the calls so far, in the order in which they were opened. It answers `Memory` alone.
+    /// Returns the records of the calls so far, in the order of their openings. Fails only when memory is refused.
     pub fn calls(&self, alloc: A) -> Result<Vec<CallRecord<A>, A>, Fault>
         ensures calls { IfOk result (λ v. AreCallsOf self.now v.items) }
         ensures memory { IfErr result (λ f. f ≡ Fault.Memory) }
@@ -246,7 +246,8 @@ impl<A: Allocator + Clone> CallsSoFar<A> {
         Ok(calls)
     }
 
-    /// The records of the calls when no more events come, in the order in which they were opened.
+    /// Returns the records of the calls when no more events come, in the order of their openings. Fails only when
+    /// memory is refused.
     pub fn finish(mut self) -> Result<Vec<CallRecord<A>, A>, AllocError>
         ensures calls { IfOk result (λ v. AreCallsOf self v.items) }
     {

@@ -1,5 +1,5 @@
 -- Channels adrift, and what packets leave of them.
-use Rattle.std.proofs.Common.{◌≡◌, ℕ, Bool, true, false, true≢false, refl, sym, ◌∙◌, ap, subst, List, [], ◌∷◌, append-nil, Option, Some, None}
+use Rattle.std.proofs.Common.{◌≡◌, ℕ, Bool, true, false, true≢false, refl, sym, ◌∙◌, ap, subst, List, [], ◌∷◌, Option, Some, None}
 use Rattle.std.specs.Prelude.{IfNone, is_some, ◌||◌}
 use Rattle.line_model.specs.declared.event.Event.{Event}
 use Rattle.line_model.specs.declared.interface.Interface.{Interface}
@@ -17,7 +17,7 @@ use Rattle.line_model.specs.channels.Channels.{Channel, is_in_transfer, is_open,
 use Rattle.line_model.specs.channels.ChannelStep.{Outcome, report_nothing}
 use Rattle.line_model.specs.channels.Gaps as gaps
 use Rattle.line_model.specs.channels.Gaps.{WhileAdrift, largest_terms}
-use Rattle.line_model.specs.channels.GapStep.{brought_up, coming_up, is_in_use, passing, with_certainty, data_reported}
+use Rattle.line_model.specs.channels.GapStep.{brought_up, coming_up, is_in_use, with_certainty, data_reported}
 use Rattle.channel_machine.specs.declared.events.EventOrigin.{EventOrigin}
 use Rattle.channel_machine.specs.Channels.{Known, Stands, Does}
 use Rattle.channel_machine.specs.GapChannels.{GapDoes, GapKnown, IsKnownBy, Represents, StandsAdrift, adrift_at, certainty_of, interface_of, number_of}
@@ -31,10 +31,6 @@ if_none (Some x) P p = tt
 pub if_open : {A : Type 0} (o : Option A) (P : Type 0) → is_some o ≡ true → IfNone o P
 if_open None P e = absurd (true≢false (sym e))
 if_open (Some x) P e = tt
-
-pub or_false : (b : Bool) → (b || false) ≡ b
-or_false true = refl
-or_false false = refl
 
 -- a channel adrift whose call was not answered
 pub unanswered_stands : (p : Known) (a : WhileAdrift) (c : Channel) → is_permanent p.terms.interface p.channel ≡ false → Stands p c → c.accepting ≡ None → StandsAdrift p a c
@@ -65,10 +61,6 @@ brought_bare i n c circuit bare used = at (is_in_transfer c) refl
     at : (b : Bool) → is_in_transfer c ≡ b → IsBare (elim b as (λ v. Outcome) [ true ↦ report_nothing c | false ↦ coming_up (largest_terms i) c ]).after
     at true e = bare
     at false e = if_open c.opening (Some (largest_terms i) ≡ None) (open_by (is_permanent i n) refl e used)
-
--- a call that is in data transfer is not brought up again
-pub up_already : (i : Interface) (c : Channel) → is_in_transfer c ≡ true → brought_up i c ≡ report_nothing c
-up_already i c e = ap (λ b. elim b as (λ v. Outcome) [ true ↦ report_nothing c | false ↦ coming_up (largest_terms i) c ]) e
 
 pub not_up : (i : Interface) (c : Channel) → is_in_transfer c ≡ false → coming_up (largest_terms i) c ≡ brought_up i c
 not_up i c e = ap (λ b. elim b as (λ v. Outcome) [ true ↦ report_nothing c | false ↦ coming_up (largest_terms i) c ]) (sym e)
@@ -106,16 +98,6 @@ drifts s old new before after a o d restarting certainty stands = record {
   reports = d.reports;
 }
 
--- nothing has changed
-pub passes_adrift : (s : EventOrigin) (old : GapKnown) (events : List Event) (a : WhileAdrift) (c : Channel) → old.certainty ≡ Adrift a → StandsAdrift old.channel a c →
-    GapDoes s old old events events (passing (adrift_at old a c))
-passes_adrift s old events a c is stands = record {
-  interface = refl;
-  number = refl;
-  represents = adrift_stands old a c old.restarting refl is stands;
-  reports = sym (append-nil events);
-}
-
 -- the same of what the code keeps, which is the channel that a function was called on
 became : (s : EventOrigin) (p old new : GapKnown) (before after : List Event) (a b : WhileAdrift) (o : Outcome) (c : Channel) → p ≡ old → Does s p.channel new.channel before after o →
     new.restarting ≡ p.restarting → new.certainty ≡ Adrift b → StandsAdrift new.channel b o.after → GapDoes s old new before after (with_certainty (adrift_at old a c) (gaps.Adrift b) o)
@@ -139,6 +121,6 @@ pub became_up : (s : EventOrigin) (p old new : GapKnown) (before after : List Ev
 became_up s p old new before after a b o c same d restarting certainty up bare =
     became s p old new before after a b o c same d restarting certainty (up_stands new.channel b o.after d.stands up bare)
 
--- what stands for the channel on which a function was called
+-- what represents the channel on which a function was called
 pub at_entry : (p old : GapKnown) (a : WhileAdrift) (c : Channel) → p ≡ old → StandsAdrift old.channel a c → StandsAdrift p.channel a c
 at_entry p old a c same s = subst (λ (q : GapKnown). StandsAdrift q.channel a c) (sym same) s

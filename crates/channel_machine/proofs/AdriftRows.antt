@@ -4,8 +4,6 @@ use Rattle.std.specs.Prelude.{IfNone, is_some, not, ◌&&◌, ◌||◌, option_a
 use Rattle.line_model.specs.declared.event.Event.{Event}
 use Rattle.line_model.specs.declared.gap.AdriftEntry.{AdriftEntry}
 use Rattle.line_model.specs.declared.gap.AdriftEntry.TheVariants.{OpensCall, Accepts, Clears, ConfirmsClear}
-use Rattle.line_model.specs.declared.packet.Class.{Class}
-use Rattle.line_model.specs.declared.packet.Class.TheVariants.{Call, Accepted, Clear, ClearConfirm}
 use Rattle.line_model.specs.packets.Classes.{packet_class}
 use Rattle.line_model.specs.declared.gap.LastData.{LastData}
 use Rattle.line_model.specs.declared.gap.Owed.{Owed}
@@ -325,17 +323,6 @@ NeedsCall Clears = Unit {0}
 NeedsCall ConfirmsClear = Unit {0}
 NeedsCall e = ⊥
 
-none_permanent : (k : Class) → NeedsCall (adrift_entry true k) → ⊥
-none_permanent Call n = n
-none_permanent Accepted n = n
-none_permanent Clear n = n
-none_permanent ClearConfirm n = n
-none_permanent k n = n
-
-pub virtual_entry : (p : Bool) (k : Class) (e : AdriftEntry) → adrift_entry p k ≡ e → NeedsCall e → p ≡ false
-virtual_entry true k e is n = absurd (none_permanent k (subst NeedsCall (sym is) n))
-virtual_entry false k e is n = refl
-
 pub step_by : (e : AdriftEntry) (i : Interface) (n : ℕ) (r : Item) (a : WhileAdrift) (g : gaps.GapChannel) → None ≡ adrift_fault i n g.channel r →
     e ≡ adrift_entry (is_permanent i n) (packet_class r.packet) → adrift_step_by e i n r a g ≡ adrift_step i n r a g
 step_by e i n r a g fault entry =
@@ -345,7 +332,7 @@ step_by e i n r a g fault entry =
       | false ↦ adrift_step_by (adrift_entry (is_permanent i n) (packet_class r.packet)) i n r a g
     ]) fault
 
--- what is owed is no part of what stands for a channel adrift
+-- what is owed is no part of what represents a channel adrift
 pub owing_stands : (p : Known) (a b : WhileAdrift) (c : Channel) → b.hidden ≡ a.hidden → StandsAdrift p a c → StandsAdrift p b c
 owing_stands p a b c same s = record {
   stands = s.stands;

@@ -19,7 +19,7 @@ use Rattle.channel_machine.proofs.Reporting.{more}
 
 -- a channel whose call has ended
 abbrev pub ended : How → Channel → Outcome
-ended h c = record { reported = End h ∷ []; after = record c { opening = None; accepting = None; told = [] } }
+ended h c = record { reported = End h ∷ []; after = record c { opening = None; accepting = None; pad_messages = [] } }
 
 ends_by : (h : How) (c : Channel) (o : Option Opening) (v : Opened) → option_map opened_of o ≡ Some v →
     ending h (record c { opening = o }) ≡ ended h (record c { opening = o })

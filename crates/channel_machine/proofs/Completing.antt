@@ -33,8 +33,8 @@ begun_apart hidden size x k hs = ap (λ l. reverse (take_while (may_be_category_
 
 kept_doubt : (i : Interface) (d : Doubts) (x : Side) (c e : Channel) → of_side x d.sequences ≡ true → kept_begun i d x c ≡ kept_begun i d x e
 kept_doubt i d x c e is =
-    ap (λ b. kept_of b d.hidden (may_be_begun d.hidden (size_in_force i c x) x c.heard)) is
-    ∙ sym (ap (λ b. kept_of b d.hidden (may_be_begun d.hidden (size_in_force i e x) x e.heard)) is)
+    ap (λ b. kept_of b d.hidden (may_be_begun d.hidden (size_in_force i c x) x c.accepted)) is
+    ∙ sym (ap (λ b. kept_of b d.hidden (may_be_begun d.hidden (size_in_force i e x) x e.accepted)) is)
 
 -- the sequences of a channel that was completed for one side
 pub kept_completed : (i : Interface) (m : ℕ) (s : InDoubt) (y x : Side) (n : ℕ) (c : Channel) → ((z : Side) → of_side z s.doubts.numbers ≡ true → of_side z s.doubts.sequences ≡ true) →
@@ -45,8 +45,8 @@ kept_completed i m s y x n c unknown = at y x (of_side y s.doubts.numbers) refl
     at y x false e = refl
     at T T true e = kept_doubt i s.doubts T c (completed_to m true T n c) (unknown T e)
     at N N true e = kept_doubt i s.doubts N c (completed_to m true N n c) (unknown N e)
-    at T N true e = ap (λ l. kept_of (of_side N s.doubts.sequences) s.doubts.hidden l) (sym (begun_apart s.doubts.hidden (size_in_force i c N) T (missing m (sent T c.heard) n) c.heard))
-    at N T true e = ap (λ l. kept_of (of_side T s.doubts.sequences) s.doubts.hidden l) (sym (begun_apart s.doubts.hidden (size_in_force i c T) N (missing m (sent N c.heard) n) c.heard))
+    at T N true e = ap (λ l. kept_of (of_side N s.doubts.sequences) s.doubts.hidden l) (sym (begun_apart s.doubts.hidden (size_in_force i c N) T (missing m (sent T c.accepted) n) c.accepted))
+    at N T true e = ap (λ l. kept_of (of_side T s.doubts.sequences) s.doubts.hidden l) (sym (begun_apart s.doubts.hidden (size_in_force i c T) N (missing m (sent N c.accepted) n) c.accepted))
 
 -- the count that a P(R) acknowledges
 receive_by : (c v : Counts) (x : Side) (o : Option ℕ) →
@@ -77,8 +77,8 @@ pub ack_same : (m : ℕ) (b : Bool) (y : Side) (n : ℕ) (c : Channel) → (comp
 ack_same m true y n c = refl
 ack_same m false y n c = refl
 
-pub sent_other : (m : ℕ) (b : Bool) (y : Side) (n : ℕ) (c : Channel) → sent (other y) (completed_to m b y n c).heard ≡ sent (other y) c.heard
-sent_other m true y n c = sent_apart y c.heard (missing m (sent y c.heard) n)
+pub sent_other : (m : ℕ) (b : Bool) (y : Side) (n : ℕ) (c : Channel) → sent (other y) (completed_to m b y n c).accepted ≡ sent (other y) c.accepted
+sent_other m true y n c = sent_apart y c.accepted (missing m (sent y c.accepted) n)
 sent_other m false y n c = refl
 
 pub unconfirmed_same : (m : ℕ) (b : Bool) (y : Side) (n : ℕ) (c : Channel) → (completed_to m b y n c).unconfirmed ≡ c.unconfirmed
@@ -86,17 +86,17 @@ unconfirmed_same m true y n c = refl
 unconfirmed_same m false y n c = refl
 
 -- the count that P(R) acknowledges of a side that was completed
-completed_ack : (m : ℕ) (b : Bool) (y : Side) (n k : ℕ) (c : Channel) → (m ≡ 8) ⊎ (m ≡ 128) → b ≡ true → sent y c.heard ≡ of_side y c.acknowledged →
-    count_acknowledged m (sent y (completed_to m b y n c).heard) (of_side y c.acknowledged) n ≡ Some k → sent y (completed_to m b y n c).heard ≡ k
+completed_ack : (m : ℕ) (b : Bool) (y : Side) (n k : ℕ) (c : Channel) → (m ≡ 8) ⊎ (m ≡ 128) → b ≡ true → sent y c.accepted ≡ of_side y c.acknowledged →
+    count_acknowledged m (sent y (completed_to m b y n c).accepted) (of_side y c.acknowledged) n ≡ Some k → sent y (completed_to m b y n c).accepted ≡ k
 completed_ack m true y n k c e is same found =
-    sym (all_of m (sent y (completed_to m true y n c).heard) (of_side y c.acknowledged) n k e
-    (sent_own y c.heard (missing m (sent y c.heard) n) ∙ ap (λ s. s + missing m s n) same) found)
+    sym (all_of m (sent y (completed_to m true y n c).accepted) (of_side y c.acknowledged) n k e
+    (sent_own y c.accepted (missing m (sent y c.accepted) n) ∙ ap (λ s. s + missing m s n) same) found)
 completed_ack m false y n k c e is same found = absurd (true≢false (sym is))
 
 -- a side in doubt has nothing outstanding after P(R)
-pub acked : (m : ℕ) (x y : Side) (b : Bool) (n k : ℕ) (c : Channel) (v : Sides ℕ) → (m ≡ 8) ⊎ (m ≡ 128) → sent y c.heard ≡ of_side y c.acknowledged → (y ≡ other x → b ≡ true) →
-    count_acknowledged m (sent (other x) (completed_to m b (other x) n c).heard) (of_side (other x) c.acknowledged) n ≡ Some k → v ≡ with_side (other x) k c.acknowledged →
-    sent y (completed_to m b (other x) n c).heard ≡ of_side y v
+pub acked : (m : ℕ) (x y : Side) (b : Bool) (n k : ℕ) (c : Channel) (v : Sides ℕ) → (m ≡ 8) ⊎ (m ≡ 128) → sent y c.accepted ≡ of_side y c.acknowledged → (y ≡ other x → b ≡ true) →
+    count_acknowledged m (sent (other x) (completed_to m b (other x) n c).accepted) (of_side (other x) c.acknowledged) n ≡ Some k → v ≡ with_side (other x) k c.acknowledged →
+    sent y (completed_to m b (other x) n c).accepted ≡ of_side y v
 acked m T N b n k c v e same doubt found is = completed_ack m b N n k c e (doubt refl) same found ∙ ap (λ w. w.of_n) (sym is)
 acked m N T b n k c v e same doubt found is = completed_ack m b T n k c e (doubt refl) same found ∙ ap (λ w. w.of_t) (sym is)
 acked m T T b n k c v e same doubt found is = sent_other m b N n c ∙ same ∙ ap (λ w. w.of_t) (sym is)
@@ -119,13 +119,13 @@ acknowledges u i s new f g x n c eight ns ss modulus windows stands answer kept_
     let keeps = receive_keeps m (counts_of d) v x n ok in
     let (k, found, taken) = receive_is m (counts_of d) v x n ok in
     let a : Sides ℕ = c.acknowledged in
-    let here : count_acknowledged m (sent (other x) d.heard) (of_side (other x) a) n ≡ Some k =
-    sym (λ j. count_acknowledged m (side_of (other x) d.heard j) (of_side (other x) (ack_same m b (other x) n c j)) n) ∙ found in
+    let here : count_acknowledged m (sent (other x) d.accepted) (of_side (other x) a) n ≡ Some k =
+    sym (λ j. count_acknowledged m (side_of (other x) d.accepted j) (of_side (other x) (ack_same m b (other x) n c j)) n) ∙ found in
     let numbers : NumbersStand m (record s { flow = g }) (with_counts v d) = record {
       flow = subst (λ t. Stands g (record v { sent = t })) keeps.0 st;
       modulus = kept_modulus ∙ modulus ∙ ns.modulus;
       widest = kept_windows ∙ windows ∙ ns.widest;
-      acknowledged = λ y e. side_of y d.heard ∙ acked m x y b n k c v.acknowledged eight (sym (side_of y c.heard) ∙ ns.acknowledged y e)
+      acknowledged = λ y e. side_of y d.accepted ∙ acked m x y b n k c v.acknowledged eight (sym (side_of y c.accepted) ∙ ns.acknowledged y e)
           (λ same. ap (λ z. of_side z s.doubts.numbers) (sym same) ∙ e) here (taken ∙ ap (λ w. with_side (other x) k w) (ack_same m b (other x) n c));
       unknown = ns.unknown;
     } in
@@ -143,13 +143,13 @@ not_acknowledged U e i s f g x n c ns modulus answer =
 
 -- an interrupt, or its confirmation
 pub flagged : {U : Type 0} (u : U) (i : Interface) (s new : InDoubt) (f g : FlowResidues) (a : Result Counts ℕ) (c d : Channel) → NumbersStand i.modulus s c → SequencesStand i s c →
-    d ≡ record c { unconfirmed = d.unconfirmed } → ((v : Counts) → a ≡ Ok v → (v.sent ≡ sent_by d.heard) × (v.acknowledged ≡ d.acknowledged)) →
+    d ≡ record c { unconfirmed = d.unconfirmed } → ((v : Counts) → a ≡ Ok v → (v.sent ≡ sent_by d.accepted) × (v.acknowledged ≡ d.acknowledged)) →
     f.modulus ≡ s.flow.modulus → f.windows ≡ s.flow.windows → Answers (Ok u) f g a → g.modulus ≡ f.modulus → g.windows ≡ f.windows →
     new.flow ≡ g → new.assembler ≡ s.assembler → new.doubts.numbers ≡ s.doubts.numbers → new.doubts.sequences ≡ s.doubts.sequences → new.doubts.hidden ≡ s.doubts.hidden →
     IsCountedInDoubt (Ok u) i new a d
 flagged u i s new f g a c d ns ss is keeps modulus windows answer kept_modulus kept_windows flow_is assembler_is numbers_are sequences_are hidden_is =
     let (v, ok, st) = answered_ok u f g a answer in
-    let heard_is : d.heard ≡ c.heard = ap (λ e. e.heard) is in
+    let accepted_is : d.accepted ≡ c.accepted = ap (λ e. e.accepted) is in
     let ack_is : v.acknowledged ≡ c.acknowledged = (keeps v ok).1 ∙ ap (λ e. e.acknowledged) is in (
       v,
       ok,
@@ -157,12 +157,12 @@ flagged u i s new f g a c d ns ss is keeps modulus windows answer kept_modulus k
         flow = subst (λ q. Stands q (counts_of (with_counts v d))) (sym flow_is) (subst (λ t. Stands g (record v { sent = t })) (keeps v ok).0 st);
         modulus = ap (λ q. q.modulus) flow_is ∙ kept_modulus ∙ modulus ∙ ns.modulus;
         widest = ap (λ q. q.windows) flow_is ∙ kept_windows ∙ windows ∙ ns.widest;
-        acknowledged = λ y e. ap (λ hs. of_side y (sent_by hs)) heard_is ∙ ns.acknowledged y (ap (λ w. of_side y w) (sym numbers_are) ∙ e) ∙ ap (λ w. of_side y w) (sym ack_is);
+        acknowledged = λ y e. ap (λ hs. of_side y (sent_by hs)) accepted_is ∙ ns.acknowledged y (ap (λ w. of_side y w) (sym numbers_are) ∙ e) ∙ ap (λ w. of_side y w) (sym ack_is);
         unknown = λ y e. ap (λ w. of_side y w) sequences_are ∙ ns.unknown y (ap (λ w. of_side y w) (sym numbers_are) ∙ e);
       },
       λ y. subst (λ (q : Assembly). Holds (begun_on q y) (kept_begun i new.doubts y (with_counts v d))) (sym assembler_is)
           (subst (λ l. Holds (begun_on s.assembler y) l)
-          ((λ j. kept_of (of_side y (sym sequences_are j)) (sym hidden_is j) (may_be_begun (sym hidden_is j) (size_in_force i (sym is j) y) y (sym is j).heard)))
+          ((λ j. kept_of (of_side y (sym sequences_are j)) (sym hidden_is j) (may_be_begun (sym hidden_is j) (size_in_force i (sym is j) y) y (sym is j).accepted)))
           (ss y)),
     )
 

@@ -1,5 +1,5 @@
 -- Calls behind which another may be hidden.
-use Rattle.std.proofs.Common.{◌≡◌, ℕ, Bool, true, false, refl, sym, ◌∙◌, arith, Some}
+use Rattle.std.proofs.Common.{◌≡◌, ℕ, Bool, true, false, refl, sym, ◌∙◌, Some}
 use Rattle.std.specs.Prelude.{◌-◌}
 use Rattle.line_model.specs.declared.interface.Interface.{Interface}
 use Rattle.line_model.specs.declared.state.Side.{Side}
@@ -8,9 +8,7 @@ use Rattle.line_model.specs.channels.Channels.{Channel}
 use Rattle.line_model.specs.packets.Formats.{for_side, is_out}
 use Rattle.line_model.specs.channels.Gaps.{largest_terms}
 use Rattle.channel_machine.specs.Largest.{largest_values}
-use Rattle.channel_machine.specs.Terms.{AreUsable, IsBelow}
 use Rattle.channel_machine.specs.TermsStand.{Agreed, TermsStand, values_in_force}
-use Rattle.channel_machine.proofs.Usable.{usable_of}
 
 -- the same value for both sides
 same_for : (out : Bool) (x : Side) (n : ℕ) → n ≡ for_side out x (n, n)
@@ -32,15 +30,4 @@ pub largest_stands : (old new : Agreed) (c : Channel) → TermsStand old c → n
 largest_stands old new c s interface call values = record {
   call = call ∙ s.call;
   values = values ∙ largest_in_force old.interface c ∙ (λ k. values_in_force (sym interface k) (record c { accepting = Some (largest_terms old.interface) }));
-}
-
-below : (m w : ℕ) → IsBelow m w → IsBelow m (m - 1)
-below m w h = (grind (arith, h), grind (arith, h))
-
-pub largest_usable : (i : Interface) → AreUsable i.modulus (largest_values i)
-largest_usable i = record {
-  size_t = refl;
-  size_n = refl;
-  window_t = below i.modulus i.window (usable_of i).window_t;
-  window_n = below i.modulus i.window (usable_of i).window_n;
 }

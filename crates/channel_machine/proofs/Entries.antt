@@ -1,4 +1,4 @@
--- The entries of the tables, and the packets that they stand for.
+-- The entries of the tables, and the packets that they represent.
 use Rattle.std.proofs.Common.{◌≡◌, Bool, true, refl, sym, ◌∙◌, ap}
 use Rattle.line_model.specs.declared.packet.Class.{Class}
 use Rattle.line_model.specs.declared.state.Side.{Side}

@@ -6,7 +6,7 @@ use Rattle.line_model.specs.declared.state.Side.{Side}
 use Rattle.line_model.specs.declared.state.Side.TheVariants.{T, N}
 use Rattle.line_model.specs.declared.finding.Xcode.{Xcode}
 use Rattle.line_model.specs.declared.finding.Xcode.TheVariants.{X3, X4}
-use Rattle.line_model.specs.channels.Channels.{Told}
+use Rattle.line_model.specs.channels.Channels.{PadMessage}
 use Rattle.line_model.specs.packets.Formats.{or_other}
 use Rattle.line_model.specs.channels.Pad.{form_fault, was_asked, is_indication, is_set, message_fault, is_refusable, standard_pairs}
 use Rattle.pad.specs.Codes.{octets_of}
@@ -15,7 +15,7 @@ use Rattle.pad.specs.declared.message.MessageCode.TheVariants.{Indication, Invit
 use Rattle.pad.specs.Effects.{own_fault}
 
 -- a message that is neither an indication nor a set has none
-no_fault : (x : Side) (ts : List Told) (c : MessageCode) (ps : List ℕ) → form_fault (octets_of c ps) ≡ None → is_indication (octets_of c ps) ≡ false →
+no_fault : (x : Side) (ts : List PadMessage) (c : MessageCode) (ps : List ℕ) → form_fault (octets_of c ps) ≡ None → is_indication (octets_of c ps) ≡ false →
     is_set (octets_of c ps) ≡ false → None ≡ message_fault x ts (octets_of c ps)
 no_fault x ts c ps wf not_indication not_set =
     let m : List ℕ = octets_of c ps in
@@ -36,7 +36,7 @@ or_none : (o : Option Xcode) → or_other o None ≡ o
 or_none None = refl
 or_none (Some f) = refl
 
-pub both : (ts : List Told) (x : Side) (c : MessageCode) (ps : List ℕ) → form_fault (octets_of c ps) ≡ None →
+pub both : (ts : List PadMessage) (x : Side) (c : MessageCode) (ps : List ℕ) → form_fault (octets_of c ps) ≡ None →
     or_other (own_fault T ts (record { from = x; message = octets_of c ps })) (own_fault N ts (record { from = x; message = octets_of c ps }))
     ≡ message_fault x ts (octets_of c ps)
 both ts T Indication ps wf = or_none (message_fault T ts (octets_of Indication ps))

@@ -1,6 +1,6 @@
 -- A row on a channel of a recording with gaps, by what is certain of it.
 use Rattle.std.proofs.Common.{◌≡◌, ℕ, Bool, true, false, true≢false, refl, sym, ◌∙◌, ap, subst, append-nil, map, List, ◌++◌, Option, Some, None, Result, Ok, Err}
-use Rattle.std.specs.Prelude.{IfOk, ◌||◌, is_none, option_map, unwrap_or}
+use Rattle.std.specs.Prelude.{IfOk, ◌||◌, is_none, option_map}
 use Rattle.line_model.specs.declared.event.Event.{Event}
 use Rattle.line_model.specs.declared.fault.Fault.{Fault}
 use Rattle.line_model.specs.declared.interface.Interface.{Interface}
@@ -14,7 +14,7 @@ use Rattle.line_model.specs.channels.Gaps as gaps
 use Rattle.line_model.specs.channels.Gaps.{Doubts, WhileAdrift}
 use Rattle.line_model.specs.channels.GapStep.{GapOutcome, SettledOutcome, adrift_step, certainty_with, doubts_in, gap_channel_step, is_in_d1, packet_step, with_certainty}
 use Rattle.channel_machine.specs.declared.events.EventOrigin.{EventOrigin}
-use Rattle.channel_machine.specs.Channels.{DoesApart, Stands, StandsForReached, listed}
+use Rattle.channel_machine.specs.Channels.{DoesApart, Stands, RepresentsReached, listed}
 use Rattle.channel_machine.specs.Events.{data_of, event_at, origin_at}
 use Rattle.channel_machine.specs.GapChannels.{ComesAdrift, GapDoes, GapDoesApart, GapKnown, IsKnownBy, Represents, StandsAdrift, StandsSettled, adrift_at, at_rest, certainty_of, interface_of, number_of}
 use Rattle.channel_machine.specs.GapView.{InDoubt}
@@ -26,21 +26,6 @@ use Rattle.channel_machine.proofs.Reached.{reached_step}
 -- a row that is no gap
 pub packet_row : (i : Interface) (n : ℕ) (g : gaps.GapChannel) (r : Item) → gap_of r.packet ≡ None → gap_channel_step i n g r ≡ row_step i n g r
 packet_row i n g r none = ap (λ o. step_by o i n g r) (sym none)
-
--- a gap
-pub gap_row : (s : EventOrigin) (x : Side) (old new : GapKnown) (events : List Event) (all_channels : Bool) (r : Item) (g : gaps.GapChannel) → Some all_channels ≡ option_map (λ c. is_none c) (gap_of r.packet) →
-    interface_of new ≡ interface_of old → number_of new ≡ number_of old → Represents new (gaps.gap_step (interface_of old) (number_of old) all_channels g) →
-    GapDoesApart s x old new events events None (row_step (interface_of old) (number_of old) g r)
-gap_row s x old new events all_channels r g is interface number represents = at (gap_of r.packet) is
-  where
-    at : (gap : Option (Option ℕ)) → Some all_channels ≡ option_map (λ c. is_none c) gap → GapDoesApart s x old new events events None (step_by gap (interface_of old) (number_of old) g r)
-    at None e = cc
-    at (Some c) e = record {
-      interface = interface;
-      number = number;
-      represents = subst (λ b. Represents new (gaps.gap_step (interface_of old) (number_of old) b g)) (ap (λ o. unwrap_or o all_channels) e) represents;
-      reports = refl;
-    }
 
 -- a packet of which nothing says that it is a gap
 pub no_gap : (gap : Option (Option ℕ)) → None ≡ option_map (λ c. is_none c) gap → gap ≡ None
@@ -96,7 +81,7 @@ certain_at : (q : Result (Option ℕ) Fault) (s : EventOrigin) (old new : GapKno
 certain_at q s old new before after r g rep is kept same does =
     let i = interface_of old in
     let n = number_of old in
-    let st : StandsForReached old.channel g.channel = subst (λ t. IsKnownBy t old.channel g.channel) is rep.channel in
+    let st : RepresentsReached old.channel g.channel = subst (λ t. IsKnownBy t old.channel g.channel) is rep.channel in
     let here : gaps.Certain ≡ g.certainty = ap (λ t. certainty_of t) (sym is) ∙ rep.certainty in
     subst (λ o. IfOk q (λ k. GapDoesApart s r.side old new before after k o)) (certainty_same i n r g gaps.Certain here)
     (certain_after q s r.side old new before after (channel_step i n g.channel r) g rep.restarting (kept ∙ is) same (reached_step i n g.channel r st.reached) (does g.channel st.reached st.stands))

@@ -7,13 +7,13 @@ use Rattle.line_model.specs.declared.state.Side.{Side}
 use Rattle.line_model.specs.declared.finding.Xcode.{Xcode}
 use Rattle.line_model.specs.declared.finding.Xcode.TheVariants.{X1, X2, X3, X4, XL}
 use Rattle.line_model.specs.basics.Octets.{bits}
-use Rattle.line_model.specs.channels.Channels.{Told, other}
-use Rattle.line_model.specs.channels.Pad.{form_fault, set_told, asked, is_unknown_message, is_too_long, is_badly_formed, settings_of, settings_after, message_fault, is_indication, is_set, was_asked, is_refusable, standard_pairs, is_parameter}
+use Rattle.line_model.specs.channels.Channels.{PadMessage, other}
+use Rattle.line_model.specs.channels.Pad.{form_fault, events_of_set, asked, is_unknown_message, is_too_long, is_badly_formed, settings_of, settings_after, message_fault, is_indication, is_set, was_asked, is_refusable, standard_pairs, is_parameter}
 use Rattle.pad.specs.Codes.{octets_of}
 use Rattle.pad.specs.declared.message.MessageCode.{MessageCode}
 use Rattle.pad.specs.declared.message.MessageCode.TheVariants.{Indication, Set, SetAndRead}
 use Rattle.pad.specs.Effects.{all_indicated}
-use Rattle.pad.specs.Told.{set_events, set_events_by}
+use Rattle.pad.specs.MessageEvents.{set_events, set_events_by}
 use Rattle.std.specs.List.{list_any}
 use Rattle.pad.specs.Pairs.{pairs_before}
 use Rattle.pad.proofs.Applied.{one_octet}
@@ -62,7 +62,7 @@ pub settings_indicated : (x : Side) (c : MessageCode) (ps : List ℕ) → c ≡ 
 settings_indicated x c ps e = ap (λ d. settings_of x (octets_of d ps)) e
 
 set_by : (b : Bool) (x : Side) (c : MessageCode) (ps : List ℕ) → is_indication (octets_of c ps) ≡ false → b ≡ (length ps == 0) →
-    set_told b x (octets_of c ps) ≡ set_events (other x) ps
+    events_of_set b x (octets_of c ps) ≡ set_events (other x) ps
 set_by true x c ps f e = ap (λ b. set_events_by b (other x) ps) e
 set_by false x c ps f e =
     ap (λ b. map (asked (other x)) (filter (λ q. is_parameter q.reference) (pairs_before b ps))) f ∙ ap (λ b. set_events_by b (other x) ps) e
@@ -74,7 +74,7 @@ pub settings_set_and_read : (x : Side) (c : MessageCode) (ps : List ℕ) → c �
 settings_set_and_read x c ps e = ap (λ d. settings_of x (octets_of d ps)) e ∙ set_by (length (6 ∷ ps) == 1) x SetAndRead ps refl (one_octet 6 ps)
 
 -- a message with a fault of its own
-pub own_message_fault : (x : Side) (ts : List Told) (m : List ℕ) (f : Xcode) → form_fault m ≡ Some f → message_fault x ts m ≡ Some f
+pub own_message_fault : (x : Side) (ts : List PadMessage) (m : List ℕ) (f : Xcode) → form_fault m ≡ Some f → message_fault x ts m ≡ Some f
 own_message_fault x ts m f e =
     ap (λ o. elim o [
       | Some g ↦ Some g
@@ -93,7 +93,7 @@ no_settings false true c f x m e = ap (λ o. settings_after o x m) (sym e)
 no_settings false false true f x m e = ap (λ o. settings_after o x m) (sym e)
 no_settings false false false f x m e = cc
 
-pub faulted_settings : (x : Side) (ts : List Told) (m : List ℕ) (f : Xcode) → form_fault m ≡ Some f → settings_after (message_fault x ts m) x m ≡ []
+pub faulted_settings : (x : Side) (ts : List PadMessage) (m : List ℕ) (f : Xcode) → form_fault m ≡ Some f → settings_after (message_fault x ts m) x m ≡ []
 faulted_settings x ts m f e =
     ap (λ o. settings_after o x m) (own_message_fault x ts m f e) ∙ no_settings (is_unknown_message m) (is_too_long m) (is_badly_formed m) f x m e
 

@@ -1,7 +1,7 @@
 pub mod Calls
 pub mod Counting
 pub mod Faults
-pub mod Hearing
+pub mod AcceptingData
 pub mod InForce
 pub mod Kept
 pub mod PairCounts

@@ -1,13 +1,13 @@
 -- A row of a piece on a channel, and what is known of the channel at a moment.
 use Rattle.std.proofs.Common.{◌≡◌, ℕ, Bool, false, true≢false, refl, sym, ◌∙◌, ap, subst, Option, None, List, [], ◌∷◌, ◌++◌, Some, map, Result, Ok, Err}
-use Rattle.std.specs.Prelude.{IfOk, is_some, option_map}
+use Rattle.std.specs.Prelude.{IfOk}
 use Rattle.line_model.specs.declared.event.Event.{Event}
 use Rattle.line_model.specs.declared.event.What.{What}
 use Rattle.line_model.specs.declared.fault.Fault.{Fault}
 use Rattle.line_model.specs.declared.interface.Interface.{Interface}
 use Rattle.line_model.specs.declared.state.Side.{Side}
 use Rattle.line_model.specs.basics.Records.{Item}
-use Rattle.line_model.specs.channels.Channels.{Channel, Opening, is_open}
+use Rattle.line_model.specs.channels.Channels.{Channel}
 use Rattle.line_model.specs.channels.ChannelStep.{counts_of}
 use Rattle.line_model.specs.channels.Gaps as gaps
 use Rattle.line_model.specs.channels.GapStep.{GapOutcome}
@@ -23,7 +23,7 @@ use Rattle.channel_machine.specs.Events.{data_of, event_at}
 use Rattle.channel_machine.specs.GapChannels.{GapDoesApart, GapKnown, IsKnownBy, Represents, certainty_of, interface_of}
 use Rattle.channel_machine.specs.GapView.{KnownCertainty}
 use Rattle.channel_machine.specs.GapView.KnownCertainty.{Certain, Adrift, Settled}
-use Rattle.channel_machine.specs.TermsStand.{TermsStand, is_fast, is_pad, opened_of}
+use Rattle.channel_machine.specs.TermsStand.{TermsStand, is_fast, is_pad}
 use Rattle.line_model.specs.declared.event.What.TheVariants as what
 use Rattle.channel_machine.proofs.InForce.{fast_stands, pad_stands}
 
@@ -66,16 +66,6 @@ counts_known : (t : KnownCertainty) (p : Known) (c : Channel) → IsKnownBy t p 
 counts_known Certain p c s h = s.stands.transfer.flow
 counts_known (Adrift a) p c s h = s.stands.transfer.flow
 counts_known (Settled b) p c s h = absurd (true≢false h)
-
-pub state_seen : (p : GapKnown) (g : gaps.GapChannel) → Represents p g → p.channel.state ≡ g.channel.state
-state_seen p g r = (seen p.certainty p.channel g.channel r.channel).state
-
-some_mapped : (o : Option Opening) → is_some (option_map opened_of o) ≡ is_some o
-some_mapped None = refl
-some_mapped (Some o) = refl
-
-pub open_seen : (p : GapKnown) (g : gaps.GapChannel) → Represents p g → is_some p.channel.terms.call ≡ is_open g.channel
-open_seen p g r = ap (λ o. is_some o) (seen p.certainty p.channel g.channel r.channel).terms.call ∙ some_mapped g.channel.opening
 
 -- the view of what is kept of a channel
 abbrev pub view_known : Known → (adrift : Bool) → View

@@ -1,4 +1,4 @@
--- Data packets that were missed, and the numbers that stand for them.
+-- Data packets that were missed, and the numbers that represent them.
 use Rattle.std.proofs.Common.{◌≡◌, ◌⊎◌, ◌<◌, ◌≤◌, ◌-◌, ◌%◌, ◌+◌, ℕ, zero, suc, Bool, true, false, true≢false, refl, sym, ◌∙◌, ap, subst, List, [], ◌∷◌, ◌++◌, length, arith, append-nil}
 use Rattle.std.specs.Prelude.{is_some, not, replicate, Option, Some, None}
 use Rattle.std.proofs.lemmas.List.{length-append}
@@ -47,7 +47,7 @@ packets_apart x hs k =
 pub sent_apart : (x : Side) (hs : List AcceptedData) (k : ℕ) → sent (other x) (hs ++ replicate k (missed x)) ≡ sent (other x) hs
 sent_apart x hs k = ap (λ l. length l) (packets_apart x hs k)
 
--- the number after so many missed packets
+-- the number after `missing` packets
 pub missing_hit : (m s n : ℕ) → (m ≡ 8) ⊎ (m ≡ 128) → (s + missing m s n) % m ≡ n % m
 missing_hit m s n e = grind (arith, e)
 
@@ -67,28 +67,28 @@ moved m s a sent acknowledged n e h same = record {
 at_count : (m s k a sent acknowledged : ℕ) → s ≡ k → DirectionStands m (m - 1) s a sent acknowledged → DirectionStands m (m - 1) k a sent acknowledged
 at_count m s k a sent acknowledged e h = subst (λ v. DirectionStands m (m - 1) v a sent acknowledged) e h
 
--- numbers that stand for a channel with such packets
+-- numbers that represent a channel with such packets
 pub presumed : (x : Side) (n : ℕ) (f : FlowResidues) (c : Channel) → (f.modulus ≡ 8) ⊎ (f.modulus ≡ 128) → f.windows ≡ of_both (f.modulus - 1) → Stands f (counts_of c) →
-    of_side x (sent_by c.heard) ≡ of_side x c.acknowledged →
+    of_side x (sent_by c.accepted) ≡ of_side x c.acknowledged →
     Stands (record f { sent = with_side x (n % f.modulus) f.sent }) (counts_of (completed_to f.modulus true x n c))
 presumed T n f c e w h same =
-    let k : ℕ = missing f.modulus (sent T c.heard) n in
-    let of_t : DirectionStands f.modulus (f.modulus - 1) (sent T c.heard) c.acknowledged.of_t f.sent.of_t f.acknowledged.of_t = subst (λ v. DirectionStands f.modulus v.of_t (sent T c.heard) c.acknowledged.of_t f.sent.of_t f.acknowledged.of_t) w h.of_t in
+    let k : ℕ = missing f.modulus (sent T c.accepted) n in
+    let of_t : DirectionStands f.modulus (f.modulus - 1) (sent T c.accepted) c.acknowledged.of_t f.sent.of_t f.acknowledged.of_t = subst (λ v. DirectionStands f.modulus v.of_t (sent T c.accepted) c.acknowledged.of_t f.sent.of_t f.acknowledged.of_t) w h.of_t in
     record {
-      of_t = subst (λ v. DirectionStands f.modulus v.of_t (sent T (c.heard ++ replicate k (missed T))) c.acknowledged.of_t (n % f.modulus) f.acknowledged.of_t) (sym w)
-          (at_count f.modulus (sent T c.heard + k) (sent T (c.heard ++ replicate k (missed T))) c.acknowledged.of_t (n % f.modulus) f.acknowledged.of_t (sym (sent_own T c.heard k))
-          (moved f.modulus (sent T c.heard) c.acknowledged.of_t f.sent.of_t f.acknowledged.of_t n e of_t same));
-      of_n = subst (λ s. DirectionStands f.modulus f.windows.of_n s c.acknowledged.of_n f.sent.of_n f.acknowledged.of_n) (sym (sent_apart T c.heard k)) h.of_n;
+      of_t = subst (λ v. DirectionStands f.modulus v.of_t (sent T (c.accepted ++ replicate k (missed T))) c.acknowledged.of_t (n % f.modulus) f.acknowledged.of_t) (sym w)
+          (at_count f.modulus (sent T c.accepted + k) (sent T (c.accepted ++ replicate k (missed T))) c.acknowledged.of_t (n % f.modulus) f.acknowledged.of_t (sym (sent_own T c.accepted k))
+          (moved f.modulus (sent T c.accepted) c.acknowledged.of_t f.sent.of_t f.acknowledged.of_t n e of_t same));
+      of_n = subst (λ s. DirectionStands f.modulus f.windows.of_n s c.acknowledged.of_n f.sent.of_n f.acknowledged.of_n) (sym (sent_apart T c.accepted k)) h.of_n;
       unconfirmed = h.unconfirmed;
     }
 presumed N n f c e w h same =
-    let k : ℕ = missing f.modulus (sent N c.heard) n in
-    let of_n : DirectionStands f.modulus (f.modulus - 1) (sent N c.heard) c.acknowledged.of_n f.sent.of_n f.acknowledged.of_n = subst (λ v. DirectionStands f.modulus v.of_n (sent N c.heard) c.acknowledged.of_n f.sent.of_n f.acknowledged.of_n) w h.of_n in
+    let k : ℕ = missing f.modulus (sent N c.accepted) n in
+    let of_n : DirectionStands f.modulus (f.modulus - 1) (sent N c.accepted) c.acknowledged.of_n f.sent.of_n f.acknowledged.of_n = subst (λ v. DirectionStands f.modulus v.of_n (sent N c.accepted) c.acknowledged.of_n f.sent.of_n f.acknowledged.of_n) w h.of_n in
     record {
-      of_t = subst (λ s. DirectionStands f.modulus f.windows.of_t s c.acknowledged.of_t f.sent.of_t f.acknowledged.of_t) (sym (sent_apart N c.heard k)) h.of_t;
-      of_n = subst (λ v. DirectionStands f.modulus v.of_n (sent N (c.heard ++ replicate k (missed N))) c.acknowledged.of_n (n % f.modulus) f.acknowledged.of_n) (sym w)
-          (at_count f.modulus (sent N c.heard + k) (sent N (c.heard ++ replicate k (missed N))) c.acknowledged.of_n (n % f.modulus) f.acknowledged.of_n (sym (sent_own N c.heard k))
-          (moved f.modulus (sent N c.heard) c.acknowledged.of_n f.sent.of_n f.acknowledged.of_n n e of_n same));
+      of_t = subst (λ s. DirectionStands f.modulus f.windows.of_t s c.acknowledged.of_t f.sent.of_t f.acknowledged.of_t) (sym (sent_apart N c.accepted k)) h.of_t;
+      of_n = subst (λ v. DirectionStands f.modulus v.of_n (sent N (c.accepted ++ replicate k (missed N))) c.acknowledged.of_n (n % f.modulus) f.acknowledged.of_n) (sym w)
+          (at_count f.modulus (sent N c.accepted + k) (sent N (c.accepted ++ replicate k (missed N))) c.acknowledged.of_n (n % f.modulus) f.acknowledged.of_n (sym (sent_own N c.accepted k))
+          (moved f.modulus (sent N c.accepted) c.acknowledged.of_n f.sent.of_n f.acknowledged.of_n n e of_n same));
       unconfirmed = h.unconfirmed;
     }
 
@@ -149,7 +149,7 @@ settled_numbers m N n next l h f c e modulus windows free is sent_is acknowledge
 
 -- a side whose next number is in doubt then has nothing outstanding
 settled_equal : (m : ℕ) (y x : Side) (n : ℕ) (l : LastData) (h : Option DataHeader) (c : Channel) → of_side x (with_side y (not (is_some h)) (of_both false)) ≡ true →
-    of_side x (sent_by (settled_channel m y n l h c).heard) ≡ of_side x (settled_channel m y n l h c).acknowledged
+    of_side x (sent_by (settled_channel m y n l h c).accepted) ≡ of_side x (settled_channel m y n l h c).acknowledged
 settled_equal m T T n l None c e = own_count T n l.receive
 settled_equal m T T n l (Some h) c e = absurd (true≢false (sym e))
 settled_equal m T N n l h c e = absurd (true≢false (sym e))

@@ -48,7 +48,7 @@ data_is : (m w : ℕ) (x : Side) (s n : ℕ) (c : Counts) → count_data m w c x
 data_is m w T s n c = data_shape T (is_send_valid m w c.sent.of_t c.acknowledged.of_t s) (count_acknowledged m c.sent.of_n c.acknowledged.of_n n) c
 data_is m w N s n c = data_shape N (is_send_valid m w c.sent.of_n c.acknowledged.of_n s) (count_acknowledged m c.sent.of_t c.acknowledged.of_t n) c
 
--- an answer by counts of which nothing of the side is outstanding, for the counts themselves
+-- a result of counts of which nothing of the side is outstanding, for the counts themselves
 abbrev IsDoubtful : {U : Type 0} → Result U ℕ → FlowResidues → Side → Result Counts ℕ → Counts → Type 0
 IsDoubtful (Ok u) f x r c =
     (v : Counts) × (r ≡ Ok v) × Stands f (record v { acknowledged = with_side x (of_side x c.sent) v.acknowledged })
@@ -154,7 +154,7 @@ windows_of : (x : Side) (f : FlowResidues) → f.windows ≡ of_both (f.modulus 
 windows_of T f e = ap (λ v. v.of_t) e
 windows_of N f e = ap (λ v. v.of_n) e
 
--- the answer of numbers that are set, at the widest window of those before
+-- the result of numbers that are set, at the widest window of those before
 at_widest : {U : Type 0} (r : Result U ℕ) (f g h : FlowResidues) (x : Side) (s n : ℕ) (c : Counts) → IsWidest f → g.modulus ≡ f.modulus → g.windows ≡ f.windows →
     Answers r g h (count_data g.modulus (of_side x g.windows) c x s n) → Answers r g h (count_data f.modulus (f.modulus - 1) c x s n)
 at_widest r f g h x s n c wide modulus windows answer =
@@ -224,63 +224,63 @@ abbrev count_completed : ℕ → Bool → ℕ → ℕ → ℕ
 count_completed m false n s = s
 count_completed m true n s = s + missing m s n
 
-sent_completed : (m : ℕ) (b : Bool) (y : Side) (n : ℕ) (c : Channel) → sent y (completed_to m b y n c).heard ≡ count_completed m b n (sent y c.heard)
+sent_completed : (m : ℕ) (b : Bool) (y : Side) (n : ℕ) (c : Channel) → sent y (completed_to m b y n c).accepted ≡ count_completed m b n (sent y c.accepted)
 sent_completed m false y n c = refl
-sent_completed m true y n c = sent_own y c.heard (missing m (sent y c.heard) n)
+sent_completed m true y n c = sent_own y c.accepted (missing m (sent y c.accepted) n)
 
 -- completing the one side leaves what completing the other comes to
-sent_both : (m : ℕ) (b : Bool) (x y : Side) (n s : ℕ) (c : Channel) → y ≡ other x → sent y (completed_to m b y n (completed_to m true x s c)).heard ≡ sent y (completed_to m b y n c).heard
+sent_both : (m : ℕ) (b : Bool) (x y : Side) (n s : ℕ) (c : Channel) → y ≡ other x → sent y (completed_to m b y n (completed_to m true x s c)).accepted ≡ sent y (completed_to m b y n c).accepted
 sent_both m b x y n s c is =
     sent_completed m b y n (completed_to m true x s c)
-    ∙ ap (λ k. count_completed m b n k) (subst (λ z. sent z (c.heard ++ replicate (missing m (sent x c.heard) s) (missed x)) ≡ sent z c.heard) (sym is) (sent_apart x c.heard (missing m (sent x c.heard) s)))
+    ∙ ap (λ k. count_completed m b n k) (subst (λ z. sent z (c.accepted ++ replicate (missing m (sent x c.accepted) s) (missed x)) ≡ sent z c.accepted) (sym is) (sent_apart x c.accepted (missing m (sent x c.accepted) s)))
     ∙ sym (sent_completed m b y n c)
 
 -- how many packets the side itself has then
-sent_first : (m : ℕ) (b : Bool) (x y : Side) (n s : ℕ) (c : Channel) → x ≡ other y → sent x (completed_to m b y n (completed_to m true x s c)).heard ≡ sent x c.heard + missing m (sent x c.heard) s
+sent_first : (m : ℕ) (b : Bool) (x y : Side) (n s : ℕ) (c : Channel) → x ≡ other y → sent x (completed_to m b y n (completed_to m true x s c)).accepted ≡ sent x c.accepted + missing m (sent x c.accepted) s
 sent_first m b x y n s c is =
-    subst (λ z. sent z (completed_to m b y n (completed_to m true x s c)).heard ≡ sent z (completed_to m true x s c).heard) (sym is) (sent_other m b y n (completed_to m true x s c))
-    ∙ sent_own x c.heard (missing m (sent x c.heard) s)
+    subst (λ z. sent z (completed_to m b y n (completed_to m true x s c)).accepted ≡ sent z (completed_to m true x s c).accepted) (sym is) (sent_other m b y n (completed_to m true x s c))
+    ∙ sent_own x c.accepted (missing m (sent x c.accepted) s)
 
 -- a direction in which nothing is outstanding
 all_stands : (m k s : ℕ) → k % m ≡ s % m → DirectionStands m (m - 1) k k (s % m) (s % m)
 all_stands m k s e = record { sent_is = e; acknowledged_is = e; ordered = omega arith; within = omega arith }
 
 -- the numbers before the first data packet of a side whose next P(S) is in doubt
-first_at : (x : Side) (b : Bool) (f : FlowResidues) (s n : ℕ) (c : Channel) → IsWidest f → sent x c.heard ≡ of_side x c.acknowledged → Stands f (counts_of (completed_to f.modulus b (other x) n c)) →
+first_at : (x : Side) (b : Bool) (f : FlowResidues) (s n : ℕ) (c : Channel) → IsWidest f → sent x c.accepted ≡ of_side x c.acknowledged → Stands f (counts_of (completed_to f.modulus b (other x) n c)) →
     IsFirst f x s (counts_of (completed_to f.modulus b (other x) n (completed_to f.modulus true x s c)))
 first_at T b f s n c wide same h =
     let m : ℕ = f.modulus in
     let d : Channel = completed_to m b N n (completed_to m true T s c) in
-    let count : sent T d.heard ≡ sent T c.heard + missing m (sent T c.heard) s = sent_first m b T N n s c refl in
+    let count : sent T d.accepted ≡ sent T c.accepted + missing m (sent T c.accepted) s = sent_first m b T N n s c refl in
     let ack : d.acknowledged ≡ (completed_to m b N n c).acknowledged = ack_same m b N n (completed_to m true T s c) ∙ sym (ack_same m b N n c) in
     let edge : d.acknowledged ≡ c.acknowledged = ack_same m b N n (completed_to m true T s c) in
-    let hit : sent T d.heard % m ≡ s % m = ap (λ k. k % m) count ∙ missing_hit m (sent T c.heard) s wide.eight in
+    let hit : sent T d.accepted % m ≡ s % m = ap (λ k. k % m) count ∙ missing_hit m (sent T c.accepted) s wide.eight in
     record {
       stands = record {
-        of_t = subst (λ w. DirectionStands m w (sent T d.heard) (sent T d.heard) (s % m) (s % m)) (sym (windows_of T f wide.windows)) (all_stands m (sent T d.heard) s hit);
+        of_t = subst (λ w. DirectionStands m w (sent T d.accepted) (sent T d.accepted) (s % m) (s % m)) (sym (windows_of T f wide.windows)) (all_stands m (sent T d.accepted) s hit);
         of_n = subst (λ (q : ℕ × Sides ℕ). DirectionStands m f.windows.of_n q.0 q.1.of_n f.sent.of_n f.acknowledged.of_n) (λ j. (sym (sent_both m b T N n s c refl) j, sym ack j)) h.of_n;
         unconfirmed = h.unconfirmed ∙ unconfirmed_same m b N n c ∙ sym (unconfirmed_same m b N n (completed_to m true T s c));
       };
       edge = sym h.of_t.acknowledged_is ∙ ap (λ v. v.of_t % m) (sym ack);
       ordered = omega (arith, count, same, ap (λ v. v.of_t) edge);
-      below = omega (arith, count, same, ap (λ v. v.of_t) edge, missing_below m (sent T c.heard) s wide.eight);
+      below = omega (arith, count, same, ap (λ v. v.of_t) edge, missing_below m (sent T c.accepted) s wide.eight);
     }
 first_at N b f s n c wide same h =
     let m : ℕ = f.modulus in
     let d : Channel = completed_to m b T n (completed_to m true N s c) in
-    let count : sent N d.heard ≡ sent N c.heard + missing m (sent N c.heard) s = sent_first m b N T n s c refl in
+    let count : sent N d.accepted ≡ sent N c.accepted + missing m (sent N c.accepted) s = sent_first m b N T n s c refl in
     let ack : d.acknowledged ≡ (completed_to m b T n c).acknowledged = ack_same m b T n (completed_to m true N s c) ∙ sym (ack_same m b T n c) in
     let edge : d.acknowledged ≡ c.acknowledged = ack_same m b T n (completed_to m true N s c) in
-    let hit : sent N d.heard % m ≡ s % m = ap (λ k. k % m) count ∙ missing_hit m (sent N c.heard) s wide.eight in
+    let hit : sent N d.accepted % m ≡ s % m = ap (λ k. k % m) count ∙ missing_hit m (sent N c.accepted) s wide.eight in
     record {
       stands = record {
         of_t = subst (λ (q : ℕ × Sides ℕ). DirectionStands m f.windows.of_t q.0 q.1.of_t f.sent.of_t f.acknowledged.of_t) (λ j. (sym (sent_both m b N T n s c refl) j, sym ack j)) h.of_t;
-        of_n = subst (λ w. DirectionStands m w (sent N d.heard) (sent N d.heard) (s % m) (s % m)) (sym (windows_of N f wide.windows)) (all_stands m (sent N d.heard) s hit);
+        of_n = subst (λ w. DirectionStands m w (sent N d.accepted) (sent N d.accepted) (s % m) (s % m)) (sym (windows_of N f wide.windows)) (all_stands m (sent N d.accepted) s hit);
         unconfirmed = h.unconfirmed ∙ unconfirmed_same m b T n c ∙ sym (unconfirmed_same m b T n (completed_to m true N s c));
       };
       edge = sym h.of_n.acknowledged_is ∙ ap (λ v. v.of_n % m) (sym ack);
       ordered = omega (arith, count, same, ap (λ v. v.of_n) edge);
-      below = omega (arith, count, same, ap (λ v. v.of_n) edge, missing_below m (sent N c.heard) s wide.eight);
+      below = omega (arith, count, same, ap (λ v. v.of_n) edge, missing_below m (sent N c.accepted) s wide.eight);
     }
 
 -- what the numbers of a data packet come to on a channel
@@ -298,7 +298,7 @@ judged_first r i s f x y h c wide ns side doubt modulus stands answer =
     let here : Stands f (counts_of (completed_to f.modulus (of_side (other x) s.doubts.numbers) (other x) h.receive c)) =
     subst (λ (q : ℕ × Side). Stands f (counts_of (completed_to q.0 (of_side q.1 s.doubts.numbers) q.1 h.receive c))) (λ j. (sym modulus j, side j)) stands in
     numbered_by r f.modulus true i s.doubts x h c modulus doubt
-    (answer _ (first_at x (of_side (other x) s.doubts.numbers) f h.send h.receive c wide (sym (side_of x c.heard) ∙ ns.acknowledged x doubt) here))
+    (answer _ (first_at x (of_side (other x) s.doubts.numbers) f h.send h.receive c wide (sym (side_of x c.accepted) ∙ ns.acknowledged x doubt) here))
 
 pub judged_next : (r : Result FlowResidues ℕ) (i : Interface) (s : InDoubt) (f : FlowResidues) (x y : Side) (w : ℕ) (h : DataHeader) (c : Channel) → y ≡ other x → of_side x s.doubts.numbers ≡ false →
     f.modulus ≡ i.modulus → w ≡ window_in_force i c x → w < i.modulus → Stands f (counts_of (completed_to i.modulus (of_side y s.doubts.numbers) y h.receive c)) →

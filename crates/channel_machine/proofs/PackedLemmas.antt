@@ -5,7 +5,7 @@ use Rattle.data_transfer.specs.FlowResidues.{FlowResidues}
 use Rattle.line_model.specs.declared.interface.Interface.{Interface}
 use Rattle.data_transfer.specs.Packed.{Packed}
 use Rattle.channel_machine.specs.declared.terms.Values.{Values}
-use Rattle.channel_machine.specs.Status.{CountsAlone, Status, view_of}
+use Rattle.channel_machine.specs.Status.{Status, view_of}
 use Rattle.std.specs.Prelude.{◌&&◌, cond, Some, None}
 use Rattle.channel_run.specs.StatusWord.{state_by, state_in, owed_in, pad_call_in, fast_in, view_in}
 use Rattle.channel_machine.specs.declared.terms.Opened.{Opened}
@@ -106,29 +106,6 @@ settled_status i old new owner_bits flow =
       };
       flow = old.flow;
     })
-
--- other counts under the same number of the owner
-pub counts_alone : (i : Interface) (old new : Packed) → new.owner_bits ≡ old.owner_bits → new.flow.modulus ≡ old.flow.modulus → new.flow.windows ≡ old.flow.windows →
-    CountsAlone (status_in i old) (status_in i new)
-counts_alone i old new owner_bits modulus windows = record {
-  rest = λ j. record {
-    state = state_in (owner_bits j);
-    owed = owed_in (owner_bits j);
-    terms = record {
-      interface = i;
-      call = call_in (owner_bits j);
-      values = record {
-        size_t = 2 ^ (owner_bits j / 1024 % 16);
-        size_n = 2 ^ (owner_bits j / 16384 % 16);
-        window_t = (windows j).of_t;
-        window_n = (windows j).of_n;
-      };
-    };
-    flow = new.flow;
-  };
-  modulus = modulus;
-  windows = windows;
-}
 
 -- the bits of a call, one by one
 open_bit : (a : ℕ) → a / 64 % 16 / 8 ≡ a / 2 ^ 9 % 2

@@ -1,4 +1,4 @@
--- A channel stays one that was heard from its beginning.
+-- A channel stays one that was followed from its beginning.
 use Rattle.std.proofs.Common.{◌≡◌, ℕ, Bool, true, false, true≢false, refl, sym, ◌∙◌, ap, subst, List, Option, Some, None, Result, Ok, Err}
 use Rattle.std.specs.Prelude.{IfNone, is_some, not, ◌&&◌, ◌||◌}
 use Rattle.line_model.specs.declared.diagnostic.TheConstants.{INCONSISTENT_Q_BIT_SETTING}
@@ -25,7 +25,7 @@ use Rattle.line_model.specs.packets.Formats.{packet_fault}
 use Rattle.line_model.specs.channels.Sequences.{is_alike, begun}
 use Rattle.line_model.specs.packets.Formats.{size_in_force, window_in_force}
 use Rattle.line_model.specs.channels.FlowControl.{count_data}
-use Rattle.line_model.specs.channels.ChannelStep.{judged, verdict, verdict_step, channel_step, changing, entering, ending, ending_open, failing, after_error, transferring, data_step, data_counted, data_alike, counting, counts_of, heard_of, call_change, state_named}
+use Rattle.line_model.specs.channels.ChannelStep.{judged, verdict, verdict_step, channel_step, changing, entering, ending, ending_open, failing, after_error, transferring, data_step, data_counted, data_alike, counting, counts_of, accepted_of, call_change, state_named}
 use Rattle.channel_machine.specs.Reached.{IsReached, IsUnanswered, is_from, is_waiting}
 use Rattle.channel_machine.specs.Entries.{is_entry}
 use Rattle.channel_machine.proofs.Entries.{fits}
@@ -127,12 +127,12 @@ alike_by i x s p v true c r = same c (data_alike i x s p v true c).after refl re
 
 counted_by : (i : Interface) (x : Side) (s : StateName) (p : AcceptedData) (a : Result Counts ℕ) (c : Channel) → IsReached c → IsReached (data_counted i x s p a c).after
 counted_by i x s p (Err n) c r = failed x s n c r
-counted_by i x s p (Ok v) c r = alike_by i x s p v (is_alike p (begun (size_in_force i c x) x c.heard)) c r
+counted_by i x s p (Ok v) c r = alike_by i x s p v (is_alike p (begun (size_in_force i c x) x c.accepted)) c r
 
 data_by : (i : Interface) (s : StateName) (r : Item) (h : Option DataHeader) (c : Channel) → IsReached c → IsReached (data_step i s r h c).after
 data_by i s r None c h = h
 data_by i s r (Some d) c h =
-    counted_by i r.side s (heard_of i r d) (count_data i.modulus (window_in_force i c r.side) (counts_of c) r.side d.send d.receive) c h
+    counted_by i r.side s (accepted_of i r d) (count_data i.modulus (window_in_force i c r.side) (counts_of c) r.side d.send d.receive) c h
 
 transferred : (i : Interface) (s : StateName) (k : Class) (r : Item) (c : Channel) → IsReached c → IsReached (transferring i s k r c).after
 transferred i s Data r c h = data_by i s r (header_in r.packet) c h

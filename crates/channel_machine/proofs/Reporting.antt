@@ -25,7 +25,7 @@ more s old mid new vs ws first second =
     second ∙ ap (λ l. l ++ map (event_at s) ws) first ∙ append_assoc old (map (event_at s) vs) (map (event_at s) ws)
     ∙ ap (λ l. old ++ l) (sym (events_append s vs ws))
 
--- reports along pairs: those taken so far are reported, and with those left they are all
+-- reports along pairs: those read so far are reported, and with those left they are all
 pub record IsReported (s : EventOrigin) (f : Pair → List What) (start now : List Event) (left all : List Pair) : Type 0 where
   pub done : List What
   pub reports : Reports s start now done

@@ -5,7 +5,7 @@ use Rattle.std.proofs.lemmas.List.{length-drop}
 use Rattle.std.specs.Prelude.{if◌then◌else◌, unwrap_or, ◌==◌}
 use Rattle.line_model.specs.basics.Records.{Item}
 use Rattle.line_model.specs.channels.Channels.{Channel}
-use Rattle.line_model.specs.channels.ChannelStep.{counting, counts_of, heard_of, transferring}
+use Rattle.line_model.specs.channels.ChannelStep.{counting, counts_of, accepted_of, transferring}
 use Rattle.line_model.specs.channels.FlowControl.{count_receive}
 use Rattle.line_model.specs.declared.interface.Interface.{Interface}
 use Rattle.line_model.specs.declared.packet.Class.{Class}
@@ -28,7 +28,7 @@ whole_octets i r h said q = subst (λ n. header_length i ≤ n) (sym (said.full 
 
 -- the data packet of a row with Q 1
 pub qualified_is : (i : Interface) (r : Item) (h : DataHeader) (x : Side) (ys : List ℕ) → IsSaidData i r h → h.qualified ≡ true → x ≡ r.side → ys ≡ drop (header_length i) r.octets →
-    packet x h ys ≡ heard_of i r h
+    packet x h ys ≡ accepted_of i r h
 qualified_is i r h x ys said q side octets =
     let long : length ys ≡ r.length - header_length i = ap (λ l. length l) octets ∙ length-drop (header_length i) r.octets ∙ ap (λ n. n - header_length i) (said.full q) in
     λ j. record { side = side j; qualified = h.qualified; more = h.more; delivery = h.delivery; length = long j; octets = octets j }
@@ -39,7 +39,7 @@ none_left false xs e = sym (ap (λ l. drop 4 l) e)
 
 -- the data packet of a row with Q 0
 pub unqualified_is : (i : Interface) (r : Item) (h : DataHeader) (x : Side) (n : ℕ) → IsSaidData i r h → h.qualified ≡ false → x ≡ r.side → n ≡ r.length - header_length i →
-    unqualified x h.more h.delivery n ≡ heard_of i r h
+    unqualified x h.more h.delivery n ≡ accepted_of i r h
 unqualified_is i r h x n said q side long =
     let octets : [] ≡ drop (header_length i) r.octets = none_left (i.modulus == 8) r.octets (said.silent q) in
     λ j. record { side = side j; qualified = sym q j; more = h.more; delivery = h.delivery; length = long j; octets = octets j }

@@ -145,7 +145,7 @@ unkept b a s x f hs p h is e = unkept_at (of_side x s.doubts.sequences) a s x f 
 -- a packet that is kept
 pub record IsKept (s : InDoubt) (x : Side) (f : DataField) : Type 0 where
   pub known : of_side x s.doubts.sequences ≡ false
-  pub told : not (s.doubts.hidden && not f.qualified) ≡ true
+  pub known_by : not (s.doubts.hidden && not f.qualified) ≡ true
   pub like : is_like (begun_on s.assembler x).qualified f.qualified ≡ true
 
 not_true : (b : Bool) → not b ≡ true → b ≡ false
@@ -158,7 +158,7 @@ kept_is b s x f is e =
     let rest = second_of (not (of_side x s.doubts.sequences)) (not (s.doubts.hidden && not f.qualified) && is_like (begun_on s.assembler x).qualified f.qualified) all in
     record {
       known = not_true (of_side x s.doubts.sequences) (first_of (not (of_side x s.doubts.sequences)) (not (s.doubts.hidden && not f.qualified) && is_like (begun_on s.assembler x).qualified f.qualified) all);
-      told = first_of (not (s.doubts.hidden && not f.qualified)) (is_like (begun_on s.assembler x).qualified f.qualified) rest;
+      known_by = first_of (not (s.doubts.hidden && not f.qualified)) (is_like (begun_on s.assembler x).qualified f.qualified) rest;
       like = second_of (not (s.doubts.hidden && not f.qualified)) (is_like (begun_on s.assembler x).qualified f.qualified) rest;
     }
 
@@ -183,7 +183,7 @@ joined s new x f hs p h k is =
     (ap (λ (v : SequenceView). v.qualified) is ∙ ap (λ q. Some q) (sym h.qualified))
     (ap (λ (v : SequenceView). v.octets) is ∙ ap (λ l. with_more b.octets l) (sym h.octets)) in
     subst (λ d. Holds new (kept_of d s.doubts.hidden (hs ++ p ∷ []))) (sym k.known)
-    (subst (λ l. Holds new l) (more_kept s.doubts.hidden hs p (λ e. h.qualified ∙ hidden_qualified s.doubts.hidden f.qualified k.told e)) more)
+    (subst (λ l. Holds new l) (more_kept s.doubts.hidden hs p (λ e. h.qualified ∙ hidden_qualified s.doubts.hidden f.qualified k.known_by e)) more)
 
 -- one that completes its sequence
 pub completes : (s : InDoubt) (x : Side) (f : DataField) (hs : List AcceptedData) (p : AcceptedData) (a : Bool) (os : List ℕ) → IsContinued s x f hs p → IsKept s x f → a ≡ false →
@@ -192,7 +192,7 @@ completes s x f hs p a os h k last is =
     let gs : List AcceptedData = kept_of false s.doubts.hidden hs in (
       (λ j. not (k.known j) && not (last j)),
       is ∙ ap (λ l. with_more (begun_on s.assembler x).octets l) (sym h.octets) ∙ octets_more (begun_on s.assembler x) gs p (known_holds s x f hs p h k.known)
-          ∙ ap (λ l. kept_octets (l ++ p ∷ [])) (kept_alike s.doubts.hidden p hs (known_alike s x f hs p h k.known) (ap (λ q. not (s.doubts.hidden && not q)) h.qualified ∙ k.told)),
+          ∙ ap (λ l. kept_octets (l ++ p ∷ [])) (kept_alike s.doubts.hidden p hs (known_alike s x f hs p h k.known) (ap (λ q. not (s.doubts.hidden && not q)) h.qualified ∙ k.known_by)),
     )
 
 -- whether it is certain that a packet has another Q bit

@@ -1,4 +1,4 @@
--- What the pairs of a message tell, one after another and all at once.
+-- What the pairs of a message set, one after another and all at once.
 use Rattle.std.proofs.Common.{◌≡◌, ℕ, true, false, ◌∙◌, ap, List}
 use Rattle.std.specs.Prelude.{flat_map}
 use Rattle.line_model.specs.declared.state.Side.{Side}

@@ -12,7 +12,7 @@ use Rattle.line_model.specs.declared.state.StateName.{StateName}
 use Rattle.line_model.specs.basics.Records.{Item}
 use Rattle.line_model.specs.packets.Formats.{is_pad_call, size_in_force}
 use Rattle.line_model.specs.channels.Channels.{AcceptedData, Channel, Sides, of_side, other, with_side}
-use Rattle.line_model.specs.channels.ChannelStep.{counts_of, heard_of}
+use Rattle.line_model.specs.channels.ChannelStep.{counts_of, accepted_of}
 use Rattle.line_model.specs.channels.FlowControl.{Counts, count_acknowledged, count_data, count_receive, is_send_valid, is_side, packets_of, sent, sent_by}
 use Rattle.line_model.specs.channels.Gaps.{Doubts, of_both}
 use Rattle.line_model.specs.channels.GapStep.{SettledOutcome, accepting_in_doubt, alike_at_end, alike_in_doubt, completed_for_data, completed_to, counted_in_doubt, data_in_doubt, doubts_after_data, edge_in_doubt, failing_in_doubt, is_in_d1, is_mixed, may_be_begun, may_be_category_a, message_in_doubt, settings_in_doubt, window_in_doubt}
@@ -84,21 +84,21 @@ sequences_for_data i s x h c ns ss = λ y. subst (λ l. Holds (begun_on s.assemb
 pub continues : (i : Interface) (s : InDoubt) (x : Side) (h : DataHeader) (p : AcceptedData) (c : Channel) → NumbersStand i.modulus s c → SequencesStand i s c → is_mixed s.doubts.hidden (of_side x s.doubts.sequences) p (continued_by i s.doubts x h c) ≡ false →
     Continues s x (continued_by i s.doubts x h c) p
 continues i s x h p c ns ss alike = record {
-  holds = subst (λ n. Holds (begun_on s.assembler x) (kept_of (of_side x s.doubts.sequences) s.doubts.hidden (may_be_begun s.doubts.hidden n x (completed_for_data i.modulus s.doubts x h c).heard)))
+  holds = subst (λ n. Holds (begun_on s.assembler x) (kept_of (of_side x s.doubts.sequences) s.doubts.hidden (may_be_begun s.doubts.hidden n x (completed_for_data i.modulus s.doubts x h c).accepted)))
       (size_same i s.doubts x x h c) (sequences_for_data i s x h c ns ss x);
   alike = alike;
 }
 
--- the answer to its numbers and its Q bit
+-- the result for its numbers and its Q bit
 pub misnumbered : (n : ℕ) (i : Interface) (b : Doubts) (x : Side) (h : DataHeader) (p : AcceptedData) (c : Channel) → IsNumbered (Err n) i b x h c → IsDataJudged (Err n) i b x h p c
 misnumbered n i b x h p c is = λ q. ap (λ r. counted_in_doubt i.modulus x q (size_in_force i c x) p r b (completed_for_data i.modulus b x h c) c) is
 
-alike_by : (m : ℕ) (x : Side) (q : StateName) (size : ℕ) (p : AcceptedData) (v : Counts) (b : Doubts) (d c : Channel) → is_mixed b.hidden (of_side x b.sequences) p (may_be_begun b.hidden size x d.heard) ≡ true →
+alike_by : (m : ℕ) (x : Side) (q : StateName) (size : ℕ) (p : AcceptedData) (v : Counts) (b : Doubts) (d c : Channel) → is_mixed b.hidden (of_side x b.sequences) p (may_be_begun b.hidden size x d.accepted) ≡ true →
     alike_in_doubt m x q size p v b d c ≡ failing_in_doubt x q INCONSISTENT_Q_BIT_SETTING b c
 alike_by m x q size p v b d c e =
     ap (λ a. elim a as (λ _. SettledOutcome) [
       | true ↦ failing_in_doubt x q INCONSISTENT_Q_BIT_SETTING b c
-      | false ↦ accepting_in_doubt m x size p v (message_in_doubt b.hidden (of_side x b.sequences) size p (may_be_begun b.hidden size x d.heard) d) b d
+      | false ↦ accepting_in_doubt m x size p v (message_in_doubt b.hidden (of_side x b.sequences) size p (may_be_begun b.hidden size x d.accepted) d) b d
     ]) e
 
 pub mismatched : (f : FlowResidues) (i : Interface) (b : Doubts) (x : Side) (h : DataHeader) (p : AcceptedData) (c : Channel) → IsNumbered (Ok f) i b x h c →
@@ -109,10 +109,10 @@ mismatched f i b x h p c (v, is, _) mixed =
 
 -- whether its Q bit is another, by the sequences of the channel that was completed for it
 pub mixed_at : (r : Bool) (i : Interface) (s : InDoubt) (x : Side) (h : DataHeader) (p : AcceptedData) (c : Channel) →
-    r ≡ is_mixed s.doubts.hidden (of_side x s.doubts.sequences) p (may_be_begun s.doubts.hidden (size_in_force i (completed_for_data i.modulus s.doubts x h c) x) x (completed_for_data i.modulus s.doubts x h c).heard) →
+    r ≡ is_mixed s.doubts.hidden (of_side x s.doubts.sequences) p (may_be_begun s.doubts.hidden (size_in_force i (completed_for_data i.modulus s.doubts x h c) x) x (completed_for_data i.modulus s.doubts x h c).accepted) →
     is_mixed s.doubts.hidden (of_side x s.doubts.sequences) p (continued_by i s.doubts x h c) ≡ r
 mixed_at r i s x h p c is =
-    sym (is ∙ ap (λ n. is_mixed s.doubts.hidden (of_side x s.doubts.sequences) p (may_be_begun s.doubts.hidden n x (completed_for_data i.modulus s.doubts x h c).heard)) (size_same i s.doubts x x h c))
+    sym (is ∙ ap (λ n. is_mixed s.doubts.hidden (of_side x s.doubts.sequences) p (may_be_begun s.doubts.hidden n x (completed_for_data i.modulus s.doubts x h c).accepted)) (size_same i s.doubts x x h c))
 
 -- one that is accepted
 accepted_by : (i : Interface) (x : Side) (q : StateName) (h : DataHeader) (p : AcceptedData) (v : Counts) (b : Doubts) (c : Channel) →
@@ -145,18 +145,18 @@ sent_still x hs p side = ap (λ l. length l) (packets_of-other (other x) hs p (a
 -- the other side has nothing outstanding after it, where its next P(S) is in doubt
 settled_other : (m w : ℕ) (s : InDoubt) (x : Side) (h : DataHeader) (p : AcceptedData) (v : Counts) (n : ℕ) (c : Channel) → (m ≡ 8) ⊎ (m ≡ 128) → NumbersStand m s c → p.side ≡ x →
     count_data m w (counts_of (completed_for_data m s.doubts x h c)) x h.send h.receive ≡ Ok v → of_side (other x) s.doubts.numbers ≡ true →
-    of_side (other x) (sent_by ((completed_for_data m s.doubts x h c).heard ++ p ∷ [])) ≡ of_side (other x) (edge_in_doubt m (of_side x s.doubts.numbers) x n v.acknowledged)
+    of_side (other x) (sent_by ((completed_for_data m s.doubts x h c).accepted ++ p ∷ [])) ≡ of_side (other x) (edge_in_doubt m (of_side x s.doubts.numbers) x n v.acknowledged)
 settled_other m w s x h p v n c eight ns side is doubt =
     let a : Bool = of_side x s.doubts.numbers in
     let b : Bool = of_side (other x) s.doubts.numbers in
     let e : Channel = completed_to m a x h.send c in
     let d : Channel = completed_to m b (other x) h.receive e in
-    let (k, found, taken) = receive_is m (record (counts_of d) { sent = with_side x (of_side x (sent_by d.heard) + 1) (sent_by d.heard) }) v x h.receive (data_receives m w (counts_of d) v x h.send h.receive is) in
-    let none : sent (other x) e.heard ≡ of_side (other x) e.acknowledged =
-    sent_other m a x h.send c ∙ sym (side_of (other x) c.heard) ∙ ns.acknowledged (other x) doubt ∙ ap (λ u. of_side (other x) u) (sym (ack_same m a x h.send c)) in
-    let here : count_acknowledged m (sent (other x) d.heard) (of_side (other x) e.acknowledged) h.receive ≡ Some k =
-    (λ j. count_acknowledged m ((sym (side_of (other x) d.heard) ∙ sym (of_other x (of_side x (sent_by d.heard) + 1) (sent_by d.heard))) j) (of_side (other x) (sym (ack_same m b (other x) h.receive e) j)) h.receive) ∙ found in
-    side_of (other x) (d.heard ++ p ∷ []) ∙ sent_still x d.heard p side
+    let (k, found, taken) = receive_is m (record (counts_of d) { sent = with_side x (of_side x (sent_by d.accepted) + 1) (sent_by d.accepted) }) v x h.receive (data_receives m w (counts_of d) v x h.send h.receive is) in
+    let none : sent (other x) e.accepted ≡ of_side (other x) e.acknowledged =
+    sent_other m a x h.send c ∙ sym (side_of (other x) c.accepted) ∙ ns.acknowledged (other x) doubt ∙ ap (λ u. of_side (other x) u) (sym (ack_same m a x h.send c)) in
+    let here : count_acknowledged m (sent (other x) d.accepted) (of_side (other x) e.acknowledged) h.receive ≡ Some k =
+    (λ j. count_acknowledged m ((sym (side_of (other x) d.accepted) ∙ sym (of_other x (of_side x (sent_by d.accepted) + 1) (sent_by d.accepted))) j) (of_side (other x) (sym (ack_same m b (other x) h.receive e) j)) h.receive) ∙ found in
+    side_of (other x) (d.accepted ++ p ∷ []) ∙ sent_still x d.accepted p side
     ∙ acked m x (other x) b h.receive k e v.acknowledged eight none (λ _. doubt) here (taken ∙ ap (λ u. with_side (other x) k u) (ack_same m b (other x) h.receive e))
     ∙ sym (edge_other m a x n v.acknowledged)
 
@@ -184,11 +184,11 @@ begun_other doubt hidden size x hs p side =
 -- the counts after it
 counts_after : (m w : ℕ) (f : FlowResidues) (b : Bool) (x : Side) (h : DataHeader) (p : AcceptedData) (v : Counts) (d : Channel) → p.side ≡ x → count_data m w (counts_of d) x h.send h.receive ≡ Ok v →
     Stands f (record v { acknowledged = edge_in_doubt m b x (of_side x v.sent) v.acknowledged }) →
-    Stands f (counts_of (record d { heard = d.heard ++ p ∷ []; acknowledged = edge_in_doubt m b x (sent x (d.heard ++ p ∷ [])) v.acknowledged }))
+    Stands f (counts_of (record d { accepted = d.accepted ++ p ∷ []; acknowledged = edge_in_doubt m b x (sent x (d.accepted ++ p ∷ [])) v.acknowledged }))
 counts_after m w f b x h p v d side is stands =
     let keeps = data_counts m w (counts_of d) v x h.send h.receive is in
-    let all : v.sent ≡ sent_by (d.heard ++ p ∷ []) = keeps.0 ∙ sent_more x d.heard p side in
-    let own : of_side x v.sent ≡ sent x (d.heard ++ p ∷ []) = ap (λ u. of_side x u) all ∙ side_of x (d.heard ++ p ∷ []) in
+    let all : v.sent ≡ sent_by (d.accepted ++ p ∷ []) = keeps.0 ∙ sent_more x d.accepted p side in
+    let own : of_side x v.sent ≡ sent x (d.accepted ++ p ∷ []) = ap (λ u. of_side x u) all ∙ side_of x (d.accepted ++ p ∷ []) in
     subst (λ (u : Counts). Stands f u) (λ j. record { sent = all j; acknowledged = edge_in_doubt m b x (own j) v.acknowledged; unconfirmed = keeps.1 j }) stands
 
 -- what is certain after it
@@ -197,20 +197,20 @@ numbers_after : (i : Interface) (w : ℕ) (s : InDoubt) (g : Assembly) (f : Flow
     Stands f (record v { acknowledged = edge_in_doubt i.modulus (of_side x s.doubts.numbers) x (of_side x v.sent) v.acknowledged }) → IsWidest f → f.modulus ≡ s.flow.modulus →
     NumbersStand i.modulus (record { doubts = doubts_after_data x a s.doubts; flow = f; assembler = g })
     (record (completed_for_data i.modulus s.doubts x h c) {
-      heard = (completed_for_data i.modulus s.doubts x h c).heard ++ p ∷ [];
-      acknowledged = edge_in_doubt i.modulus (of_side x s.doubts.numbers) x (sent x ((completed_for_data i.modulus s.doubts x h c).heard ++ p ∷ [])) v.acknowledged;
+      accepted = (completed_for_data i.modulus s.doubts x h c).accepted ++ p ∷ [];
+      acknowledged = edge_in_doubt i.modulus (of_side x s.doubts.numbers) x (sent x ((completed_for_data i.modulus s.doubts x h c).accepted ++ p ∷ [])) v.acknowledged;
     })
 numbers_after i w s g f x h p a v c eight ns side is stands widest modulus =
     let d : Channel = completed_for_data i.modulus s.doubts x h c in
-    let e : Channel = record d { heard = d.heard ++ p ∷ []; acknowledged = edge_in_doubt i.modulus (of_side x s.doubts.numbers) x (sent x (d.heard ++ p ∷ [])) v.acknowledged } in
+    let e : Channel = record d { accepted = d.accepted ++ p ∷ []; acknowledged = edge_in_doubt i.modulus (of_side x s.doubts.numbers) x (sent x (d.accepted ++ p ∷ [])) v.acknowledged } in
     let t : Doubts = doubts_after_data x a s.doubts in
     record {
       flow = counts_after i.modulus w f (of_side x s.doubts.numbers) x h p v d side is stands;
       modulus = modulus ∙ ns.modulus;
       widest = widest.windows ∙ ap (λ n. of_both (n - 1)) (modulus ∙ ns.modulus);
-      acknowledged = λ y. by_side (λ z. of_side z t.numbers ≡ true → of_side z (sent_by e.heard) ≡ of_side z e.acknowledged) x y
+      acknowledged = λ y. by_side (λ z. of_side z t.numbers ≡ true → of_side z (sent_by e.accepted) ≡ of_side z e.acknowledged) x y
           (λ k. absurd (true≢false (sym k ∙ of_own x false s.doubts.numbers)))
-          (λ k. settled_other i.modulus w s x h p v (sent x (d.heard ++ p ∷ [])) c eight ns side is (sym (of_other x false s.doubts.numbers) ∙ k));
+          (λ k. settled_other i.modulus w s x h p v (sent x (d.accepted ++ p ∷ [])) c eight ns side is (sym (of_other x false s.doubts.numbers) ∙ k));
       unknown = λ y. by_side (λ z. of_side z t.numbers ≡ true → of_side z t.sequences ≡ true) x y
           (λ k. absurd (true≢false (sym k ∙ of_own x false s.doubts.numbers)))
           (λ k. of_other x (of_side x s.doubts.sequences && a) s.doubts.sequences ∙ ns.unknown (other x) (sym (of_other x false s.doubts.numbers) ∙ k));
@@ -220,18 +220,18 @@ sequences_after : (i : Interface) (s : InDoubt) (g : Assembly) (f : FlowResidues
     a ≡ may_be_category_a s.doubts.hidden (size_in_force i c x) p → Holds (begun_on g x) (kept_after (of_side x s.doubts.sequences) s.doubts.hidden a (continued_by i s.doubts x h c) p) →
     begun_on g (other x) ≡ begun_on s.assembler (other x) →
     SequencesStand i (record { doubts = doubts_after_data x a s.doubts; flow = f; assembler = g })
-    (record (completed_for_data i.modulus s.doubts x h c) { heard = (completed_for_data i.modulus s.doubts x h c).heard ++ p ∷ []; acknowledged = u })
+    (record (completed_for_data i.modulus s.doubts x h c) { accepted = (completed_for_data i.modulus s.doubts x h c).accepted ++ p ∷ []; acknowledged = u })
 sequences_after i s g f x h p a u c ns ss side category begun apart =
     let d : Channel = completed_for_data i.modulus s.doubts x h c in
-    let e : Channel = record d { heard = d.heard ++ p ∷ []; acknowledged = u } in
+    let e : Channel = record d { accepted = d.accepted ++ p ∷ []; acknowledged = u } in
     let t : Doubts = doubts_after_data x a s.doubts in
     let size : (z : Side) → size_in_force i e z ≡ size_in_force i c z = λ z. size_same i s.doubts x z h c in
     let own : kept_begun i t x e ≡ kept_after (of_side x s.doubts.sequences) s.doubts.hidden a (continued_by i s.doubts x h c) p =
-    (λ j. kept_of (of_own x (of_side x s.doubts.sequences && a) s.doubts.sequences j) s.doubts.hidden (may_be_begun s.doubts.hidden (size x j) x e.heard))
-    ∙ begun_own (of_side x s.doubts.sequences) s.doubts.hidden (size_in_force i c x) x d.heard p a side category in
+    (λ j. kept_of (of_own x (of_side x s.doubts.sequences && a) s.doubts.sequences j) s.doubts.hidden (may_be_begun s.doubts.hidden (size x j) x e.accepted))
+    ∙ begun_own (of_side x s.doubts.sequences) s.doubts.hidden (size_in_force i c x) x d.accepted p a side category in
     let rest : kept_begun i t (other x) e ≡ kept_begun i s.doubts (other x) c =
-    ap (λ k. kept_of k s.doubts.hidden (may_be_begun s.doubts.hidden (size_in_force i e (other x)) (other x) e.heard)) (of_other x (of_side x s.doubts.sequences && a) s.doubts.sequences)
-    ∙ begun_other (of_side (other x) s.doubts.sequences) s.doubts.hidden (size_in_force i e (other x)) x d.heard p side ∙ sym (kept_for_data i s x (other x) h c ns) in
+    ap (λ k. kept_of k s.doubts.hidden (may_be_begun s.doubts.hidden (size_in_force i e (other x)) (other x) e.accepted)) (of_other x (of_side x s.doubts.sequences && a) s.doubts.sequences)
+    ∙ begun_other (of_side (other x) s.doubts.sequences) s.doubts.hidden (size_in_force i e (other x)) x d.accepted p side ∙ sym (kept_for_data i s x (other x) h c ns) in
     λ y. by_side (λ z. Holds (begun_on g z) (kept_begun i t z e)) x y
     (subst (λ l. Holds (begun_on g x) l) (sym own) begun)
     (subst (λ (q : SequenceView). Holds q (kept_begun i t (other x) e)) (sym apart) (subst (λ l. Holds (begun_on s.assembler (other x)) l) (sym rest) (ss (other x))))
@@ -246,7 +246,7 @@ accepts s old held put left before after x q h p a f c st d1 side ((v, is, stand
     let size = size_in_force i c x in
     let d : Channel = completed_for_data i.modulus b x h c in
     let hs : List AcceptedData = continued_by i b x h c in
-    let e : Channel = record d { heard = d.heard ++ p ∷ []; acknowledged = edge_in_doubt i.modulus (of_side x b.numbers) x (sent x (d.heard ++ p ∷ [])) v.acknowledged } in
+    let e : Channel = record d { accepted = d.accepted ++ p ∷ []; acknowledged = edge_in_doubt i.modulus (of_side x b.numbers) x (sent x (d.accepted ++ p ∷ [])) v.acknowledged } in
     let rest : at_rest e ≡ at_rest c = rest_for_data i.modulus b x h c in
     let sized : size_in_force i d x ≡ size = size_same i b x x h c in
     let category : a ≡ may_be_category_a b.hidden size p = added.put.category ∙ ap (λ n. may_be_category_a b.hidden n p) sized in
@@ -270,22 +270,22 @@ accepts s old held put left before after x q h p a f c st d1 side ((v, is, stand
     }))
 
 -- the packet of a row
-pub of_row : (i : Interface) (q : StateName) (r : Item) (h : DataHeader) (b : Doubts) (x : Side) (c : Channel) → x ≡ r.side → data_settled i x q h (heard_of i r h) b c ≡ data_in_doubt i q r (Some h) b c
-of_row i q r h b x c side = ap (λ y. data_settled i y q h (heard_of i r h) b c) side
+pub of_row : (i : Interface) (q : StateName) (r : Item) (h : DataHeader) (b : Doubts) (x : Side) (c : Channel) → x ≡ r.side → data_settled i x q h (accepted_of i r h) b c ≡ data_in_doubt i q r (Some h) b c
+of_row i q r h b x c side = ap (λ y. data_settled i y q h (accepted_of i r h) b c) side
 
 -- which message a packet completes
-told_by : (pad q doubt a : Bool) (hs : List AcceptedData) (p : AcceptedData) →
+message_by : (pad q doubt a : Bool) (hs : List AcceptedData) (p : AcceptedData) →
     known_message (pad && q) (not doubt && not a) hs p ≡ elim (pad && q && not doubt && not a) as (λ _. Option (List ℕ)) [ true ↦ Some (sequence_octets (alike_at_end p hs ++ p ∷ [])) | false ↦ None ]
-told_by true true true a hs p = refl
-told_by true true false true hs p = refl
-told_by true true false false hs p = refl
-told_by true false doubt a hs p = refl
-told_by false q doubt a hs p = refl
+message_by true true true a hs p = refl
+message_by true true false true hs p = refl
+message_by true true false false hs p = refl
+message_by true false doubt a hs p = refl
+message_by false q doubt a hs p = refl
 
-pub told : (hidden doubt : Bool) (size : ℕ) (p : AcceptedData) (hs : List AcceptedData) (a carried : Bool) (c : Channel) → carried ≡ (is_pad_call c && p.qualified) → a ≡ may_be_category_a hidden size p →
+pub message_reported : (hidden doubt : Bool) (size : ℕ) (p : AcceptedData) (hs : List AcceptedData) (a carried : Bool) (c : Channel) → carried ≡ (is_pad_call c && p.qualified) → a ≡ may_be_category_a hidden size p →
     known_message carried (not doubt && not a) hs p ≡ message_in_doubt hidden doubt size p hs c
-told hidden doubt size p hs a carried c e is =
-    (λ j. known_message (e j) (not doubt && not (is j)) hs p) ∙ told_by (is_pad_call c) p.qualified doubt (may_be_category_a hidden size p) hs p
+message_reported hidden doubt size p hs a carried c e is =
+    (λ j. known_message (e j) (not doubt && not (is j)) hs p) ∙ message_by (is_pad_call c) p.qualified doubt (may_be_category_a hidden size p) hs p
 
 pub carries : (pad q carried : Bool) → carried ≡ (pad && q) → carried ≡ true → q ≡ true
 carries true q carried e is = sym e ∙ is
@@ -306,7 +306,7 @@ pub added_apart : (s : EventOrigin) (i : Interface) (x : Side) (old new : InDoub
 added_apart s i x old new events a hs p c q put = record {
   put = put;
   reports = subst (λ m. Reports s events (events ++ event_at s (Data x p.length) ∷ []) (Data x p.length ∷ settings_in_doubt x m))
-      (told old.doubts.hidden (of_side x old.doubts.sequences) (size_in_force i c x) p hs a false c (unqualified (is_pad_call c) p.qualified q) put.category) refl;
+      (message_reported old.doubts.hidden (of_side x old.doubts.sequences) (size_in_force i c x) p hs a false c (unqualified (is_pad_call c) p.qualified q) put.category) refl;
 }
 
 -- no header

@@ -104,7 +104,7 @@ restarted s old new held left before after o c st does rest reached doubts_are m
           flow = subst (λ e. flow.Stands left.flow (counts_of e)) rest none;
           modulus = modulus ∙ st.numbers.modulus ∙ ap (λ (i : Interface). i.modulus) (sym does.interface);
           widest = windows ∙ st.numbers.widest ∙ ap (λ (i : Interface). of_both (i.modulus - 1)) (sym does.interface);
-          acknowledged = λ x e. subst (λ k. of_side x (sent_by k.heard) ≡ of_side x k.acknowledged) rest (none_sent x);
+          acknowledged = λ x e. subst (λ k. of_side x (sent_by k.accepted) ≡ of_side x k.acknowledged) rest (none_sent x);
           unknown = λ x e. ap (λ b. of_side x b.sequences) doubts ∙ unknown_in d.state held.doubts x (λ f. st.numbers.unknown x f) (ap (λ b. of_side x b.numbers) (sym doubts) ∙ e);
         };
         sequences = λ x. subst (λ e. Holds (begun_on left.assembler x) (kept_begun new.terms.interface left.doubts x e)) rest
@@ -194,9 +194,9 @@ gave_up s old new held left before after x q n c side st does doubts modulus win
     (subst (λ o. Does s old new before after o) (failing_at_rest q n c) (subst (λ y. Does s old new before after (failing y q n (at_rest c))) side does))
     (given_up_rest q n c) (failed T q n c st.reached) doubts modulus windows none begun)
 
-pub told : (s : EventOrigin) (old new : Known) (held : InDoubt) (before after : List Event) (x : Side) (q : StateName) (n : ℕ) (c : Channel) → x ≡ N → StandsSettled old held c → Does s old new before after (failing x q n (at_rest c)) →
+pub found_of_dce : (s : EventOrigin) (old new : Known) (held : InDoubt) (before after : List Event) (x : Side) (q : StateName) (n : ℕ) (c : Channel) → x ≡ N → StandsSettled old held c → Does s old new before after (failing x q n (at_rest c)) →
     SettledDoes s old new held before after (failing_in_doubt x q n held.doubts c)
-told s old new held before after x q n c side st does =
+found_of_dce s old new held before after x q n c side st does =
     let here : Does s old new before after (failing N q n (at_rest c)) = subst (λ y. Does s old new before after (failing y q n (at_rest c))) side does in
     subst (λ y. SettledDoes s old new held before after (failing_in_doubt y q n held.doubts c)) (sym side)
     (stays s old new held before after (Found N q (Number n) ∷ []) c.owed c st here.interface here.channel here.stands here.reports)
@@ -237,7 +237,7 @@ controlled u s old held left before x q b c o st d1 (e, is, rest, numbers, seque
       reports = sym (append-nil before);
     })
 
--- the answers of the counts
+-- the results of the counts
 counted_is : {U : Type 0} (r : Result U ℕ) (i : Interface) (x : Side) (q : StateName) (new : InDoubt) (b after : Doubts) (a : Result Counts ℕ) (d c : Channel) → at_rest d ≡ at_rest c → OnOk r (new.doubts ≡ after) → IsCountedInDoubt r i new a d →
     IsControlled r i x q new b c (counting_in_doubt x q a b after d c)
 counted_is (Ok u) i x q new b after a d c rest doubts (v, is, numbers, sequences) =

@@ -15,9 +15,9 @@ use Rattle.line_model.specs.declared.state.StateName.{StateName}
 use Rattle.line_model.specs.channels.Channels.{Channel, AcceptedData}
 use Rattle.line_model.specs.basics.Records.{Item}
 use Rattle.line_model.specs.channels.FlowControl.{Counts}
-use Rattle.line_model.specs.channels.ChannelStep.{Outcome, counting, data_counted, data_step, heard_of, hearing}
+use Rattle.line_model.specs.channels.ChannelStep.{Outcome, counting, data_counted, data_step, accepted_of, accepting_data}
 use Rattle.channel_machine.specs.declared.events.EventOrigin.{EventOrigin}
-use Rattle.channel_machine.specs.Transfers.{StandsFor, IsCounted, IsHeard, counted_in_force}
+use Rattle.channel_machine.specs.Transfers.{Represents, IsCounted, IsAccepted, counted_in_force}
 use Rattle.channel_machine.specs.Channels.{Known, Stands, Does, DoesApart, IsJudged, Passes}
 
 -- what follows a fault that left the channel as it was
@@ -42,7 +42,7 @@ judged_at (Err e) old f x q a c stands answer = (ap (λ b. counting x q b c) (sy
 
 pub judged_counts : {U : Type 0} (r : Result U ℕ) (old p new : Known) (f : FlowResidues) (x : Side) (q : StateName) (a : Interface → Result Counts ℕ) (c : Channel) → old ≡ p →
     new ≡ record old { transfer = record old.transfer { flow = f } } → Stands p c →
-    (StandsFor old.terms.interface old.transfer c → IsCounted r old.terms.interface old.transfer (record old.transfer { flow = f }) (a old.terms.interface) c) →
+    (Represents old.terms.interface old.transfer c → IsCounted r old.terms.interface old.transfer (record old.transfer { flow = f }) (a old.terms.interface) c) →
     IsJudged r (λ _. []) x q p new c (counting x q (a p.terms.interface) c)
 judged_counts r old p new f x q a c same rest stands answer =
     let st : Stands old c = subst (λ o. Stands o c) (sym same) stands in
@@ -55,7 +55,7 @@ pub judged_as : {U : Type 0} (a : Result U ℕ) (old new : Known) (x y : Side) (
 judged_as a old new x y q c o p side same judged = subst (λ (v : Side × Outcome). IsJudged a (λ _. []) v.0 q old new c v.1) (λ j. (side j, same j)) judged
 
 -- the data packet that a row says
-pub data_is : (i : Interface) (q : StateName) (r : Item) (h : DataHeader) (p : AcceptedData) (x : Side) (c : Channel) → x ≡ r.side → p ≡ heard_of i r h →
+pub data_is : (i : Interface) (q : StateName) (r : Item) (h : DataHeader) (p : AcceptedData) (x : Side) (c : Channel) → x ≡ r.side → p ≡ accepted_of i r h →
     data_counted i x q p (counted_in_force i x h.send h.receive c) c ≡ data_step i q r (Some h) c
 data_is i q r h p x c side same = λ j. data_counted i (side j) q (same j) (counted_in_force i (side j) h.send h.receive c) c
 
@@ -90,22 +90,22 @@ passes_apart s old new events x accepted o passes = record {
 }
 
 -- a data packet without fault
-pub passes_heard : (old new : Known) (x : Side) (q : StateName) (p : AcceptedData) (m : Option (List ℕ)) (v : Counts) (r : Result Counts ℕ) (c : Channel) →
-    new ≡ record old { transfer = new.transfer } → Stands old c → ((t : StateName) → data_counted old.terms.interface x t p r c ≡ hearing x p v m c) →
-    StandsFor old.terms.interface new.transfer (hearing x p v m c).after → Passes old new (hearing x p v m c).reported (data_counted old.terms.interface x q p r c)
-passes_heard old new x q p m v r c rest stands is transfer =
-    subst (λ d. Passes old d (hearing x p v m c).reported (data_counted old.terms.interface x q p r c)) (sym rest)
-    (subst (λ o. Passes old (record old { transfer = new.transfer }) (hearing x p v m c).reported o) (sym (is q)) (record {
+pub passes_accepted : (old new : Known) (x : Side) (q : StateName) (p : AcceptedData) (m : Option (List ℕ)) (v : Counts) (r : Result Counts ℕ) (c : Channel) →
+    new ≡ record old { transfer = new.transfer } → Stands old c → ((t : StateName) → data_counted old.terms.interface x t p r c ≡ accepting_data x p v m c) →
+    Represents old.terms.interface new.transfer (accepting_data x p v m c).after → Passes old new (accepting_data x p v m c).reported (data_counted old.terms.interface x q p r c)
+passes_accepted old new x q p m v r c rest stands is transfer =
+    subst (λ d. Passes old d (accepting_data x p v m c).reported (data_counted old.terms.interface x q p r c)) (sym rest)
+    (subst (λ o. Passes old (record old { transfer = new.transfer }) (accepting_data x p v m c).reported o) (sym (is q)) (record {
       interface = refl;
       channel = refl;
       stands = record { state = stands.state; owed = stands.owed; terms = record { call = stands.terms.call; values = stands.terms.values }; transfer = transfer };
       reported = refl;
     }))
 
-pub heard_by : (s : EventOrigin) (old new : Known) (before after : List Event) (x : Side) (q : StateName) (p : AcceptedData) (r : Result Counts ℕ) (c : Channel) (o : Outcome) →
+pub accepted_by : (s : EventOrigin) (old new : Known) (before after : List Event) (x : Side) (q : StateName) (p : AcceptedData) (r : Result Counts ℕ) (c : Channel) (o : Outcome) →
     new ≡ record old { transfer = new.transfer } → Stands old c → data_counted old.terms.interface x q p r c ≡ o →
-    (k : Option ℕ) → k ≡ None → IsHeard k old.terms.interface s old.transfer new.transfer before after x p r c → Does s old new before after o
-heard_by s old new before after x q p r c o rest stands counted_is k none heard =
-    let (v, m, is, transfer, reports) = subst (λ j. IsHeard j old.terms.interface s old.transfer new.transfer before after x p r c) none heard in
+    (k : Option ℕ) → k ≡ None → IsAccepted k old.terms.interface s old.transfer new.transfer before after x p r c → Does s old new before after o
+accepted_by s old new before after x q p r c o rest stands counted_is k none accepted_data =
+    let (v, m, is, transfer, reports) = subst (λ j. IsAccepted j old.terms.interface s old.transfer new.transfer before after x p r c) none accepted_data in
     subst (λ d. Does s old new before after d) counted_is
-    (passes_listed s old new before after (hearing x p v m c).reported (data_counted old.terms.interface x q p r c) (passes_heard old new x q p m v r c rest stands is transfer) reports)
+    (passes_listed s old new before after (accepting_data x p v m c).reported (data_counted old.terms.interface x q p r c) (passes_accepted old new x q p m v r c rest stands is transfer) reports)

@@ -1,4 +1,4 @@
--- What terms say.
+-- What the terms of a channel hold.
 use Rattle.channel_machine.specs.declared.terms.Terms.{Terms}
 use Rattle.channel_machine.specs.TermsStand.{Agreed}
 

@@ -1,4 +1,4 @@
--- A channel, and what it stands for (X.25 Annexes B and C).
+-- A channel, and what it represents (X.25 Annexes B and C).
 use Rattle.std.specs.Prelude.{ℕ, Bool, false, ◌≡◌, List, ◌++◌, map, Option, None, Result, Ok, Err, IfOk, IfErr, OnErr}
 use Rattle.line_model.specs.declared.state.ChannelState.{ChannelState}
 use Rattle.line_model.specs.declared.state.ChannelState.TheVariants.{Transfer}
@@ -18,7 +18,7 @@ use Rattle.channel_machine.specs.Events.{Reports, data_of, event_at}
 use Rattle.channel_machine.specs.TermsStand.{Agreed, TermsStand}
 use Rattle.channel_machine.specs.Reached.{IsReached}
 use Rattle.channel_machine.specs.Transfers as transfers
-use Rattle.channel_machine.specs.Transfers.{StandsFor}
+use Rattle.channel_machine.specs.Transfers.{Represents}
 use Rattle.channel_machine.specs.Status.{Status}
 
 -- what the code keeps of a channel
@@ -29,7 +29,7 @@ pub record Known : Type 0 where
   pub terms : Agreed
   pub transfer : transfers.Transfer
 
--- the same, from its status and what stands beside it
+-- the same, from its status, its sequences and its settings
 abbrev pub known : (channel : ℕ) → Status → Assembly → BothSettings → Known
 known n s a b = record {
   channel = n;
@@ -39,15 +39,15 @@ known n s a b = record {
   transfer = record { flow = s.flow; assembler = a; settings = b };
 }
 
--- what the code keeps of a channel stands for what the observer heard of it
+-- what the code keeps of a channel represents what the observer knows of it
 pub record Stands (p : Known) (c : Channel) : Type 0 where
   pub state : p.state ≡ c.state
   pub owed : p.owed ≡ c.owed
   pub terms : TermsStand p.terms c
-  pub transfer : StandsFor p.terms.interface p.transfer c
+  pub transfer : Represents p.terms.interface p.transfer c
 
--- what the code keeps of a channel stands for one that was heard from its beginning
-pub record StandsForReached (p : Known) (c : Channel) : Type 0 where
+-- what the code keeps of a channel represents one that was followed from its beginning
+pub record RepresentsReached (p : Known) (c : Channel) : Type 0 where
   pub stands : Stands p c
   pub reached : IsReached c
 
@@ -87,7 +87,7 @@ pub record IsOpen (p : Known) : Type 0 where
   pub state : p.state ≡ Transfer D1
   pub unowed : p.owed ≡ false
 
--- the same of a function that may want memory, on each channel that it stands for
+-- the same of a function that may be out of memory, on each channel that it represents
 abbrev pub Comes : {U : Type 0} → Result U Fault → EventOrigin → (old new : Known) → (before after : List Event) → (Channel → Outcome) → Type 0
 Comes r s old new before after f = (c : Channel) → Stands old c → IfOk r (λ _. Does s old new before after (f c))
 
@@ -95,6 +95,6 @@ Comes r s old new before after f = (c : Channel) → Stands old c → IfOk r (λ
 abbrev pub IsUnchanged : {U : Type 0} → Result U Fault → (old new : Known) → (before after : List Event) → Type 0
 IsUnchanged r old new before after = OnErr r ((new ≡ old) × (after ≡ before))
 
--- want of memory is the only fault
+-- being out of memory is the only fault
 abbrev pub IsMemory : {U : Type 0} → Result U Fault → Type 0
 IsMemory r = IfErr r (λ fault. fault ≡ Memory)

@@ -1,4 +1,4 @@
--- What a packet says beside its class and its length (X.25 clause 5).
+-- What a packet has in addition to its class and its length (X.25 clause 5).
 use Rattle.std.specs.Prelude.{Bool, true, false, ◌≡◌}
 use Rattle.line_model.specs.declared.interface.Interface.{Interface}
 use Rattle.line_model.specs.declared.packet.Class.{Class}

@@ -9,7 +9,7 @@ use Rattle.line_model.specs.channels.Gaps as gaps
 use Rattle.line_model.specs.channels.Gaps.{WhileAdrift, no_doubts, of_both}
 use Rattle.line_model.specs.channels.GapStep.{GapOutcome, is_in_d1}
 use Rattle.channel_machine.specs.declared.events.EventOrigin.{EventOrigin}
-use Rattle.channel_machine.specs.Channels.{Known, Stands, StandsForReached}
+use Rattle.channel_machine.specs.Channels.{Known, Stands, RepresentsReached}
 use Rattle.channel_machine.specs.Events.{Reports, data_of, event_at}
 use Rattle.channel_machine.specs.GapView.{InDoubt, KnownCertainty}
 use Rattle.channel_machine.specs.GapView.KnownCertainty.{Certain, Adrift, Settled}
@@ -37,7 +37,7 @@ certainty_of (Settled s) = gaps.Settled s.doubts
 
 -- the channel without its numbers, interrupts and sequences
 abbrev pub at_rest : Channel → Channel
-at_rest c = record c { heard = []; acknowledged = of_both 0; unconfirmed = of_both false }
+at_rest c = record c { accepted = []; acknowledged = of_both 0; unconfirmed = of_both false }
 
 -- a channel adrift: all that was seen is kept, a permanent circuit is in data transfer, and a call that is not up was not
 -- answered, unless another call may be hidden
@@ -57,7 +57,7 @@ pub record StandsSettled (p : Known) (s : InDoubt) (c : Channel) : Type 0 where
 
 -- what is kept of a channel by what is certain of it
 abbrev pub IsKnownBy : KnownCertainty → Known → Channel → Type 0
-IsKnownBy Certain p c = StandsForReached p c
+IsKnownBy Certain p c = RepresentsReached p c
 IsKnownBy (Adrift a) p c = StandsAdrift p a c
 IsKnownBy (Settled s) p c = StandsSettled p s c
 

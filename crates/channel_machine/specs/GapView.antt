@@ -18,7 +18,7 @@ pub record InDoubt : Type 0 where
   pub flow : FlowResidues
   pub assembler : Assembly
 
--- what is certain of a channel, and what is kept beside it
+-- what is certain of a channel, and what is kept with it
 pub data KnownCertainty : Type 0 where
   Certain : KnownCertainty
   Adrift : WhileAdrift → KnownCertainty

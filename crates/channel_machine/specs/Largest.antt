@@ -1,4 +1,4 @@
--- The terms of a call behind which another may be hidden.
+-- The terms of a call after which another call may be hidden.
 use Rattle.std.specs.Prelude.{◌-◌}
 use Rattle.line_model.specs.declared.interface.Interface.{Interface}
 use Rattle.channel_machine.specs.declared.terms.Values.{Values}

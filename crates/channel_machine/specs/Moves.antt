@@ -24,7 +24,7 @@ IsChange (GoesUp f) v xs = (v ≡ CallGoesUp) × (shown f.now ≡ fields_of xs)
 IsChange (Ends h) v xs = v ≡ CallEnds h
 IsChange Keeps v xs = v ≡ CallKeeps
 
--- the sizes and windows that it takes can be in force
+-- the sizes and windows that it sets can be in force
 abbrev pub TakesUsable : Change → Interface → Type 0
 TakesUsable (Opens out f) i = IsUsable i f.now
 TakesUsable (GoesUp f) i = IsUsable i f.now

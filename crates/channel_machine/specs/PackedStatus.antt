@@ -23,7 +23,7 @@ values_in w = record {
   window_n = w.flow.windows.of_n;
 }
 
--- with nothing owed
+-- the owner's number with no indication owed
 abbrev pub settled : ℕ → ℕ
 settled a = a - a / 32 % 2 * 32
 

@@ -1,4 +1,4 @@
--- Channels that were heard from their beginning (X.25 Annex B).
+-- Channels that were followed from their beginning (X.25 Annex B).
 use Rattle.std.specs.Prelude.{Bool, true, false, not, ◌&&◌, ◌||◌, ◌≡◌, None, IfNone, is_some}
 use Rattle.line_model.specs.declared.state.ChannelState.{ChannelState}
 use Rattle.line_model.specs.declared.state.ChannelState.TheVariants.{Setup}

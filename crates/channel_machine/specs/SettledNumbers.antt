@@ -25,7 +25,7 @@ pub record NumbersStand (m : ℕ) (s : InDoubt) (c : Channel) : Type 0 where
   pub flow : Stands s.flow (counts_of c)
   pub modulus : s.flow.modulus ≡ m
   pub widest : s.flow.windows ≡ of_both (m - 1)
-  pub acknowledged : (x : Side) → of_side x s.doubts.numbers ≡ true → of_side x (sent_by c.heard) ≡ of_side x c.acknowledged
+  pub acknowledged : (x : Side) → of_side x s.doubts.numbers ≡ true → of_side x (sent_by c.accepted) ≡ of_side x c.acknowledged
   pub unknown : (x : Side) → of_side x s.doubts.numbers ≡ true → of_side x s.doubts.sequences ≡ true
 
 -- the packets of a list at its end whose Q bit is 1
@@ -40,7 +40,7 @@ kept_of false false gs = gs
 
 -- those of a side of a channel
 abbrev pub kept_begun : Interface → Doubts → Side → Channel → List AcceptedData
-kept_begun i d x c = kept_of (of_side x d.sequences) d.hidden (may_be_begun d.hidden (size_in_force i c x) x c.heard)
+kept_begun i d x c = kept_of (of_side x d.sequences) d.hidden (may_be_begun d.hidden (size_in_force i c x) x c.accepted)
 
 -- each side's sequence is kept
 abbrev pub SequencesStand : Interface → InDoubt → Channel → Type 0
@@ -50,12 +50,13 @@ SequencesStand i s c = (x : Side) → Holds (begun_on s.assembler x) (kept_begun
 abbrev pub with_counts : Counts → Channel → Channel
 with_counts v c = record c { acknowledged = v.acknowledged; unconfirmed = v.unconfirmed }
 
--- the answer to a packet that changes the counts alone, on a channel that was completed for it
+-- the result of a packet that changes the counts alone, on a channel that was completed for it
 abbrev pub IsCountedInDoubt : {U : Type 0} → Result U ℕ → Interface → (new : InDoubt) → Result Counts ℕ → (completed : Channel) → Type 0
 IsCountedInDoubt (Ok u) i new r d = (v : Counts) × (r ≡ Ok v) × NumbersStand i.modulus new (with_counts v d) × SequencesStand i new (with_counts v d)
 IsCountedInDoubt (Err e) i new r d = r ≡ Err e
 
--- the answer to the numbers of a data packet by that of the counts, and those after it; its next P(S) may have been in doubt
+-- the result for the numbers of a data packet by that of the counts, and those after it; its next P(S) may have been in
+-- doubt
 abbrev pub AreNumbered : Result FlowResidues ℕ → (modulus : ℕ) → (doubt : Bool) → Side → Result Counts ℕ → Type 0
 AreNumbered (Ok f) m doubt x r =
     (v : Counts) × (r ≡ Ok v) × Stands f (record v { acknowledged = edge_in_doubt m doubt x (of_side x v.sent) v.acknowledged })

@@ -11,14 +11,14 @@ use Rattle.data_transfer.specs.declared.sequence.UserData.{UserData}
 use Rattle.channel_machine.specs.GapView.{InDoubt}
 use Rattle.channel_machine.specs.SettledNumbers.{kept_of}
 
--- a packet that continues these packets of its side, of which what is kept stands there
+-- a packet that continues these packets of its side; the assembler has what is kept of them
 pub record IsContinued (s : InDoubt) (x : Side) (field : DataField) (hs : List AcceptedData) (p : AcceptedData) : Type 0 where
   pub holds : Holds (begun_on s.assembler x) (kept_of (of_side x s.doubts.sequences) s.doubts.hidden hs)
   pub qualified : p.qualified ≡ field.qualified
   pub octets : p.octets ≡ field.octets.now
   pub alike : is_mixed s.doubts.hidden (of_side x s.doubts.sequences) p hs ≡ false
 
--- the packets that are kept after it, where more of the sequence follows or not
+-- the packets that are kept after it: these where more of the sequence follows, otherwise none
 abbrev pub kept_after : (doubt hidden category_a : Bool) → List AcceptedData → AcceptedData → List AcceptedData
 kept_after doubt hidden true hs p = kept_of doubt hidden (hs ++ p ∷ [])
 kept_after doubt hidden false hs p = []

@@ -27,7 +27,7 @@ settled_entry i n j r b c = settled_verdict i j.state r (verdict j (packet_fault
 abbrev pub settled_row : Interface → (channel : ℕ) → Item → Doubts → Channel → SettledOutcome
 settled_row i n r b c = settled_entry i n (judged (is_permanent i n) r.side c.state c.owed (packet_class r.packet)) r b c
 
--- what the numbers of a settled channel answer to a packet that changes the counts alone, and the channel after it
+-- what the numbers of a settled channel return for a packet that changes the counts alone, and the channel after it
 abbrev pub IsControlled : {U : Type 0} → Result U ℕ → Interface → Side → StateName → (new : InDoubt) → Doubts → Channel → SettledOutcome → Type 0
 IsControlled (Ok u) i x s new b c o =
     (e : Channel) × (o ≡ record { outcome = report_nothing e; doubts = new.doubts }) × (at_rest e ≡ at_rest c) × NumbersStand i.modulus new e × SequencesStand i new e

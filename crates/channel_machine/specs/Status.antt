@@ -1,4 +1,4 @@
--- What is known of a channel beside its sequences and its settings.
+-- What is known of a channel apart from its sequences and its settings.
 use Rattle.std.specs.Prelude.{Bool, false, ◌≡◌, ℕ}
 use Rattle.line_model.specs.declared.state.ChannelState.{ChannelState}
 use Rattle.line_model.specs.channels.Channels.{Sides}

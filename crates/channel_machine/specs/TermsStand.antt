@@ -41,13 +41,13 @@ values_in_force i c = record {
   window_n = window_in_force i c N;
 }
 
--- what terms say
+-- what the terms of a channel hold
 pub record Agreed : Type 0 where
   pub interface : Interface
   pub call : Option Opened
   pub values : Values
 
--- what was agreed stands for the packets of the call
+-- what was agreed represents the packets of the call
 pub record TermsStand (t : Agreed) (c : Channel) : Type 0 where
   pub call : t.call ≡ option_map opened_of c.opening
   pub values : t.values ≡ values_in_force t.interface c

@@ -26,8 +26,7 @@ use line_model::state::{ChannelState, Side, StateName};
 use std::alloc::{Allocator, Global};
 use std::marker::Model;
 
-/// A channel of which all is certain, by a way to keep its status; the sequences begun and the settings of both PADs stand
-/// beside it.
+/// A channel of which all is certain: its status, kept by an `S`, the sequences begun, and the settings of both PADs.
 #[derive(Drop)]
 pub struct StatusChannel<A: Allocator, S: StatusStore> {
     pub(crate) channel: u16,
@@ -36,7 +35,7 @@ pub struct StatusChannel<A: Allocator, S: StatusStore> {
     pub(crate) settings: BothSettings,
 }
 
-/// The channel that keeps each part of its status by itself.
+/// The channel that keeps each part of its status in a field.
 pub type PlainChannel<A = Global> = GapChannel<A, PlainStatus>;
 
 /// The channel that keeps its status in one word.
@@ -51,7 +50,7 @@ impl<A: Allocator, S: StatusStore> Model for StatusChannel<A, S> {
 }
 
 impl<A: Allocator + Clone, S: StatusStore> StatusChannel<A, S> {
-    /// A channel without a call in a state in which nothing was seen. It takes no memory.
+    /// Returns a channel without a call in a state in which nothing was seen. Allocates nothing.
     pub(crate) fn in_state(
         alloc: A,
         interface: &Interface,
@@ -76,7 +75,7 @@ impl<A: Allocator + Clone, S: StatusStore> StatusChannel<A, S> {
         ensures interface { self.new.terms.interface ≡ terms.now.interface }
         ensures channel { self.new.channel ≡ self.old.channel }
         ensures stands { (c : Channel) → TermsStand (agreed_of terms.now) c
-            → SettingsStand self.old.transfer.settings c.told
+            → SettingsStand self.old.transfer.settings c.pad_messages
             → Stands self.new (entering to owed c) }
     {
         let Values { size_t, size_n, .. } = terms.values;
@@ -84,7 +83,7 @@ impl<A: Allocator + Clone, S: StatusStore> StatusChannel<A, S> {
         self.status = S::entered(self.channel, to.entered(), owed, terms);
     }
 
-    /// The origin of the events of a row in an epoch.
+    /// Returns the origin of the events of a row in an epoch.
     pub(crate) fn origin(&self, epoch: u32, item: &ItemRef<'_>) -> EventOrigin
         ensures { result ≡ origin_at epoch self.now.channel item.now }
     {
@@ -95,7 +94,7 @@ impl<A: Allocator + Clone, S: StatusStore> StatusChannel<A, S> {
         }
     }
 
-    /// Enters a state, where the call ends.
+    /// Enters a state, and ends the call.
     pub(crate) fn end(
         &mut self,
         origin: EventOrigin,

@@ -13,7 +13,7 @@ pub(crate) struct EventOrigin {
     pub(crate) packet: u32,
 }
 
-/// How a packet was judged: its row, its side, and the state in whose column it stands.
+/// How a packet was judged: its row, its side, and the state in whose column its entry is.
 #[derive(Clone, Copy)]
 pub(crate) struct Judgement {
     pub(crate) origin: EventOrigin,
@@ -24,7 +24,7 @@ pub(crate) struct Judgement {
 impl EventOrigin {
     ghost use Rattle.channel_machine.specs.Events.{event_at};
 
-    /// An event of the row.
+    /// Returns an event of the row.
     pub(crate) fn event(self, what: What) -> Event
         ensures { result ≡ event_at self what }
     {

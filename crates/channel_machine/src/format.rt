@@ -25,7 +25,7 @@ use packet_decode::decode::header_length;
 use packet_decode::fields::{CallFields, call_fields};
 use std::alloc::Allocator;
 
-/// What a packet without fault of format says beside its class and its length.
+/// What a packet without a fault of format has in addition to its class and its length.
 #[derive(Drop)]
 pub(crate) enum Contents<'a> {
     /// The fields of a call request or incoming call.
@@ -36,7 +36,7 @@ pub(crate) enum Contents<'a> {
     Other,
 }
 
-/// The header of a data packet, `None` where it is cut and for every other packet.
+/// Returns the header of a data packet, `None` where it is cut and for every other packet.
 pub(crate) fn header_of(packet: &Packet) -> Option<DataHeader>
     ensures { result ≡ header_in packet.now }
 {
@@ -86,7 +86,7 @@ fn at_most(most: usize, length: usize) -> Option<u8>
     None
 }
 
-/// The fault of a packet that is shorter or longer than it may be.
+/// Returns the fault of a packet that is shorter or longer than it may be.
 pub(crate) fn between(least: usize, most: usize, length: usize) -> Option<u8>
     ensures fault { result ≡ outside least most length }
     ensures within { IfNone result (length ≤ most) }
@@ -101,8 +101,8 @@ pub(crate) fn between(least: usize, most: usize, length: usize) -> Option<u8>
 }
 
 impl<A: Allocator + Clone, S: StatusStore> StatusChannel<A, S> {
-    /// What a packet says that moves its channel, or its first fault: a call against the direction of its channel
-    /// (profile), or a fault of its format.
+    /// Returns what a packet says that moves its channel, or its first fault: a call against the direction of its
+    /// channel (profile), or a fault of its format.
     #[inline(always)]
     pub(crate) fn read<'a>(&self, item: &ItemRef<'a>) -> Result<Contents<'a>, u8>
         requires said { IsSaid self.now.terms.interface item.now }
@@ -160,8 +160,8 @@ impl<A: Allocator + Clone, S: StatusStore> StatusChannel<A, S> {
         call_fields(&self.status.interface(), item.octets, fast)
     }
 
-    /// The first fault of a length, for the class of a packet that is none of a call, with the packet size in force for
-    /// the side that sent it.
+    /// Returns the first fault of a length, for the class of a packet other than those of a call, with the packet size
+    /// in force for the side that sent it.
     #[inline(always)]
     pub(crate) fn length_fault(&self, side: Side, class: Class, length: usize) -> Option<u8>
         ensures fault { (c : Channel) (xs : List ℕ) → Stands self.now c → is_call class ≡ false

@@ -1,4 +1,4 @@
-//! Where a packet stands in the state tables.
+//! The entry of a packet in the state tables.
 
 ghost use Rattle.std.specs.Prelude.{◌≡◌};
 ghost use Rattle.line_model.specs.channels.Tables.{action};
@@ -19,8 +19,9 @@ fn entry(side: Side, state: StateName, owed: bool, class: Class) -> Action
     }
 }
 
-/// The state in whose column a packet stands, and the entry there: in p4 the first table's, and the second's where that
-/// says so. Of an unknown channel a packet that tells what it is in is judged as in p1, on a permanent circuit as in d1.
+/// Returns the state in whose column a packet is judged, and the entry there: in p4 that of the first table, or of the
+/// second where the first says so. Of an unknown channel a packet that shows its state is judged as in p1, on a
+/// permanent circuit as in d1.
 #[inline(always)]
 pub(crate) fn judged(
     permanent: bool,
@@ -55,7 +56,7 @@ pub(crate) fn judged(
     }
 }
 
-/// The entry of an unknown channel: every packet passes but those that tell what the channel is in.
+/// The entry of an unknown channel: every packet passes except those that show its state.
 fn joining(taken: bool, state: StateName, entry: Action) -> (StateName, Action)
     ensures { record { state = result.0; entry = result.1 } ≡ joining taken state entry }
 {
@@ -66,21 +67,21 @@ fn joining(taken: bool, state: StateName, entry: Action) -> (StateName, Action)
     }
 }
 
-/// Whether a class tells what an unknown permanent circuit is in.
+/// Whether a class shows the state of an unknown permanent circuit.
 fn is_reset(class: Class) -> bool
     ensures { result ≡ is_reset class }
 {
     matches!(class, Class::Reset)
 }
 
-/// Whether a class tells what an unknown virtual call channel is in.
+/// Whether a class shows the state of an unknown virtual call channel.
 fn is_call_or_clear(class: Class) -> bool
     ensures { result ≡ is_call_or_clear class }
 {
     matches!(class, Class::Call | Class::Clear)
 }
 
-/// Whether a packet of a class is one of data transfer.
+/// Returns whether a packet of a class is one of data transfer.
 #[inline(always)]
 pub(crate) fn is_transfer(class: Class) -> bool
     ensures { result ≡ is_transfer class }

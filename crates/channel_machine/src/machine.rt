@@ -21,7 +21,7 @@ impl<A: Allocator + Clone, S: StatusStore + Drop> Channel<A> for GapChannel<A, S
 
     ghost number_of = { number_of };
 
-    ghost stands_for = { Represents };
+    ghost represents = { Represents };
 
     fn fresh(alloc: A, interface: &Interface, channel: u16, epoch: u32, start: EpochStart) -> Self {
         GapChannel::begun(alloc, interface, channel, epoch, start)

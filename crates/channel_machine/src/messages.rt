@@ -1,14 +1,14 @@
 //! PAD messages on a channel: their findings, and what they say of the settings.
 
 ghost use Rattle.std.specs.Prelude.{◌≡◌, ◌+◌, ◌<◌, ◌≤◌, ◌++◌, ◌∷◌, [], List, ℕ, is_some, length, take, option_to_list, flat_map, vec_len, vec_capacity};
-ghost use Rattle.line_model.specs.channels.Channels.{Told};
+ghost use Rattle.line_model.specs.channels.Channels.{PadMessage};
 ghost use Rattle.line_model.specs.channels.Pad.{form_fault, is_parameter, settings_of, settings_after, message_fault};
 ghost use Rattle.line_model.specs.channels.GapStep.{settings_by_form};
 ghost use Rattle.line_model.specs.channels.ChannelStep.{option_found};
 ghost use Rattle.pad.specs.Codes.{octets_of};
 ghost use Rattle.pad.specs.Pairs.{shown};
 ghost use Rattle.pad.specs.Effects.{indicated_one, asked_one};
-ghost use Rattle.pad.specs.Told.{set_events, told};
+ghost use Rattle.pad.specs.MessageEvents.{set_events, pad_message};
 ghost use Rattle.channel_machine.specs.Events.{Reports};
 
 use crate::events::EventOrigin;
@@ -34,7 +34,7 @@ pub struct BothSettings {
 impl BothSettings {
     ghost use Rattle.channel_machine.specs.Messages.{SettingsStand, message_reports};
 
-    /// Nothing was told yet.
+    /// Returns the settings before any message.
     pub(crate) fn new() -> BothSettings
         ensures { SettingsStand result [] }
     {
@@ -44,7 +44,7 @@ impl BothSettings {
         }
     }
 
-    /// Reports the message that a packet of so many octets completes, and keeps its settings. `octets` are the first
+    /// Reports the message that a packet of `size` octets completes, and keeps its settings. `octets` are the first
     /// 1,025 of the message.
     pub(crate) fn report_message<A: Allocator>(
         &mut self,
@@ -55,10 +55,10 @@ impl BothSettings {
         events: &mut Vec<Event, A>,
     )
         requires room { vec_len events.old + 514 ≤ vec_capacity events.old }
-        ensures reports { (m : List ℕ) (ts : List Told) → octets.now ≡ take 1025 m
+        ensures reports { (m : List ℕ) (ts : List PadMessage) → octets.now ≡ take 1025 m
             → SettingsStand self.old ts → Reports origin events.old.items events.new.items
             (message_reports from size ts m) }
-        ensures stands { (m : List ℕ) (ts : List Told) → octets.now ≡ take 1025 m
+        ensures stands { (m : List ℕ) (ts : List PadMessage) → octets.now ≡ take 1025 m
             → SettingsStand self.old ts → SettingsStand self.new (ts
             ++ record { from = from; message = m } ∷ []) }
     {
@@ -71,8 +71,7 @@ impl BothSettings {
         }
     }
 
-    /// Reports a message without a fault of its own, which a packet of so many octets completes, and keeps its
-    /// settings.
+    /// Reports a message without a fault of its own, which a packet of `size` octets completes, and keeps its settings.
     fn report_well_formed<A: Allocator>(
         &mut self,
         origin: EventOrigin,
@@ -83,11 +82,11 @@ impl BothSettings {
     )
         requires room { vec_len events.old + 514 ≤ vec_capacity events.old }
         requires short { length message.now.pairs.now < 1024 }
-        ensures reports { (ts : List Told) → SettingsStand self.old ts
+        ensures reports { (ts : List PadMessage) → SettingsStand self.old ts
             → Reports origin events.old.items events.new.items
-            (message_reports from size ts (told from message.now).message) }
-        ensures stands { (ts : List Told) → SettingsStand self.old ts
-            → SettingsStand self.new (ts ++ told from message.now ∷ []) }
+            (message_reports from size ts (pad_message from message.now).message) }
+        ensures stands { (ts : List PadMessage) → SettingsStand self.old ts
+            → SettingsStand self.new (ts ++ pad_message from message.now ∷ []) }
     {
         let fault = self.apply(from, message);
         report_fault(origin, from, fault, events);
@@ -98,10 +97,10 @@ impl BothSettings {
     /// Applies a message to the settings of both PADs, and returns its fault.
     #[tactic(auto, using(crate::proofs::Faults::both))]
     fn apply(&mut self, from: Side, message: &Message<'_>) -> Option<Xcode>
-        ensures fault { (ts : List Told) → SettingsStand self.old ts
-            → result ≡ message_fault from ts (told from message.now).message }
-        ensures stands { (ts : List Told) → SettingsStand self.old ts
-            → SettingsStand self.new (ts ++ told from message.now ∷ []) }
+        ensures fault { (ts : List PadMessage) → SettingsStand self.old ts
+            → result ≡ message_fault from ts (pad_message from message.now).message }
+        ensures stands { (ts : List PadMessage) → SettingsStand self.old ts
+            → SettingsStand self.new (ts ++ pad_message from message.now ∷ []) }
     {
         let of_t = self.of_t.apply(message, from);
         let of_n = self.of_n.apply(message, from);
@@ -112,14 +111,14 @@ impl BothSettings {
     }
 }
 
-/// A data packet of so many octets.
+/// Returns a data packet of `octets` octets.
 pub(crate) fn data_packet(side: Side, octets: u32) -> What
     ensures { result ≡ What.Data side octets }
 {
     What::Data { side, octets }
 }
 
-/// Reports the fault of a message, which stands in d1.
+/// Reports the fault of a message, which is judged in d1.
 fn report_fault<A: Allocator>(
     origin: EventOrigin,
     from: Side,
@@ -148,7 +147,7 @@ fn found(side: Side, fault: Xcode) -> What
     }
 }
 
-/// Reports what a message says of the settings, after a fault of them: with X4 it says nothing.
+/// Reports what a message says of the settings, where it may have a fault: with X4 it says nothing.
 fn report_after<A: Allocator>(
     origin: EventOrigin,
     from: Side,

@@ -25,7 +25,7 @@ use line_model::state::{Side, StateName};
 use packet_decode::fields::CallFields;
 use std::alloc::Allocator;
 
-/// What a move does to the call of its channel, with the fields that it takes, where they were read.
+/// What a move does to the call of its channel, with the fields that it uses, where they were read.
 #[derive(Clone, Copy)]
 pub(crate) enum Change<'a, 'o> {
     /// A call is opened, outgoing or not.
@@ -38,7 +38,7 @@ pub(crate) enum Change<'a, 'o> {
     Keeps,
 }
 
-/// What a move by a packet does to the call.
+/// Returns what a move by a packet does to the call.
 pub(crate) fn change_of<'a, 'o>(
     side: Side,
     contents: &'a Contents<'o>,

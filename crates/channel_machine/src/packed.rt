@@ -14,7 +14,8 @@ use data_transfer::packed::FlowWord;
 use line_model::interface::Interface;
 use line_model::state::{ChannelState, DState, PState, Side};
 
-/// The status of a channel in one word, beside its interface (profile): `channel_run::status_word::view_in` has its layout.
+/// The status of a channel in one word, and its interface (profile): `channel_run::status_word::view_in` has its
+/// layout.
 #[derive(Clone, Copy)]
 pub struct PackedStatus {
     word: FlowWord,
@@ -91,7 +92,7 @@ impl StatusStore for PackedStatus {
 
     #[inline(always)]
     fn data(&mut self, side: Side, send: u8, receive: u8) -> Result<(), u8> {
-        // Each side by itself, so that the places of its numbers in the word are constants.
+        // Each side has an arm of its own, so that the places of its numbers in the word are constants.
         match side {
             Side::T => self.word.data(Side::T, send, receive),
             Side::N => self.word.data(Side::N, send, receive),
@@ -115,7 +116,7 @@ impl StatusStore for PackedStatus {
     }
 }
 
-/// What stands above the windows and interrupts.
+/// Returns the bits above those of the windows and interrupts.
 pub(crate) fn owner_bits_of(state: u32, owed: bool, terms: &Terms) -> u32
     requires state { state < 32 }
     ensures fits { result < 2 ^ 19 }
@@ -130,15 +131,15 @@ pub(crate) fn owner_bits_of(state: u32, owed: bool, terms: &Terms) -> u32
     state + u32::from(owed) * 32 + call_bits(terms.call) * 64 + size_t * 1024 + size_n * 16384
 }
 
-/// The same with no indication owed.
+/// Returns these bits with no indication owed.
 fn settled(owner_bits: u32) -> u32
     ensures { result ≡ settled owner_bits }
 {
     owner_bits - owner_bits / 32 % 2 * 32
 }
 
-/// The bits of a state: three for p1 to p7, which are those of p4 on a virtual channel in data transfer, and two for d1
-/// to d3.
+/// Returns the bits of a state: three for p1 to p7, which are those of p4 on a virtual channel in data transfer, and
+/// two for d1 to d3.
 pub(crate) fn state_bits(permanent: bool, state: ChannelState) -> u32
     ensures below { result < 32 }
     ensures state { state_by (result % 8) (result / 8 % 4) ≡ state }

@@ -1,4 +1,4 @@
-//! The status of a channel, each part by itself.
+//! The status of a channel, each part in a field.
 
 ghost use Rattle.channel_machine.specs.Agreed.{agreed_of};
 

@@ -129,7 +129,7 @@ impl<A: Allocator + Clone, S: StatusStore> StatusChannel<A, S> {
         listed(self.fail(&judgement, code, events))
     }
 
-    /// Whether the channel is in d1 and no indication is owed.
+    /// Returns whether the channel is in d1 and no indication is owed.
     #[inline(always)]
     pub(crate) fn is_open(&self) -> bool
         ensures { OnTrue result (IsOpen self.now) }

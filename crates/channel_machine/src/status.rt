@@ -1,4 +1,4 @@
-//! What is known of a channel beside its sequences and its settings, and how it may be kept.
+//! What is known of a channel apart from its sequences and its settings, and how it may be kept.
 
 ghost use Rattle.std.specs.Prelude.{◌≡◌, OnErr, false};
 ghost use Rattle.line_model.specs.channels.Channels.{of_side};
@@ -20,39 +20,39 @@ pub trait StatusStore: Copy {
     /// The status that is kept.
     ghost status: { Self → Status };
 
-    /// A channel that enters a state under some terms.
+    /// Returns the status of a channel that enters a state under some terms.
     fn entered(channel: u16, state: ChannelState, owed: bool, terms: &Terms) -> Self
         ensures { IsEntered (status result) state owed (agreed_of terms.now) };
 
-    /// The interface of the channel.
+    /// Returns the interface of the channel.
     fn interface(&self) -> Interface
         ensures { result ≡ (status self.now).terms.interface };
 
-    /// The state of the channel.
+    /// Returns the state of the channel.
     fn state(&self) -> ChannelState
         ensures { result ≡ (status self.now).state };
 
-    /// Whether an indication of the DCE is owed.
+    /// Returns whether an indication of the DCE is owed.
     fn is_owed(&self) -> bool
         ensures { result ≡ (status self.now).owed };
 
-    /// The indication that was owed has come.
+    /// Records that the indication that was owed has come.
     fn settle(&mut self)
         ensures { status self.new ≡ record (status self.old) { owed = false } };
 
-    /// What was agreed.
+    /// Returns what was agreed.
     fn terms(&self) -> Terms
         ensures { agreed_of result ≡ (status self.now).terms };
 
-    /// The call that is open.
+    /// Returns the call that is open.
     fn call(&self) -> Option<Opened>
         ensures { result ≡ (status self.now).terms.call };
 
-    /// What is known of the channel, in one word, except whether it is adrift.
+    /// Returns what is known of the channel, in one word, except whether it is adrift.
     fn word(&self) -> FlowWord
         ensures { record (view_in result) { adrift = false } ≡ view_of (status self.now) };
 
-    /// The packet size in force for data from a side.
+    /// Returns the packet size in force for data from a side, in octets.
     fn size(&self, side: Side) -> u16
         ensures { result ≡ size_of (status self.now).terms.values side };
 

@@ -151,7 +151,7 @@ impl<A: Allocator + Clone, S: StatusStore> StatusChannel<A, S> {
         }
     }
 
-    /// Takes a packet whose entry is a move.
+    /// Handles a packet whose entry is a move.
     fn handle_move(
         &mut self,
         judgement: &Judgement,
@@ -176,7 +176,7 @@ impl<A: Allocator + Clone, S: StatusStore> StatusChannel<A, S> {
         }
     }
 
-    /// Takes a packet of data transfer of a class without fault of format.
+    /// Handles a packet of data transfer without fault of format, by its class.
     fn carry(
         &mut self,
         judgement: &Judgement,
@@ -203,7 +203,7 @@ impl<A: Allocator + Clone, S: StatusStore> StatusChannel<A, S> {
         }
     }
 
-    /// Takes a packet of data transfer.
+    /// Handles a packet of data transfer.
     fn handle_transfer(
         &mut self,
         judgement: &Judgement,
@@ -227,8 +227,8 @@ impl<A: Allocator + Clone, S: StatusStore> StatusChannel<A, S> {
         }
     }
 
-    /// The state in whose column a packet stands, and the entry there. In d1 where nothing is owed every packet of data
-    /// transfer is normal.
+    /// Returns the state in whose column a packet is judged, and the entry there. In d1 where nothing is owed every
+    /// packet of data transfer is normal.
     #[inline(always)]
     pub(crate) fn judge(&self, side: Side, class: Class) -> (StateName, Action)
         ensures judged { (c : Channel) → Stands self.now c
@@ -308,7 +308,7 @@ impl<A: Allocator + Clone, S: StatusStore> StatusChannel<A, S> {
     }
 }
 
-/// The result of a step whose events are all listed.
+/// Returns the result of a step whose events are all listed.
 pub(crate) fn listed(done: Result<(), Fault>) -> Result<Option<u32>, Fault>
     ensures { result ≡ listed done }
 {

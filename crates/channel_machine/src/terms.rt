@@ -44,7 +44,7 @@ impl Values {
         }
     }
 
-    /// The values after a packet of a call, which may ask others.
+    /// The values after a packet of a call, which may ask for others.
     fn asked(self, out: bool, fields: &CallFields<'_>) -> Values
         ensures { result ≡ with_asked out fields.now.sizes fields.now.windows self }
     {
@@ -101,7 +101,7 @@ pub struct Terms {
 }
 
 impl Terms {
-    /// A channel without a call: the values of the interface are in force.
+    /// Returns a channel without a call: the values of the interface are in force.
     pub(crate) fn new(interface: Interface) -> Terms
         ensures interface { result.interface ≡ interface }
         ensures call { result.call ≡ None }
@@ -114,7 +114,7 @@ impl Terms {
         }
     }
 
-    /// The terms of a call that a packet opens.
+    /// Returns the terms of a call that a packet opens.
     pub(crate) fn opened(interface: Interface, out: bool, fields: &CallFields<'_>) -> Terms
         requires usable { IsUsable interface fields.now }
         ensures interface { result.interface ≡ interface }
@@ -134,7 +134,8 @@ impl Terms {
         }
     }
 
-    /// The terms of a call that a packet accepts: what that packet asks is in force, and else what was agreed before.
+    /// Returns the terms of a call that a packet accepts: what that packet asks is in force, and otherwise what was
+    /// agreed before.
     pub(crate) fn accepted(self, fields: &CallFields<'_>) -> Terms
         requires usable { IsUsable self.interface fields.now }
         ensures interface { result.interface ≡ self.interface }
@@ -170,7 +171,7 @@ fn names_pad(user_data: &[u8]) -> bool
     }
 }
 
-/// Whether the packet that opened the call asked fast select.
+/// Returns whether the packet that opened the call asked fast select.
 pub(crate) fn was_fast(call: Option<Opened>) -> bool
     ensures { result ≡ is_fast call }
 {
@@ -180,7 +181,7 @@ pub(crate) fn was_fast(call: Option<Opened>) -> bool
     }
 }
 
-/// Whether the call is a PAD call.
+/// Returns whether the call is a PAD call.
 pub(crate) fn is_pad_call(call: Option<Opened>) -> bool
     ensures { result ≡ is_pad call }
 {

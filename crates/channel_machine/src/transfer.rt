@@ -6,7 +6,7 @@ ghost use Rattle.line_model.specs.channels.ChannelStep.{counting, counts_of, dat
 ghost use Rattle.line_model.specs.channels.FlowControl.{count_receive};
 ghost use Rattle.line_model.specs.packets.Classes.{header_length, packet_class};
 ghost use Rattle.packet_decode.specs.SaidData.{IsSaidData};
-ghost use Rattle.channel_machine.specs.Transfers.{IsHeard, counted_in_force, packet};
+ghost use Rattle.channel_machine.specs.Transfers.{IsAccepted, counted_in_force, packet};
 ghost use Rattle.channel_machine.specs.Channels.{Stands, IsJudged, IsUnchanged, IsMemory};
 ghost use Rattle.channel_machine.specs.Sizes.{largest_length};
 
@@ -38,8 +38,8 @@ impl<A: Allocator + Clone, S: StatusStore> StatusChannel<A, S> {
     ) -> Result<Option<u8>, Fault>
         requires short { length user_data.now ≤ largest_length }
         ensures rest { self.new ≡ record self.old { transfer = self.new.transfer } }
-        ensures heard { (c : Channel) → Stands self.old c
-            → IfOk result (λ o. IsHeard o self.old.terms.interface origin self.old.transfer
+        ensures accepted_data { (c : Channel) → Stands self.old c
+            → IfOk result (λ o. IsAccepted o self.old.terms.interface origin self.old.transfer
             self.new.transfer events.old.items events.new.items side
             (packet side header.now user_data.now)
             (counted_in_force self.old.terms.interface side header.now.send
@@ -83,7 +83,7 @@ impl<A: Allocator + Clone, S: StatusStore> StatusChannel<A, S> {
         }
     }
 
-    /// How many octets of user data a data packet has.
+    /// Returns how many octets of user data a data packet has.
     #[inline(always)]
     pub(crate) fn user_data_length(&self, item: &ItemRef<'_>) -> usize
         requires whole { header_length self.now.terms.interface ≤ item.now.length }
@@ -92,8 +92,8 @@ impl<A: Allocator + Clone, S: StatusStore> StatusChannel<A, S> {
         item.length - header_length(&self.status.interface())
     }
 
-    /// Accepts a data packet with Q 0, and returns how many octets of user data it has; or returns its fault, that of its
-    /// numbers or of the Q bit of the sequence begun, and the channel is as it was. It takes no memory.
+    /// Accepts a data packet with Q 0, and returns how many octets of user data it has; or returns its fault, that of
+    /// its numbers or of the Q bit of the sequence begun, and the channel is as it was. Allocates nothing.
     #[inline(always)]
     pub(crate) fn accept_unqualified(
         &mut self,
@@ -153,7 +153,7 @@ impl<A: Allocator + Clone, S: StatusStore> StatusChannel<A, S> {
     }
 }
 
-/// Whether a complete sequence with a Q bit is a message.
+/// Returns whether a complete sequence with a Q bit is a message.
 pub(crate) fn is_message(pad_call: bool, qualified: bool) -> bool
     ensures { result ≡ (pad_call && qualified) }
 {

@@ -1,3 +1,3 @@
 pub mod LiveLemmas
-pub mod Worth
+pub mod PieceResult
 pub mod Words

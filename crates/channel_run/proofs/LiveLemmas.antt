@@ -55,10 +55,10 @@ rows_more : (i : Interface) (e k : ℕ) (g : GapChannel) (items : List Item) (it
 rows_more i e k g [] item = rows_first i e k g item [] None ∙ append-nil (row_events i e k g item)
 rows_more i e k g (x ∷ items) item =
     let h : GapChannel = (row_step i k g x).after in
-    let told : List Event = row_events i e k g x in
+    let events_at_row : List Event = row_events i e k g x in
     rows_first i e k g x (items ++ item ∷ []) None
-    ∙ ap (λ l. told ++ l) (rows_more i e k h items item)
-    ∙ sym (append_assoc told (map event_of (piece_value (x25 i) e k h items None)) (row_events i e k (channel_after i k h items) item))
+    ∙ ap (λ l. events_at_row ++ l) (rows_more i e k h items item)
+    ∙ sym (append_assoc events_at_row (map event_of (piece_value (x25 i) e k h items None)) (row_events i e k (channel_after i k h items) item))
     ∙ ap (λ l. l ++ row_events i e k (channel_after i k h items) item) (sym (rows_first i e k g x items None))
 
 rows_end : (i : Interface) (e k : ℕ) (g : GapChannel) (items : List Item) (end : Option PieceEnd)
@@ -67,10 +67,10 @@ rows_end i e k g [] None = refl
 rows_end i e k g [] (Some n) = refl
 rows_end i e k g (x ∷ items) end =
     let h : GapChannel = (row_step i k g x).after in
-    let told : List Event = row_events i e k g x in
+    let events_at_row : List Event = row_events i e k g x in
     rows_first i e k g x items (option_map row_of_end end)
-    ∙ ap (λ l. told ++ l) (rows_end i e k h items end)
-    ∙ sym (append_assoc told (map event_of (piece_value (x25 i) e k h items None)) (end_events e k end (channel_after i k h items)))
+    ∙ ap (λ l. events_at_row ++ l) (rows_end i e k h items end)
+    ∙ sym (append_assoc events_at_row (map event_of (piece_value (x25 i) e k h items None)) (end_events e k end (channel_after i k h items)))
     ∙ ap (λ l. l ++ end_events e k end (channel_after i k h items)) (sym (rows_first i e k g x items None))
 
 pub piece_more : (p : Piece) (item : Item) → piece_events (so_far (with_item p item)) ≡ piece_events (so_far p) ++ row_events p.interface p.epoch p.channel (channel_so_far p) item
@@ -108,7 +108,7 @@ one_finding i e k g r es found is first =
 
 -- ---- the events of a row, under the channel's own names
 
--- It takes the equalities one by one, so that a wrong one is refused before any event is computed.
+-- It reads the equalities one by one, so that a wrong one is refused before any event is computed.
 pub events_are : {i i' : Interface} {e e' k k' : ℕ} (none es : List Event) (c : GapChannel) (r : Item) (n : Option ℕ)
     → es ++ data_events e k r n ≡ none ++ row_events i e k c r → none ≡ [] → i ≡ i' → e ≡ e' → k ≡ k' → es ++ data_events e' k' r n ≡ row_events i' e' k' c r
 events_are none es c r n is is_none interface epoch number =
@@ -140,19 +140,19 @@ piece_within p h = value_bounds p h
 findings-more : (es : List Event) (vs : List Event) → findings_of (es ++ vs) ≡ findings_of es ++ findings_of vs
 findings-more es vs = filter_map-append (λ (e : Event). elim e.what [ Found x s c ↦ Some (record { packet = e.packet; side = x; state = s; code = c }) | _ ↦ None ]) es vs
 
-pub findings_told : (es vs : List Event) (old new : List Finding) → old ≡ findings_of es → new ≡ old ++ findings_of vs → new ≡ findings_of (es ++ vs)
-findings_told es vs old new is step = step ∙ ap (λ l. l ++ findings_of vs) is ∙ sym (findings-more es vs)
+pub findings_added : (es vs : List Event) (old new : List Finding) → old ≡ findings_of es → new ≡ old ++ findings_of vs → new ≡ findings_of (es ++ vs)
+findings_added es vs old new is step = step ∙ ap (λ l. l ++ findings_of vs) is ∙ sym (findings-more es vs)
 
 lengths-more : (es vs : List Event) → all_lengths (es ++ vs) ≡ all_lengths es ++ all_lengths vs
 lengths-more es vs = filter_map-append (λ (e : Event). elim e.what [ Data y n ↦ Some n | _ ↦ None ]) es vs
 
-pub octets_told : (es vs : List Event) (old by new : ℕ) → old ≡ sum (all_lengths es) → by ≡ sum (all_lengths vs) → new ≡ min (old + by) (2 ^ 64 - 1) → IsCountable (es ++ vs) → new ≡ sum (all_lengths (es ++ vs))
-octets_told es vs old by new is more step few =
+pub octets_added : (es vs : List Event) (old by new : ℕ) → old ≡ sum (all_lengths es) → by ≡ sum (all_lengths vs) → new ≡ min (old + by) (2 ^ 64 - 1) → IsCountable (es ++ vs) → new ≡ sum (all_lengths (es ++ vs))
+octets_added es vs old by new is more step few =
     let both = ap sum (lengths-more es vs) ∙ sum-more (all_lengths es) (all_lengths vs) in
     omega (arith, is, more, step, both, few.octets)
 
-pub segments_told : (es vs : List Event) (old by new : ℕ) → old ≡ segments_of (all_lengths es) → by ≡ segments_of (all_lengths vs) → new ≡ min (old + by) (2 ^ 64 - 1) → IsCountable (es ++ vs) → new ≡ segments_of (all_lengths (es ++ vs))
-segments_told es vs old by new is more step few =
+pub segments_added : (es vs : List Event) (old by new : ℕ) → old ≡ segments_of (all_lengths es) → by ≡ segments_of (all_lengths vs) → new ≡ min (old + by) (2 ^ 64 - 1) → IsCountable (es ++ vs) → new ≡ segments_of (all_lengths (es ++ vs))
+segments_added es vs old by new is more step few =
     let rounded : List ℕ → List ℕ = map (λ n. (n + 63) / 64) in
     let both : segments_of (all_lengths (es ++ vs)) ≡ segments_of (all_lengths es) + segments_of (all_lengths vs) =
     ap segments_of (lengths-more es vs) ∙ ap sum (map-append (λ (n : ℕ). (n + 63) / 64) (all_lengths es) (all_lengths vs)) ∙ sum-more (rounded (all_lengths es)) (rounded (all_lengths vs)) in
@@ -180,9 +180,9 @@ all_at P [] i d h lt = absurd (omega arith)
 all_at P (e ∷ es) zero d h lt = h.0
 all_at P (e ∷ es) (suc i) d h lt = all_at P es i d h.1 (omega arith)
 
-pub heard_on : (P Q : List Event → Type 0) (epoch channel : ℕ) (es vs : List Event) (i : ℕ) (e : Event) → i < length vs → e ≡ get_or vs i e → AllByRecursion (IsOf epoch channel) vs → IsCountable (es ++ vs)
+pub counted_on : (P Q : List Event → Type 0) (epoch channel : ℕ) (es vs : List Event) (i : ℕ) (e : Event) → i < length vs → e ≡ get_or vs i e → AllByRecursion (IsOf epoch channel) vs → IsCountable (es ++ vs)
     → P (es ++ take i vs) → (P (es ++ take i vs) → IsOf epoch channel e → IsCountable ((es ++ take i vs) ++ e ∷ []) → Q ((es ++ take i vs) ++ e ∷ [])) → Q (es ++ take (i + 1) vs)
-heard_on P Q epoch channel es vs i e lt is all few h step =
+counted_on P Q epoch channel es vs i e lt is all few h step =
     let more : take (i + 1) vs ≡ take i vs ++ e ∷ [] = take_more vs i e lt ∙ ap (λ x. take i vs ++ x ∷ []) (sym is) in
     let whole : es ++ take (i + 1) vs ≡ (es ++ take i vs) ++ e ∷ [] = ap (λ l. es ++ l) more ∙ sym (append_assoc es (take i vs) (e ∷ [])) in
     let parts : es ++ vs ≡ (es ++ take (i + 1) vs) ++ drop (i + 1) vs = ap (λ l. es ++ l) (sym (take-append-drop (i + 1) vs)) ∙ sym (append_assoc es (take (i + 1) vs) (drop (i + 1) vs)) in
@@ -245,15 +245,15 @@ last_item i k items item h = subst (IsItem i k) (last_at items item) (h.packets 
 ends : (g : GapChannel) (n : PieceEnd) (b q : Bool) → b ≡ is_open g.channel → q ≡ g.restarting → epoch_end_if b (end_of_epoch (q && n.missed)) ≡ epoch_end g (row_of_end n)
 ends g n b q is restarting = λ j. epoch_end_if (is j) (end_of_epoch (restarting j && sym (end_confirms n.missed) j))
 
-pub end_heard : (p : Piece) (n : PieceEnd) (b q : Bool) → b ≡ is_open (channel_so_far p).channel → b ≡ true → q ≡ (channel_so_far p).restarting
+pub end_adds : (p : Piece) (n : PieceEnd) (b q : Bool) → b ≡ is_open (channel_so_far p).channel → b ≡ true → q ≡ (channel_so_far p).restarting
     → piece_events (so_far p) ++ record { epoch = p.epoch; channel = p.channel; packet = n.row; what = End (end_of_epoch (q && n.missed)) } ∷ [] ≡ piece_events (record p { end = Some n })
-end_heard p n b q is opened restarting =
+end_adds p n b q is opened restarting =
     ap (λ ws. piece_events (so_far p) ++ map event_of (stamp p.epoch (Some p.channel) (row_of_end n) ws))
     (ap (λ o. epoch_end_if o (end_of_epoch (q && n.missed))) (sym opened) ∙ ends (channel_so_far p) n b q is restarting)
     ∙ sym (piece_ended p (Some n))
 
-pub none_heard : (p : Piece) (n : PieceEnd) (b : Bool) → b ≡ is_open (channel_so_far p).channel → b ≡ false → piece_events (so_far p) ≡ piece_events (record p { end = Some n })
-none_heard p n b is closed =
+pub end_adds_nothing : (p : Piece) (n : PieceEnd) (b : Bool) → b ≡ is_open (channel_so_far p).channel → b ≡ false → piece_events (so_far p) ≡ piece_events (record p { end = Some n })
+end_adds_nothing p n b is closed =
     let g : GapChannel = channel_so_far p in
     sym (append-nil (piece_events (so_far p)))
     ∙ ap (λ ws. piece_events (so_far p) ++ map event_of (stamp p.epoch (Some p.channel) (row_of_end n) ws))

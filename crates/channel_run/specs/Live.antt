@@ -1,4 +1,4 @@
--- A channel that takes its rows as they come.
+-- A channel that reads its rows as they come.
 use Rattle.std.specs.Prelude.{◌≡◌, ℕ, ◌++◌, List, [], ◌∷◌, None}
 use Rattle.line_model.specs.declared.interface.Interface.{Interface}
 use Rattle.line_model.specs.basics.Records.{Item, Piece}
@@ -26,12 +26,12 @@ so_far p = record p { end = None }
 abbrev pub with_item : Piece → Item → Piece
 with_item p item = record p { items = p.items ++ item ∷ [] }
 
--- a live channel stands for a piece as it is so far; neither the id of the piece nor its end is looked at
-pub record StandsFor {A C : Type 0} (interface_of : C → Interface) (number_of : C → ℕ) (stands_for : C → GapChannel → Type 0) (live : LiveChannel A C) (p : Piece) : Type 0 where
+-- a live channel represents a piece as it is so far; the id of the piece and its end do not matter
+pub record Represents {A C : Type 0} (interface_of : C → Interface) (number_of : C → ℕ) (represents : C → GapChannel → Type 0) (live : LiveChannel A C) (p : Piece) : Type 0 where
   pub small : IsPiece p.interface p.channel p.items
   pub interface : interface_of live.machine ≡ p.interface
   pub number : number_of live.machine ≡ p.channel
   pub channel : live.channel ≡ p.channel
   pub epoch : live.epoch ≡ p.epoch
-  pub machine : stands_for live.machine (channel_so_far p)
+  pub machine : represents live.machine (channel_so_far p)
   pub counted : Counts live.tally p.epoch p.channel (piece_events (so_far p))

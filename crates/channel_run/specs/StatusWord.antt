@@ -1,4 +1,4 @@
--- What is known of a channel in a word: what stands above its windows and interrupts (profile).
+-- What is known of a channel in a word: the bits above its windows and interrupts (profile).
 use Rattle.std.specs.Prelude.{ℕ, Bool, cond, ◌==◌, ◌/◌, ◌%◌, ◌^◌, ◌&&◌}
 use Rattle.line_model.specs.declared.state.ChannelState.{ChannelState}
 use Rattle.line_model.specs.declared.state.ChannelState.TheVariants.{Setup, Transfer, Unknown}

@@ -6,18 +6,18 @@ use Rattle.line_model.specs.basics.Bounds.{IsPieceReport}
 use Rattle.line_model.specs.observer.Calls.{calls_of, all_lengths, segments_of}
 use Rattle.line_model.specs.observer.Report.{findings_of}
 use Rattle.call_accounts.specs.SoFar as so_far
-use Rattle.channel_run.specs.declared.tally.Tally.{Tally}
+use Rattle.channel_run.specs.declared.tally.PieceTally.{PieceTally}
 
--- what is counted is what these events tell, all of one channel in one epoch
-pub record Counts {A : Type 0} (t : Tally A) (epoch channel : ℕ) (es : List Event) : Type 0 where
+-- what is counted is what these events show, all of one channel in one epoch
+pub record Counts {A : Type 0} (t : PieceTally A) (epoch channel : ℕ) (es : List Event) : Type 0 where
   pub findings : t.findings.items ≡ findings_of es
-  pub calls : so_far.StandsFor t.calls epoch channel es
+  pub calls : so_far.Represents t.calls epoch channel es
   pub octets : t.octets ≡ sum (all_lengths es)
   pub segments : t.segments ≡ segments_of (all_lengths es)
 
--- what events of a channel in an epoch are worth
-abbrev pub worth : (id epoch channel : ℕ) → List Event → PieceReport
-worth id epoch channel es = record {
+-- the result of the events of a channel in an epoch
+abbrev pub piece_result : (id epoch channel : ℕ) → List Event → PieceReport
+piece_result id epoch channel es = record {
   id = id;
   epoch = epoch;
   channel = channel;
@@ -27,6 +27,6 @@ worth id epoch channel es = record {
   segments = segments_of (all_lengths es);
 }
 
--- it is what a piece may be worth
+-- it is a possible result of a piece
 abbrev pub IsWithin : List Event → Type 0
 IsWithin es = IsPieceReport (findings_of es) (calls_of es) (sum (all_lengths es)) (segments_of (all_lengths es))

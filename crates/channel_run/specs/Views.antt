@@ -1,4 +1,4 @@
--- What is told of a channel at one moment.
+-- What is known of a channel at one moment.
 use Rattle.std.specs.Prelude.{◌≡◌, Bool, true, false}
 use Rattle.line_model.specs.declared.interface.Interface.{Interface}
 use Rattle.line_model.specs.declared.state.Side.TheVariants.{T, N}
@@ -19,8 +19,8 @@ abbrev pub is_settled : Certainty → Bool
 is_settled (Settled b) = true
 is_settled t = false
 
--- the state of a channel, whether it is adrift, whether an indication is owed, whether its call is a PAD call and asked fast
--- select, the sizes in force, and numbers that stand for its counts, unless some of these may be in doubt
+-- the state of a channel, whether it is adrift, whether an indication is owed, whether its call is a PAD call and asked
+-- fast select, the sizes in force, and numbers that represent its counts, unless some of these may be in doubt
 pub record IsViewOf (i : Interface) (g : GapChannel) (v : View) : Type 0 where
   pub state : v.state ≡ g.channel.state
   pub adrift : v.adrift ≡ is_adrift g.certainty

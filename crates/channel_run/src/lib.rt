@@ -1,4 +1,4 @@
-//! The run of a piece: one logical channel, by any machine, from its rows to what they are worth.
+//! The run of a piece: one logical channel, by any machine, from its rows to their result.
 #![tactic(auto)]
 
 pub mod live;

@@ -1,4 +1,4 @@
-//! A channel that takes its rows as they come, and tells at any time what its piece is worth so far.
+//! A channel that reads its rows as they come, and returns at any time the result of its piece so far.
 
 ghost use Rattle.std.specs.Prelude.{◌≡◌, ◌&&◌, ℕ, List, [], ◌∷◌, ◌++◌, None, option_to_list, IfOk, IfErr, OnOk, OnSome};
 ghost use Rattle.line_model.specs.declared.fault.Fault.TheVariants.{Memory};
@@ -7,7 +7,7 @@ ghost use Rattle.line_model.specs.basics.Bounds.{IsPiece};
 ghost use Rattle.line_model.specs.pieces.Plans.{piece_events, value};
 ghost use Rattle.line_model.specs.observer.Report.{findings_of};
 ghost use Rattle.channel_run.specs.Tally.{Counts};
-ghost use Rattle.channel_run.specs.Live.{StandsFor, channel_so_far, so_far, with_item};
+ghost use Rattle.channel_run.specs.Live.{Represents, channel_so_far, so_far, with_item};
 ghost use Rattle.line_model.specs.observer.Observer.{end_of_epoch};
 ghost use Rattle.channel_run.specs.Run.{data_events, row_events};
 ghost use Rattle.channel_run.specs.StatusWord.{view_in};
@@ -15,7 +15,7 @@ ghost use Rattle.channel_run.specs.Views.{IsViewOf};
 
 use crate::run::{Channel, View};
 use crate::status_word::view_in;
-use crate::tally::Tally;
+use crate::tally::PieceTally;
 use data_transfer::packed::FlowWord;
 use line_model::event::{Event, How, What};
 use line_model::fault::Fault;
@@ -28,9 +28,9 @@ use std::alloc::Allocator;
 
 /// What a row did to its channel.
 #[derive(Clone, Copy)]
-pub struct Taken {
-    /// How many octets of user data data with Q 0 has that the channel accepted, which is the row's one event and is not
-    /// listed. `None`: the events of the row are listed.
+pub struct ChannelOutcome {
+    /// The octets of user data of an accepted data packet with Q 0, whose event is the row's only one and is not
+    /// listed. `None` where the events of the row are listed.
     pub accepted: Option<u32>,
     /// What the row found.
     pub finding: Option<Finding>,
@@ -42,12 +42,12 @@ pub struct LiveChannel<A: Allocator, C: Channel<A>> {
     channel: u16,
     epoch: u32,
     machine: C,
-    tally: Tally<A>,
+    tally: PieceTally<A>,
 }
 
 impl<A: Allocator + Clone, C: Channel<A>> LiveChannel<A, C> {
-    /// A channel of an epoch as it begins, of which no row was taken. It takes no memory, but for that of clones of the
-    /// allocator.
+    /// Returns a channel of an epoch as it begins, of which no row was read. Allocates nothing, except for clones of
+    /// the allocator.
     pub fn fresh(
         alloc: A,
         interface: &Interface,
@@ -57,33 +57,37 @@ impl<A: Allocator + Clone, C: Channel<A>> LiveChannel<A, C> {
     ) -> Result<Self, Fault>
         ensures stands { IfOk result (λ live. (p : Piece) → p.interface ≡ interface.now
             → p.channel ≡ channel → p.epoch ≡ epoch → p.start ≡ start → p.items ≡ []
-            → StandsFor C.interface_of C.number_of C.stands_for live p) }
+            → Represents C.interface_of C.number_of C.represents live p) }
         ensures memory { IfErr result (λ fault. fault ≡ Memory) }
     {
         Ok(LiveChannel {
             channel,
             epoch,
             machine: C::fresh(alloc.clone()?, interface, channel, epoch, start),
-            tally: Tally::new(alloc)?,
+            tally: PieceTally::new(alloc)?,
         })
     }
 
-    /// Takes the next row by what it says. The caller lends the list `events`: afterwards it holds the events of the row
-    /// and nothing else, and it is empty where accepted data with Q 0 is the row's one event. Fails only when memory is
-    /// refused; drop the channel then.
+    /// Reads the next row by what it says. The caller lends the list `events`: afterwards it holds the events of the
+    /// row and nothing else, and it is empty where accepted data with Q 0 is the row's one event. Fails only when
+    /// memory is refused; drop the channel then.
     #[inline(always)]
-    pub fn take(&mut self, item: &ItemRef<'_>, events: &mut Vec<Event, A>) -> Result<Taken, Fault>
-        requires room { (p : Piece) × StandsFor C.interface_of C.number_of C.stands_for self.old p
+    pub fn take(
+        &mut self,
+        item: &ItemRef<'_>,
+        events: &mut Vec<Event, A>,
+    ) -> Result<ChannelOutcome, Fault>
+        requires room { (p : Piece) × Represents C.interface_of C.number_of C.represents self.old p
             × IsPiece p.interface p.channel (p.items ++ item.now ∷ []) }
-        ensures stands { (p : Piece) → StandsFor C.interface_of C.number_of C.stands_for self.old p
+        ensures stands { (p : Piece) → Represents C.interface_of C.number_of C.represents self.old p
             → IsPiece p.interface p.channel (p.items ++ item.now ∷ [])
-            → OnOk result (StandsFor C.interface_of C.number_of C.stands_for self.new
+            → OnOk result (Represents C.interface_of C.number_of C.represents self.new
             (with_item p item.now)) }
-        ensures events { (p : Piece) → StandsFor C.interface_of C.number_of C.stands_for self.old p
+        ensures events { (p : Piece) → Represents C.interface_of C.number_of C.represents self.old p
             → IfOk result (λ taken. events.new.items ++ data_events p.epoch p.channel item.now taken.accepted
             ≡ row_events p.interface p.epoch p.channel (channel_so_far p) item.now) }
         ensures apart { IfOk result (λ taken. OnSome taken.accepted (events.new.items ≡ [])) }
-        ensures finding { (p : Piece) → StandsFor C.interface_of C.number_of C.stands_for self.old p
+        ensures finding { (p : Piece) → Represents C.interface_of C.number_of C.represents self.old p
             → IfOk result (λ taken. option_to_list taken.finding
             ≡ findings_of (row_events p.interface p.epoch p.channel (channel_so_far p) item.now)) }
         ensures memory { IfErr result (λ fault. fault ≡ Memory) }
@@ -92,14 +96,14 @@ impl<A: Allocator + Clone, C: Channel<A>> LiveChannel<A, C> {
         match self.machine.advance(self.epoch, item, events)? {
             Some(octets) => {
                 self.tally.add_data(item.side, octets);
-                Ok(Taken {
+                Ok(ChannelOutcome {
                     accepted: Some(octets),
                     finding: None,
                 })
             }
             None => {
                 let finding = self.tally.record_all(events.as_slice())?;
-                Ok(Taken {
+                Ok(ChannelOutcome {
                     accepted: None,
                     finding,
                 })
@@ -107,48 +111,48 @@ impl<A: Allocator + Clone, C: Channel<A>> LiveChannel<A, C> {
         }
     }
 
-    /// What is known of the channel after the rows so far.
+    /// Returns what is known of the channel after the rows so far.
     pub fn view(&self) -> View
-        ensures { (p : Piece) → StandsFor C.interface_of C.number_of C.stands_for self.now p
+        ensures { (p : Piece) → Represents C.interface_of C.number_of C.represents self.now p
             → IsViewOf p.interface (channel_so_far p) result }
     {
         view_in(&self.machine.word())
     }
 
-    /// The same in one word, which `status_word::view_in` reads.
+    /// Returns what is known of the channel in one word, which `status_word::view_in` reads.
     pub fn word(&self) -> FlowWord
-        ensures { (p : Piece) → StandsFor C.interface_of C.number_of C.stands_for self.now p
+        ensures { (p : Piece) → Represents C.interface_of C.number_of C.represents self.now p
             → IsViewOf p.interface (channel_so_far p) (view_in result) }
     {
         self.machine.word()
     }
 
-    /// The findings so far.
+    /// Returns the findings so far.
     pub fn findings(&self) -> &[Finding]
-        ensures { (p : Piece) → StandsFor C.interface_of C.number_of C.stands_for self.now p
+        ensures { (p : Piece) → Represents C.interface_of C.number_of C.represents self.now p
             → result.now ≡ (value (so_far p)).findings }
     {
         self.tally.findings()
     }
 
-    /// What the piece is worth so far, by a copy: the channel goes on. It answers `Memory` alone.
+    /// Returns the result of the piece so far, by a copy: the channel goes on. Fails only when memory is refused.
     pub fn report(&self, alloc: A, id: u32) -> Result<PieceReport<A>, Fault>
-        requires stands { (p : Piece) × StandsFor C.interface_of C.number_of
-            C.stands_for self.now p }
+        requires stands { (p : Piece) × Represents C.interface_of C.number_of
+            C.represents self.now p }
         ensures value { IfOk result (λ report. (p : Piece)
-            → StandsFor C.interface_of C.number_of C.stands_for self.now p
+            → Represents C.interface_of C.number_of C.represents self.now p
             → report ≡ value (record p { id = id; end = None })) }
         ensures memory { IfErr result (λ fault. fault ≡ Memory) }
     {
         self.tally.report(alloc, id, self.epoch, self.channel)
     }
 
-    /// What the piece is worth. An open call ends with the row that ended the epoch, if one did. It answers `Memory`
-    /// alone.
+    /// Returns the result of the piece. An open call ends with the row that ended the epoch, if one did. Fails only
+    /// when memory is refused.
     pub fn end(mut self, id: u32, end: Option<PieceEnd>) -> Result<PieceReport<A>, Fault>
-        requires stands { (p : Piece) × StandsFor C.interface_of C.number_of C.stands_for self p }
+        requires stands { (p : Piece) × Represents C.interface_of C.number_of C.represents self p }
         ensures value { IfOk result (λ report. (p : Piece)
-            → StandsFor C.interface_of C.number_of C.stands_for self p
+            → Represents C.interface_of C.number_of C.represents self p
             → report ≡ value (record p { id = id; end = end })) }
         ensures memory { IfErr result (λ fault. fault ≡ Memory) }
     {
@@ -156,11 +160,11 @@ impl<A: Allocator + Clone, C: Channel<A>> LiveChannel<A, C> {
         self.tally.finish(id, self.epoch, self.channel)
     }
 
-    /// The call that is open ends with the row that ended the epoch, if one did.
+    /// Ends the call that is open with the row that ended the epoch, if one did.
     fn close(&mut self, end: Option<PieceEnd>) -> Result<(), Fault>
         ensures place { OnOk result ((self.new.epoch ≡ self.old.epoch)
             × (self.new.channel ≡ self.old.channel)) }
-        ensures counted { (p : Piece) → StandsFor C.interface_of C.number_of C.stands_for self.old p
+        ensures counted { (p : Piece) → Represents C.interface_of C.number_of C.represents self.old p
             → OnOk result (Counts self.new.tally p.epoch p.channel
             (piece_events (record p { end = end }))) }
         ensures memory { IfErr result (λ fault. fault ≡ Memory) }

@@ -44,8 +44,8 @@ pub struct View {
     pub flow: Flow,
 }
 
-/// One logical channel of an interface: from its packets to events (X.25 Annexes B and C, clauses 4 to 6). What it
-/// keeps is its own affair: contracts see the channel of the definitions that it stands for.
+/// One logical channel of an interface: from its packets to events (X.25 Annexes B and C, clauses 4 to 6). Contracts
+/// see the channel of the definitions that it represents, and not what it keeps.
 pub trait Channel<A: Allocator>: Drop {
     ghost use Rattle.line_model.specs.declared.interface.Interface.{Interface};
 
@@ -55,32 +55,32 @@ pub trait Channel<A: Allocator>: Drop {
     /// The number of the channel.
     ghost number_of: { Self → ℕ };
 
-    /// What the machine keeps stands for this channel.
-    ghost stands_for: { Self → GapChannel → Type 0 };
+    /// What the machine keeps represents this channel.
+    ghost represents: { Self → GapChannel → Type 0 };
 
-    /// A channel of an epoch as it begins: p1, or d1 where it is a permanent virtual circuit, and unknown in epoch 1 where
-    /// the trace begins in the middle; adrift where the epoch begins so. It takes no memory.
+    /// Returns a channel of an epoch as it begins: p1, or d1 where it is a permanent virtual circuit, and unknown in
+    /// epoch 1 where the trace begins in the middle; adrift where the epoch begins so. Allocates nothing.
     fn fresh(alloc: A, interface: &Interface, channel: u16, epoch: u32, start: EpochStart) -> Self
         ensures interface { interface_of result ≡ interface.now }
         ensures number { number_of result ≡ channel }
-        ensures stands { stands_for result (fresh_at interface.now start epoch channel) };
+        ensures stands { represents result (fresh_at interface.now start epoch channel) };
 
-    /// The state of the channel.
+    /// Returns the state of the channel.
     fn state(&self) -> ChannelState
-        ensures { (g : GapChannel) → stands_for self.now g → result ≡ g.channel.state };
+        ensures { (g : GapChannel) → represents self.now g → result ≡ g.channel.state };
 
-    /// What is known of the channel, in one word, which `status_word::view_in` reads.
+    /// Returns what is known of the channel, in one word, which `status_word::view_in` reads.
     fn word(&self) -> FlowWord
-        ensures { (g : GapChannel) → stands_for self.now g
+        ensures { (g : GapChannel) → represents self.now g
             → IsViewOf (interface_of self.now) g (view_in result) };
 
-    /// Whether a call is open.
+    /// Returns whether a call is open.
     fn is_open(&self) -> bool
-        ensures { (g : GapChannel) → stands_for self.now g → result ≡ is_open g.channel };
+        ensures { (g : GapChannel) → represents self.now g → result ≡ is_open g.channel };
 
-    /// Whether the channel may lie in an interface that restarts, after a gap of all channels in the epoch.
+    /// Returns whether the interface of the channel may be restarting, after a gap of all channels in the epoch.
     fn is_restarting(&self) -> bool
-        ensures { (g : GapChannel) → stands_for self.now g → result ≡ g.restarting };
+        ensures { (g : GapChannel) → represents self.now g → result ≡ g.restarting };
 
     /// Steps the channel by what a row says, and appends the events of the row in an epoch. Fails only when memory is
     /// refused, and nothing has changed then.
@@ -91,14 +91,14 @@ pub trait Channel<A: Allocator>: Drop {
         events: &mut Vec<Event, A>,
     ) -> Result<(), Fault>
         requires item { IsItem (interface_of self.old) (number_of self.old) item.now }
-        ensures interface { (g : GapChannel) → stands_for self.old g
+        ensures interface { (g : GapChannel) → represents self.old g
             → IfOk result (λ _. interface_of self.new ≡ interface_of self.old) }
-        ensures number { (g : GapChannel) → stands_for self.old g
+        ensures number { (g : GapChannel) → represents self.old g
             → IfOk result (λ _. number_of self.new ≡ number_of self.old) }
-        ensures stands { (g : GapChannel) → stands_for self.old g
-            → IfOk result (λ _. stands_for self.new
+        ensures stands { (g : GapChannel) → represents self.old g
+            → IfOk result (λ _. represents self.new
             (row_step (interface_of self.old) (number_of self.old) g item.now).after) }
-        ensures events { (g : GapChannel) → stands_for self.old g
+        ensures events { (g : GapChannel) → represents self.old g
             → IfOk result (λ _. events.new.items ≡ events.old.items
             ++ row_events (interface_of self.old) epoch (number_of self.old) g item.now) }
         ensures unchanged { OnErr result ((self.new ≡ self.old)
@@ -115,14 +115,14 @@ pub trait Channel<A: Allocator>: Drop {
         events: &mut Vec<Event, A>,
     ) -> Result<Option<u32>, Fault>
         requires item { IsItem (interface_of self.old) (number_of self.old) item.now }
-        ensures interface { (g : GapChannel) → stands_for self.old g
+        ensures interface { (g : GapChannel) → represents self.old g
             → IfOk result (λ _. interface_of self.new ≡ interface_of self.old) }
-        ensures number { (g : GapChannel) → stands_for self.old g
+        ensures number { (g : GapChannel) → represents self.old g
             → IfOk result (λ _. number_of self.new ≡ number_of self.old) }
-        ensures stands { (g : GapChannel) → stands_for self.old g
-            → IfOk result (λ _. stands_for self.new
+        ensures stands { (g : GapChannel) → represents self.old g
+            → IfOk result (λ _. represents self.new
             (row_step (interface_of self.old) (number_of self.old) g item.now).after) }
-        ensures events { (g : GapChannel) → stands_for self.old g
+        ensures events { (g : GapChannel) → represents self.old g
             → IfOk result (λ accepted. events.new.items ++ data_events epoch (number_of self.old) item.now accepted
             ≡ events.old.items ++ row_events (interface_of self.old) epoch (number_of self.old) g item.now) }
         ensures apart { IfOk result (λ accepted. OnSome accepted (events.new ≡ events.old)) }

@@ -7,8 +7,8 @@ use crate::run::View;
 use data_transfer::packed::FlowWord;
 use line_model::state::{ChannelState, DState, PState};
 
-/// What a word says of a channel (profile). Bits 0 to 44 are the word of the windows and interrupts, as `Flow::pack`
-/// makes it; above them stand
+/// Returns what a word says of a channel (profile). Bits 0 to 44 are the word of the windows and interrupts, as
+/// `Flow::pack` makes it; above them are
 ///
 /// ```text
 ///    63   62    59 58    55   54   53    52    51     50   49 48 47  45
@@ -20,8 +20,8 @@ use line_model::state::{ChannelState, DState, PState};
 /// p is 1 to 7 for p1 to p7, and 0 on a permanent circuit and on an unknown virtual channel; d is 1 to 3 for d1 to d3,
 /// and 0 outside them and on an unknown permanent circuit. `owed` is 1 where an indication of the DCE is owed. `open`
 /// is 1 while a call is open, and then `out`, `fast` and `PAD` say whether it goes out, asked fast select, and names a
-/// PAD. The packet sizes in force for data from T and from N stand by their logarithms. `adrift` is 1 where a gap left
-/// open in which state the channel is.
+/// PAD. The packet sizes in force for data from T and from N are given by their logarithms. `adrift` is 1 where a gap
+/// left open in which state the channel is.
 pub fn view_in(word: &FlowWord) -> View
     ensures { result ≡ view_in word.now }
 {
@@ -39,15 +39,18 @@ pub fn view_in(word: &FlowWord) -> View
     }
 }
 
-/// Says in a word whether its channel is adrift.
+/// Sets in a word whether its channel is adrift.
 pub fn set_adrift(word: &mut FlowWord, adrift: bool)
     ensures { view_in word.new ≡ record (view_in word.old) { adrift = adrift } }
 {
-    let rest = word.owner_bits() % (1 << 18);
-    word.set_owner_bits(rest + u32::from(adrift) * (1 << 18));
+    let owner_bits = word.owner_bits();
+    if bit(owner_bits, 18) != adrift {
+        let rest = owner_bits % (1 << 18);
+        word.set_owner_bits(rest + u32::from(adrift) * (1 << 18));
+    }
 }
 
-/// The state of the owner's number.
+/// Returns the state of the owner's number.
 #[inline(always)]
 pub fn state_in(owner_bits: u32) -> ChannelState
     ensures { result ≡ state_in owner_bits }
@@ -60,7 +63,7 @@ pub fn state_in(owner_bits: u32) -> ChannelState
     }
 }
 
-/// A state of call set-up, and unknown where it is none of them.
+/// Returns the state of call set-up with these bits, or `Unknown` where none has them.
 fn setup(bits: u32) -> ChannelState
     ensures { result ≡ setup_by bits }
 {
@@ -76,7 +79,7 @@ fn setup(bits: u32) -> ChannelState
     }
 }
 
-/// Bit `at` of a number.
+/// Returns bit `at` of a number.
 pub fn bit(number: u32, at: u32) -> bool
     requires { at < 32 }
     ensures { result ≡ (number / 2 ^ at % 2 == 1) }
@@ -84,7 +87,7 @@ pub fn bit(number: u32, at: u32) -> bool
     (number >> at) % 2 == 1
 }
 
-/// A packet size by its logarithm.
+/// Returns a packet size by its logarithm.
 pub fn power(logarithm: u32) -> u16
     requires { logarithm < 16 }
     ensures { result ≡ 2 ^ logarithm }

@@ -9,7 +9,7 @@ ghost use Rattle.line_model.specs.observer.Calls.{all_lengths};
 ghost use Rattle.line_model.specs.observer.Report.{findings_of};
 ghost use Rattle.call_accounts.specs.Counted.{IsCountable};
 ghost use Rattle.call_accounts.specs.SoFar.{IsOf};
-ghost use Rattle.channel_run.specs.Tally.{Counts, worth, IsWithin};
+ghost use Rattle.channel_run.specs.Tally.{Counts, piece_result, IsWithin};
 
 use call_accounts::so_far::{CallsSoFar, segments_for, segments_in};
 use line_model::event::{Event, What};
@@ -21,7 +21,7 @@ use std::alloc::Allocator;
 
 /// What is counted of one logical channel in one epoch so far.
 #[derive(Drop)]
-pub(crate) struct Tally<A: Allocator> {
+pub(crate) struct PieceTally<A: Allocator> {
     /// By packet.
     findings: Vec<Finding, A>,
     /// The calls that are over, and the one that is open.
@@ -32,14 +32,14 @@ pub(crate) struct Tally<A: Allocator> {
     segments: u64,
 }
 
-impl<A: Allocator + Clone> Tally<A> {
-    /// Nothing was recorded. It takes no memory, but for that of a clone of the allocator.
+impl<A: Allocator + Clone> PieceTally<A> {
+    /// Returns a tally of no events. Allocates nothing, except for a clone of the allocator.
     pub(crate) fn new(alloc: A) -> Result<Self, Fault>
         ensures none { IfOk result (λ tally. (epoch channel : ℕ)
             → Counts tally epoch channel []) }
         ensures memory { IfErr result (λ fault. fault ≡ Memory) }
     {
-        Ok(Tally {
+        Ok(PieceTally {
             findings: Vec::new(alloc.clone()?),
             calls: CallsSoFar::new(alloc),
             octets: 0,
@@ -47,7 +47,7 @@ impl<A: Allocator + Clone> Tally<A> {
         })
     }
 
-    /// The findings so far.
+    /// Returns the findings so far.
     pub(crate) fn findings(&self) -> &[Finding]
         ensures { (epoch channel : ℕ) (es : List Event) → Counts self.now epoch channel es
             → result.now ≡ findings_of es }
@@ -55,7 +55,7 @@ impl<A: Allocator + Clone> Tally<A> {
         self.findings.as_slice()
     }
 
-    /// Records the next event. It answers `Memory` alone; then it stands for nothing any more.
+    /// Records the next event. Fails only when memory is refused; drop the tally then.
     #[inline(always)]
     pub(crate) fn record(&mut self, event: &Event) -> Result<(), Fault>
         ensures recorded { (epoch channel : ℕ) (es : List Event) → Counts self.old epoch channel es
@@ -73,7 +73,7 @@ impl<A: Allocator + Clone> Tally<A> {
         Ok(())
     }
 
-    /// Records the event of a data packet of a side, with so many octets of user data. It takes no memory.
+    /// Records the event of a data packet of a side, with `octets` octets of user data. Allocates nothing.
     #[inline(always)]
     pub(crate) fn add_data(&mut self, side: Side, octets: u32)
         ensures { (epoch channel : ℕ) (es : List Event) (e : Event) → Counts self.old epoch channel es
@@ -86,8 +86,8 @@ impl<A: Allocator + Clone> Tally<A> {
         self.calls.add_data(side, octets, segments);
     }
 
-    /// Records the next events, and answers the first finding among them. It answers `Memory` alone; then it stands for
-    /// nothing any more.
+    /// Records the next events, and returns the first finding among them. Fails only when memory is refused; drop the
+    /// tally then.
     #[inline(always)]
     pub(crate) fn record_all(&mut self, events: &[Event]) -> Result<Option<Finding>, Fault>
         ensures recorded { (epoch channel : ℕ) (es : List Event) → Counts self.old epoch channel es
@@ -103,7 +103,7 @@ impl<A: Allocator + Clone> Tally<A> {
         Ok(self.findings.as_slice().get(before).copied())
     }
 
-    /// What the channel is worth so far, by a copy. It answers `Memory` alone.
+    /// Returns the result of the channel so far, by a copy. Fails only when memory is refused.
     pub(crate) fn report(
         &self,
         alloc: A,
@@ -112,8 +112,8 @@ impl<A: Allocator + Clone> Tally<A> {
         channel: u16,
     ) -> Result<PieceReport<A>, Fault>
         requires within { (es : List Event) × Counts self.now epoch channel es × IsWithin es }
-        ensures worth { IfOk result (λ report. (es : List Event) → Counts self.now epoch channel es
-            → report ≡ worth id epoch channel es) }
+        ensures piece_result { IfOk result (λ report. (es : List Event) → Counts self.now epoch channel es
+            → report ≡ piece_result id epoch channel es) }
         ensures memory { IfErr result (λ fault. fault ≡ Memory) }
     {
         Ok(PieceReport {
@@ -127,11 +127,11 @@ impl<A: Allocator + Clone> Tally<A> {
         })
     }
 
-    /// What the channel is worth when no more events come. It answers `Memory` alone.
+    /// Returns the result of the channel when no more events come. Fails only when memory is refused.
     pub(crate) fn finish(self, id: u32, epoch: u32, channel: u16) -> Result<PieceReport<A>, Fault>
         requires within { (es : List Event) × Counts self epoch channel es × IsWithin es }
-        ensures worth { IfOk result (λ report. (es : List Event) → Counts self epoch channel es
-            → report ≡ worth id epoch channel es) }
+        ensures piece_result { IfOk result (λ report. (es : List Event) → Counts self epoch channel es
+            → report ≡ piece_result id epoch channel es) }
         ensures memory { IfErr result (λ fault. fault ≡ Memory) }
     {
         let calls = self.calls.finish()?;
@@ -167,7 +167,7 @@ fn push_finding<A: Allocator>(event: &Event, findings: &mut Vec<Finding, A>) -> 
     }
 }
 
-/// The octets of an event, 0 where it is no data packet.
+/// The octets of an event, 0 where it is not a data packet.
 fn octets_in(event: &Event) -> u64
     ensures { result ≡ sum (all_lengths (event.now ∷ [])) }
 {

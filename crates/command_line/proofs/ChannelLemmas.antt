@@ -5,7 +5,7 @@ use Rattle.std.specs.Option.{option_map, option_or}
 use Rattle.line_model.specs.declared.interface.Interface.{Interface}
 use Rattle.line_model.specs.text.Text.{early_head, head}
 use Rattle.trace_text.specs.Progress.{Progress}
-use Rattle.trace_text.specs.StandsFor.{ReadsChunk, StandsFor}
+use Rattle.trace_text.specs.Represents.{ReadsChunk, Represents}
 use Rattle.command_line.specs.Channels.{last_of}
 
 pub none_is : {T : Type 0} (o : Option T) → ((x : T) → ¬ (o ≡ Some x)) → o ≡ None
@@ -27,6 +27,6 @@ last_whole true bytes i e none whole = sym (ap (λ o. option_map (λ (j : Interf
 last_whole false bytes i e none whole = absurd (let bad : true ≡ false = sym e in cc)
 
 -- where no row came, all bytes were read
-pub read_all : {T : Type 0} (next : Option T) (before after : Progress) (bytes : List ℕ) (Q : T → Type 0) → MatchOption next (ReadsChunk before after bytes) Q → IfSome next (λ rest. is_some after.interface ≡ true) → after.interface ≡ None → StandsFor before [] → StandsFor after bytes
+pub read_all : {T : Type 0} (next : Option T) (before after : Progress) (bytes : List ℕ) (Q : T → Type 0) → MatchOption next (ReadsChunk before after bytes) Q → IfSome next (λ rest. is_some after.interface ≡ true) → after.interface ≡ None → Represents before [] → Represents after bytes
 read_all None before after bytes Q reads headed none s = reads.stands [] s
 read_all (Some rest) before after bytes Q reads headed none s = absurd (let bad : true ≡ false = sym headed ∙ ap is_some none in cc)

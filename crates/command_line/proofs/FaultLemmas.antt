@@ -1,14 +1,14 @@
 -- What was taken of a text that was asked for, and of the line of a fault.
-use Rattle.std.proofs.Common.{◌≡◌, ◌≢◌, sym, subst, ℕ, ◌<◌, List, [], Option, Some, Result, Ok, Err, OnOk, OnErr, append-nil, arith, cond, ◌==◌}
+use Rattle.std.proofs.Common.{◌≡◌, ◌≢◌, sym, subst, ℕ, ◌<◌, Bool, true, false, List, [], Option, Some, Result, Ok, Err, OnOk, OnErr, append-nil, arith, cond, ◌==◌}
 use Rattle.line_model.specs.basics.Device.{with_more}
 use Rattle.line_model.specs.basics.Written.{HasFront}
 use Rattle.line_model.specs.declared.fault.Fault.{Fault}
 use Rattle.line_model.specs.declared.fault.Fault.TheVariants.{Trace, Write}
 use Rattle.trace_text.specs.Sources.{IsRefusedBy}
 use Rattle.trace_scan.specs.Follow.{IsFollowRefusal}
-use Rattle.trace_scan.specs.Readings.{IsRefusal}
+use Rattle.trace_text.specs.Refusals.{IsRefusal}
 use Rattle.command_line.specs.Faults.{IsSaid, SaysFault, fault_line}
-use Rattle.command_line.specs.Program.{IsAskedTextTaken, fault_status}
+use Rattle.command_line.specs.Program.{IsAskedTextTaken, IsScanRefusal, fault_status}
 use Rattle.command_line.proofs.StatusLemmas.{small, wider_refusal}
 
 -- all of a text was taken, or the sink failed and took a first part of it
@@ -38,6 +38,12 @@ says_followed lag (Trace line kind) status trace left asked before after well s 
       wider_refusal lag text left asked (Trace line kind) (record { given = r.given; rest = r.rest; whole = r.whole; left = r.left; order = r.order; refusal = r.refusal });
 }
 says_followed lag _ status trace left asked before after well s said refused two = absurd (omega (arith, s, two))
+
+-- the same by whether it was followed
+pub says_scanned : (lag : ℕ) (followed : Bool) (f : Fault) (status : ℕ) (trace left asked taken taken′ before after : Option (List ℕ)) (wrote well : Type 0) → status ≡ fault_status f → (f ≢ Write → IsSaid (fault_line f) before after well)
+    → ((text : List ℕ) → trace ≡ Some text → IsScanRefusal lag followed text left asked taken taken′ wrote f) → status ≡ 2 → SaysFault lag trace left asked before after well
+says_scanned lag false f status trace left asked taken taken′ before after wrote well s said refused two = says_fault lag f status trace left asked before after well s said (λ text shows. (refused text shows).0) two
+says_scanned lag true f status trace left asked taken taken′ before after wrote well s said refused two = says_followed lag f status trace left asked before after well s said (λ text shows. (refused text shows).0) two
 
 -- nothing of it where the status is that of sums
 pub says_none : (findings status : ℕ) (A : Type 0) → status ≡ cond {A = ℕ} (findings == 0) 0 1 → status ≡ 2 → A

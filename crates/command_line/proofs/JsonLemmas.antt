@@ -1,45 +1,37 @@
--- What the status says of a report that is told as JSON lines.
-use Rattle.std.proofs.Common.{◌≡◌, ◌∙◌, ap, ◌<◌, ℕ, zero, suc, Bool, true, false, List, [], Option, Some, Result, Ok, Err, refl, subst, sym, arith}
+-- What the status says of a report that is printed as JSON lines.
+use Rattle.std.proofs.Common.{◌≡◌, ◌∙◌, ap, ◌<◌, ℕ, zero, suc, Bool, false, true, List, [], Option, Some, Result, Ok, Err, refl, subst, sym, arith}
 use Rattle.line_model.specs.declared.fault.Fault.{Fault}
 use Rattle.line_model.specs.declared.fault.Fault.TheVariants.{Write}
 use Rattle.line_model.specs.basics.Device.{with_more}
 use Rattle.line_model.specs.traces.Traces.{trace_report}
 use Rattle.json_lines.specs.Json.{json_text}
-use Rattle.command_line.specs.Program.{IsReportStatus, IsScanned, IsScannedAsJson, IsStatus, IsFollowStatus}
+use Rattle.command_line.specs.Program.{IsReportStatus, IsScanned, IsScannedAsJson}
 
--- what a scan says, by whether it follows
-pub scanned_by : (lag : ℕ) (well : Type 0) (followed : Bool) (text : List ℕ) (left asked before after : Option (List ℕ)) (status : ℕ) →
-    (followed ≡ false → IsStatus lag text left asked before after well status) → (followed ≡ true → IsFollowStatus text left asked before after well status) →
-    IsScanned lag followed text left asked before after well status
-scanned_by lag well false text left asked before after status plain follow = plain refl
-scanned_by lag well true text left asked before after status plain follow = follow refl
-
--- the same of a sink that had taken nothing and not failed
+-- what a scan says of a sink that had taken nothing and not failed
 pub scanned_afresh : (lag : ℕ) (followed : Bool) (text : List ℕ) (left asked before after : Option (List ℕ)) (failed failures status : ℕ) →
     before ≡ Some [] → failed ≡ 0 →
-    (followed ≡ false → IsStatus lag text left asked before after (failures ≡ failed) status) → (followed ≡ true → IsFollowStatus text left asked before after (failures ≡ failed) status) →
+    IsScanned lag followed text left asked before after (failures ≡ failed) status →
     IsScanned lag followed text left asked (Some []) after (failures ≡ 0) status
-scanned_afresh lag followed text left asked before after failed failures status fresh well plain follow =
+scanned_afresh lag followed text left asked before after failed failures status fresh well scanned =
     subst (λ f. IsScanned lag followed text left asked (Some []) after (failures ≡ f) status) well
-    (subst (λ b. IsScanned lag followed text left asked b after (failures ≡ failed) status) fresh
-    (scanned_by lag (failures ≡ failed) followed text left asked before after status plain follow))
+    (subst (λ b. IsScanned lag followed text left asked b after (failures ≡ failed) status) fresh scanned)
 
 -- no refusal
 abbrev IsFine : {U : Type 0} → Result U Fault → Type 0
 IsFine (Ok u) = Unit {0}
 IsFine (Err fault) = ⊥
 
--- a sink that answers well has not failed
+-- a sink that returns `Ok` has not failed
 pub none_failed : {U : Type 0} (failures : ℕ) (answer : Result U Fault) (u : U) → answer ≡ Ok u → (0 < failures → answer ≡ Err Write) → failures ≡ 0
 none_failed zero answer u fine failed = refl
 none_failed (suc n) answer u fine failed = absurd (subst (λ r. IsFine r) (failed (omega (arith))) (subst (λ r. IsFine r) (sym fine) tt))
 
 -- the same of a lent sink that came back
-pub told_back : (lag : ℕ) (followed : Bool) (text : List ℕ) (left asked before taken after : Option (List ℕ)) (failed failures was status : ℕ) → after ≡ taken → failures ≡ failed →
+pub given_back : (lag : ℕ) (followed : Bool) (text : List ℕ) (left asked before taken after : Option (List ℕ)) (failed failures was status : ℕ) → after ≡ taken → failures ≡ failed →
     IsScannedAsJson lag followed text left asked before taken (failed ≡ was) status → IsScannedAsJson lag followed text left asked before after (failures ≡ was) status
-told_back lag followed text left asked before taken after failed failures was status same well told =
+given_back lag followed text left asked before taken after failed failures was status same well shown =
     subst (λ f. IsScannedAsJson lag followed text left asked before after (f ≡ was) status) (sym well)
-    (subst (λ t. IsScannedAsJson lag followed text left asked before t (failed ≡ was) status) (sym same) told)
+    (subst (λ t. IsScannedAsJson lag followed text left asked before t (failed ≡ was) status) (sym same) shown)
 
 -- the objects of a report that was taken
 pub reported_json : (lines : List ℕ) (before after : Option (List ℕ)) (status : ℕ) → IsReportStatus false (Some []) (Some lines) status → after ≡ with_more before (json_text lines) → IsReportStatus true before after status

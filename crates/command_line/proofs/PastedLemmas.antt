@@ -12,7 +12,7 @@ none_left : (fields : List forms.Field) (table : List Explanation) → field_row
 none_left [] table = refl
 none_left (f ∷ fs) table = refl
 
--- a loop's turn over fields, with the word of one
+-- one pass of a loop over fields, with the word of one
 pub fields_turn : (fields : List Field) (i : ℕ) (d : Field) (words rest : List (List ℕ)) (word : List ℕ) (table old found all : List Explanation) → i < length fields → words ≡ word ∷ rest
     → found ≡ old ++ word_rows (field_shown (get_or fields i d)).name word table
     → old ++ field_rows (map field_shown (drop i fields)) words table ≡ all

@@ -1,16 +1,17 @@
 -- The exit status of a scan.
-use Rattle.std.proofs.Common.{◌≡◌, ◌∙◌, sym, ap, refl, subst, inl, inr, ◌⊎◌, ℕ, zero, suc, ◌+◌, ◌<◌, ◌≤◌, ◌^◌, Bool, false, List, [], ◌++◌, Option, None, arith, append-nil, cond, ◌==◌}
+use Rattle.std.proofs.Common.{◌≡◌, ◌∙◌, sym, ap, refl, subst, inl, inr, ◌⊎◌, ℕ, zero, suc, ◌+◌, ◌<◌, ◌≤◌, ◌^◌, Bool, true, false, true≢false, List, [], ◌++◌, Option, None, Result, Ok, Err, arith, append-nil, cond, ◌==◌}
+use Rattle.std.specs.Prelude.{IfErr}
 use Rattle.std.proofs.lemmas.Bool.Decides.{nat_tests}
 use Rattle.line_model.specs.text.Text.{fault}
 use Rattle.line_model.specs.declared.totals.Summary.{Summary}
 use Rattle.line_model.specs.declared.fault.Fault.{Fault}
 use Rattle.line_model.specs.declared.fault.Fault.TheVariants.{Memory, Trace, Read, Write, Start, Double, Stranger, Missing}
-use Rattle.command_line.specs.Program.{IsCutShort, IsFollowStatus, IsReportStatus, IsStatus, fault_status, summary_status}
+use Rattle.command_line.specs.Program.{IsCutShort, IsFollowStatus, IsReportStatus, IsScanRefusal, IsScanned, IsStatus, fault_status, lag_by, summary_status}
 use Rattle.trace_text.specs.Decided.{NoneDecidedButLast}
 use Rattle.trace_text.specs.Sources.{IsRefusedBy, NoneDecided}
-use Rattle.trace_scan.specs.Readings.{IsRefusal}
+use Rattle.trace_text.specs.Refusals.{IsRefusal}
 use Rattle.live_report.specs.Reports.{IsReported, IsTaken}
-use Rattle.trace_scan.specs.Follow.{IsFollowRefusal, IsToldOf}
+use Rattle.trace_scan.specs.Follow.{IsFollowRefusal, IsWrittenOf}
 use Rattle.line_model.specs.traces.Traces.{trace_report, trace_summary}
 
 some_status : (m : ℕ) → cond {A = ℕ} (suc m == 0) 0 1 ≡ 1
@@ -93,32 +94,43 @@ reported_follow text left asked before after well sums status r s =
       range = is.range;
     }
 
-other_follow : (text : List ℕ) (left asked before after : Option (List ℕ)) (well : Type 0) (f : Fault) (status : ℕ) → status ≡ 3 → status ≡ fault_status f → IsRefusedBy 0 IsFollowRefusal text left asked f → IsRefusedBy 0 (IsToldOf before after well) text left asked f
+other_follow : (text : List ℕ) (left asked before after : Option (List ℕ)) (well : Type 0) (f : Fault) (status : ℕ) → status ≡ 3 → status ≡ fault_status f → IsRefusedBy 0 IsFollowRefusal text left asked f → IsRefusedBy 0 (IsWrittenOf before after well) text left asked f
     → (f ≡ Write → ¬ well) → IsFollowStatus text left asked before after well status
-other_follow text left asked before after well f status is s r told failed = record {
+other_follow text left asked before after well f status is s r written_of failed = record {
   clean = λ e. absurd (omega (arith, e, is));
   found = λ e. absurd (omega (arith, e, is));
   faulty = λ e. absurd (omega (arith, e, is));
-  other = λ e. record { cause = f; other = sym s ∙ is; refusal = r; told = told; failed = failed };
+  other = λ e. record { cause = f; other = sym s ∙ is; refusal = r; written_of = written_of; failed = failed };
   range = omega (arith, is);
 }
 
-pub refused_follow : (text : List ℕ) (left asked before after : Option (List ℕ)) (well : Type 0) (f : Fault) (status : ℕ) → IsRefusedBy 0 IsFollowRefusal text left asked f → IsRefusedBy 0 (IsToldOf before after well) text left asked f → (f ≡ Write → ¬ well)
+pub refused_follow : (text : List ℕ) (left asked before after : Option (List ℕ)) (well : Type 0) (f : Fault) (status : ℕ) → IsRefusedBy 0 IsFollowRefusal text left asked f → IsRefusedBy 0 (IsWrittenOf before after well) text left asked f → (f ≡ Write → ¬ well)
     → status ≡ fault_status f → IsFollowStatus text left asked before after well status
-refused_follow text left asked before after well (Trace line kind) status r told failed s = record {
+refused_follow text left asked before after well (Trace line kind) status r written_of failed s = record {
   clean = λ e. absurd (omega (arith, e, s));
   found = λ e. absurd (omega (arith, e, s));
-  faulty = λ e. record { line = line; kind = kind; refusal = r; told = told };
+  faulty = λ e. record { line = line; kind = kind; refusal = r; written_of = written_of };
   other = λ e. absurd (omega (arith, e, s));
   range = omega (arith, s);
 }
-refused_follow text left asked before after well Memory status r told failed s = other_follow text left asked before after well Memory status s s r told failed
-refused_follow text left asked before after well Read status r told failed s = other_follow text left asked before after well Read status s s r told failed
-refused_follow text left asked before after well Write status r told failed s = other_follow text left asked before after well Write status s s r told failed
-refused_follow text left asked before after well Start status r told failed s = other_follow text left asked before after well Start status s s r told failed
-refused_follow text left asked before after well (Double i) status r told failed s = other_follow text left asked before after well (Double i) status s s r told failed
-refused_follow text left asked before after well (Stranger i) status r told failed s = other_follow text left asked before after well (Stranger i) status s s r told failed
-refused_follow text left asked before after well (Missing i) status r told failed s = other_follow text left asked before after well (Missing i) status s s r told failed
+refused_follow text left asked before after well Memory status r written_of failed s = other_follow text left asked before after well Memory status s s r written_of failed
+refused_follow text left asked before after well Read status r written_of failed s = other_follow text left asked before after well Read status s s r written_of failed
+refused_follow text left asked before after well Write status r written_of failed s = other_follow text left asked before after well Write status s s r written_of failed
+refused_follow text left asked before after well Start status r written_of failed s = other_follow text left asked before after well Start status s s r written_of failed
+refused_follow text left asked before after well (Double i) status r written_of failed s = other_follow text left asked before after well (Double i) status s s r written_of failed
+refused_follow text left asked before after well (Stranger i) status r written_of failed s = other_follow text left asked before after well (Stranger i) status s s r written_of failed
+refused_follow text left asked before after well (Missing i) status r written_of failed s = other_follow text left asked before after well (Missing i) status s s r written_of failed
+
+-- ---- by whether it was followed
+
+pub reported_scan : (lag : ℕ) (followed : Bool) (text : List ℕ) (left asked before after : Option (List ℕ)) (well : Type 0) (sums : Summary) (status : ℕ) → IsReported text before after sums → status ≡ summary_status sums → IsScanned lag followed text left asked before after well status
+reported_scan lag false text left asked before after well sums status r s = reported_status lag text left asked before after well sums status r s
+reported_scan lag true text left asked before after well sums status r s = reported_follow text left asked before after well sums status r s
+
+pub refused_scan : (lag : ℕ) (followed : Bool) (text : List ℕ) (left asked before after : Option (List ℕ)) (well : Type 0) (f : Fault) (status : ℕ) → IsScanRefusal lag followed text left asked before after well f → (f ≡ Write → ¬ well) → status ≡ fault_status f
+    → IsScanned lag followed text left asked before after well status
+refused_scan lag false text left asked before after well f status r failed s = refused_status lag text left asked before after well f status r.0 r.1 failed s
+refused_scan lag true text left asked before after well f status r failed s = refused_follow text left asked before after well f status r.0 r.1 failed s
 
 -- ---- whatever the source shows
 
@@ -156,3 +168,23 @@ wider_order lag given text asked (inr n) = inr (record { before = n.before; last
 
 pub wider_refusal : (lag : ℕ) (text : List ℕ) (left asked : Option (List ℕ)) (f : Fault) → IsRefusedBy 0 (IsRefusal 0) text left asked f → IsRefusedBy lag (IsRefusal lag) text left asked f
 wider_refusal lag text left asked f r = record { given = r.given; rest = r.rest; whole = r.whole; left = r.left; order = wider_order lag r.given text asked r.order; refusal = wider_fault lag r.given r.rest f r.refusal }
+
+-- so one thread refuses a text as workers may
+pub wider_scan : (thread alone followed : Bool) (text : List ℕ) (left asked before after : Option (List ℕ)) (well : Type 0) (f : Fault) → (thread ≡ false → alone ≡ false) → IsScanRefusal (lag_by thread) followed text left asked before after well f
+    → IsScanRefusal (lag_by alone) followed text left asked before after well f
+wider_scan thread alone true text left asked before after well f same r = r
+wider_scan true alone false text left asked before after well f same r = (wider_refusal (lag_by alone) text left asked f r.0, r.1)
+wider_scan false alone false text left asked before after well f same r = subst (λ a. IsScanRefusal (lag_by a) false text left asked before after well f) (sym (same refl)) r
+
+-- the refusal of a scan that did not follow the text, and of one that did
+pub plain_refusal : (lag : ℕ) (followed : Bool) (text : List ℕ) (left asked before after : Option (List ℕ)) (well : Type 0) (r : Result Summary Fault) → followed ≡ false → IfErr r (IsRefusedBy lag (IsRefusal lag) text left asked) → IfErr r (IsTaken before after (trace_report text))
+    → IfErr r (IsScanRefusal lag followed text left asked before after well)
+plain_refusal lag followed text left asked before after well (Ok sums) plain refused taken = tt
+plain_refusal lag false text left asked before after well (Err f) plain refused taken = (refused, taken)
+plain_refusal lag true text left asked before after well (Err f) plain refused taken = absurd (true≢false plain)
+
+pub follow_refusal : (lag : ℕ) (followed : Bool) (text : List ℕ) (left asked before after : Option (List ℕ)) (well : Type 0) (r : Result Summary Fault) → followed ≡ true → IfErr r (IsRefusedBy 0 IsFollowRefusal text left asked) → IfErr r (IsRefusedBy 0 (IsWrittenOf before after well) text left asked)
+    → IfErr r (IsScanRefusal lag followed text left asked before after well)
+follow_refusal lag followed text left asked before after well (Ok sums) follow refused taken = tt
+follow_refusal lag true text left asked before after well (Err f) follow refused taken = (refused, taken)
+follow_refusal lag false text left asked before after well (Err f) follow refused taken = absurd (true≢false (sym follow))

@@ -6,8 +6,8 @@ use Rattle.line_model.specs.declared.fault.Fault.{Fault}
 use Rattle.line_model.specs.declared.fault.Fault.TheVariants.{Memory, Trace, Read, Write, Start, Double, Stranger, Missing}
 use Rattle.annotated_trace.specs.declared.rows.Rows.{Rows}
 use Rattle.trace_text.specs.Sources.{IsRefusedBy}
-use Rattle.trace_scan.specs.Readings.{IsRefusal}
-use Rattle.trace_scan.specs.TriedLines.{HasTried, HasTriedPart}
+use Rattle.trace_text.specs.Refusals.{IsRefusal}
+use Rattle.header_trials.specs.TriedLines.{HasTried, HasTriedPart}
 use Rattle.command_line.specs.Options.{AreAskedRows, annotates}
 use Rattle.command_line.specs.Program.{fault_status}
 use Rattle.command_line.specs.Trying.{IsTryStatus}

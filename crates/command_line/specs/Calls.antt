@@ -26,6 +26,6 @@ PrintsCalls form left after asked before taken sums = HasPassed (IsPrinted IsNot
 abbrev pub StopsCalls : TableForm → (left after asked before taken : Option (List ℕ)) → (well : Type 0) → Fault → Type 0
 StopsCalls form left after asked before taken well fault = StopsPrinting IsNothing (HasFirstPrintOf IsNothing (ClosesWithCalls form)) left after asked before taken well fault
 
--- what the table can't be asked for with: following, objects of rows, an annotation
+-- what the table cannot be combined with: following, objects of rows, an annotation
 abbrev pub cannot_list : (follow rows annotates : Bool) → Bool
 cannot_list follow rows annotates = follow || (rows || annotates)

@@ -1,4 +1,4 @@
--- What the program answers to a question for the meaning of a word or of a line that it prints (profile).
+-- What the program prints when asked for the meaning of a word or of a line that it prints (profile).
 use Rattle.std.specs.Prelude.{◌≡◌, ℕ, ◌⊎◌, ◌==◌, List, [], ◌∷◌, ◌++◌, Option, Some, None, if◌then◌else◌, length, map, take}
 use Rattle.line_model.specs.basics.Device.{with_more}
 use Rattle.explanations.specs.declared.explanation.Explanation.{Explanation}
@@ -19,27 +19,27 @@ or_line word line = if length word == 0 then word ++ line else word
 abbrev pub asked_rows : (text : List ℕ) → (table : List Explanation) → List Explanation
 asked_rows text table = or_line (explanations_of text table) (pasted_rows text table)
 
--- the answer by a table: the list of its words where no word is named, else all explanations of the word
+-- what is printed by a table: the list of its words where no word is named, else all explanations of the word
 abbrev pub answer : (word : List ℕ) → (table : List Explanation) → Option (List ℕ)
 answer [] table = Some (headings_text table)
 answer (c ∷ word) table = answer_by (asked_rows (unprefixed (c ∷ word)) table)
 
--- what is told of a word is the answer by a table that has all words
-pub record IsAnswer (word : List ℕ) (told : Option (List ℕ)) : Type 0 where
+-- what is printed of a word is what a table with all words has
+pub record IsAnswer (word : List ℕ) (printed : Option (List ℕ)) : Type 0 where
   pub table : List Explanation
   pub whole : map key table ≡ table_keys
-  pub exact : told ≡ answer word table
+  pub exact : printed ≡ answer word table
 
--- a first part of the answer to a word was taken
+-- a first part of the explanation of a word was taken
 pub record IsBegun (word : List ℕ) (before after : Option (List ℕ)) : Type 0 where
   pub text : List ℕ
   pub count : ℕ
   pub whole : IsAnswer word (Some text)
   pub part : after ≡ with_more before (take count text)
 
--- what the status says of the answer to a word: the sink had `before` and has `after`
+-- what the status says of the explanation of a word: the sink had `before` and has `after`
 pub record IsAnswered (word : List ℕ) (before after : Option (List ℕ)) (status : ℕ) : Type 0 where
-  pub told : status ≡ 0 → (text : List ℕ) × IsAnswer word (Some text) × (after ≡ with_more before text)
+  pub printed : status ≡ 0 → (text : List ℕ) × IsAnswer word (Some text) × (after ≡ with_more before text)
   pub unknown : status ≡ 64 → IsAnswer word None × (after ≡ before)
   pub other : status ≡ 3 → (after ≡ before) ⊎ IsBegun word before after
   pub range : (status ≡ 0) ⊎ ((status ≡ 3) ⊎ (status ≡ 64))

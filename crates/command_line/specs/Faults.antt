@@ -7,7 +7,7 @@ use Rattle.line_model.specs.declared.fault.Kind.{Kind}
 use Rattle.line_model.specs.declared.fault.Fault.{Fault}
 use Rattle.line_model.specs.declared.fault.Fault.TheVariants.{Memory, Trace, Read, Write, Start, Double, Stranger, Missing}
 use Rattle.trace_text.specs.Sources.{IsRefusedBy}
-use Rattle.trace_scan.specs.Readings.{IsRefusal}
+use Rattle.trace_text.specs.Refusals.{IsRefusal}
 
 -- the words of a fault (profile)
 abbrev pub fault_words : Fault → List ℕ

@@ -1,4 +1,4 @@
--- Whether a note of the data that was not counted can't be asked for (profile).
+-- When a note of the data that was not counted is refused (profile).
 use Rattle.std.specs.Prelude.{Bool, not, ◌&&◌, ◌||◌, List, is_some}
 use Rattle.clap.specs.Words.{Text}
 use Rattle.command_line.specs.Options.{alone, annotates, asked_workers, asks_notes, follows, lists_calls, prints_rows, tries_headers}
@@ -12,6 +12,6 @@ refuses_notes notes printed crew alone followed = notes && (printed || (crew && 
 abbrev pub notes_refused : List Text → Bool
 notes_refused words = refuses_notes (asks_notes words) (((prints_rows words || annotates words) || lists_calls words) || tries_headers words) (is_some (asked_workers words)) (alone words) (follows words)
 
--- the same of what was read of them
+-- the same of the options that were read
 abbrev pub refused_in : Options → Bool
 refused_in o = refuses_notes o.notes (((o.rows || is_some o.annotate) || o.calls) || o.try_headers) o.crew o.alone o.follow

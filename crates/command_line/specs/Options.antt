@@ -22,7 +22,7 @@ workers_rule = record (new_rule (codes "workers")) {
 abbrev pub flag_rule : Text → Rule
 flag_rule name = record (new_rule name) { long = Some name; action = Some SetTrue }
 
--- `--explain`, with a word or without one, which stands for no text
+-- `--explain`, with a word or without one, which is the empty text
 abbrev pub explain_rule : Rule
 explain_rule = record (new_rule (codes "explain")) {
   long = Some (codes "explain");
@@ -49,7 +49,7 @@ channel_rule = number_rule (codes "channel") 4095
 abbrev pub call_rule : Rule
 call_rule = number_rule (codes "call") 999999999
 
--- the name of the trace, which stands by itself
+-- the name of the trace, which follows no option
 abbrev pub trace_rule : Rule
 trace_rule = record (new_rule (codes "trace")) { value_names = 1; action = Some Set }
 
@@ -74,16 +74,16 @@ with_asking app = with_rule (with_rule (with_rule (with_rule app (flag_rule (cod
 abbrev pub command : App
 command = with_asking (with_writing (with_scanning versioned))
 
--- the kinds of error that the words have by the rules of `clap`, `--help` and `--version` among them
+-- the kinds of error by the rules of `clap`, `--help` and `--version` among them
 abbrev pub words_fault : List Text → Kinds
 words_fault words = fault_of command words
 
--- whether the text of a flag says that it was given
+-- whether the text of a flag says that it is set
 abbrev pub is_given : Option Text → Bool
 is_given None = false
 is_given (Some text) = bytes_eq text (codes "true")
 
--- the number from 1 to another that a text is; a plus may come first
+-- the number that a text writes, from 1 to a greatest one; a plus may come first
 pub record IsNumber (last : ℕ) (text : Text) (n : ℕ) : Type 0 where
   pub digits : IsNumeral 10 (without_leading_plus text)
   pub value : n ≡ digits_value 10 (without_leading_plus text)
@@ -108,7 +108,7 @@ asked_workers words = first_of (codes "workers") (matches_of command words)
 abbrev pub alone : List Text → Bool
 alone words = is_given (first_of (codes "alone") (matches_of command words))
 
--- whether the words ask how far the reading is
+-- whether the words ask for progress
 abbrev pub shows_progress : List Text → Bool
 shows_progress words = is_given (first_of (codes "progress") (matches_of command words))
 
@@ -169,7 +169,7 @@ AreAskedRows words rows = AreRowsBy (first_of (codes "channel") (matches_of comm
 abbrev pub asked_word : List Text → Option Text
 asked_word words = first_of (codes "explain") (matches_of command words)
 
--- the name that a text is of a trace: `-` is none, which is standard input
+-- the name of a trace that a text gives: none for `-`, which means standard input
 abbrev pub named_by : Option Text → Option Text
 named_by None = None
 named_by (Some text) = if bytes_eq text (codes "-") then None else Some text

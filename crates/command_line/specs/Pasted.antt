@@ -42,7 +42,7 @@ field_rows [] words table = []
 field_rows (field ∷ fields) [] table = []
 field_rows (field ∷ fields) (word ∷ words) table = word_rows field.name word table ++ field_rows fields words table
 
--- the word of the table for a refusal that begins with a word, but for a trace's
+-- the word of the table for a refusal that begins with a word, except a trace's
 abbrev pub refusal_word : (first : List ℕ) → List ℕ
 refusal_word first =
     if bytes_eq first (codes "piece") then codes "piece"

@@ -1,5 +1,7 @@
 -- What the exit status of the program says of a trace whose rows or calls are printed in place of its report.
 use Rattle.std.specs.Prelude.{◌≡◌, ◌⊎◌, ℕ, Bool, true, false, List, [], Option, Some, None}
+use Rattle.line_model.specs.declared.device.Sink.{Ghosts as Sink}
+use Rattle.line_model.specs.declared.device.Source.{Ghosts as Source}
 use Rattle.line_model.specs.declared.fault.Fault.{Fault}
 use Rattle.line_model.specs.declared.totals.Summary.{Summary}
 use Rattle.line_model.specs.text.Text.{Line}
@@ -13,8 +15,8 @@ use Rattle.descriptions.specs.RowObjects.{IsClosing, IsLineObject}
 use Rattle.descriptions.specs.declared.call_columns.TableForm.TheVariants as table
 use Rattle.command_line.specs.Calls.{PrintsCalls, StopsCalls}
 use Rattle.command_line.specs.Program.{IsUnread, fault_status, summary_status}
-use Rattle.command_line.specs.declared.options.Form.{Form}
-use Rattle.command_line.specs.declared.options.Form.TheVariants.{Comments, Objects, Table, TableObjects}
+use Rattle.command_line.specs.declared.options.OutputForm.{OutputForm}
+use Rattle.command_line.specs.declared.options.OutputForm.TheVariants.{Comments, Objects, Table, TableObjects}
 use Rattle.command_line.specs.declared.options.Printing.{Printing}
 
 -- bytes are the objects of these rows of some lines, one after the other
@@ -50,6 +52,14 @@ StopsBy printing left after asked before taken well fault = elim printing.form [
   | TableObjects ↦ StopsCalls table.Objects left after asked before taken well fault
 ]
 
+-- the same of a source and a sink, before and after
+abbrev pub PrintsTo : {S K : Type 0} → Source S → Sink K → Printing → (source source' : S) (sink sink' : K) → Summary → Type 0
+PrintsTo read write printing source source' sink sink' sums = Prints printing (read.left source) (read.left source') (read.before source') (write.taken sink) (write.taken sink') sums
+
+abbrev pub StopsTo : {S K : Type 0} → Source S → Sink K → Printing → (source source' : S) (sink sink' : K) → Fault → Type 0
+StopsTo read write printing source source' sink sink' fault =
+    StopsBy printing (read.left source) (read.left source') (read.before source') (write.taken sink) (write.taken sink') (write.failures sink' ≡ write.failures sink) fault
+
 -- a source that had `left` was printed to a sink, and the status is that of the sums; or it was refused, and the status is that of the fault
 abbrev pub IsPrintStatus : Printing → (left after asked before taken : Option (List ℕ)) → (well : Type 0) → (status : ℕ) → Type 0
 IsPrintStatus printing left after asked before taken well status =
@@ -63,17 +73,17 @@ pub record IsRefused {S K : Type 0} (source source' : S) (sink sink' : K) (statu
   pub usage : status ≡ 64
 
 -- the form of the table of calls, by whether JSON is asked for
-abbrev pub table_form : (json : Bool) → Form
+abbrev pub table_form : (json : Bool) → OutputForm
 table_form false = Table
 table_form true = TableObjects
 
 -- the same, where the table is asked for
-abbrev pub table_of : (calls json : Bool) → Option Form
+abbrev pub table_of : (calls json : Bool) → Option OutputForm
 table_of false json = None
 table_of true json = Some (table_form json)
 
 -- what is printed, by the form of the table of calls, by whether objects are asked for and by the rows that are chosen
-abbrev pub printing_of : (table : Option Form) → (objects : Bool) → Option Rows → Option Printing
+abbrev pub printing_of : (table : Option OutputForm) → (objects : Bool) → Option Rows → Option Printing
 printing_of (Some form) objects rows = Some (record { form = form; rows = All })
 printing_of None true None = Some (record { form = Objects; rows = All })
 printing_of None true (Some rows) = Some (record { form = Objects; rows = rows })
@@ -82,28 +92,33 @@ printing_of None false (Some rows) = Some (record { form = Comments; rows = rows
 
 -- whether a form can't be printed with what else is asked for: comments with JSON, objects with comments, and the table of calls with any of
 -- `cannot_list`
-abbrev pub is_refused : Form → (json comments others : Bool) → Bool
+abbrev pub is_refused : OutputForm → (json comments others : Bool) → Bool
 is_refused Comments json comments others = json
 is_refused Objects json comments others = comments
 is_refused _ json comments others = others
 
--- what is answered where a trace is printed, by whether it can't be together with what else is asked for
+-- what is returned where a trace is printed, by whether it can't be together with what else is asked for
 abbrev pub IsPrintAnswer : {S K : Type 0} → (refused : Bool) → Printing → (source source' : S) (sink sink' : K) → (left after asked before taken : Option (List ℕ)) → (well : Type 0) → (status : ℕ) → Type 0
 IsPrintAnswer true printing source source' sink sink' left after asked before taken well status = IsRefused source source' sink sink' status
 IsPrintAnswer false printing source source' sink sink' left after asked before taken well status =
     IsUnread source source' sink sink' status ⊎ IsPrintStatus printing left after asked before taken well status
 
+-- the same of a source and a sink, before and after
+abbrev pub IsPrintAnswerTo : {S K : Type 0} → Source S → Sink K → (refused : Bool) → Printing → (trace : Option (List ℕ)) → (source source' : S) (sink sink' : K) → (status : ℕ) → Type 0
+IsPrintAnswerTo read write refused printing trace source source' sink sink' status =
+    IsPrintAnswer refused printing source source' sink sink' trace (read.left source') (read.before source') (write.taken sink) (write.taken sink') (write.failures sink' ≡ write.failures sink) status
+
 -- an annotation of these rows, with which JSON can't be asked for
-abbrev pub IsAnnotateAnswer : {S K : Type 0} → (json : Bool) → Rows → (source source' : S) (sink sink' : K) → (left after asked before taken : Option (List ℕ)) → (well : Type 0) → (status : ℕ) → Type 0
-IsAnnotateAnswer json rows source source' sink sink' left after asked before taken well status =
-    IsPrintAnswer json (record { form = Comments; rows = rows }) source source' sink sink' left after asked before taken well status
+abbrev pub IsAnnotateAnswer : {S K : Type 0} → Source S → Sink K → (json : Bool) → Rows → (trace : Option (List ℕ)) → (source source' : S) (sink sink' : K) → (status : ℕ) → Type 0
+IsAnnotateAnswer read write json rows trace source source' sink sink' status =
+    IsPrintAnswerTo read write json (record { form = Comments; rows = rows }) trace source source' sink sink' status
 
 -- the objects of these rows, with which an annotation can't be asked for
-abbrev pub IsRowsAnswer : {S K : Type 0} → (comments : Bool) → Rows → (source source' : S) (sink sink' : K) → (left after asked before taken : Option (List ℕ)) → (well : Type 0) → (status : ℕ) → Type 0
-IsRowsAnswer comments rows source source' sink sink' left after asked before taken well status =
-    IsPrintAnswer comments (record { form = Objects; rows = rows }) source source' sink sink' left after asked before taken well status
+abbrev pub IsRowsAnswer : {S K : Type 0} → Source S → Sink K → (comments : Bool) → Rows → (trace : Option (List ℕ)) → (source source' : S) (sink sink' : K) → (status : ℕ) → Type 0
+IsRowsAnswer read write comments rows trace source source' sink sink' status =
+    IsPrintAnswerTo read write comments (record { form = Objects; rows = rows }) trace source source' sink sink' status
 
 -- the table of calls, with which what `cannot_list` names can't be asked for
-abbrev pub IsCallsAnswer : {S K : Type 0} → (refused json : Bool) → (source source' : S) (sink sink' : K) → (left after asked before taken : Option (List ℕ)) → (well : Type 0) → (status : ℕ) → Type 0
-IsCallsAnswer refused json source source' sink sink' left after asked before taken well status =
-    IsPrintAnswer refused (record { form = table_form json; rows = All }) source source' sink sink' left after asked before taken well status
+abbrev pub IsCallsAnswer : {S K : Type 0} → Source S → Sink K → (refused json : Bool) → (trace : Option (List ℕ)) → (source source' : S) (sink sink' : K) → (status : ℕ) → Type 0
+IsCallsAnswer read write refused json trace source source' sink sink' status =
+    IsPrintAnswerTo read write refused (record { form = table_form json; rows = All }) trace source source' sink sink' status

@@ -1,5 +1,5 @@
 -- What the exit status of the program says.
-use Rattle.std.specs.Prelude.{◌≡◌, ℕ, Bool, true, false, ◌<◌, ◌++◌, ◌⊎◌, [], List, Option, Some, None, take, ◌==◌, if◌then◌else◌}
+use Rattle.std.specs.Prelude.{◌≡◌, ℕ, Bool, true, false, ◌<◌, ◌++◌, ◌⊎◌, [], List, Option, Some, None, option_map, take, ◌==◌, if◌then◌else◌}
 use Rattle.clap.specs.Words.{IsAmong, Kinds}
 use Rattle.clap.specs.declared.error.kind.ErrorKind.{ErrorKind}
 use Rattle.clap.specs.declared.error.kind.ErrorKind.TheVariants.{DisplayHelp, DisplayVersion, OutOfMemory}
@@ -11,12 +11,14 @@ use Rattle.line_model.specs.declared.fault.Fault.{Fault}
 use Rattle.line_model.specs.declared.fault.Fault.TheVariants.{Trace, Write}
 use Rattle.line_model.specs.declared.totals.Summary.{Summary}
 use Rattle.trace_text.specs.Sources.{IsRefusedBy}
-use Rattle.trace_scan.specs.Readings.{IsRefusal, in_flight}
-use Rattle.live_report.specs.Reports.{IsReported}
-use Rattle.trace_scan.specs.Follow.{IsFollowRefusal, IsToldOf}
+use Rattle.trace_reading.specs.Readings.{in_flight}
+use Rattle.live_report.specs.Reports.{IsReported, IsTaken}
+use Rattle.trace_scan.specs.Follow.{IsFollowRefusal, IsWrittenOf}
 use Rattle.json_lines.specs.Json.{json_text}
 use Rattle.line_model.specs.traces.Traces.{trace_report, trace_summary}
 use Rattle.command_line.specs.declared.help.TheConstants.{HELP, VERSION}
+use Rattle.command_line.specs.declared.options.Options.{Options}
+use Rattle.trace_text.specs.Refusals.{IsRefusal}
 
 -- 0 without findings, else 1
 abbrev pub summary_status : Summary → ℕ
@@ -27,7 +29,7 @@ abbrev pub fault_status : Fault → ℕ
 fault_status (Trace line kind) = 2
 fault_status _ = 3
 
--- 3 for want of memory, 0 for help and the version, else 64
+-- 3 where memory is refused, 0 for help and the version, else 64
 abbrev pub words_status : ErrorKind → ℕ
 words_status OutOfMemory = 3
 words_status DisplayHelp = 0
@@ -51,7 +53,7 @@ IsWordsAnswer kinds before after well status =
     ((status ≡ 3) × (after ≡ before))
     ⊎ ((kind : ErrorKind) × IsAmong kind kinds × (status ≡ words_status kind) × IsAskedTextTaken (asked_text kind) before after well)
 
--- how many of the last bytes that were given before the last call may show a faulty line: none in one thread, else those of the blocks in
+-- how many of the last bytes that were read before the last call may show a faulty line: none in one thread, else those of the blocks in
 -- flight
 abbrev pub lag_by : (alone : Bool) → ℕ
 lag_by true = 0
@@ -63,6 +65,11 @@ pub record IsFaulty (lag : ℕ) (text : List ℕ) (left asked : Option (List ℕ
   pub kind : Kind
   pub refusal : IsRefusedBy lag (IsRefusal lag) text left asked (Trace line kind)
 
+-- why a scan refused a text, and what its sink took then, by whether it followed the text
+abbrev pub IsScanRefusal : (lag : ℕ) → (followed : Bool) → (text : List ℕ) → (left asked before after : Option (List ℕ)) → (well : Type 0) → Fault → Type 0
+IsScanRefusal lag false text left asked before after well fault = IsRefusedBy lag (IsRefusal lag) text left asked fault × IsTaken before after (trace_report text) fault
+IsScanRefusal lag true text left asked before after well fault = IsRefusedBy 0 IsFollowRefusal text left asked fault × IsRefusedBy 0 (IsWrittenOf before after well) text left asked fault
+
 -- the sink failed on the report of a text without a fault, and took a first part of it
 pub record IsCutShort (text : List ℕ) (before after : Option (List ℕ)) (well : Type 0) : Type 0 where
   pub failed : ¬ well
@@ -70,7 +77,7 @@ pub record IsCutShort (text : List ℕ) (before after : Option (List ℕ)) (well
   pub count : ℕ
   pub part : after ≡ with_more before (take count (trace_report text))
 
--- a fault other than the text's ended a scan: what it says of the bytes that were given; and the sink is as it was, or it failed on the
+-- a fault other than the text's ended a scan: what it says of the bytes that were read; and the sink is as it was, or it failed on the
 -- report
 pub record IsStoppedBy (lag : ℕ) (text : List ℕ) (left asked before after : Option (List ℕ)) (well : Type 0) : Type 0 where
   pub cause : Fault
@@ -91,14 +98,14 @@ pub record IsFaultyBehind (text : List ℕ) (left asked before after : Option (L
   pub line : ℕ
   pub kind : Kind
   pub refusal : IsRefusedBy 0 IsFollowRefusal text left asked (Trace line kind)
-  pub told : IsRefusedBy 0 (IsToldOf before after well) text left asked (Trace line kind)
+  pub written_of : IsRefusedBy 0 (IsWrittenOf before after well) text left asked (Trace line kind)
 
--- a fault other than the text's ended a scan that followed it: what it says of the bytes that were given, and what the sink took
+-- a fault other than the text's ended a scan that followed it: what it says of the bytes that were read, and what the sink took
 pub record IsEndedBy (text : List ℕ) (left asked before after : Option (List ℕ)) (well : Type 0) : Type 0 where
   pub cause : Fault
   pub other : fault_status cause ≡ 3
   pub refusal : IsRefusedBy 0 IsFollowRefusal text left asked cause
-  pub told : IsRefusedBy 0 (IsToldOf before after well) text left asked cause
+  pub written_of : IsRefusedBy 0 (IsWrittenOf before after well) text left asked cause
   pub failed : cause ≡ Write → ¬ well
 
 -- what the status says of a text that was followed; `well` says that the sink did not fail
@@ -114,36 +121,36 @@ abbrev pub IsScanned : (lag : ℕ) → (followed : Bool) → (text : List ℕ) �
 IsScanned lag false text left asked before after well status = IsStatus lag text left asked before after well status
 IsScanned lag true text left asked before after well status = IsFollowStatus text left asked before after well status
 
--- a sink that had `before` took a first part of the objects of the lines that were told
-pub record HasFirstObjects (told : List ℕ) (before after : Option (List ℕ)) : Type 0 where
+-- a sink that had `before` took a first part of the objects of the lines that were written
+pub record HasFirstObjects (given : List ℕ) (before after : Option (List ℕ)) : Type 0 where
   pub front : List ℕ
   pub rest : List ℕ
-  pub whole : json_text told ≡ front ++ rest
+  pub whole : json_text given ≡ front ++ rest
   pub taken : after ≡ with_more before front
 
--- a sink took the objects of all lines that were told, or it failed and took a first part of them
-abbrev pub AreObjects : (told : List ℕ) → (failures plain : ℕ) → (before after : Option (List ℕ)) → (well : Type 0) → (status : ℕ) → Type 0
-AreObjects told failures plain before after well status =
-    ((failures ≡ 0) × (status ≡ plain) × (after ≡ with_more before (json_text told))) ⊎ ((status ≡ 3) × (¬ well) × HasFirstObjects told before after)
+-- a sink took the objects of all lines that were written, or it failed and took a first part of them
+abbrev pub AreObjects : (given : List ℕ) → (failures plain : ℕ) → (before after : Option (List ℕ)) → (well : Type 0) → (status : ℕ) → Type 0
+AreObjects given failures plain before after well status =
+    ((failures ≡ 0) × (status ≡ plain) × (after ≡ with_more before (json_text given))) ⊎ ((status ≡ 3) × (¬ well) × HasFirstObjects given before after)
 
--- what the status says of a text whose report is told as JSON lines: lines were told as to a sink that takes all, unless
+-- what the status says of a text whose report is printed as JSON lines: lines were written as to a sink that accepts all, unless
 -- the sink failed, and the sink took their objects
 pub record IsScannedAsJson (lag : ℕ) (followed : Bool) (text : List ℕ) (left asked before after : Option (List ℕ)) (well : Type 0) (status : ℕ) : Type 0 where
-  pub told : List ℕ
+  pub given : List ℕ
   pub failures : ℕ
   pub plain : ℕ
-  pub scanned : IsScanned lag followed text left asked (Some []) (Some told) (failures ≡ 0) plain
-  pub objects : AreObjects told failures plain before after well status
+  pub scanned : IsScanned lag followed text left asked (Some []) (Some given) (failures ≡ 0) plain
+  pub objects : AreObjects given failures plain before after well status
 
--- what the status says of a text, by whether its report is told as JSON lines and whether it was followed
-abbrev pub IsTold : (lag : ℕ) → (json followed : Bool) → (text : List ℕ) → (left asked before after : Option (List ℕ)) → (well : Type 0) → (status : ℕ) → Type 0
-IsTold lag false followed text left asked before after well status = IsScanned lag followed text left asked before after well status
-IsTold lag true followed text left asked before after well status = IsScannedAsJson lag followed text left asked before after well status
+-- what the status says of a text, by whether its report is printed as JSON lines and whether it was followed
+abbrev pub IsStatusOf : (lag : ℕ) → (json followed : Bool) → (text : List ℕ) → (left asked before after : Option (List ℕ)) → (well : Type 0) → (status : ℕ) → Type 0
+IsStatusOf lag false followed text left asked before after well status = IsScanned lag followed text left asked before after well status
+IsStatusOf lag true followed text left asked before after well status = IsScannedAsJson lag followed text left asked before after well status
 
--- what it says of a trace whose text the source tells
-abbrev pub TellsOf : (lag : ℕ) → (json followed : Bool) → (trace left asked before after : Option (List ℕ)) → (well : Type 0) → (status : ℕ) → Type 0
-TellsOf lag json followed trace left asked before after well status =
-    (text : List ℕ) → trace ≡ Some text → IsTold lag json followed text left asked before after well status
+-- what it says of a trace whose text the source shows
+abbrev pub IsStatusOfShown : (lag : ℕ) → (json followed : Bool) → (trace left asked before after : Option (List ℕ)) → (well : Type 0) → (status : ℕ) → Type 0
+IsStatusOfShown lag json followed trace left asked before after well status =
+    (text : List ℕ) → trace ≡ Some text → IsStatusOf lag json followed text left asked before after well status
 
 -- the report of a text, or the objects of its lines
 abbrev pub report_in : (json : Bool) → (text : List ℕ) → List ℕ
@@ -166,6 +173,10 @@ pub record IsReportStatus (json : Bool) (before after : Option (List ℕ)) (stat
 abbrev pub trace_of : (name : Option (List ℕ)) → (standard : Option (List ℕ)) → (named : List ℕ → Option (List ℕ)) → Option (List ℕ)
 trace_of None standard named = standard
 trace_of (Some name) standard named = named name
+
+-- that which the options name
+abbrev pub trace_in : Options → (standard : Option (List ℕ)) → (named : List ℕ → Option (List ℕ)) → Option (List ℕ)
+trace_in options standard named = trace_of (option_map (λ name. name.now) options.trace) standard named
 
 -- memory ran out before the trace was read, or it could not be opened: source and sink were not asked
 pub record IsUnread {S K : Type 0} (source source' : S) (sink sink' : K) (status : ℕ) : Type 0 where

@@ -2,8 +2,8 @@
 use Rattle.std.specs.Prelude.{◌≡◌, ◌⊎◌, ℕ, ◌<◌, Bool, true, false, ◌||◌, List, Option, Some}
 use Rattle.line_model.specs.declared.fault.Fault.{Fault}
 use Rattle.trace_text.specs.Sources.{IsRefusedBy}
-use Rattle.trace_scan.specs.Readings.{IsRefusal}
-use Rattle.trace_scan.specs.TriedLines.{HasTried, HasTriedPart}
+use Rattle.trace_text.specs.Refusals.{IsRefusal}
+use Rattle.header_trials.specs.TriedLines.{HasTried, HasTriedPart}
 use Rattle.command_line.specs.Printing.{IsRefused}
 use Rattle.command_line.specs.Program.{IsFaulty, IsUnread, fault_status}
 
@@ -13,7 +13,7 @@ pub record HasTriedWith (text : List ℕ) (before after : Option (List ℕ)) : T
   pub some : 0 < findings
   pub tried : HasTried text before after findings
 
--- a fault other than the text's ended it: what it says of the bytes that were given; and the sink is as it was, or it failed on the lines
+-- a fault other than the text's ended it: what it says of the bytes that were read; and the sink is as it was, or it failed on the lines
 pub record IsTryStopped (text : List ℕ) (left asked before after : Option (List ℕ)) (well : Type 0) : Type 0 where
   pub cause : Fault
   pub other : fault_status cause ≡ 3
@@ -28,15 +28,15 @@ pub record IsTryStatus (text : List ℕ) (left asked before after : Option (List
   pub other : status ≡ 3 → IsTryStopped text left asked before after well
   pub range : status < 4
 
--- what it says of a trace whose text the source tells
+-- what it says of a trace whose text the source shows
 abbrev pub TriesOf : (trace left asked before after : Option (List ℕ)) → (well : Type 0) → (status : ℕ) → Type 0
 TriesOf trace left asked before after well status = (text : List ℕ) → trace ≡ Some text → IsTryStatus text left asked before after well status
 
--- what headers can't be tried with: JSON, following, objects of rows, an annotation, the table of calls
+-- what the trial of headers cannot be combined with: JSON, following, objects of rows, an annotation, the table of calls
 abbrev pub cannot_try : (json follow rows annotates calls : Bool) → Bool
 cannot_try json follow rows annotates calls = json || (follow || (rows || (annotates || calls)))
 
--- what is answered, by whether it can't be together with what else is asked for
+-- what is returned, by whether it cannot be combined with what else is asked for
 abbrev pub IsTryAnswer : {S K : Type 0} → (refused : Bool) → (source source' : S) (sink sink' : K) → (trace left asked before after : Option (List ℕ)) → (well : Type 0) → (status : ℕ) → Type 0
 IsTryAnswer true source source' sink sink' trace left asked before after well status = IsRefused source source' sink sink' status
 IsTryAnswer false source source' sink sink' trace left asked before after well status =

@@ -13,7 +13,7 @@ use line_model::totals::Summary;
 use live_report::live::Live;
 use std::alloc::Allocator;
 
-/// Writes a trace again with comments in words behind its rows, as `annotated_trace::annotating::annotate` does.
+/// Writes a trace again with comments in words after its rows, as `annotated_trace::annotating::annotate` does.
 pub fn annotate<A: Allocator + Copy, S: Source, K: Sink>(
     alloc: A,
     rows: Rows,
@@ -23,7 +23,7 @@ pub fn annotate<A: Allocator + Copy, S: Source, K: Sink>(
     // The source gave a text without a fault, and the sink took an annotation of exactly these rows of it.
     ensures annotated { IfOk result (Annotates rows (S.left source.old)
         (S.left source.new) (S.before source.new) (K.taken sink.old) (K.taken sink.new)) }
-    // A refusal is by the bytes that were given, and the sink has a first part of their annotation.
+    // A refusal is by the bytes that were read, and the sink has a first part of their annotation.
     ensures stopped { IfErr result (Stops rows (S.left source.old) (S.left source.new) (S.before source.new)
         (K.taken sink.old) (K.taken sink.new) (K.failures sink.new ≡ K.failures sink.old)) }
     ensures kinds { IfErr result IsAnnotatingFault }

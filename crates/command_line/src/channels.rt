@@ -2,7 +2,7 @@
 
 ghost use Rattle.std.specs.Prelude.{◌≡◌, IfErr, IfOk};
 ghost use Rattle.command_line.specs.Channels.{last_of};
-ghost use Rattle.trace_text.specs.StandsFor.{IsTextFault};
+ghost use Rattle.trace_text.specs.Represents.{IsTextFault};
 
 use line_model::fault::Fault;
 use line_model::row::ReadRow;
@@ -10,8 +10,8 @@ use line_model::state::Side;
 use std::alloc::Global;
 use trace_text::lines::Lines;
 
-/// The last logical channel of a trace, by its first bytes, or by all of them; none where no LF ended its header among
-/// its first bytes.
+/// Returns the last logical channel of a trace, by its first bytes, or by all of them; none where no LF ended its
+/// header among its first bytes.
 pub fn last_channel(alloc: Global, bytes: &[u8], are_all: bool) -> Result<Option<u16>, Fault>
     ensures last { IfOk result (λ last. last ≡ last_of are_all bytes.now) }
     ensures kinds { IfErr result IsTextFault }

@@ -1,4 +1,4 @@
-//! The answer to a question for the meaning of a word.
+//! Prints the meaning of a word.
 
 ghost use Rattle.std.specs.Prelude.{◌≡◌, ℕ, ◌⊎◌, IfOk, option_map, string_bytes, take};
 ghost use Rattle.line_model.specs.basics.Device.{with_more};
@@ -17,9 +17,9 @@ use line_model::write_buffer::write_all;
 use std::alloc::{AllocError, Global};
 use streams::output::Output;
 
-/// The text of some explanations, if there are any.
+/// Returns the text of some explanations, if there are any.
 fn answer_by(alloc: Global, found: &[Explanation]) -> Result<Option<String>, AllocError>
-    ensures { IfOk result (λ told. option_map string_bytes told ≡ answer_by found.now) }
+    ensures { IfOk result (λ printed. option_map string_bytes printed ≡ answer_by found.now) }
 {
     if found.is_empty() {
         return Ok(None);
@@ -28,7 +28,7 @@ fn answer_by(alloc: Global, found: &[Explanation]) -> Result<Option<String>, All
     Ok(Some(text))
 }
 
-/// The explanations of a text: a word of the table, or a line that the program prints.
+/// Returns the explanations of a text: a word of the table, or a line that the program prints.
 fn explanations_in(
     alloc: Global,
     table: &[&'static [Explanation]],
@@ -46,10 +46,9 @@ fn explanations_in(
     }
 }
 
-/// The text that answers a question for a word: the list of all words where it is empty; none where it has no
-/// explanation.
+/// The text that explains a word: the list of all words where it is empty; none where it has no explanation.
 fn answer(alloc: Global, word: &str) -> Result<Option<String>, AllocError>
-    ensures { IfOk result (λ told. IsAnswer word.now (option_map string_bytes told)) }
+    ensures { IfOk result (λ printed. IsAnswer word.now (option_map string_bytes printed)) }
 {
     let table = all();
     if word.is_empty() {
@@ -60,9 +59,9 @@ fn answer(alloc: Global, word: &str) -> Result<Option<String>, AllocError>
     answer_by(alloc, found.as_slice())
 }
 
-/// Gives an answer to the sink, and answers the exit status.
+/// Writes an explanation to the sink, and returns the exit status.
 fn print_answer<K: Output, E: Sink>(alloc: Global, text: &str, sink: &mut K, errors: &mut E) -> u8
-    ensures told { result ≡ 0 → K.taken sink.new ≡ with_more (K.taken sink.old) text.now }
+    ensures printed { result ≡ 0 → K.taken sink.new ≡ with_more (K.taken sink.old) text.now }
     ensures part { result ≡ 3 → (n : ℕ) × (K.taken sink.new
         ≡ with_more (K.taken sink.old) (take n text.now)) }
     ensures range { (result ≡ 0) ⊎ (result ≡ 3) }
@@ -73,7 +72,7 @@ fn print_answer<K: Output, E: Sink>(alloc: Global, text: &str, sink: &mut K, err
     }
 }
 
-/// Tells that no explanation has a word, as far as it can be told, and answers the exit status.
+/// Prints that a word has no explanation, as far as the errors accept it, and returns the exit status.
 fn refuse_word<E: Sink>(alloc: Global, word: &str, errors: &mut E) -> u8
     ensures { result ≡ 64 }
 {
@@ -85,8 +84,8 @@ fn refuse_word<E: Sink>(alloc: Global, word: &str, errors: &mut E) -> u8
     USAGE
 }
 
-/// Tells what a word means, all words where it is empty. Answers the exit status (profile): 0 where it was told, 64
-/// where no explanation has the word, 3 where memory ran out or the sink failed.
+/// Prints what a word means, or all words where it is empty. Returns the exit status (profile): 0 where it was printed,
+/// 64 where no explanation has the word, 3 where memory ran out or the sink failed.
 pub fn explain_word<K: Output, E: Sink>(
     alloc: Global,
     word: &str,

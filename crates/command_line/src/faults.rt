@@ -1,4 +1,4 @@
-//! The line of a fault, as it goes to the errors. It takes no memory, so a fault is printed where memory ran out too.
+//! The line of a fault, printed to the errors. It needs no memory, so a fault is printed even where memory ran out.
 
 ghost use Rattle.std.specs.Prelude.{◌≡◌, ◌<◌, ◌≤◌, ◌++◌, OnErr, OnOk, codes, decimal};
 ghost use Rattle.line_model.specs.basics.Written.{PutsTo, TakesAll, TakesFront};
@@ -54,7 +54,7 @@ fn put_words<E: Sink>(out: &mut WriteBuffer, errors: &mut E, fault: Fault)
     }
 }
 
-/// Prints the line of a fault. Where the errors fail they took a first part of it.
+/// Prints the line of a fault. Fails where the errors fail, which took a first part of it.
 pub(crate) fn print_fault<E: Sink>(errors: &mut E, fault: Fault) -> Result<(), Fault>
     ensures ok { OnOk result (TakesAll E.Sink errors.old errors.new (fault_line fault)) }
     ensures part { OnErr result (TakesFront E.Sink errors.old errors.new (fault_line fault)) }

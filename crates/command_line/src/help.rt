@@ -1,4 +1,4 @@
-//! The texts of the program's help and of its version, of which the manual page and the completions are made too.
+//! The texts of the program's help and of its version, from which the manual page and the completions are made too.
 
 /// The version of the program, and the logic that proved it, whose identity `rt version` prints last.
 pub const VERSION: &str = "x25scan 1.0.0\nproved with Rattle, logic dac8208d650f15bf\n";

@@ -10,7 +10,6 @@ use crate::refusing::refuse_write;
 use json_lines::sink::JsonSink;
 use line_model::device::Sink;
 use line_model::lending::{Borrowed, Origin, take_back};
-use std::alloc::Global;
 use std::marker::Brand;
 use std::sync::Wait;
 use std::thread::Threads;
@@ -29,7 +28,7 @@ fn scan_to<'a, S: Input, K: Output, E: Sink, R: Threads + Wait + Clock + Sync, B
     requires name { sink.ghost_name ≡ B.name }
     requires before { (K.taken sink.now, K.failures sink.now) ≡ B.before }
     ensures name { result.0.ghost_name ≡ B.name }
-    ensures told { (text : List ℕ) → S.left source.old ≡ Some text
+    ensures shown { (text : List ℕ) → S.left source.old ≡ Some text
         → IsScannedAsJson (lag_by options.entry.alone) options.entry.follow text (S.left source.new) (S.before source.new) B.before.0
         (K.taken result.0.now) (K.failures result.0.now ≡ B.before.1) result.1 }
     ensures reported { IsReportStatus true B.before.0 (K.taken result.0.now) result.1 }
@@ -53,7 +52,7 @@ fn scan_to<'a, S: Input, K: Output, E: Sink, R: Threads + Wait + Clock + Sync, B
     }
 }
 
-/// Scans the trace as the options ask, prints each line of the report as an object, and answers the exit status.
+/// Scans the trace as the options ask, prints each line of the report as an object, and returns the exit status.
 pub(crate) fn scan_json<S: Input, K: Output, E: Sink, R: Threads + Wait + Clock + Sync>(
     host: Host<'_, R>,
     options: Options<'_>,
@@ -61,7 +60,7 @@ pub(crate) fn scan_json<S: Input, K: Output, E: Sink, R: Threads + Wait + Clock 
     sink: &mut K,
     errors: &mut E,
 ) -> u8
-    ensures told { (text : List ℕ) → S.left source.old ≡ Some text
+    ensures shown { (text : List ℕ) → S.left source.old ≡ Some text
         → IsScannedAsJson (lag_by options.entry.alone) options.entry.follow text (S.left source.new) (S.before source.new) (K.taken sink.old)
         (K.taken sink.new) (K.failures sink.new ≡ K.failures sink.old) result }
     ensures reported { IsReportStatus true (K.taken sink.old) (K.taken sink.new) result }

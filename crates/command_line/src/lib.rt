@@ -3,7 +3,6 @@
 #![tactic(auto)]
 
 pub mod annotated_scan;
-mod calls_scan;
 mod channels;
 mod explaining;
 mod faults;
@@ -16,5 +15,4 @@ mod pasted;
 mod printing;
 pub mod program;
 mod refusing;
-pub mod rows_scan;
 mod trying;

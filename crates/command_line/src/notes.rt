@@ -4,13 +4,13 @@ ghost use Rattle.std.specs.Prelude.{◌≡◌};
 ghost use Rattle.command_line.specs.Notes.{refused_in};
 
 use crate::options::Options;
-use crate::program::USAGE;
+use crate::refusing::refuse_usage;
 use line_model::device::Sink;
 use line_model::write_buffer::write_all;
 use live_report::uncounted::{Amount, REASONS, Reason, Uncounted};
 use std::alloc::{AllocError, Global};
 
-/// Whether a note is asked for with what it can't be asked for: rows in place of the report, or workers.
+/// Whether a note is asked for together with rows in place of the report, or with workers.
 pub(crate) fn refuses_notes(options: &Options<'_>) -> bool
     ensures { result ≡ refused_in options.now }
 {
@@ -35,8 +35,7 @@ pub(crate) fn refuse_notes<E: Sink>(options: &Options<'_>, errors: &mut E) -> u8
     } else {
         b"error: --notes needs a scan of one thread: name --alone in place of --workers\n"
     };
-    let _ = write_all(errors, text);
-    USAGE
+    refuse_usage(errors, text)
 }
 
 /// What is said of data that was not counted for a reason.
@@ -65,7 +64,7 @@ fn sum(uncounted: &Uncounted) -> Amount {
     sum
 }
 
-/// So many of something.
+/// A count and the name of what it counts.
 fn many(alloc: Global, number: u64, one: &str) -> Result<String, AllocError> {
     let end = if number == 1 { "" } else { "s" };
     format!(in alloc; "{number} {one}{end}")
@@ -107,7 +106,7 @@ fn note(alloc: Global, uncounted: &Uncounted) -> Result<Option<String>, AllocErr
     Ok(Some(text))
 }
 
-/// Prints which data was not counted, where a note is asked for. A note that standard error does not take is lost.
+/// Prints which data was not counted, where a note is asked for. A note that standard error does not accept is lost.
 pub(crate) fn print_note<E: Sink>(
     alloc: Global,
     is_asked: bool,

@@ -8,7 +8,7 @@ use line_model::device::Sink;
 use std::alloc::Global;
 use streams::input::Input;
 
-/// Turns to the trace of this name, or stays at standard input where there is none. Where the trace can't be opened it
+/// Opens the trace of this name, or stays at standard input where there is none. Where the trace can't be opened it
 /// prints why, and returns the exit status.
 pub fn open_trace<S: Input, E: Sink>(
     alloc: Global,

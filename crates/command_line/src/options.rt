@@ -9,13 +9,13 @@ use annotated_trace::rows::Rows;
 use clap::{Arg, ArgAction, ArgMatches, Command, Error, value_parser};
 use std::alloc::{AllocError, Global};
 
-/// How many workers there are where the words don't say it.
+/// The workers of a scan without `--workers`.
 const WORKERS: u8 = 4;
 
 /// What is printed in place of the report.
 #[derive(Clone, Copy)]
-pub enum Form {
-    /// The trace once more, with comments behind its rows.
+pub enum OutputForm {
+    /// The trace once more, with comments after its rows.
     Comments,
     /// An object for each row, and then those of the report.
     Objects,
@@ -29,7 +29,7 @@ pub enum Form {
 #[derive(Clone, Copy)]
 pub struct Printing {
     /// How they are printed.
-    pub form: Form,
+    pub form: OutputForm,
     /// Which rows.
     pub rows: Rows,
 }
@@ -37,31 +37,32 @@ pub struct Printing {
 /// What the words ask for.
 #[derive(Clone, Copy)]
 pub struct Options<'a> {
-    /// The worker threads, 1 to 64 (profile).
+    /// How many worker threads are asked for, 1 to 64 (profile).
     pub workers: u8,
-    /// Their number was given.
+    /// Whether `--workers` is set.
     pub crew: bool,
-    /// The scan of one thread is asked for.
+    /// Whether one thread is to scan: `--alone`.
     pub alone: bool,
-    /// The findings are asked for while the trace is read, which one thread does.
+    /// Whether findings are to be printed while the trace is read, by one thread: `--follow`.
     pub follow: bool,
-    /// The report is asked for as JSON lines.
+    /// Whether the report is to be printed as JSON lines: `--json`.
     pub json: bool,
-    /// The trace is asked for once more in place of its report, with comments behind these rows.
+    /// The rows that get comments, where the trace is to be printed in place of its report.
     pub annotate: Option<Rows>,
-    /// `--annotate` was given.
+    /// Whether `--annotate` is set.
     pub comments: bool,
-    /// An object is asked for of each row, or of those that are chosen, before the objects of the report.
+    /// Whether an object is to be printed for each row that is chosen, before those of the report: `--rows`.
     pub rows: bool,
-    /// The table of calls is asked for in place of the report.
+    /// Whether the table of calls is to be printed in place of the report: `--calls`.
     pub calls: bool,
-    /// What the rows count under each header is asked for in place of the report.
+    /// Whether headers are to be tried in place of the report: `--try-headers`.
     pub try_headers: bool,
-    /// It is asked for that progress is shown, also where the errors are no terminal.
+    /// Whether progress is printed even where the errors are not a terminal: `--progress`.
     pub progress: bool,
-    /// A note is asked for of the data that was not counted, also where the errors are no terminal.
+    /// Whether the note of the data that was not counted is printed even where the errors are not a terminal:
+    /// `--notes`.
     pub notes: bool,
-    /// The word whose explanation is asked for in place of a scan; empty where the list of all words is.
+    /// The word to explain in place of a scan; empty for the list of all words: `--explain`.
     pub explain: Option<&'a str>,
     /// The name of the trace; none where it is standard input.
     pub trace: Option<&'a str>,
@@ -188,7 +189,7 @@ fn command<'a>(alloc: Global) -> Result<Command<'a>, AllocError>
     with_asking(alloc, writing)
 }
 
-/// Whether a flag was given.
+/// Whether a flag is set.
 fn is_given(matches: &ArgMatches<'_>, id: &str) -> bool
     ensures { result ≡ is_given (first_value (found_of matches.now) id.now) }
 {
@@ -198,7 +199,7 @@ fn is_given(matches: &ArgMatches<'_>, id: &str) -> bool
     }
 }
 
-/// The name of the trace, which `-` is not.
+/// The name of the trace; none for `-`, which means standard input.
 fn trace_in<'a>(matches: &ArgMatches<'a>) -> Option<&'a str>
     ensures { option_map (λ name. name.now) result
         ≡ named_by (first_value (found_of matches.now) (codes "trace")) }
@@ -209,7 +210,7 @@ fn trace_in<'a>(matches: &ArgMatches<'a>) -> Option<&'a str>
     }
 }
 
-/// The logical channel that is named. `clap` has seen to it that the text is a number from 1 to 4095.
+/// The logical channel that is named. `clap` ensures that the text is a number from 1 to 4095.
 fn channel_in(matches: &ArgMatches<'_>) -> Option<u16>
     ensures { HasNumber 4095 (first_value (found_of matches.now) (codes "channel")) result }
 {
@@ -217,7 +218,7 @@ fn channel_in(matches: &ArgMatches<'_>) -> Option<u16>
     text.parse::<u16>().ok()
 }
 
-/// The call that is named. `clap` has seen to it that the text is a number from 1 to 999999999.
+/// The call that is named. `clap` ensures that the text is a number from 1 to 999999999.
 fn call_in(matches: &ArgMatches<'_>) -> Option<u32>
     ensures { HasNumber 999999999 (first_value (found_of matches.now) (codes "call")) result }
 {
@@ -225,7 +226,7 @@ fn call_in(matches: &ArgMatches<'_>) -> Option<u32>
     text.parse::<u32>().ok()
 }
 
-/// Which rows comments are asked for, if they are: a choice of rows asks for them too.
+/// The rows that get comments, if any do: a choice of rows asks for comments too.
 fn rows_in(matches: &ArgMatches<'_>) -> Option<Rows>
     ensures { AskFor (first_value (found_of matches.now) (codes "annotate"))
         (first_value (found_of matches.now) (codes "channel"))
@@ -246,7 +247,7 @@ fn rows_in(matches: &ArgMatches<'_>) -> Option<Rows>
     }
 }
 
-/// How many workers are asked for: `clap` has seen to it that the text is a number from 1 to 64.
+/// How many workers are asked for: `clap` ensures that the text is a number from 1 to 64.
 fn workers_in(matches: &ArgMatches<'_>) -> u8
     ensures asked { HasWorkers (first_value (found_of matches.now) (codes "workers")) result }
     ensures some { 1 ≤ result }
@@ -315,7 +316,8 @@ fn options_in<'a>(matches: &ArgMatches<'a>) -> Options<'a>
     }
 }
 
-/// Reads the program's name and its arguments. An error is of a kind that the words have, or memory ran out.
+/// Reads the program's name and its arguments. Fails with an error of a kind that the words have, or when memory is
+/// refused.
 pub fn parse<'a>(alloc: Global, words: &'a [&'a str]) -> Result<Options<'a>, Error>
     ensures kinds { FailsBy (words_fault (map (λ word. word.now) words.entry.now)) result }
     ensures workers { IfOk result (λ options.

@@ -1,4 +1,4 @@
-//! What is explained of a text that the program prints: a line of the report, or a refusal.
+//! The explanations of a line that the program prints: one of the report, or a refusal.
 
 ghost use Rattle.std.specs.Prelude.{◌≡◌, ◌++◌, OnOk, codes, drop, map, option_map};
 ghost use Rattle.explanations.specs.Table.{explanations_of, of_topic, rows};
@@ -10,13 +10,13 @@ ghost use Rattle.command_line.specs.Pasted.{code_topic, field_rows, is_message, 
 use explanations::explanation::Explanation;
 use explanations::table::push_explanations_of_topic;
 use json_lines::fields::{Field, form_of};
-use json_lines::words::Words;
+use json_lines::words::ReportWords;
 use std::alloc::{AllocError, Global};
 
-/// How a refusal begins.
+/// The length of `x25scan: `, with which a refusal begins.
 const PREFIX: usize = 9;
 
-/// A text without the name of the program that a refusal begins with.
+/// Returns a text without the name of the program that a refusal begins with.
 pub fn unprefixed(text: &[u8]) -> &[u8]
     ensures { result.now ≡ unprefixed text.now }
 {
@@ -42,7 +42,7 @@ fn is_message(code: &[u8]) -> bool
     }
 }
 
-/// The topic of the codes that a code is one of.
+/// The topic of a code: a diagnostic code, or one of a PAD message.
 fn code_topic(code: &[u8]) -> &'static str
     ensures { result.now ≡ code_topic code.now }
 {
@@ -94,7 +94,7 @@ fn push_fields(
     alloc: Global,
     table: &[&'static [Explanation]],
     fields: &[Field],
-    mut words: Words<'_>,
+    mut words: ReportWords<'_>,
     found: &mut Vec<Explanation>,
 ) -> Result<(), AllocError>
     ensures { OnOk result (found.new.items ≡ found.old.items
@@ -109,7 +109,7 @@ fn push_fields(
     Ok(())
 }
 
-/// The word of the table for a refusal that begins with a word, but for a trace's.
+/// The word of the table for a refusal that begins with a word, except a trace's.
 fn refusal_word(first: &[u8]) -> &'static str
     ensures { result.now ≡ refusal_word first.now }
 {
@@ -124,11 +124,11 @@ fn refusal_word(first: &[u8]) -> &'static str
     }
 }
 
-/// Appends what explains `line L: kind K`, of which the first word was taken.
+/// Appends what explains `line L: kind K`, of which the first word was removed.
 fn push_kind(
     alloc: Global,
     table: &[&'static [Explanation]],
-    mut words: Words<'_>,
+    mut words: ReportWords<'_>,
     found: &mut Vec<Explanation>,
 ) -> Result<(), AllocError>
     ensures { OnOk result (found.new.items ≡ found.old.items
@@ -145,7 +145,7 @@ fn push_line(
     alloc: Global,
     table: &[&'static [Explanation]],
     first: &[u8],
-    words: Words<'_>,
+    words: ReportWords<'_>,
     found: &mut Vec<Explanation>,
 ) -> Result<(), AllocError>
     ensures { OnOk result (found.new.items ≡ found.old.items
@@ -173,7 +173,7 @@ pub fn push_pasted(
     ensures { OnOk result (found.new.items ≡ found.old.items
         ++ pasted_rows text.now (rows table.now)) }
 {
-    let mut words = Words::new(text);
+    let mut words = ReportWords::new(text);
     let first = words.take();
     push_line(alloc, table, first, words, found)
 }

@@ -1,29 +1,34 @@
 //! The rows of the trace in place of its report: the trace once more with comments, or an object for each row; or the table of
 //! its calls.
 
-ghost use Rattle.std.specs.Prelude.{◌≡◌, ◌<◌, ◌≤◌, ◌+◌, ◌^◌, ◌⊎◌, IfErr, IfOk, is_some, option_map};
+ghost use Rattle.std.specs.Prelude.{◌≡◌, ◌<◌, ◌≤◌, ◌+◌, ◌^◌, ◌⊎◌, IfErr, IfOk, is_some};
 ghost use Rattle.command_line.specs.Calls.{cannot_list};
-ghost use Rattle.command_line.specs.Printing.{IsPrintAnswer, IsPrintStatus, Prints, StopsBy, is_refused};
-ghost use Rattle.command_line.specs.Program.{IsUnread, trace_of};
+ghost use Rattle.command_line.specs.Printing.{IsPrintAnswer, IsPrintStatus, PrintsTo, StopsTo, is_refused};
+ghost use Rattle.command_line.specs.Program.{IsUnread, trace_in};
 
 use crate::annotated_scan::annotate;
-use crate::calls_scan::print_calls;
 use crate::channels::last_channel;
 use crate::opening::open_trace;
-use crate::options::{Form, Options, Printing};
-use crate::program::{USAGE, summary_status};
-use crate::refusing::refuse_scan;
-use crate::rows_scan::print_rows;
+use crate::options::{Options, OutputForm, Printing};
+use crate::program::summary_status;
+use crate::refusing::{refuse_scan, refuse_usage};
+use annotated_trace::printing::print_trace as print_by;
 use annotated_trace::rows::Rows;
-use descriptions::call_table::{Csv, Objects};
+use channel_machine::channel::PackedChannel;
+use descriptions::call_table::{CallTable, Csv, Objects};
+use descriptions::row_objects::RowObjects;
 use line_model::device::{Sink, Source};
 use line_model::fault::Fault;
 use line_model::totals::Summary;
 use line_model::write_buffer::write_all;
+use live_report::live::Live;
 use std::alloc::Global;
 use streams::first_bytes::FirstBytes;
 use streams::input::Input;
 use streams::output::Output;
+
+/// The observer of the trace that is printed, which keeps the row that it read last.
+type Trace = Live<Global, PackedChannel<Global>>;
 
 /// The options, and how they ask for rows in place of the report.
 #[derive(Clone, Copy)]
@@ -79,28 +84,36 @@ fn print_missing<S: Input, E: Sink>(
     }
 }
 
-/// Prints the trace in a form, as `annotate`, `print_rows` and `print_calls` do.
+/// Prints the trace in a form: with comments as `annotate` does, else what its printer makes of each line, as
+/// `annotated_trace::printing::print_trace` does.
 fn print<S: Source, K: Sink>(
     alloc: Global,
     printing: Printing,
     source: &mut S,
     sink: &mut K,
 ) -> Result<Summary, Fault>
-    ensures printed { IfOk result (Prints printing (S.left source.old)
-        (S.left source.new) (S.before source.new) (K.taken sink.old) (K.taken sink.new)) }
-    ensures stopped { IfErr result (StopsBy printing (S.left source.old) (S.left source.new) (S.before source.new)
-        (K.taken sink.old) (K.taken sink.new) (K.failures sink.new ≡ K.failures sink.old)) }
+    ensures printed { IfOk result (PrintsTo S.Source K.Sink printing source.old source.new sink.old sink.new) }
+    ensures stopped { IfErr result (StopsTo S.Source K.Sink printing source.old source.new sink.old sink.new) }
     ensures asked { S.calls source.new ≤ S.calls source.old + (2 ^ 30 + 1) }
 {
     match printing.form {
-        Form::Comments => annotate(alloc, printing.rows, source, sink),
-        Form::Objects => print_rows(alloc, printing.rows, source, sink),
-        Form::Table => print_calls::<Global, Csv, S, K>(alloc, source, sink),
-        Form::TableObjects => print_calls::<Global, Objects, S, K>(alloc, source, sink),
+        OutputForm::Comments => annotate(alloc, printing.rows, source, sink),
+        OutputForm::Objects => {
+            let rows = RowObjects::new(alloc, printing.rows);
+            print_by(alloc, Trace::with_rows(alloc), rows, source, sink)
+        }
+        OutputForm::Table => {
+            let table = CallTable::<Global, Csv>::new(alloc);
+            print_by(alloc, Trace::with_rows(alloc), table, source, sink)
+        }
+        OutputForm::TableObjects => {
+            let objects = CallTable::<Global, Objects>::new(alloc);
+            print_by(alloc, Trace::with_rows(alloc), objects, source, sink)
+        }
     }
 }
 
-/// Prints the trace, and answers the exit status.
+/// Prints the trace, and returns the exit status.
 fn run_print<S: Input, K: Output, E: Sink>(
     alloc: Global,
     printing: Printing,
@@ -122,7 +135,7 @@ fn run_print<S: Input, K: Output, E: Sink>(
     }
 }
 
-/// Prints standard input, or the trace that is named, and answers the exit status.
+/// Prints standard input, or the trace that is named, and returns the exit status.
 fn print_input<S: Input, K: Output, E: Sink>(
     alloc: Global,
     asked: AskedRows<'_>,
@@ -130,8 +143,7 @@ fn print_input<S: Input, K: Output, E: Sink>(
     sink: &mut K,
     errors: &mut E,
 ) -> u8
-    ensures status { let name = option_map (λ name. name.now) asked.entry.options.trace in
-        let trace = trace_of name (S.left source.old) (S.named source.old) in
+    ensures status { let trace = trace_in asked.entry.options (S.left source.old) (S.named source.old) in
         IsUnread source.old source.new sink.old sink.new result
         ⊎ IsPrintStatus asked.entry.printing trace (S.left source.new) (S.before source.new)
         (K.taken sink.old) (K.taken sink.new) (K.failures sink.new ≡ K.failures sink.old) result }
@@ -144,23 +156,22 @@ fn print_input<S: Input, K: Output, E: Sink>(
     }
 }
 
-/// Prints that a form was asked for with what it can't be printed with.
-fn refuse_form<E: Sink>(errors: &mut E, form: Form) -> u8
+/// Prints with which options a form can't be asked for.
+fn refuse_form<E: Sink>(errors: &mut E, form: OutputForm) -> u8
     ensures { result ≡ 64 }
 {
     let text: &[u8] = match form {
-        Form::Comments =>
+        OutputForm::Comments =>
             b"error: --json writes the report, and --annotate, --channel and --call write a trace instead\n",
-        Form::Objects =>
+        OutputForm::Objects =>
             b"error: --annotate prints the trace again, and --rows an object for each row: name one of them\n",
         _ =>
             b"error: --calls prints a table of the report's calls: leave out --follow, --rows, --annotate, --channel and --call\n",
     };
-    let _ = write_all(errors, text);
-    USAGE
+    refuse_usage(errors, text)
 }
 
-/// Prints standard input, or the trace that is named, in a form, and answers the exit status; refuses where it can't be
+/// Prints standard input, or the trace that is named, in a form, and returns the exit status; refuses where it can't be
 /// printed with what else is asked for.
 pub(crate) fn print_trace<S: Input, K: Output, E: Sink>(
     alloc: Global,
@@ -169,8 +180,7 @@ pub(crate) fn print_trace<S: Input, K: Output, E: Sink>(
     sink: &mut K,
     errors: &mut E,
 ) -> u8
-    ensures answer { let name = option_map (λ name. name.now) asked.entry.options.trace in
-        let trace = trace_of name (S.left source.old) (S.named source.old) in
+    ensures answer { let trace = trace_in asked.entry.options (S.left source.old) (S.named source.old) in
         IsPrintAnswer (is_refused asked.entry.printing.form asked.entry.options.json asked.entry.options.comments
         (cannot_list asked.entry.options.follow asked.entry.options.rows (is_some asked.entry.options.annotate)))
         asked.entry.printing source.old source.new sink.old sink.new
@@ -189,15 +199,15 @@ pub(crate) fn print_trace<S: Input, K: Output, E: Sink>(
 
 /// Whether a form can't be printed with what else is asked for: JSON with comments, comments with objects, or following or
 /// rows with the table of calls.
-fn is_refused(form: Form, options: &Options<'_>) -> bool
+fn is_refused(form: OutputForm, options: &Options<'_>) -> bool
     ensures { result ≡ is_refused form options.now.json options.now.comments
         (cannot_list options.now.follow options.now.rows (is_some options.now.annotate)) }
 {
     match form {
-        Form::Comments => options.json,
-        Form::Objects => options.comments,
-        Form::Table => cannot_list(options),
-        Form::TableObjects => cannot_list(options),
+        OutputForm::Comments => options.json,
+        OutputForm::Objects => options.comments,
+        OutputForm::Table => cannot_list(options),
+        OutputForm::TableObjects => cannot_list(options),
     }
 }
 

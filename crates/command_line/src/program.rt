@@ -1,8 +1,8 @@
 //! The program: its words and its exit status.
 
-ghost use Rattle.std.specs.Prelude.{◌≡◌, ◌≢◌, ℕ, ◌<◌, ◌≤◌, ◌+◌, ◌^◌, ◌⊎◌, IfSome, List, [], None, Some, false, map, option_map, true, is_some};
+ghost use Rattle.std.specs.Prelude.{◌≡◌, ◌≢◌, ℕ, ◌<◌, ◌≤◌, ◌+◌, ◌^◌, ◌⊎◌, Err, IfErr, IfOk, IfSome, List, [], None, Some, false, map, option_map, true, is_some};
 ghost use Rattle.clap.specs.Words.{kind_of};
-ghost use Rattle.trace_scan.specs.Readings.{in_flight};
+ghost use Rattle.live_report.specs.Reports.{IsReported};
 ghost use Rattle.command_line.specs.Options.{AreAskedRows, alone, annotates, as_json, asked_word, follows, has_comments, lists_calls, named_trace, prints_rows, tries_headers, words_fault};
 ghost use Rattle.command_line.specs.Explaining.{IsAnswered};
 ghost use Rattle.command_line.specs.Faults.{SaysFault};
@@ -11,14 +11,14 @@ ghost use Rattle.annotated_trace.specs.declared.rows.Rows.{Rows as AnyRows};
 ghost use Rattle.command_line.specs.Calls.{cannot_list};
 ghost use Rattle.command_line.specs.Printing.{IsAnnotateAnswer, IsCallsAnswer, IsPrintAnswer, IsRefused, IsRowsAnswer, is_refused, printing_of, table_of};
 ghost use Rattle.command_line.specs.Trying.{IsTryAnswer, cannot_try};
-ghost use Rattle.command_line.specs.Program.{IsAskedTextTaken, IsFollowStatus, IsReportStatus, IsStatus, IsUnread, IsWordsAnswer, TellsOf, asked_text, fault_status, lag_by, summary_status, trace_of, words_status};
+ghost use Rattle.command_line.specs.Program.{IsAskedTextTaken, IsReportStatus, IsScanRefusal, IsScanned, IsUnread, IsWordsAnswer, IsStatusOfShown, asked_text, fault_status, lag_by, summary_status, trace_in, trace_of, words_status};
 
 use crate::explaining::explain_word;
 use crate::help::{HELP, VERSION};
 use crate::json::scan_json;
 use crate::notes::{print_note, refuse_notes, refuses_notes};
 use crate::opening::open_trace;
-use crate::options::{Form, Options, Printing, parse};
+use crate::options::{Options, OutputForm, Printing, parse};
 use crate::printing::{AskedRows, print_trace};
 use crate::refusing::{refuse, refuse_scan};
 use crate::trying::try_trace;
@@ -62,7 +62,7 @@ fn names_two_traces(message: &str) -> bool {
         && !message.starts_with(b"error: unexpected argument '-")
 }
 
-/// Prints what is wrong with the words, as far as it can be told.
+/// Prints what is wrong with the words, as far as it can be printed.
 fn print_words_fault<E: Sink>(alloc: Global, errors: &mut E, error: &Error) {
     if let Ok(text) = format!(in alloc; "{error}") {
         let _ = write_all(errors, text.as_bytes());
@@ -94,94 +94,7 @@ pub(crate) struct Host<'a, R> {
     pub alloc: Global,
 }
 
-/// Scans the trace in one thread, prints a note where one is asked for, and answers the exit status.
-fn run_alone<S: Input, K: Output, E: Sink>(
-    alloc: Global,
-    notes: bool,
-    source: &mut S,
-    sink: &mut K,
-    errors: &mut E,
-) -> u8
-    ensures status { (lag : ℕ) (text : List ℕ) → S.left source.old ≡ Some text
-        → IsStatus lag text (S.left source.new) (S.before source.new) (K.taken sink.old) (K.taken sink.new)
-        (K.failures sink.new ≡ K.failures sink.old) result }
-    ensures reported { IsReportStatus false (K.taken sink.old) (K.taken sink.new) result }
-    ensures said { (lag : ℕ) → result ≡ 2 → SaysFault lag (S.left source.old) (S.left source.new) (S.before source.new)
-        (E.taken errors.old) (E.taken errors.new) (E.failures errors.new ≡ E.failures errors.old) }
-    ensures range { result < 4 }
-    ensures asked { S.calls source.new ≤ S.calls source.old + (2 ^ 30 + 1) }
-{
-    let mut uncounted = Uncounted::none();
-    match scan_alone(alloc, source, sink, &mut uncounted) {
-        Ok(summary) => {
-            print_note(alloc, notes, &uncounted, errors);
-            summary_status(&summary)
-        }
-        Err(fault) => refuse_scan(alloc, source, sink, errors, fault),
-    }
-}
-
-/// Follows the trace in one thread, prints a note where one is asked for, and answers the exit status.
-fn run_follow<S: Input, K: Output, E: Sink>(
-    alloc: Global,
-    notes: bool,
-    source: &mut S,
-    sink: &mut K,
-    errors: &mut E,
-) -> u8
-    ensures status { (text : List ℕ) → S.left source.old ≡ Some text
-        → IsFollowStatus text (S.left source.new) (S.before source.new) (K.taken sink.old) (K.taken sink.new)
-        (K.failures sink.new ≡ K.failures sink.old) result }
-    ensures reported { IsReportStatus false (K.taken sink.old) (K.taken sink.new) result }
-    ensures said { (lag : ℕ) → result ≡ 2 → SaysFault lag (S.left source.old) (S.left source.new) (S.before source.new)
-        (E.taken errors.old) (E.taken errors.new) (E.failures errors.new ≡ E.failures errors.old) }
-    ensures range { result < 4 }
-    ensures asked { S.calls source.new ≤ S.calls source.old + (2 ^ 30 + 1) }
-{
-    let mut uncounted = Uncounted::none();
-    match follow(alloc, source, sink, &mut uncounted) {
-        Ok(summary) => {
-            print_note(alloc, notes, &uncounted, errors);
-            summary_status(&summary)
-        }
-        Err(fault) => refuse_scan(alloc, source, sink, errors, fault),
-    }
-}
-
-/// Scans the trace with workers, and answers the exit status.
-fn run_with<S: Input, K: Output, E: Sink, R: Threads + Wait + Clock + Sync>(
-    host: Host<'_, R>,
-    workers: u8,
-    source: &mut S,
-    sink: &mut K,
-    errors: &mut E,
-) -> u8
-    requires workers { (0 < workers) × (workers ≤ 64) }
-    ensures status { (text : List ℕ) → S.left source.old ≡ Some text
-        → IsStatus in_flight text (S.left source.new) (S.before source.new) (K.taken sink.old) (K.taken sink.new)
-        (K.failures sink.new ≡ K.failures sink.old) result }
-    ensures reported { IsReportStatus false (K.taken sink.old) (K.taken sink.new) result }
-    ensures said { result ≡ 2 → SaysFault in_flight (S.left source.old) (S.left source.new) (S.before source.new)
-        (E.taken errors.old) (E.taken errors.new) (E.failures errors.new ≡ E.failures errors.old) }
-    ensures range { result < 4 }
-    ensures asked { S.calls source.new ≤ S.calls source.old + (2 ^ 30 + 1) }
-{
-    let alloc = host.alloc;
-    match scan_with(
-        host.rt,
-        alloc,
-        source,
-        sink,
-        usize::from(workers),
-        WAITING,
-        &OpenGate,
-    ) {
-        Ok(scan) => summary_status(&scan.summary),
-        Err(fault) => refuse_scan(alloc, source, sink, errors, fault),
-    }
-}
-
-/// When it is shown how far the reading is: always where it is asked for, and not by itself where the trace is
+/// When it is shown how far the reading is: always where it is asked for, and not automatically where the trace is
 /// followed, whose reader waits for more.
 pub(crate) fn progress_choice(options: &Options<'_>) -> ShowProgress {
     if options.progress {
@@ -193,8 +106,8 @@ pub(crate) fn progress_choice(options: &Options<'_>) -> ShowProgress {
     }
 }
 
-/// Whether a note is printed of the data that was not counted: where it is asked for, and by itself where a terminal shows
-/// it and no workers are asked for.
+/// Whether a note is printed of the data that was not counted: where it is asked for, and automatically where a
+/// terminal shows it and no workers are asked for.
 fn has_note<S: Input>(options: &Options<'_>, source: &S) -> bool {
     let is_alone = options.alone || options.follow || !options.crew;
     options.notes || (is_alone && source.shows_terminal())
@@ -207,7 +120,38 @@ fn is_alone(options: &Options<'_>, notes: bool) -> bool
     options.alone || notes
 }
 
-/// Scans the trace as the options ask, in one thread where a note is printed, and answers the exit status.
+/// Runs the scan that the options ask for: it follows the trace, reads it in one thread, or has workers. Returns the
+/// sums of its report and, of one thread, the data that was not counted.
+fn run_scan<S: Input, K: Output, R: Threads + Wait + Clock + Sync>(
+    host: Host<'_, R>,
+    options: Options<'_>,
+    source: &mut S,
+    sink: &mut K,
+    uncounted: &mut Uncounted,
+) -> Result<Summary, Fault>
+    ensures reported { (text : List ℕ) → S.left source.old ≡ Some text
+        → IfOk result (IsReported text (K.taken sink.old) (K.taken sink.new)) }
+    // The same holds of some text for a source that hides its bytes.
+    ensures of_text { IfOk result (λ sums. (text : List ℕ) × IsReported text (K.taken sink.old) (K.taken sink.new) sums) }
+    ensures refused { (text : List ℕ) → S.left source.old ≡ Some text
+        → IfErr result (IsScanRefusal (lag_by options.entry.alone) options.entry.follow text (S.left source.new) (S.before source.new)
+        (K.taken sink.old) (K.taken sink.new) (K.failures sink.new ≡ K.failures sink.old)) }
+    ensures write_failed { result ≡ Err Fault.Write → K.failures sink.old < K.failures sink.new }
+    ensures asked { S.calls source.new ≤ S.calls source.old + (2 ^ 30 + 1) }
+{
+    let Host { rt, alloc } = host;
+    if options.follow {
+        return follow(alloc, source, sink, uncounted);
+    }
+    if options.alone {
+        return scan_alone(alloc, source, sink, uncounted);
+    }
+    let workers = usize::from(options.workers);
+    let scan = scan_with(rt, alloc, source, sink, workers, WAITING, &OpenGate)?;
+    Ok(scan.summary)
+}
+
+/// Scans the trace as the options ask, in one thread where a note is printed, and returns the exit status.
 pub(crate) fn scan<S: Input, K: Output, E: Sink, R: Threads + Wait + Clock + Sync>(
     host: Host<'_, R>,
     options: Options<'_>,
@@ -215,30 +159,31 @@ pub(crate) fn scan<S: Input, K: Output, E: Sink, R: Threads + Wait + Clock + Syn
     sink: &mut K,
     errors: &mut E,
 ) -> u8
-    ensures status { options.entry.follow ≡ false → (text : List ℕ) → S.left source.old ≡ Some text
-        → IsStatus (lag_by options.entry.alone) text (S.left source.new) (S.before source.new) (K.taken sink.old) (K.taken sink.new)
-        (K.failures sink.new ≡ K.failures sink.old) result }
-    ensures followed { options.entry.follow ≡ true → (text : List ℕ) → S.left source.old ≡ Some text
-        → IsFollowStatus text (S.left source.new) (S.before source.new) (K.taken sink.old) (K.taken sink.new)
-        (K.failures sink.new ≡ K.failures sink.old) result }
+    ensures status { (text : List ℕ) → S.left source.old ≡ Some text
+        → IsScanned (lag_by options.entry.alone) options.entry.follow text (S.left source.new) (S.before source.new)
+        (K.taken sink.old) (K.taken sink.new) (K.failures sink.new ≡ K.failures sink.old) result }
     ensures reported { IsReportStatus false (K.taken sink.old) (K.taken sink.new) result }
     ensures said { result ≡ 2 → SaysFault (lag_by options.entry.alone) (S.left source.old) (S.left source.new) (S.before source.new)
         (E.taken errors.old) (E.taken errors.new) (E.failures errors.new ≡ E.failures errors.old) }
     ensures range { result < 4 }
     ensures asked { S.calls source.new ≤ S.calls source.old + (2 ^ 30 + 1) }
 {
+    let alloc = host.alloc;
     source.show_progress(progress_choice(&options));
     let notes = has_note(&options, source);
-    if options.follow {
-        run_follow(host.alloc, notes, source, sink, errors)
-    } else if is_alone(&options, notes) {
-        run_alone(host.alloc, notes, source, sink, errors)
-    } else {
-        run_with(host, options.workers, source, sink, errors)
+    let mut asked = options;
+    asked.alone = is_alone(&options, notes);
+    let mut uncounted = Uncounted::none();
+    match run_scan(host, asked, source, sink, &mut uncounted) {
+        Ok(summary) => {
+            print_note(alloc, notes, &uncounted, errors);
+            summary_status(&summary)
+        }
+        Err(fault) => refuse_scan(alloc, source, sink, errors, fault),
     }
 }
 
-/// Scans the trace as the options ask, writes its report in the form that they ask, and answers the exit status.
+/// Scans the trace as the options ask, writes its report in the form that they ask, and returns the exit status.
 fn scan_in_form<S: Input, K: Output, E: Sink, R: Threads + Wait + Clock + Sync>(
     host: Host<'_, R>,
     options: Options<'_>,
@@ -246,7 +191,7 @@ fn scan_in_form<S: Input, K: Output, E: Sink, R: Threads + Wait + Clock + Sync>(
     sink: &mut K,
     errors: &mut E,
 ) -> u8
-    ensures told { TellsOf (lag_by options.entry.alone) options.entry.json options.entry.follow (S.left source.old) (S.left source.new) (S.before source.new)
+    ensures shown { IsStatusOfShown (lag_by options.entry.alone) options.entry.json options.entry.follow (S.left source.old) (S.left source.new) (S.before source.new)
         (K.taken sink.old) (K.taken sink.new) (K.failures sink.new ≡ K.failures sink.old) result }
     ensures reported { IsReportStatus options.entry.json (K.taken sink.old) (K.taken sink.new) result }
     ensures said { result ≡ 2 → SaysFault (lag_by options.entry.alone) (S.left source.old) (S.left source.new) (S.before source.new)
@@ -261,7 +206,7 @@ fn scan_in_form<S: Input, K: Output, E: Sink, R: Threads + Wait + Clock + Sync>(
     }
 }
 
-/// Scans standard input, or the trace that is named, as the options ask, and answers the exit status.
+/// Scans standard input, or the trace that is named, as the options ask, and returns the exit status.
 fn scan_trace<S: Input, K: Output, E: Sink, R: Threads + Wait + Clock + Sync>(
     host: Host<'_, R>,
     options: Options<'_>,
@@ -269,14 +214,12 @@ fn scan_trace<S: Input, K: Output, E: Sink, R: Threads + Wait + Clock + Sync>(
     sink: &mut K,
     errors: &mut E,
 ) -> u8
-    ensures told { let name = option_map (λ name. name.now) options.entry.trace in
-        let trace = trace_of name (S.left source.old) (S.named source.old) in
+    ensures shown { let trace = trace_in options.entry (S.left source.old) (S.named source.old) in
         IsUnread source.old source.new sink.old sink.new result
-        ⊎ TellsOf (lag_by options.entry.alone) options.entry.json options.entry.follow trace (S.left source.new) (S.before source.new)
+        ⊎ IsStatusOfShown (lag_by options.entry.alone) options.entry.json options.entry.follow trace (S.left source.new) (S.before source.new)
         (K.taken sink.old) (K.taken sink.new) (K.failures sink.new ≡ K.failures sink.old) result }
     ensures reported { IsReportStatus options.entry.json (K.taken sink.old) (K.taken sink.new) result }
-    ensures said { let name = option_map (λ name. name.now) options.entry.trace in
-        let trace = trace_of name (S.left source.old) (S.named source.old) in
+    ensures said { let trace = trace_in options.entry (S.left source.old) (S.named source.old) in
         result ≡ 2 → SaysFault (lag_by options.entry.alone) trace (S.left source.new) (S.before source.new)
         (E.taken errors.old) (E.taken errors.new) (E.failures errors.new ≡ E.failures errors.old) }
     ensures range { result < 4 }
@@ -303,13 +246,13 @@ fn printing(options: &Options<'_>) -> Option<Printing>
 }
 
 /// The form of the table of calls, where it is asked for.
-fn table_form(options: &Options<'_>) -> Option<Form>
+fn table_form(options: &Options<'_>) -> Option<OutputForm>
     ensures { result ≡ table_of options.now.calls options.now.json }
 {
     match (options.calls, options.json) {
         (false, _) => None,
-        (true, false) => Some(Form::Table),
-        (true, true) => Some(Form::TableObjects),
+        (true, false) => Some(OutputForm::Table),
+        (true, true) => Some(OutputForm::TableObjects),
     }
 }
 
@@ -319,22 +262,22 @@ fn printing_of_rows(options: &Options<'_>) -> Option<Printing>
 {
     match (options.rows, options.annotate) {
         (true, Some(rows)) => Some(Printing {
-            form: Form::Objects,
+            form: OutputForm::Objects,
             rows,
         }),
         (true, None) => Some(Printing {
-            form: Form::Objects,
+            form: OutputForm::Objects,
             rows: Rows::All,
         }),
         (false, Some(rows)) => Some(Printing {
-            form: Form::Comments,
+            form: OutputForm::Comments,
             rows,
         }),
         (false, None) => None,
     }
 }
 
-/// Explains a word, or scans the trace, as the options ask, and answers the exit status.
+/// Explains a word, or scans the trace, as the options ask, and returns the exit status.
 fn run<S: Input, K: Output, E: Sink, R: Threads + Wait + Clock + Sync>(
     host: Host<'_, R>,
     options: Options<'_>,
@@ -342,27 +285,24 @@ fn run<S: Input, K: Output, E: Sink, R: Threads + Wait + Clock + Sync>(
     sink: &mut K,
     errors: &mut E,
 ) -> u8
-    ensures told { let name = option_map (λ name. name.now) options.entry.trace in
-        let trace = trace_of name (S.left source.old) (S.named source.old) in
+    ensures shown { let trace = trace_in options.entry (S.left source.old) (S.named source.old) in
         option_map (λ word. word.now) options.entry.explain ≡ None → options.entry.try_headers ≡ false
         → refused_in options.entry ≡ false
         → printing_of (table_of options.entry.calls options.entry.json) options.entry.rows options.entry.annotate ≡ None
         → IsUnread source.old source.new sink.old sink.new result
-        ⊎ TellsOf (lag_by options.entry.alone) options.entry.json options.entry.follow trace (S.left source.new) (S.before source.new)
+        ⊎ IsStatusOfShown (lag_by options.entry.alone) options.entry.json options.entry.follow trace (S.left source.new) (S.before source.new)
         (K.taken sink.old) (K.taken sink.new) (K.failures sink.new ≡ K.failures sink.old) result }
     ensures reported { option_map (λ word. word.now) options.entry.explain ≡ None
         → options.entry.try_headers ≡ false → refused_in options.entry ≡ false
         → printing_of (table_of options.entry.calls options.entry.json) options.entry.rows options.entry.annotate ≡ None
         → IsReportStatus options.entry.json (K.taken sink.old) (K.taken sink.new) result }
-    ensures said { let name = option_map (λ name. name.now) options.entry.trace in
-        let trace = trace_of name (S.left source.old) (S.named source.old) in
+    ensures said { let trace = trace_in options.entry (S.left source.old) (S.named source.old) in
         option_map (λ word. word.now) options.entry.explain ≡ None → options.entry.try_headers ≡ false
         → refused_in options.entry ≡ false
         → printing_of (table_of options.entry.calls options.entry.json) options.entry.rows options.entry.annotate ≡ None
         → result ≡ 2 → SaysFault (lag_by options.entry.alone) trace (S.left source.new) (S.before source.new)
         (E.taken errors.old) (E.taken errors.new) (E.failures errors.new ≡ E.failures errors.old) }
-    ensures printed { let name = option_map (λ name. name.now) options.entry.trace in
-        let trace = trace_of name (S.left source.old) (S.named source.old) in
+    ensures printed { let trace = trace_in options.entry (S.left source.old) (S.named source.old) in
         option_map (λ word. word.now) options.entry.explain ≡ None → options.entry.try_headers ≡ false
         → refused_in options.entry ≡ false
         → IfSome (printing_of (table_of options.entry.calls options.entry.json) options.entry.rows options.entry.annotate) (λ printing.
@@ -374,8 +314,7 @@ fn run<S: Input, K: Output, E: Sink, R: Threads + Wait + Clock + Sync>(
     ensures refused { option_map (λ word. word.now) options.entry.explain ≡ None
         → refused_in options.entry ≡ true
         → IsRefused source.old source.new sink.old sink.new result }
-    ensures tried { let name = option_map (λ name. name.now) options.entry.trace in
-        let trace = trace_of name (S.left source.old) (S.named source.old) in
+    ensures tried { let trace = trace_in options.entry (S.left source.old) (S.named source.old) in
         option_map (λ word. word.now) options.entry.explain ≡ None → options.entry.try_headers ≡ true
         → refused_in options.entry ≡ false
         → IsTryAnswer (cannot_try options.entry.json options.entry.follow options.entry.rows (is_some options.entry.annotate) options.entry.calls)
@@ -431,8 +370,8 @@ fn refuse_wrong<E: Sink>(alloc: Global, error: &Error, errors: &mut E) -> u8
     }
 }
 
-/// Help and the version go to the sink, and what is wrong with the words to the errors. That the sink does not take the help
-/// is no fault of the words.
+/// Help and the version go to the sink, and what is wrong with the words to the errors. That the sink does not accept
+/// the help is no fault of the words.
 fn refuse_words<K: Output, E: Sink>(alloc: Global, error: Error, sink: &mut K, errors: &mut E) -> u8
     ensures status { result ≡ words_status (kind_of error) }
     ensures printed { IsAskedTextTaken (asked_text (kind_of error)) (K.taken sink.old) (K.taken sink.new)
@@ -448,9 +387,9 @@ fn refuse_words<K: Output, E: Sink>(alloc: Global, error: Error, sink: &mut K, e
     }
 }
 
-/// The program over its words, of which the first is its name. Answers the exit status (profile): 0 without findings, or
-/// where an explanation was printed, or help or the version was asked for, 1 with findings, 2 where the trace was refused,
-/// 3 at another fault, 64 for wrong words and for a word that no explanation has.
+/// Runs the program over its words, of which the first is its name. Returns the exit status (profile): 0 without
+/// findings, or where an explanation was printed, or help or the version was asked for, 1 with findings, 2 where the
+/// trace was refused, 3 at another fault, 64 for wrong words and for a word that no explanation has.
 pub fn program<S: Input, K: Output, E: Sink, R: Threads + Wait + Clock + Sync>(
     rt: &R,
     alloc: Global,
@@ -462,13 +401,13 @@ pub fn program<S: Input, K: Output, E: Sink, R: Threads + Wait + Clock + Sync>(
     // Where the words are right and ask for no explanation, no rows and no table, the status and the bytes are those of a scan of the trace that
     // is named, or of standard input: a scan that follows it where they ask so, and the objects of the report's lines
     // where they ask for JSON. Or it could not be opened, or memory ran out, and nothing was read.
-    ensures told { let asked = map (λ word. word.now) words.now in
+    ensures shown { let asked = map (λ word. word.now) words.now in
         let trace = trace_of (named_trace asked) (S.left source.old) (S.named source.old) in
         words_fault asked ≡ [] → asked_word asked ≡ None → tries_headers asked ≡ false
         → annotates asked ≡ false → prints_rows asked ≡ false
         → lists_calls asked ≡ false → notes_refused asked ≡ false
         → IsUnread source.old source.new sink.old sink.new result
-        ⊎ TellsOf (lag_by (alone asked)) (as_json asked) (follows asked) trace (S.left source.new) (S.before source.new)
+        ⊎ IsStatusOfShown (lag_by (alone asked)) (as_json asked) (follows asked) trace (S.left source.new) (S.before source.new)
         (K.taken sink.old) (K.taken sink.new) (K.failures sink.new ≡ K.failures sink.old) result }
     // Where they ask so, whatever the source shows: status 0 or 1 says that the sink took the report of some text without a
     // fault, or its objects, and is that of its findings. No status is above 3.
@@ -494,9 +433,7 @@ pub fn program<S: Input, K: Output, E: Sink, R: Threads + Wait + Clock + Sync>(
         → lists_calls asked ≡ false → notes_refused asked ≡ false
         → IsUnread source.old source.new sink.old sink.new result
         ⊎ ((rows : AnyRows) × AreAskedRows asked rows
-        × IsAnnotateAnswer (as_json asked) rows source.old source.new sink.old sink.new trace
-        (S.left source.new) (S.before source.new) (K.taken sink.old) (K.taken sink.new)
-        (K.failures sink.new ≡ K.failures sink.old) result) }
+        × IsAnnotateAnswer S.Source K.Sink (as_json asked) rows trace source.old source.new sink.old sink.new result) }
     // Where they ask for the rows as objects, of each row or of exactly those that they choose, the sink took these and
     // those of the report, or the trace was refused. Where they ask for an annotation with it, they are refused.
     ensures rows { let asked = map (λ word. word.now) words.now in
@@ -505,9 +442,7 @@ pub fn program<S: Input, K: Output, E: Sink, R: Threads + Wait + Clock + Sync>(
         → lists_calls asked ≡ false → notes_refused asked ≡ false
         → IsUnread source.old source.new sink.old sink.new result
         ⊎ ((rows : AnyRows) × AreAskedRows asked rows
-        × IsRowsAnswer (has_comments asked) rows source.old source.new sink.old sink.new trace
-        (S.left source.new) (S.before source.new) (K.taken sink.old) (K.taken sink.new)
-        (K.failures sink.new ≡ K.failures sink.old) result) }
+        × IsRowsAnswer S.Source K.Sink (has_comments asked) rows trace source.old source.new sink.old sink.new result) }
     // Where they ask for the table of calls, as CSV or as objects where they ask for JSON, the sink took that of exactly the
     // calls of the report, or the trace was refused. Where they ask for rows, for an annotation or for following with it, they
     // are refused.
@@ -516,10 +451,8 @@ pub fn program<S: Input, K: Output, E: Sink, R: Threads + Wait + Clock + Sync>(
         words_fault asked ≡ [] → asked_word asked ≡ None → tries_headers asked ≡ false → lists_calls asked ≡ true
         → notes_refused asked ≡ false
         → IsUnread source.old source.new sink.old sink.new result
-        ⊎ IsCallsAnswer (cannot_list (follows asked) (prints_rows asked) (annotates asked)) (as_json asked)
-        source.old source.new sink.old sink.new trace
-        (S.left source.new) (S.before source.new) (K.taken sink.old) (K.taken sink.new)
-        (K.failures sink.new ≡ K.failures sink.old) result }
+        ⊎ IsCallsAnswer S.Source K.Sink (cannot_list (follows asked) (prints_rows asked) (annotates asked)) (as_json asked)
+        trace source.old source.new sink.old sink.new result }
     // Where they ask for a note of the data that was not counted with workers and neither `--alone` nor `--follow`, or with
     // something in place of the report, they are refused.
     ensures notes { let asked = map (λ word. word.now) words.now in
@@ -537,7 +470,7 @@ pub fn program<S: Input, K: Output, E: Sink, R: Threads + Wait + Clock + Sync>(
         source.old source.new sink.old sink.new trace
         (S.left source.new) (S.before source.new) (K.taken sink.old) (K.taken sink.new)
         (K.failures sink.new ≡ K.failures sink.old) result }
-    // Where they ask for the explanation of a word or a line the source is not asked, and the table answers.
+    // Where they ask for the explanation of a word or a line the source is not asked, and the table decides.
     ensures explained { let asked = map (λ word. word.now) words.now in
         (word : List ℕ) → words_fault asked ≡ [] → asked_word asked ≡ Some word
         → IsUnread source.old source.new sink.old sink.new result

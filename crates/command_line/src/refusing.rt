@@ -1,13 +1,13 @@
 //! The messages of faults, and their exit statuses. The first line of a message is the fault. A second line says what is
 //! wrong with a faulty line of the trace, or what the system says of a read or a write that failed. A message that standard
-//! error does not take is lost.
+//! error does not accept is lost.
 
 ghost use Rattle.std.specs.Prelude.{◌≡◌, ◌≢◌, ◌≤◌};
 ghost use Rattle.command_line.specs.Faults.{Grows, IsSaid, fault_line};
 ghost use Rattle.command_line.specs.Program.{fault_status};
 
 use crate::faults::print_fault;
-use crate::program::{OTHER_FAULT, fault_status};
+use crate::program::{OTHER_FAULT, USAGE, fault_status};
 use explanations::advice::advice;
 use line_model::device::Sink;
 use line_model::fault::{Fault, Kind};
@@ -18,7 +18,7 @@ use std::io::ErrorKind;
 use streams::input::{Input, OpenRefusal};
 use streams::output::Output;
 
-/// Prints a text. What standard error does not take of it is lost.
+/// Prints a text. What standard error does not accept of it is lost.
 fn print_text<E: Sink>(errors: &mut E, text: &[u8])
     ensures more { Grows (E.taken errors.old) (E.taken errors.new) }
     ensures rising { E.failures errors.old ≤ E.failures errors.new }
@@ -92,8 +92,7 @@ fn lost_its_reader<K: Output>(sink: &K) -> bool {
     }
 }
 
-/// Prints that the sink failed, and what the system says of it. Prints nothing where its reader went away, since that one
-/// needs no more.
+/// Prints that the sink failed, and what the system says of it. Prints nothing where its reader went away.
 fn print_write<K: Output, E: Sink>(alloc: Global, sink: &K, errors: &mut E) {
     if lost_its_reader(sink) {
         return;
@@ -167,4 +166,12 @@ pub fn refuse_trace<E: Sink>(alloc: Global, errors: &mut E, name: &str, refusal:
     }
     print_reason(alloc, errors, None, Some(refusal.reason));
     OTHER_FAULT
+}
+
+/// Prints what can't be asked for together, and returns the exit status.
+pub fn refuse_usage<E: Sink>(errors: &mut E, text: &[u8]) -> u8
+    ensures { result ≡ 64 }
+{
+    print_text(errors, text);
+    USAGE
 }

@@ -1,19 +1,18 @@
 //! The headers that explain a trace best, in place of its report.
 
-ghost use Rattle.std.specs.Prelude.{◌≡◌, ◌<◌, ◌≤◌, ◌+◌, ◌^◌, ◌⊎◌, is_some, option_map, ◌==◌, if◌then◌else◌};
-ghost use Rattle.command_line.specs.Program.{IsUnread, trace_of};
+ghost use Rattle.std.specs.Prelude.{◌≡◌, ◌<◌, ◌≤◌, ◌+◌, ◌^◌, ◌⊎◌, is_some, ◌==◌, if◌then◌else◌};
+ghost use Rattle.command_line.specs.Program.{IsUnread, trace_in};
 ghost use Rattle.command_line.specs.Trying.{IsTryAnswer, TriesOf, cannot_try};
 
 use crate::opening::open_trace;
 use crate::options::Options;
-use crate::program::{USAGE, progress_choice};
-use crate::refusing::refuse_scan;
+use crate::program::progress_choice;
+use crate::refusing::{refuse_scan, refuse_usage};
+use header_trials::trying::try_headers;
 use line_model::device::Sink;
-use line_model::write_buffer::write_all;
 use std::alloc::Global;
 use streams::input::Input;
 use streams::output::Output;
-use trace_scan::trying::try_headers;
 
 /// What is printed where headers can't be tried with what else is asked for.
 const REFUSAL: &[u8] =
@@ -26,7 +25,7 @@ fn tried_status(findings: u32) -> u8
     if findings == 0 { 0 } else { 1 }
 }
 
-/// Tries the headers on the trace, and answers the exit status.
+/// Tries the headers on the trace, and returns the exit status.
 fn run_try<S: Input, K: Output, E: Sink>(
     alloc: Global,
     options: Options<'_>,
@@ -46,7 +45,7 @@ fn run_try<S: Input, K: Output, E: Sink>(
     }
 }
 
-/// Tries the headers on standard input, or on the trace that is named, and answers the exit status.
+/// Tries the headers on standard input, or on the trace that is named, and returns the exit status.
 fn try_input<S: Input, K: Output, E: Sink>(
     alloc: Global,
     options: Options<'_>,
@@ -54,8 +53,7 @@ fn try_input<S: Input, K: Output, E: Sink>(
     sink: &mut K,
     errors: &mut E,
 ) -> u8
-    ensures status { let name = option_map (λ name. name.now) options.entry.trace in
-        let trace = trace_of name (S.left source.old) (S.named source.old) in
+    ensures status { let trace = trace_in options.entry (S.left source.old) (S.named source.old) in
         IsUnread source.old source.new sink.old sink.new result
         ⊎ TriesOf trace (S.left source.new) (S.before source.new)
         (K.taken sink.old) (K.taken sink.new) (K.failures sink.new ≡ K.failures sink.old) result }
@@ -76,16 +74,8 @@ fn cannot_try(options: &Options<'_>) -> bool
     options.json || options.follow || options.rows || options.annotate.is_some() || options.calls
 }
 
-/// Prints with what headers can't be tried.
-fn refuse_try<E: Sink>(errors: &mut E) -> u8
-    ensures { result ≡ 64 }
-{
-    let _ = write_all(errors, REFUSAL);
-    USAGE
-}
-
-/// Tries the headers on standard input, or on the trace that is named, and answers the exit status; refuses where it can't
-/// be done with what else is asked for.
+/// Tries the headers on standard input, or on the trace that is named, and returns the exit status; refuses where it
+/// can't be done with what else is asked for.
 pub(crate) fn try_trace<S: Input, K: Output, E: Sink>(
     alloc: Global,
     options: Options<'_>,
@@ -93,8 +83,7 @@ pub(crate) fn try_trace<S: Input, K: Output, E: Sink>(
     sink: &mut K,
     errors: &mut E,
 ) -> u8
-    ensures answer { let name = option_map (λ name. name.now) options.entry.trace in
-        let trace = trace_of name (S.left source.old) (S.named source.old) in
+    ensures answer { let trace = trace_in options.entry (S.left source.old) (S.named source.old) in
         IsTryAnswer (cannot_try options.entry.json options.entry.follow options.entry.rows (is_some options.entry.annotate) options.entry.calls)
         source.old source.new sink.old sink.new
         trace (S.left source.new) (S.before source.new) (K.taken sink.old) (K.taken sink.new)
@@ -103,7 +92,7 @@ pub(crate) fn try_trace<S: Input, K: Output, E: Sink>(
     ensures asked { S.calls source.new ≤ S.calls source.old + (2 ^ 30 + 1) }
 {
     if cannot_try(&options) {
-        refuse_try(errors)
+        refuse_usage(errors, REFUSAL)
     } else {
         try_input(alloc, options, source, sink, errors)
     }

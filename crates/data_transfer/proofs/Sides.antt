@@ -9,7 +9,7 @@ use Rattle.data_transfer.proofs.Packets.{alike_is, holds_more, octets_more, unqu
 use Rattle.data_transfer.proofs.SequenceLemmas.{begun-other, begun-more, begun-done}
 use Rattle.data_transfer.specs.Sequences.{SequenceView, Assembly}
 use Rattle.data_transfer.specs.Assembly.{Holds, IsPutOn, IsUnqualifiedOn, is_like, unqualified}
-use Rattle.data_transfer.specs.Assembler.{StandsFor, IsPut, IsPutUnqualified}
+use Rattle.data_transfer.specs.Assembler.{Represents, IsPut, IsPutUnqualified}
 use Rattle.data_transfer.specs.declared.sequence.Put.{Put}
 use Rattle.data_transfer.specs.declared.sequence.Put.TheVariants.{Going, Complete, Mixed}
 
@@ -28,14 +28,14 @@ apart : (H : SequenceView → List AcceptedData → Type 0) (b : SequenceView) (
 apart H b x hs h not_own holds = subst (H b) (sym (begun-other b.size x hs h not_own)) holds
 
 stands_t : (old : Assembly) (new : SequenceView) (hs : List AcceptedData) (h : AcceptedData) → h.side ≡ T → new.size ≡ old.of_t.size →
-    StandsFor old hs → Holds new (begun old.of_t.size T (hs ++ h ∷ [])) → StandsFor (record old { of_t = new }) (hs ++ h ∷ [])
+    Represents old hs → Holds new (begun old.of_t.size T (hs ++ h ∷ [])) → Represents (record old { of_t = new }) (hs ++ h ∷ [])
 stands_t old new hs h x_is size_is stands holds = record {
   of_t = subst (λ n. Holds new (begun n T (hs ++ h ∷ []))) (sym size_is) holds;
   of_n = apart Holds old.of_n N hs h (ap (λ x. is_side N x) x_is) stands.of_n;
 }
 
 pub put_t : {A : Type 0} (p : Put A) (old : Assembly) (new : SequenceView) (hs : List AcceptedData) (h : AcceptedData) → h.side ≡ T → new.size ≡ old.of_t.size →
-    StandsFor old hs → IsPutOn p old.of_t new T h → IsPut p old (record old { of_t = new }) T h hs
+    Represents old hs → IsPutOn p old.of_t new T h → IsPut p old (record old { of_t = new }) T h hs
 put_t Going old new hs h x_is size_is stands put =
     let gs = begun old.of_t.size T hs in (
       alike_is old.of_t.qualified gs h stands.of_t.qualified ∙ put.0,
@@ -56,7 +56,7 @@ put_t Mixed old new hs h x_is size_is stands put =
     (alike_is old.of_t.qualified (begun old.of_t.size T hs) h stands.of_t.qualified ∙ put.0, ap (λ b. record old { of_t = b }) put.1)
 
 pub unqualified_t : (b : Bool) (old : Assembly) (new : SequenceView) (hs : List AcceptedData) (m d : Bool) (n : ℕ) → new.size ≡ old.of_t.size →
-    is_like old.of_t.qualified false ≡ true → StandsFor old hs → IsUnqualifiedOn b old.of_t new (unqualified T m d n) →
+    is_like old.of_t.qualified false ≡ true → Represents old hs → IsUnqualifiedOn b old.of_t new (unqualified T m d n) →
     IsPutUnqualified old (record old { of_t = new }) T (unqualified T m d n) hs
 unqualified_t true old new hs m d n size_is like stands put =
     let gs = begun old.of_t.size T hs in
@@ -73,14 +73,14 @@ unqualified_t false old new hs m d n size_is like stands put =
     )
 
 stands_n : (old : Assembly) (new : SequenceView) (hs : List AcceptedData) (h : AcceptedData) → h.side ≡ N → new.size ≡ old.of_n.size →
-    StandsFor old hs → Holds new (begun old.of_n.size N (hs ++ h ∷ [])) → StandsFor (record old { of_n = new }) (hs ++ h ∷ [])
+    Represents old hs → Holds new (begun old.of_n.size N (hs ++ h ∷ [])) → Represents (record old { of_n = new }) (hs ++ h ∷ [])
 stands_n old new hs h x_is size_is stands holds = record {
   of_t = apart Holds old.of_t T hs h (ap (λ x. is_side T x) x_is) stands.of_t;
   of_n = subst (λ n. Holds new (begun n N (hs ++ h ∷ []))) (sym size_is) holds;
 }
 
 pub put_n : {A : Type 0} (p : Put A) (old : Assembly) (new : SequenceView) (hs : List AcceptedData) (h : AcceptedData) → h.side ≡ N → new.size ≡ old.of_n.size →
-    StandsFor old hs → IsPutOn p old.of_n new N h → IsPut p old (record old { of_n = new }) N h hs
+    Represents old hs → IsPutOn p old.of_n new N h → IsPut p old (record old { of_n = new }) N h hs
 put_n Going old new hs h x_is size_is stands put =
     let gs = begun old.of_n.size N hs in (
       alike_is old.of_n.qualified gs h stands.of_n.qualified ∙ put.0,
@@ -101,7 +101,7 @@ put_n Mixed old new hs h x_is size_is stands put =
     (alike_is old.of_n.qualified (begun old.of_n.size N hs) h stands.of_n.qualified ∙ put.0, ap (λ b. record old { of_n = b }) put.1)
 
 pub unqualified_n : (b : Bool) (old : Assembly) (new : SequenceView) (hs : List AcceptedData) (m d : Bool) (n : ℕ) → new.size ≡ old.of_n.size →
-    is_like old.of_n.qualified false ≡ true → StandsFor old hs → IsUnqualifiedOn b old.of_n new (unqualified N m d n) →
+    is_like old.of_n.qualified false ≡ true → Represents old hs → IsUnqualifiedOn b old.of_n new (unqualified N m d n) →
     IsPutUnqualified old (record old { of_n = new }) N (unqualified N m d n) hs
 unqualified_n true old new hs m d n size_is like stands put =
     let gs = begun old.of_n.size N hs in

@@ -299,7 +299,7 @@ cleared w u t old is h e f =
     } in
     subst (λ p. Keeps t (record p { flow = nothing_sent p.flow })) is (keeps t _ in_range (nothing_sent_word w u t e f))
 
--- it stands for no counts
+-- it represents no counts
 none_stand : (m w : ℕ) → DirectionStands m w 0 0 0 0
 none_stand m w = record { sent_is = omega arith; acknowledged_is = omega arith; ordered = omega arith; within = omega arith }
 

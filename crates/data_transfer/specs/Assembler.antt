@@ -1,4 +1,4 @@
--- An assembler, and the data packets that it stands for.
+-- An assembler, and the data packets that it represents.
 use Rattle.std.specs.Prelude.{ℕ, true, false, ◌≡◌, List, [], ◌∷◌, ◌++◌}
 use Rattle.line_model.specs.declared.state.Side.{Side}
 use Rattle.line_model.specs.declared.state.Side.TheVariants.{T, N}
@@ -15,7 +15,7 @@ abbrev pub sizes : Assembly → Sides ℕ
 sizes a = record { of_t = a.of_t.size; of_n = a.of_n.size }
 
 -- each side holds what it has begun
-pub record StandsFor (a : Assembly) (hs : List AcceptedData) : Type 0 where
+pub record Represents (a : Assembly) (hs : List AcceptedData) : Type 0 where
   pub of_t : Holds a.of_t (begun a.of_t.size T hs)
   pub of_n : Holds a.of_n (begun a.of_n.size N hs)
 
@@ -31,12 +31,12 @@ begun_on a N = a.of_n
 -- what a packet does to an assembler
 abbrev pub IsPut : {A : Type 0} → Put A → (old new : Assembly) → Side → AcceptedData → List AcceptedData → Type 0
 IsPut Going old new x h hs =
-    (is_alike h (begun_by old x hs) ≡ true) × (is_category_a (of_side x (sizes old)) h ≡ true) × StandsFor new (hs ++ h ∷ [])
+    (is_alike h (begun_by old x hs) ≡ true) × (is_category_a (of_side x (sizes old)) h ≡ true) × Represents new (hs ++ h ∷ [])
 IsPut (Complete s) old new x h hs =
-    (is_alike h (begun_by old x hs) ≡ true) × (is_category_a (of_side x (sizes old)) h ≡ false) × StandsFor new (hs ++ h ∷ [])
+    (is_alike h (begun_by old x hs) ≡ true) × (is_category_a (of_side x (sizes old)) h ≡ false) × Represents new (hs ++ h ∷ [])
     × (s.side ≡ x) × (s.qualified ≡ h.qualified) × (octets_in s.octets ≡ kept_octets (begun_by old x hs ++ h ∷ []))
 IsPut Mixed old new x h hs = (is_alike h (begun_by old x hs) ≡ false) × (new ≡ old)
 
 -- what a packet with Q 0 does to an assembler, where its side has begun no sequence with Q 1
 abbrev pub IsPutUnqualified : (old new : Assembly) → Side → AcceptedData → List AcceptedData → Type 0
-IsPutUnqualified old new x h hs = (is_alike h (begun_by old x hs) ≡ true) × StandsFor new (hs ++ h ∷ [])
+IsPutUnqualified old new x h hs = (is_alike h (begun_by old x hs) ≡ true) × Represents new (hs ++ h ∷ [])

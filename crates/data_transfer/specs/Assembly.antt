@@ -11,8 +11,8 @@ use Rattle.data_transfer.specs.declared.sequence.Put.{Put}
 use Rattle.data_transfer.specs.declared.sequence.Put.TheVariants.{Going, Complete, Mixed}
 
 -- the data packet of a side
-abbrev pub heard : Side → DataField → AcceptedData
-heard x f = record {
+abbrev pub accepted : Side → DataField → AcceptedData
+accepted x f = record {
   side = x;
   qualified = f.qualified;
   more = f.more;

@@ -1,4 +1,4 @@
--- The numbers of one direction within what is kept of both.
+-- The numbers of one direction, in what is kept of both.
 use Rattle.line_model.specs.declared.state.Side.{Side}
 use Rattle.line_model.specs.channels.Channels.{of_side, with_side}
 use Rattle.data_transfer.specs.declared.direction.Direction.{Direction}

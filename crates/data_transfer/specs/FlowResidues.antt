@@ -1,4 +1,4 @@
--- What is kept of the counts of a channel: residues, and the counts that they stand for.
+-- What is kept of the counts of a channel: residues, and the counts that they represent.
 use Rattle.std.specs.Prelude.{ℕ, Bool, true, false, ◌%◌, ◌+◌, ◌-◌, ◌*◌, ◌^◌, Some, None, Result, Ok, Err, ◌≡◌, ◌≤◌, ◌<◌, ◌⊎◌, ◌==◌}
 use Rattle.line_model.specs.channels.Channels.{Sides}
 use Rattle.line_model.specs.channels.FlowControl.{Counts, count_acknowledged}
@@ -48,13 +48,13 @@ pub record DirectionStands (m w s a sent acknowledged : ℕ) : Type 0 where
   pub ordered : a ≤ s
   pub within : s ≤ a + w
 
--- what is kept stands for some counts
+-- what is kept represents some counts
 pub record Stands (f : FlowResidues) (c : Counts) : Type 0 where
   pub of_t : DirectionStands f.modulus f.windows.of_t c.sent.of_t c.acknowledged.of_t f.sent.of_t f.acknowledged.of_t
   pub of_n : DirectionStands f.modulus f.windows.of_n c.sent.of_n c.acknowledged.of_n f.sent.of_n f.acknowledged.of_n
   pub unconfirmed : f.unconfirmed ≡ c.unconfirmed
 
--- an answer is that of the counts; a refusal leaves what is kept
+-- a result is that of the counts; a refusal leaves what is kept
 abbrev pub Answers : {A : Type 0} → Result A ℕ → (old new : FlowResidues) → Result Counts ℕ → Type 0
 Answers (Ok u) old new (Ok c) = Stands new c
 Answers (Err e) old new (Err n) = (e ≡ n) × (new ≡ old)

@@ -13,7 +13,7 @@ cut w k n = sym (ap (λ q. q * 2 ^ n + w / 2 ^ k % 2 ^ n) (sym (shr-shr w k n)) 
 pub bit_read : (n : ℕ) → n < 2 → bit (n == 1) ≡ n
 bit_read n l = grind (arith, l)
 
--- the bit that tells the modulus
+-- the bit that shows the modulus
 modulus_bit : (b : Bool) → bit (cond b 128 8 == 128) ≡ bit b
 modulus_bit true = refl
 modulus_bit false = refl

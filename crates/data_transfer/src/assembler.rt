@@ -3,9 +3,9 @@
 ghost use Rattle.std.specs.Prelude.{◌≡◌, true, false, List, [], Some, IfOk, IfErr, OnOk, OnErr};
 ghost use Rattle.line_model.specs.channels.Channels.{AcceptedData, other};
 ghost use Rattle.line_model.specs.declared.fault.Fault.TheVariants.{Memory};
-ghost use Rattle.data_transfer.specs.Assembly.{Holds, heard, unqualified, is_like, with_more, OnMixed};
+ghost use Rattle.data_transfer.specs.Assembly.{Holds, accepted, unqualified, is_like, with_more, OnMixed};
 ghost use Rattle.data_transfer.specs.UserOctets.{octets_in};
-ghost use Rattle.data_transfer.specs.Assembler.{StandsFor, IsPut, IsPutUnqualified, begun_on, sizes};
+ghost use Rattle.data_transfer.specs.Assembler.{Represents, IsPut, IsPutUnqualified, begun_on, sizes};
 
 use crate::begun::Begun;
 use crate::sequence::{DataField, Put, UserData};
@@ -32,10 +32,10 @@ impl<A: Allocator> Model for Assembler<A> {
 }
 
 impl<A: Allocator + Clone> Assembler<A> {
-    /// Nothing is begun; the packet sizes in force, in octets, for data from T and from N. It takes no memory.
+    /// Returns an assembler with nothing begun, with the packet sizes of T and N in octets. It needs no memory.
     pub fn new(alloc: A, size_t: u16, size_n: u16) -> Self
         ensures sizes { sizes result ≡ record { of_t = size_t; of_n = size_n } }
-        ensures stands { StandsFor result [] }
+        ensures stands { Represents result [] }
     {
         Assembler {
             of_t: Begun::new(size_t),
@@ -44,13 +44,13 @@ impl<A: Allocator + Clone> Assembler<A> {
         }
     }
 
-    /// Takes a data packet of a side, whose numbers are valid. A packet with another Q bit than those begun, and a
+    /// Adds a data packet of a side, whose numbers are valid. A packet with another Q bit than those begun, and a
     /// refusal for memory, change nothing. A complete sequence has the octets of the packets that came by this call,
     /// the first 1,025.
     #[tactic(auto, using(crate::proofs::Sides::put_t, crate::proofs::Sides::put_n))]
     pub fn put<'a>(&mut self, side: Side, field: &DataField<'a>) -> Result<Put<'a, A>, Fault>
-        ensures put { (hs : List AcceptedData) → StandsFor self.old hs
-            → IfOk result (λ p. IsPut p self.old self.new side (heard side field.now) hs) }
+        ensures put { (hs : List AcceptedData) → Represents self.old hs
+            → IfOk result (λ p. IsPut p self.old self.new side (accepted side field.now) hs) }
         ensures sizes { sizes self.new ≡ sizes self.old }
         ensures mixed { IfOk result (λ p. OnMixed p (self.new ≡ self.old)) }
         ensures unchanged { OnErr result (self.new ≡ self.old) }
@@ -62,7 +62,7 @@ impl<A: Allocator + Clone> Assembler<A> {
         }
     }
 
-    /// Whether a packet with a Q bit may follow what a side has begun: nothing, or packets with this Q bit.
+    /// Returns whether a packet with a Q bit may follow what a side has begun: nothing, or packets with this Q bit.
     #[inline(always)]
     pub fn is_alike(&self, side: Side, qualified: bool) -> bool
         ensures { result ≡ is_like (begun_on self.now side).qualified qualified }
@@ -74,12 +74,12 @@ impl<A: Allocator + Clone> Assembler<A> {
     }
 
     /// Accepts a data packet of a side with Q 0 by its M bit, its D bit and how many octets of user data it has, where
-    /// its numbers are valid and the side has begun no sequence with Q 1. It takes no memory.
+    /// its numbers are valid and the side has begun no sequence with Q 1. It needs no memory.
     #[tactic(auto, using(crate::proofs::Sides::unqualified_t, crate::proofs::Sides::unqualified_n))]
     #[inline(always)]
     pub fn put_unqualified(&mut self, side: Side, more: bool, delivery: bool, length: usize)
         requires { is_like (begun_on self.old side).qualified false ≡ true }
-        ensures put { (hs : List AcceptedData) → StandsFor self.old hs
+        ensures put { (hs : List AcceptedData) → Represents self.old hs
             → IsPutUnqualified self.old self.new side (unqualified side more delivery length) hs }
         ensures sizes { sizes self.new ≡ sizes self.old }
     {
@@ -89,7 +89,8 @@ impl<A: Allocator + Clone> Assembler<A> {
         };
     }
 
-    /// Adds a data packet to the sequence of a side, where the caller knows that more of the sequence follows.
+    /// Adds a data packet to the sequence of a side, where the caller knows that more of the sequence follows. Fails
+    /// only when memory is refused, and nothing has changed then.
     pub fn join(&mut self, side: Side, field: &DataField<'_>) -> Result<(), Fault>
         requires { is_like (begun_on self.old side).qualified field.now.qualified ≡ true }
         ensures joined { OnOk result (begun_on self.new side ≡ record (begun_on self.old side) {
@@ -106,7 +107,8 @@ impl<A: Allocator + Clone> Assembler<A> {
         }
     }
 
-    /// Moves out what a side has begun, with the octets of the packet that completes it, as the caller knows.
+    /// Moves out what a side has begun, with the octets of the packet by which the caller knows that the sequence is
+    /// complete. Fails only when memory is refused, and nothing has changed then.
     pub fn complete<'a>(&mut self, side: Side, octets: &'a [u8]) -> Result<UserData<'a, A>, Fault>
         ensures octets { IfOk result (λ u. octets_in u
             ≡ with_more (begun_on self.old side).octets octets.now) }
@@ -135,7 +137,7 @@ impl<A: Allocator + Clone> Assembler<A> {
     /// Forgets what was begun, as leaving d1 does; the sizes stay.
     pub fn reset(&mut self)
         ensures sizes { sizes self.new ≡ sizes self.old }
-        ensures stands { StandsFor self.new [] }
+        ensures stands { Represents self.new [] }
     {
         self.of_t.reset();
         self.of_n.reset();
@@ -144,7 +146,7 @@ impl<A: Allocator + Clone> Assembler<A> {
     /// Forgets what was begun, under other packet sizes, as a call that comes up or ends does.
     pub fn renew(&mut self, size_t: u16, size_n: u16)
         ensures sizes { sizes self.new ≡ record { of_t = size_t; of_n = size_n } }
-        ensures stands { StandsFor self.new [] }
+        ensures stands { Represents self.new [] }
     {
         self.of_t = Begun::new(size_t);
         self.of_n = Begun::new(size_n);

@@ -15,7 +15,7 @@ use std::marker::Model;
 struct Joined<A: Allocator> {
     /// The Q bit of all of them.
     qualified: bool,
-    /// The octets of those that were put with their octets, none where there are no such packets.
+    /// The octets of the packets that came with octets; none where there are no such packets.
     kept: Option<KeptOctets<A>>,
 }
 
@@ -59,10 +59,10 @@ impl<A: Allocator> KeptOctets<A> {
 }
 
 impl<A: Allocator + Clone> Begun<A> {
-    ghost use Rattle.data_transfer.specs.Assembly.{Holds, IsPutOn, IsUnqualifiedOn, OnMixed, heard, is_like, unqualified, with_more};
+    ghost use Rattle.data_transfer.specs.Assembly.{Holds, IsPutOn, IsUnqualifiedOn, OnMixed, accepted, is_like, unqualified, with_more};
     ghost use Rattle.data_transfer.specs.UserOctets.{octets_in};
 
-    /// Nothing is begun.
+    /// Returns a side that has begun nothing.
     pub(crate) fn new(size: u16) -> Self
         ensures size { result.size ≡ size }
         ensures holds { Holds result [] }
@@ -81,7 +81,7 @@ impl<A: Allocator + Clone> Begun<A> {
         }
     }
 
-    /// Takes the next packet of the side.
+    /// Adds the next packet of the side.
     pub(crate) fn put<'a>(
         &mut self,
         alloc: &A,
@@ -89,7 +89,7 @@ impl<A: Allocator + Clone> Begun<A> {
         field: &DataField<'a>,
     ) -> Result<Put<'a, A>, Fault>
         ensures put { IfOk result
-            (λ p. IsPutOn p self.old self.new side (heard side field.now)) }
+            (λ p. IsPutOn p self.old self.new side (accepted side field.now)) }
         ensures size { self.new.size ≡ self.old.size }
         ensures mixed { IfOk result (λ p. OnMixed p (self.new ≡ self.old)) }
         ensures unchanged { OnErr result (self.new ≡ self.old) }
@@ -126,7 +126,7 @@ impl<A: Allocator + Clone> Begun<A> {
         false
     }
 
-    /// Whether a Q bit is that of the packets begun.
+    /// Returns whether a Q bit is that of the packets begun.
     #[inline(always)]
     pub(crate) fn is_alike(&self, qualified: bool) -> bool
         ensures { result ≡ is_like self.now.qualified qualified }

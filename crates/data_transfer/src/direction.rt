@@ -14,8 +14,8 @@ pub(crate) struct Direction {
     pub(crate) unconfirmed: bool,
 }
 
-/// What is left of a number: the modulus is a power of two, so a mask takes the place of a division, which would cost
-/// more than all else that a data packet asks.
+/// Returns the residue of a number. The modulus is a power of two: a mask replaces a division, which would cost more
+/// than the rest of a data packet's judgement.
 pub(crate) fn residue(number: u8, modulus: u8) -> u8
     requires eight { (modulus ≡ 8) ⊎ (modulus ≡ 128) }
     ensures { result ≡ number % modulus }
@@ -24,7 +24,7 @@ pub(crate) fn residue(number: u8, modulus: u8) -> u8
 }
 
 impl Direction {
-    /// A direction in which nothing was sent.
+    /// Returns a direction in which nothing was sent.
     pub(crate) fn fresh(window: u8) -> Direction
         ensures { result ≡ record {
           window = window;
@@ -41,7 +41,7 @@ impl Direction {
         }
     }
 
-    /// How many packets are sent and not acknowledged.
+    /// Returns how many packets are sent and not acknowledged.
     pub(crate) fn outstanding(self, modulus: u8) -> u8
         requires eight { (modulus ≡ 8) ⊎ (modulus ≡ 128) }
         requires sent_below { self.sent < modulus }
@@ -51,7 +51,7 @@ impl Direction {
         residue(self.sent + (modulus - self.acknowledged), modulus)
     }
 
-    /// Whether a P(R) acknowledges packets that were sent.
+    /// Returns whether a P(R) acknowledges packets that were sent.
     pub(crate) fn acknowledges(self, modulus: u8, number: u8) -> bool
         requires eight { (modulus ≡ 8) ⊎ (modulus ≡ 128) }
         requires sent_below { self.sent < modulus }
@@ -66,7 +66,7 @@ impl Direction {
             && residue(number + (modulus - self.acknowledged), modulus) <= self.outstanding(modulus)
     }
 
-    /// Whether a P(S) is the next number and lies in the window.
+    /// Returns whether a P(S) is the next number and lies in the window.
     pub(crate) fn is_next(self, modulus: u8, number: u8) -> bool
         requires eight { (modulus ≡ 8) ⊎ (modulus ≡ 128) }
         requires sent_below { self.sent < modulus }
@@ -79,7 +79,7 @@ impl Direction {
         number == self.sent && self.outstanding(modulus) < self.window
     }
 
-    /// Whether these are a window and two residues, with no more packets unacknowledged than the window.
+    /// Returns whether these are a window and two residues, with no more packets unacknowledged than the window.
     pub(crate) fn is_in_range(self, modulus: u8) -> bool
         requires { (modulus ≡ 8) ⊎ (modulus ≡ 128) }
         ensures yes { IsTrue result → IsDirection modulus self.window self.sent self.acknowledged }

@@ -52,7 +52,7 @@ pub struct SendWindow {
 }
 
 impl Flow {
-    /// Nothing was sent yet. `window_t` bounds the packets of T that are unacknowledged, `window_n` those of N.
+    /// Returns a flow with nothing sent. `window_t` bounds the unacknowledged packets of T, `window_n` those of N.
     pub fn new(modulus: u8, window_t: u8, window_n: u8) -> Flow
         requires eight { (modulus ≡ 8) ⊎ (modulus ≡ 128) }
         requires window_t { (1 ≤ window_t) × (window_t < modulus) }
@@ -157,7 +157,7 @@ impl Flow {
         Ok(())
     }
 
-    /// What a side may send next.
+    /// Returns what a side may send next.
     pub fn send_window(&self, side: Side) -> SendWindow
         ensures next { result.next ≡ of_side side self.now.sent }
         ensures lowest { result.lowest ≡ of_side side self.now.acknowledged }
@@ -180,7 +180,7 @@ impl Flow {
         }
     }
 
-    /// The modulus of the numbers, 8 or 128.
+    /// Returns the modulus of the numbers, 8 or 128.
     pub fn modulus(&self) -> u8
         ensures { result ≡ self.now.modulus }
     {
@@ -197,7 +197,7 @@ impl Flow {
         self.of_n = Direction::fresh(self.of_n.window);
     }
 
-    /// Other numbers for a side some of whose packets were not seen: its next P(S), and its lower window edge.
+    /// Sets the numbers of a side some of whose packets were not seen: its next P(S), and its lower window edge.
     pub fn set_numbers(&mut self, side: Side, next: u8, lowest: u8)
         requires widest { of_side side self.old.windows + 1 ≡ self.old.modulus }
         requires next { next < self.old.modulus }
@@ -218,7 +218,7 @@ impl Flow {
         );
     }
 
-    /// Whether an interrupt of a side is unconfirmed from now on.
+    /// Sets whether an interrupt of a side is unconfirmed.
     pub fn set_interrupted(&mut self, side: Side, unconfirmed: bool)
         ensures { self.new ≡ record self.old {
           unconfirmed = with_side side unconfirmed self.old.unconfirmed;
@@ -234,7 +234,7 @@ impl Flow {
         );
     }
 
-    /// The numbers of the packets of a side.
+    /// Returns the numbers of the packets of a side.
     fn direction(&self, side: Side) -> Direction
         ensures value { result ≡ direction_of side self.now }
         ensures in_range { IsDirection self.now.modulus result.window result.sent
@@ -246,7 +246,7 @@ impl Flow {
         }
     }
 
-    /// Other numbers for the packets of a side.
+    /// Sets the numbers of the packets of a side.
     fn set(&mut self, side: Side, direction: Direction)
         requires { IsDirection self.old.modulus direction.window direction.sent
             direction.acknowledged }

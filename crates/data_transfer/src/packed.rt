@@ -15,8 +15,8 @@ use line_model::diagnostic::{
 use line_model::state::Side;
 use std::marker::Model;
 
-/// The windows and interrupts of a channel in data transfer, as the word that `Flow::pack` makes of them, which judges
-/// with no `Flow` in between. The bits from 45 up are its owner's: they stay as they are (profile).
+/// The windows and interrupts of a channel in data transfer, as the word that `Flow::pack` makes of them. It judges on
+/// the word, without a `Flow`. The bits from 45 up are its owner's: they stay as they are (profile).
 #[derive(Clone, Copy)]
 pub struct FlowWord {
     word: u64,
@@ -41,7 +41,7 @@ impl Model for FlowWord {
 }
 
 impl FlowWord {
-    /// What a channel keeps, and a number of the owner of at most 19 bits.
+    /// Returns the word of what a channel keeps and of a number of the owner, of at most 19 bits.
     pub fn new(flow: &Flow, owner_bits: u32) -> FlowWord
         requires { owner_bits < 2 ^ 19 }
         ensures flow { result.flow ≡ flow.now }
@@ -52,14 +52,14 @@ impl FlowWord {
         }
     }
 
-    /// The word: what `Flow::pack` makes of the channel's part, and the owner's number from bit 45 up.
+    /// Returns the word: what `Flow::pack` makes of the channel's part, and the owner's number from bit 45 up.
     pub fn word(&self) -> u64
         ensures { result ≡ word_of self.now.flow + self.now.owner_bits * 2 ^ 45 }
     {
         self.word
     }
 
-    /// The owner's number.
+    /// Returns the owner's number.
     pub fn owner_bits(&self) -> u32
         ensures owner_bits { result ≡ self.now.owner_bits }
         ensures fits { result < 2 ^ 19 }
@@ -67,7 +67,7 @@ impl FlowWord {
         (self.word >> 45) as u32
     }
 
-    /// Another number of the owner, of at most 19 bits.
+    /// Sets the number of the owner, of at most 19 bits.
     pub fn set_owner_bits(&mut self, owner_bits: u32)
         requires { owner_bits < 2 ^ 19 }
         ensures flow { self.new.flow ≡ self.old.flow }
@@ -76,7 +76,7 @@ impl FlowWord {
         self.word = with_field(self.word, 45, 19, u64::from(owner_bits));
     }
 
-    /// What a channel keeps, by itself.
+    /// Returns what a channel keeps, without the owner's number.
     pub fn flow(&self) -> Flow
         ensures { result ≡ self.now.flow }
     {
@@ -87,15 +87,15 @@ impl FlowWord {
         }
     }
 
-    /// The window of a side.
+    /// Returns the window of a side.
     pub fn window(&self, side: Side) -> u8
         ensures { result ≡ of_side side self.now.flow.windows }
     {
         self.direction(side).window
     }
 
-    /// Judges a data packet of a side by its P(S) and then its P(R): 1 where P(S) is not the next number or lies
-    /// outside the window, 2 where P(R) acknowledges no packet sent (X.25 clauses 4.4.1.1 to 4.4.1.3).
+    /// Judges a data packet of a side by its P(S) and then its P(R): `INVALID_P_S` where P(S) is not the next number or
+    /// lies outside the window, `INVALID_P_R` where P(R) acknowledges no packet sent (X.25 clauses 4.4.1.1 to 4.4.1.3).
     #[inline(always)]
     pub fn data(&mut self, side: Side, send: u8, receive: u8) -> Result<(), u8>
         ensures modulus { self.new.flow.modulus ≡ self.old.flow.modulus }
@@ -118,7 +118,8 @@ impl FlowWord {
         Ok(())
     }
 
-    /// Judges the P(R) of a side: 2 where it acknowledges no packet that the other side sent (X.25 clause 4.4.1.3).
+    /// Judges the P(R) of a side: `INVALID_P_R` where it acknowledges no packet that the other side sent (X.25 clause
+    /// 4.4.1.3).
     #[inline(always)]
     pub fn ack(&mut self, side: Side, receive: u8) -> Result<(), u8>
         ensures modulus { self.new.flow.modulus ≡ self.old.flow.modulus }
@@ -132,7 +133,8 @@ impl FlowWord {
         self.acknowledge(side, receive)
     }
 
-    /// Judges an interrupt of a side: 44 while one of that side is unconfirmed (X.25 clause 4.3.7).
+    /// Judges an interrupt of a side: `UNAUTHORIZED_INTERRUPT` while one of that side is unconfirmed (X.25 clause
+    /// 4.3.7).
     pub fn interrupt(&mut self, side: Side) -> Result<(), u8>
         ensures modulus { self.new.flow.modulus ≡ self.old.flow.modulus }
         ensures windows { self.new.flow.windows ≡ self.old.flow.windows }
@@ -148,7 +150,8 @@ impl FlowWord {
         Ok(())
     }
 
-    /// Judges an interrupt confirmation of a side: 43 while none of the other side is unconfirmed (X.25 clause 4.3.7).
+    /// Judges an interrupt confirmation of a side: `UNAUTHORIZED_INTERRUPT_CONFIRMATION` while none of the other side
+    /// is unconfirmed (X.25 clause 4.3.7).
     pub fn confirm(&mut self, side: Side) -> Result<(), u8>
         ensures modulus { self.new.flow.modulus ≡ self.old.flow.modulus }
         ensures windows { self.new.flow.windows ≡ self.old.flow.windows }
@@ -175,7 +178,7 @@ impl FlowWord {
         self.word = with_field(without_interrupts, 1, 28, 0);
     }
 
-    /// The modulus of the numbers.
+    /// Returns the modulus of the numbers.
     fn modulus(&self) -> u8
         ensures value { result ≡ self.now.flow.modulus }
         ensures eight { (result ≡ 8) ⊎ (result ≡ 128) }
@@ -183,7 +186,7 @@ impl FlowWord {
         modulus(self.word)
     }
 
-    /// The numbers of the packets of a side.
+    /// Returns the numbers of the packets of a side.
     fn direction(&self, side: Side) -> Direction
         ensures value { result ≡ direction_of side self.now.flow }
         ensures in_range { IsDirection self.now.flow.modulus result.window result.sent
@@ -212,7 +215,7 @@ impl FlowWord {
         Ok(())
     }
 
-    /// Another number of the next packet of a side.
+    /// Sets the number of the next packet of a side.
     fn set_sent(&mut self, side: Side, number: u8)
         requires { IsDirection self.old.flow.modulus (of_side side self.old.flow.windows) number
             (of_side side self.old.flow.acknowledged) }
@@ -224,7 +227,7 @@ impl FlowWord {
         self.word = with_field(self.word, sent_at(side), 7, u64::from(number));
     }
 
-    /// Another number up to which the packets of a side are acknowledged.
+    /// Sets the number up to which the packets of a side are acknowledged.
     fn set_acknowledged(&mut self, side: Side, number: u8)
         requires { IsDirection self.old.flow.modulus (of_side side self.old.flow.windows)
             (of_side side self.old.flow.sent) number }
@@ -236,7 +239,7 @@ impl FlowWord {
         self.word = with_field(self.word, acknowledged_at(side), 7, u64::from(number));
     }
 
-    /// Whether an interrupt of a side is unconfirmed from now on.
+    /// Sets whether an interrupt of a side is unconfirmed.
     fn set_unconfirmed(&mut self, side: Side, unconfirmed: bool)
         ensures { self.new ≡ record self.old {
           flow = with_direction side

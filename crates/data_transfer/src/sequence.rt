@@ -21,7 +21,7 @@ pub struct DataField<'a> {
     pub octets: &'a [u8],
 }
 
-/// Whether more of the sequence follows: M 1, D 0 and the full size in force, category A (X.25 clause 4.3.4).
+/// Returns whether more of the sequence follows: M 1, D 0 and the full size in force, category A (X.25 clause 4.3.4).
 #[inline(always)]
 pub(crate) fn is_category_a(size: u16, more: bool, delivery: bool, length: usize) -> bool
     ensures { result ≡ (more && not delivery && (length == size)) }
@@ -41,7 +41,7 @@ pub enum UserData<'a, A: Allocator = Global> {
 impl<A: Allocator> UserData<'_, A> {
     ghost use Rattle.data_transfer.specs.UserOctets.{octets_in};
 
-    /// The octets.
+    /// Returns the octets.
     pub fn as_slice(&self) -> &[u8]
         ensures { result.now ≡ octets_in self.now }
     {

@@ -102,7 +102,7 @@ pub(crate) fn with_field(word: u64, from: u32, width: u32, value: u64) -> u64
 }
 
 impl Flow {
-    /// The windows and interrupts as a word (profile). Bits from 0 up: 0 is 1 at modulo 128; 1 to 7 the number sent
+    /// Returns windows and interrupts as a word (profile). Bits from 0 up: 0 is 1 at modulo 128; 1 to 7 the number sent
     /// of T, 8 to 14 that acknowledged of T, 15 to 21 and 22 to 28 the same of N; 29 to 35 the window of T, 36 to 42
     /// that of N; 43 and 44 an unconfirmed interrupt of T and of N. All higher bits are 0.
     pub fn pack(&self) -> u64
@@ -120,7 +120,7 @@ impl Flow {
             + (u64::from(self.of_n.unconfirmed) << 44)
     }
 
-    /// The windows and interrupts that `pack` makes this word of; `None` where it makes it of none: a residue or
+    /// Returns the windows and interrupts that `pack` makes this word of; `None` where there are none: a residue or
     /// window is not below the modulus, a window is 0, more is unacknowledged than the window, or a higher bit is set.
     pub fn unpack(word: u64) -> Option<Flow>
         ensures packs { IfSome result (λ f. word_of f ≡ word) }

@@ -1,4 +1,4 @@
--- Which rows are told of, line by line.
+-- Which rows are printed, line by line.
 use Rattle.std.proofs.Common.{◌≡◌, ◌≢◌, ◌∙◌, sym, ap, subst, refl, Bool, true, false, not, ◌&&◌, cond, List, [], ◌∷◌, ◌++◌, length, length-append, drop, Option, Some, None, IfSome, arith, append-nil}
 use Rattle.std.specs.List.{filter_map}
 use Rattle.std.specs.Prelude.{MatchOption}
@@ -12,12 +12,12 @@ use Rattle.line_model.specs.text.RowLine.{row_of}
 use Rattle.line_model.specs.text.Text.{Line, content_of, has_header, head_in, head_of, is_comment, is_some_line, rows_in}
 use Rattle.line_model.proofs.LineLemmas.{content-line, head-comment, head-later, no_content, rows_in-comment, rows_in-first}
 use Rattle.annotated_trace.specs.Rows.{is_chosen, is_chosen_if, row_written}
-use Rattle.annotated_trace.specs.Marking.{IsToldRightly}
+use Rattle.annotated_trace.specs.Marking.{IsPickedRightly}
 use Rattle.annotated_trace.specs.declared.rows.Rows.{Rows}
 use Rattle.annotated_trace.specs.declared.rows.Rows.TheVariants.{All, Chosen as Some_rows}
 use Rattle.descriptions.specs.CallRows.{Follows}
 use Rattle.descriptions.specs.declared.chosen.Chosen.{Chosen}
-use Rattle.descriptions.specs.Choosing.{HasChosen, told_where}
+use Rattle.descriptions.specs.Choosing.{HasChosen, picked_where}
 
 -- ---- the row of a line
 
@@ -103,34 +103,34 @@ items_written i rows before r same = ap (items_of i) same ∙ items_more i befor
 
 -- ---- what is answered
 
-pub told_none : (rows : Rows) (i : Option Interface) (before : List Row) (o : Option Row) → o ≡ None → None ≡ told_where rows i before o
-told_none rows i before o e = ap (told_where rows i before) (sym e)
+pub picked_none : (rows : Rows) (i : Option Interface) (before : List Row) (o : Option Row) → o ≡ None → None ≡ picked_where rows i before o
+picked_none rows i before o e = ap (picked_where rows i before) (sym e)
 
-pub told_some : (rows : Rows) (head : Option Interface) (i : Interface) (before : List Row) (o : Option Row) (r : Row) (told : Bool) → head ≡ Some i → o ≡ Some r → told ≡ is_chosen rows i (items_of i before) (item_of i r) → Some told ≡ told_where rows head before o
-told_some rows head i before o r told h e is = ap (λ b. Some b) is ∙ sym (λ t. told_where rows (h t) before (e t))
+pub picked_some : (rows : Rows) (head : Option Interface) (i : Interface) (before : List Row) (o : Option Row) (r : Row) (picked : Bool) → head ≡ Some i → o ≡ Some r → picked ≡ is_chosen rows i (items_of i before) (item_of i r) → Some picked ≡ picked_where rows head before o
+picked_some rows head i before o r picked h e is = ap (λ b. Some b) is ∙ sym (λ t. picked_where rows (h t) before (e t))
 
--- what is said where nothing is told of
-pub not_told : (rows : Rows) (head : Option Interface) (before : List Row) (o : Option Row) → None ≡ told_where rows head before o → false ≡ is_chosen_if rows head before o
-not_told rows None before None h = refl
-not_told rows (Some i) before None h = refl
-not_told rows head before (Some r) h = absurd (let bad : None ≡ Some (is_chosen_if rows head before (Some r)) = h in cc)
+-- what is said where no row is printed
+pub not_picked : (rows : Rows) (head : Option Interface) (before : List Row) (o : Option Row) → None ≡ picked_where rows head before o → false ≡ is_chosen_if rows head before o
+not_picked rows None before None h = refl
+not_picked rows (Some i) before None h = refl
+not_picked rows head before (Some r) h = absurd (let bad : None ≡ Some (is_chosen_if rows head before (Some r)) = h in cc)
 
-pub told_as : (rows : Rows) (head : Option Interface) (before : List Row) (o : Option Row) (told : Bool) → Some told ≡ told_where rows head before o → told ≡ is_chosen_if rows head before o
-told_as rows head before None told h = absurd (let bad : Some told ≡ None = h in cc)
-told_as rows head before (Some r) told h = same told (is_chosen_if rows head before (Some r)) h
+pub picked_as : (rows : Rows) (head : Option Interface) (before : List Row) (o : Option Row) (picked : Bool) → Some picked ≡ picked_where rows head before o → picked ≡ is_chosen_if rows head before o
+picked_as rows head before None picked h = absurd (let bad : Some picked ≡ None = h in cc)
+picked_as rows head before (Some r) picked h = same picked (is_chosen_if rows head before (Some r)) h
   where
     same : (a b : Bool) → Some a ≡ Some b → a ≡ b
     same a b e = cc
 
 -- what the describer says
 
-pub rightly_none : (rows : Rows) (before : List Line) (l : Line) → None ≡ told_where rows (head_of before) (rows_in before) (row_written before l) → IsToldRightly rows before l false
-rightly_none All before l h = λ chosen. not_told All (head_of before) (rows_in before) (row_written before l) h ∙ chosen
-rightly_none (Some_rows channel call) before l h = not_told (Some_rows channel call) (head_of before) (rows_in before) (row_written before l) h
+pub rightly_none : (rows : Rows) (before : List Line) (l : Line) → None ≡ picked_where rows (head_of before) (rows_in before) (row_written before l) → IsPickedRightly rows before l false
+rightly_none All before l h = λ chosen. not_picked All (head_of before) (rows_in before) (row_written before l) h ∙ chosen
+rightly_none (Some_rows channel call) before l h = not_picked (Some_rows channel call) (head_of before) (rows_in before) (row_written before l) h
 
-pub rightly_some : (rows : Rows) (before : List Line) (l : Line) (told : Bool) → Some told ≡ told_where rows (head_of before) (rows_in before) (row_written before l) → IsToldRightly rows before l told
-rightly_some All before l told h = λ chosen. told_as All (head_of before) (rows_in before) (row_written before l) told h ∙ chosen
-rightly_some (Some_rows channel call) before l told h = told_as (Some_rows channel call) (head_of before) (rows_in before) (row_written before l) told h
+pub rightly_some : (rows : Rows) (before : List Line) (l : Line) (picked : Bool) → Some picked ≡ picked_where rows (head_of before) (rows_in before) (row_written before l) → IsPickedRightly rows before l picked
+rightly_some All before l picked h = λ chosen. picked_as All (head_of before) (rows_in before) (row_written before l) picked h ∙ chosen
+rightly_some (Some_rows channel call) before l picked h = picked_as (Some_rows channel call) (head_of before) (rows_in before) (row_written before l) picked h
 
 -- ---- what is known of options
 

@@ -47,7 +47,7 @@ uncounted_then first later = both_put (λ x y h line. (h.0 + 1, one_more_line (c
 pub closing_put : {O : Type 0} {has : O → List ℕ → Type 0} {a b c : O} (n : ℕ) → Adds has AreUncounted a b → Adds has (AreObjects (codes "call_facts") n) b c → Adds has (AreClosingObjects n) a c
 closing_put n first later = both_put (λ x y h k. (x, y, refl, h, k)) first later
 
--- a line for each of so many, without a member
+-- `n` lines, each an object without a member
 bare_objects : (title : List ℕ) (n : ℕ) → (bytes : List ℕ) × AreObjects title n bytes
 bare_objects title zero = ([], ([], refl, refl, tt))
 bare_objects title (suc n) =

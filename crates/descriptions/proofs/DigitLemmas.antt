@@ -89,7 +89,7 @@ gap_text w n r digits h len = at (gap_in w.hex) h
         let row : record { number = n; side = T; octets = []; gap = Some gap } ≡ r = cc in
         no_digits digits r.octets (ap (λ v. v.octets) (sym row)) len
 
--- so many as write its octets
+-- two digits for each of its octets
 pub digits_text : (line front digits : List ℕ) (r : Row) → row_of line ≡ Some r → line ≡ front ++ digits → length digits ≡ 2 * length r.octets → IsText digits
 unfolding row_of
 digits_text line front digits r h e len = at (row_words line) refl h

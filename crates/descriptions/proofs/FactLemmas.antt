@@ -37,8 +37,8 @@ data_lengths e side n is = ap (λ what. all_lengths (record e { what = what } �
 -- the first data packet among events is the one that counts
 pub counted_at : (es : List Event) (i : ℕ) (e : Event) (side : Side) (n segments : ℕ) → i < length es → e ≡ get_or es i e → e.what ≡ Data side n → all_lengths (take i es) ≡ [] → segments ≡ segments_of (all_lengths (e ∷ []))
     → IsFateOf (all_lengths es) (Counted n segments)
-counted_at es i e side n segments lt is told none counted =
-    let own = data_lengths e side n told in
+counted_at es i e side n segments lt is seen none counted =
+    let own = data_lengths e side n seen in
     let first : all_lengths (take (i + 1) es) ≡ n ∷ [] = lengths_next es i e lt is ∙ (λ t. none t ++ own t) in
     let all : all_lengths es ≡ n ∷ all_lengths (drop (i + 1) es) =
     ap all_lengths (sym (take-append-drop (i + 1) es)) ∙ lengths_of (take (i + 1) es) (drop (i + 1) es) ∙ ap (λ ns. ns ++ all_lengths (drop (i + 1) es)) first in
@@ -58,10 +58,10 @@ pub none_next : (es : List Event) (i : ℕ) (e : Event) → i < length es → e 
 none_next es i e lt is other none = lengths_next es i e lt is ∙ (λ t. none t ++ other_lengths e e.what refl other t)
 
 -- the events of the logical channel that takes a row
-pub events_are : (i : Interface) (o : Observer GapLine GapChannel) (r : Item) (channel taker : Option ℕ) (told events : List Event) → channel ≡ taker → ((k : ℕ) → channel ≡ Some k → events ≡ told) → (channel ≡ None → events ≡ [])
-    → ((k : ℕ) → taker ≡ Some k → told ≡ row_events i o.epoch k (o.states k) r) → events ≡ events_at i taker o r
-events_are i o r channel None told events is taken untaken came = untaken is
-events_are i o r channel (Some k) told events is taken untaken came = taken k is ∙ came k refl
+pub events_are : (i : Interface) (o : Observer GapLine GapChannel) (r : Item) (channel taker : Option ℕ) (seen events : List Event) → channel ≡ taker → ((k : ℕ) → channel ≡ Some k → events ≡ seen) → (channel ≡ None → events ≡ [])
+    → ((k : ℕ) → taker ≡ Some k → seen ≡ row_events i o.epoch k (o.states k) r) → events ≡ events_at i taker o r
+events_are i o r channel None seen events is taken untaken came = untaken is
+events_are i o r channel (Some k) seen events is taken untaken came = taken k is ∙ came k refl
 
 -- ---- data that was counted is not left out
 

@@ -23,7 +23,7 @@ use Rattle.restart_epochs.proofs.Epochs.{observer_more}
 use Rattle.restart_epochs.proofs.LineFindings.{events_append}
 use Rattle.channel_run.specs.Run.{row_events}
 use Rattle.annotated_trace.specs.Rows.{has_open, is_of_call, is_of_call_by}
-use Rattle.descriptions.specs.CallRows.{Follows, Hears, is_at, is_in}
+use Rattle.descriptions.specs.CallRows.{Follows, IsAfter, is_at, is_in}
 use Rattle.descriptions.specs.declared.call_rows.CallRows.{CallRows}
 use Rattle.descriptions.specs.declared.call_rows.Place.{Place}
 use Rattle.descriptions.proofs.Anywhere.{open_in}
@@ -66,32 +66,32 @@ ready_at i l r k h = by (is_ready l) refl
     by false e = absurd (let bad : None ≡ Some k = sym (ap (λ b. cond b (channel_unless (x25 i) r (is_of_all (gap_of r.packet))) None) e) ∙ h in cc)
 
 -- what is known before a row that a channel takes
-pub heard_so_far : (i : Interface) (rs : List Item) (r : Item) (k : ℕ) (w : CallRows) → routed (x25 i) (observer i rs).line r ≡ Some k → Follows i rs w → Hears (observer i rs).epoch (events i rs) w
-heard_so_far i rs r k w h f = record { to_come = f.to_come; place = f.place (ready_at i (observer i rs).line r k h); known = f.known }
+pub applied_so_far : (i : Interface) (rs : List Item) (r : Item) (k : ℕ) (w : CallRows) → routed (x25 i) (observer i rs).line r ≡ Some k → Follows i rs w → IsAfter (observer i rs).epoch (events i rs) w
+applied_so_far i rs r k w h f = record { to_come = f.to_come; place = f.place (ready_at i (observer i rs).line r k h); known = f.known }
 
 pub same_epoch : (i : Interface) (rs : List Item) (r : Item) (k : ℕ) → routed (x25 i) (observer i rs).line r ≡ Some k → (observer i (rs ++ r ∷ [])).epoch ≡ (observer i rs).epoch
 same_epoch i rs r k h = ap (λ o. o.epoch) (observer_more i rs r) ∙ (λ j. (after_by (x25 i) (observer i rs) r (taken_alone i (observer i rs).line r k h j) (h j)).epoch)
 
--- its events, as they were heard
+-- its events, as they were applied
 pub all_of_epoch : (i : Interface) (rs : List Item) (r : Item) (k e : ℕ) (fs : List Event) → e ≡ (observer i rs).epoch → fs ≡ row_events i (observer i rs).epoch k ((observer i rs).states k) r → AllByRecursion (λ f. f.epoch ≡ e) fs
 all_of_epoch i rs r k e fs same came =
     subst (λ l. AllByRecursion (λ f. f.epoch ≡ e) l) (sym came)
     (subst (λ n. AllByRecursion (λ f. f.epoch ≡ n) (row_events i (observer i rs).epoch k ((observer i rs).states k) r)) (sym same) (of_epoch (observer i rs).epoch k r _))
 
 -- whether it is one of the call's
-pub judged_on : (i : Interface) (rs : List Item) (r : Item) (k n e : ℕ) (fs : List Event) (told : Bool) → routed (x25 i) (observer i rs).line r ≡ Some k → e ≡ (observer i rs).epoch → fs ≡ row_events i (observer i rs).epoch k ((observer i rs).states k) r
-    → told ≡ (has_open n e k (calls_of (events i rs)) || has_open n e k (calls_of (events i rs ++ fs))) → told ≡ is_of_call i rs r n
-judged_on i rs r k n e fs told h same came is =
+pub judged_on : (i : Interface) (rs : List Item) (r : Item) (k n e : ℕ) (fs : List Event) (of_call : Bool) → routed (x25 i) (observer i rs).line r ≡ Some k → e ≡ (observer i rs).epoch → fs ≡ row_events i (observer i rs).epoch k ((observer i rs).states k) r
+    → of_call ≡ (has_open n e k (calls_of (events i rs)) || has_open n e k (calls_of (events i rs ++ fs))) → of_call ≡ is_of_call i rs r n
+judged_on i rs r k n e fs of_call h same came is =
     is ∙ (λ t. has_open n (same t) k (calls_of (events i rs)) || has_open n (same t) k (calls_of (events i rs ++ came t)))
     ∙ ap (λ l. has_open n (observer i rs).epoch k (calls_of (events i rs)) || has_open n (observer i rs).epoch k (calls_of l)) (sym (events_on_channel i rs r k h))
     ∙ sym (λ t. is_of_call_by (taken_alone i (observer i rs).line r k h t) (h t) n (observer i rs).epoch (calls_of (events i rs)) (calls_of (events i (rs ++ r ∷ []))))
 
 -- the same of a row that no channel took, which may be a gap of all channels
-pub judged_off : (i : Interface) (rs : List Item) (r : Item) (w : CallRows) (e : ℕ) (each told : Bool) → routed (x25 i) (observer i rs).line r ≡ None → Follows i rs w → each ≡ steps_all (x25 i) (observer i rs).line r → e ≡ (observer i (rs ++ r ∷ [])).epoch
-    → told ≡ (each && is_in e w.place) → told ≡ is_of_call i rs r w.number
-judged_off i rs r w e false told h f each epoch is =
+pub judged_off : (i : Interface) (rs : List Item) (r : Item) (w : CallRows) (e : ℕ) (each of_call : Bool) → routed (x25 i) (observer i rs).line r ≡ None → Follows i rs w → each ≡ steps_all (x25 i) (observer i rs).line r → e ≡ (observer i (rs ++ r ∷ [])).epoch
+    → of_call ≡ (each && is_in e w.place) → of_call ≡ is_of_call i rs r w.number
+judged_off i rs r w e false of_call h f each epoch is =
     is ∙ (λ t. is_of_call_by (each t) (sym h t) w.number (observer i rs).epoch (calls_of (events i rs)) (calls_of (events i (rs ++ r ∷ []))))
-judged_off i rs r w e true told h f each epoch is =
+judged_off i rs r w e true of_call h f each epoch is =
     let o : Observer GapLine GapChannel = observer i rs in
     let ready = (and_parts (is_ready o.line) (is_ready (routing o.line r).after) (and_parts (is_of_all (gap_of r.packet)) (stays_ready (x25 i) o.line r) (sym each)).1).0 in
     let same : e ≡ o.epoch = epoch ∙ ap (λ q. q.epoch) (observer_more i rs r) ∙ (λ t. (after_by (x25 i) o r (sym each t) (routed (x25 i) o.line r)).epoch) in
@@ -99,13 +99,13 @@ judged_off i rs r w e true told h f each epoch is =
     ∙ (λ t. is_of_call_by (each t) (routed (x25 i) o.line r) w.number o.epoch (calls_of (events i rs)) (calls_of (events i (rs ++ r ∷ []))))
 
 -- and after it
-pub channel_follows : (i : Interface) (rs : List Item) (r : Item) (k : ℕ) (w : CallRows) → routed (x25 i) (observer i rs).line r ≡ Some k → Hears (observer i rs).epoch (events i (rs ++ r ∷ [])) w → Follows i (rs ++ r ∷ []) w
-channel_follows i rs r k w h heard =
+pub channel_follows : (i : Interface) (rs : List Item) (r : Item) (k : ℕ) (w : CallRows) → routed (x25 i) (observer i rs).line r ≡ Some k → IsAfter (observer i rs).epoch (events i (rs ++ r ∷ [])) w → Follows i (rs ++ r ∷ []) w
+channel_follows i rs r k w h applied =
     let epoch = same_epoch i rs r k h in
     record {
-      to_come = heard.to_come;
-      place = λ ready j. ap (λ e. has_open w.number e j (calls_of (events i (rs ++ r ∷ [])))) epoch ∙ heard.place j ∙ ap (λ e. is_at e j w.place) (sym epoch);
-      known = subst (λ e. IfSome w.place (λ (p : Place). p.epoch ≤ e)) (sym epoch) heard.known;
+      to_come = applied.to_come;
+      place = λ ready j. ap (λ e. has_open w.number e j (calls_of (events i (rs ++ r ∷ [])))) epoch ∙ applied.place j ∙ ap (λ e. is_at e j w.place) (sym epoch);
+      known = subst (λ e. IfSome w.place (λ (p : Place). p.epoch ≤ e)) (sym epoch) applied.known;
     }
 
 -- ---- a row of the restart machine
@@ -124,9 +124,9 @@ count_with es (f ∷ fs) h =
     ap (λ l. length (calls_of l)) (sym (append_assoc es (f ∷ []) fs)) ∙ count_with (es ++ f ∷ []) fs h.1
     ∙ omega (arith, count_more es f ∙ ap (λ b. length (calls_of es) + cond b 1 0) h.0)
 
-quiet_with : (e : ℕ) (es fs : List Event) (w : CallRows) → Quiet fs → Hears e es w → Hears e (es ++ fs) w
-quiet_with e es [] w q h = subst (λ l. Hears e l w) (sym (append-nil es)) h
-quiet_with e es (f ∷ fs) w q h = subst (λ l. Hears e l w) (append_assoc es (f ∷ []) fs) (quiet_with e (es ++ f ∷ []) fs w q.1 (passed e es f w q.0.0 q.0.1 h))
+quiet_with : (e : ℕ) (es fs : List Event) (w : CallRows) → Quiet fs → IsAfter e es w → IsAfter e (es ++ fs) w
+quiet_with e es [] w q h = subst (λ l. IsAfter e l w) (sym (append-nil es)) h
+quiet_with e es (f ∷ fs) w q h = subst (λ l. IsAfter e l w) (append_assoc es (f ∷ []) fs) (quiet_with e (es ++ f ∷ []) fs w q.1 (passed e es f w q.0.0 q.0.1 h))
 
 found_quiet : (e : ℕ) (r : Item) (route : Route) → Quiet (map event_of (stamp e None r (route_found r route)))
 found_quiet e r (Found s n) = ((refl, refl), tt)

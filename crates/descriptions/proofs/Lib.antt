@@ -12,5 +12,5 @@ pub mod OneLine
 pub mod DigitLemmas
 pub mod ClosingLemmas
 mod Anywhere
-pub mod UsualMembers
+pub mod CommonMembers
 pub mod RestLemmas

@@ -1,4 +1,4 @@
--- Lines that are written from their end, and the objects of the rows that are as most are.
+-- Lines that are written from their end, and the objects of rows of the common case.
 use Rattle.std.proofs.Common.{◌≡◌, ◌∙◌, sym, ap, subst, refl, ℕ, Bool, true, false, not, ◌&&◌, cond, List, [], ◌∷◌, ◌++◌, Option, Some, None, IfSome, Result, Ok, Err, OnOk, is_ok, append_assoc}
 use Rattle.std.specs.Prelude.{codes, decimal}
 use Rattle.std.specs.Option.{is_none, option_map, option_to_list}
@@ -29,11 +29,11 @@ use Rattle.descriptions.specs.Facts.{IsFateOf}
 use Rattle.descriptions.specs.Lines.{Puts, PutsForm}
 use Rattle.descriptions.specs.Members.{IsFurther, IsText, IsValue}
 use Rattle.descriptions.specs.RowObjects.{IsObjectWhere, IsRest, IsRowObject, channel_word, counted_word, events_at, finding_word, head_by, known_word, named_channel, row_head, state_at, state_members, word_after, word_before}
-use Rattle.descriptions.specs.UsualObjects.{IsUsualObject, amount_word, is_d1, is_quiet, is_settled, leaves_settled, usual_head}
+use Rattle.descriptions.specs.CommonObjects.{IsCommonObject, amount_word, is_d1, is_quiet, is_settled, leaves_settled, common_head}
 use Rattle.descriptions.specs.declared.facts.Fate.TheVariants.{Counted}
 use Rattle.descriptions.proofs.ObjectLemmas.{words_are}
 use Rattle.descriptions.proofs.OneLine.{rest_one}
-use Rattle.descriptions.proofs.UsualMembers.{place_members}
+use Rattle.descriptions.proofs.CommonMembers.{place_members}
 
 -- ---- bytes before others
 
@@ -93,9 +93,9 @@ headed a n b s c k d x =
 
 -- ---- a whole line
 
-pub usual_line : (row : JudgedRow) (events : List Event) (a b c d : Option (List ℕ)) (bytes : List ℕ) → is_quiet row ≡ true → gap_of row.packet ≡ None → a ≡ Some [] → Puts (codes "}\n") a b → PutsForm IsFurther b c → Puts (usual_head row (all_lengths events)) c d
-    → d ≡ Some bytes → IsUsualObject row events bytes
-usual_line row events a b c d bytes quiet gap empty end plain head is =
+pub common_line : (row : JudgedRow) (events : List Event) (a b c d : Option (List ℕ)) (bytes : List ℕ) → is_quiet row ≡ true → gap_of row.packet ≡ None → a ≡ Some [] → Puts (codes "}\n") a b → PutsForm IsFurther b c → Puts (common_head row (all_lengths events)) c d
+    → d ≡ Some bytes → IsCommonObject row events bytes
+common_line row events a b c d bytes quiet gap empty end plain head is =
     let h = head.whole bytes is in
     let p = plain.whole h.0 h.1 in
     let e = end.whole p.0 p.2 in
@@ -105,7 +105,7 @@ usual_line row events a b c d bytes quiet gap empty end plain head is =
       packet = gap;
       rest = p.1;
       members = p.4;
-      written = h.2 ∙ ap (λ xs. usual_head row (all_lengths events) ++ xs) (p.3 ∙ ap (λ xs. p.1 ++ xs) (e.2 ∙ ap (λ xs. codes "}\n" ++ xs) none));
+      written = h.2 ∙ ap (λ xs. common_head row (all_lengths events) ++ xs) (p.3 ∙ ap (λ xs. p.1 ++ xs) (e.2 ∙ ap (λ xs. codes "}\n" ++ xs) none));
     }
 
 -- a line that was lent
@@ -157,8 +157,8 @@ taker_of i (Some n) o more j h settled = (n, refl)
 further_rest : (read packet : Packet) → read ≡ packet → gap_of packet ≡ None → (rest : List ℕ) → IsFurther rest → IsRest (gap_of read) None rest
 further_rest read packet same none rest h = subst (λ g. IsRest g None rest) (sym (ap gap_of same ∙ none)) h
 
-usual_object : (i : Interface) (earlier : List Item) (r : Item) (row : JudgedRow) (events : List Event) (bytes : List ℕ) → IsJudgedRow i earlier r row events → IsUsualObject row events bytes → IsRowObject i earlier r bytes
-usual_object i earlier r row events bytes l line =
+common_object : (i : Interface) (earlier : List Item) (r : Item) (row : JudgedRow) (events : List Event) (bytes : List ℕ) → IsJudgedRow i earlier r row events → IsCommonObject row events bytes → IsRowObject i earlier r bytes
+common_object i earlier r row events bytes l line =
     let o : Observer GapLine GapChannel = observer i earlier in
     let more : Observer GapLine GapChannel = observer i (earlier ++ r ∷ []) in
     let taker : Option ℕ = routed (x25 i) o.line r in
@@ -174,7 +174,7 @@ usual_object i earlier r row events bytes l line =
     let members : state_members row.number row.side (named_channel row.packet) (codes "d1") (codes "d1")
     ≡ state_members r.number r.side (named_channel r.packet) (state_at taker o) (state_at taker more) =
     (λ t. state_members (l.number t) (l.side t) (channel t) (before t) (after t)) in
-    let head : usual_head row (all_lengths events) ≡ row_head i earlier r None =
+    let head : common_head row (all_lengths events) ≡ row_head i earlier r None =
     (λ t. members t ++ (counted_word (all_lengths (came t)) ++ (codes ",\"finding\":" ++ finding_word None)))
     ∙ sym (ap (λ g. head_by g i earlier r None) (sym (ap gap_of l.packet) ∙ line.packet)) in
     record {
@@ -186,13 +186,13 @@ usual_object i earlier r row events bytes l line =
       written = line.written ∙ ap (λ xs. xs ++ (line.rest ++ codes "}\n")) head;
     }
 
-pub told_object : (told : Bool) (i : Interface) (earlier : List Item) (r : Item) (bytes : List ℕ) → told ≡ true → IsRowObject i earlier r bytes → IsObjectWhere told i earlier r bytes
-told_object told i earlier r bytes is h = subst (λ b. IsObjectWhere b i earlier r bytes) (sym is) h
+pub picked_object : (picked : Bool) (i : Interface) (earlier : List Item) (r : Item) (bytes : List ℕ) → picked ≡ true → IsRowObject i earlier r bytes → IsObjectWhere picked i earlier r bytes
+picked_object picked i earlier r bytes is h = subst (λ b. IsObjectWhere b i earlier r bytes) (sym is) h
 
-pub lent_object : {X : Type 0} (f : X → List ℕ) (o : Option X) (told : Bool) (i : Interface) (earlier : List Item) (r : Item) (row : JudgedRow) (events : List Event) (digits : List ℕ) → told ≡ true
-    → IsJudgedRow i earlier r row events → IsText digits → IfSome o (λ x. IsText digits → IsUsualObject row events (f x)) → IfSome o (λ x. IsObjectWhere told i earlier r (f x))
-lent_object f None told i earlier r row events digits is l text h = tt
-lent_object f (Some x) told i earlier r row events digits is l text h = told_object told i earlier r (f x) is (usual_object i earlier r row events (f x) l (h text))
+pub lent_object : {X : Type 0} (f : X → List ℕ) (o : Option X) (picked : Bool) (i : Interface) (earlier : List Item) (r : Item) (row : JudgedRow) (events : List Event) (digits : List ℕ) → picked ≡ true
+    → IsJudgedRow i earlier r row events → IsText digits → IfSome o (λ x. IsText digits → IsCommonObject row events (f x)) → IfSome o (λ x. IsObjectWhere picked i earlier r (f x))
+lent_object f None picked i earlier r row events digits is l text h = tt
+lent_object f (Some x) picked i earlier r row events digits is l text h = picked_object picked i earlier r (f x) is (common_object i earlier r row events (f x) l (h text))
 
 -- ---- it is appended
 

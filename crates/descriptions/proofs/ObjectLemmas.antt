@@ -20,7 +20,7 @@ use Rattle.live_report.specs.declared.judged_row.Judge.TheVariants as judge
 use Rattle.annotated_trace.specs.Printed.{HasAppended}
 use Rattle.annotated_trace.specs.Rows.{is_chosen, is_chosen_if}
 use Rattle.annotated_trace.specs.declared.rows.Rows.{Rows}
-use Rattle.descriptions.specs.Choosing.{told_where}
+use Rattle.descriptions.specs.Choosing.{picked_where}
 use Rattle.descriptions.specs.Facts.{AreFactsOf}
 use Rattle.descriptions.specs.RowObjects.{IsObjectOf, IsObjectWhere, IsRest, IsRowObject, counted_word, events_at, finding_word, gap_head, head_by, joined, known_word, named_channel, packet_head, row_head, state_at, state_members, word_after, word_before}
 use Rattle.descriptions.specs.declared.facts.RowFacts.{RowFacts}
@@ -86,23 +86,23 @@ object_put i earlier r facts members out o1 o2 o3 h is e1 e2 e3 = record {
 
 -- ---- which rows have one
 
-same_told : (a b : Bool) → Some a ≡ Some b → a ≡ b
-same_told a b e = cc
+same_choice : (a b : Bool) → Some a ≡ Some b → a ≡ b
+same_choice a b e = cc
 
-pub nothing_put : (rows : Rows) (head : Option Interface) (earlier : List Row) (o : Option Row) (out : List ℕ) → None ≡ told_where rows head earlier o → HasAppended (IsObjectOf rows head earlier o) out out
+pub nothing_put : (rows : Rows) (head : Option Interface) (earlier : List Row) (o : Option Row) (out : List ℕ) → None ≡ picked_where rows head earlier o → HasAppended (IsObjectOf rows head earlier o) out out
 nothing_put rows None earlier None out e = record { bytes = []; appended = sym (append-nil out); formed = refl }
 nothing_put rows (Some i) earlier None out e = record { bytes = []; appended = sym (append-nil out); formed = refl }
 nothing_put rows head earlier (Some r) out e = absurd (let bad : None ≡ Some (is_chosen_if rows head earlier (Some r)) = e in cc)
 
-pub row_put : {T E : Type 0} (result : Result T E) (rows : Rows) (head : Option Interface) (earlier : List Row) (o : Option Row) (told : Bool) (out after : List ℕ) → Some told ≡ told_where rows head earlier o
-    → (told ≡ false → after ≡ out) → ((i : Interface) (r : Row) → head ≡ Some i → o ≡ Some r → OnOk result (HasAppended (IsObjectWhere told i (items_of i earlier) (item_of i r)) out after))
+pub row_put : {T E : Type 0} (result : Result T E) (rows : Rows) (head : Option Interface) (earlier : List Row) (o : Option Row) (picked : Bool) (out after : List ℕ) → Some picked ≡ picked_where rows head earlier o
+    → (picked ≡ false → after ≡ out) → ((i : Interface) (r : Row) → head ≡ Some i → o ≡ Some r → OnOk result (HasAppended (IsObjectWhere picked i (items_of i earlier) (item_of i r)) out after))
     → OnOk result (HasAppended (IsObjectOf rows head earlier o) out after)
-row_put result rows head earlier None told out after e untold object = absurd (let bad : Some told ≡ None = e in cc)
-row_put (Err x) rows head earlier (Some r) told out after e untold object = tt
-row_put (Ok x) rows None earlier (Some r) told out after e untold object =
-    record { bytes = []; appended = untold (same_told told false e) ∙ sym (append-nil out); formed = refl }
-row_put (Ok x) rows (Some i) earlier (Some r) told out after e untold object =
-    subst (λ b. HasAppended (IsObjectWhere b i (items_of i earlier) (item_of i r)) out after) (same_told told (is_chosen rows i (items_of i earlier) (item_of i r)) e) (object i r refl refl)
+row_put result rows head earlier None picked out after e unpicked object = absurd (let bad : Some picked ≡ None = e in cc)
+row_put (Err x) rows head earlier (Some r) picked out after e unpicked object = tt
+row_put (Ok x) rows None earlier (Some r) picked out after e unpicked object =
+    record { bytes = []; appended = unpicked (same_choice picked false e) ∙ sym (append-nil out); formed = refl }
+row_put (Ok x) rows (Some i) earlier (Some r) picked out after e unpicked object =
+    subst (λ b. HasAppended (IsObjectWhere b i (items_of i earlier) (item_of i r)) out after) (same_choice picked (is_chosen rows i (items_of i earlier) (item_of i r)) e) (object i r refl refl)
 
 -- ---- a row that was taken
 

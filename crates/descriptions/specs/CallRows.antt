@@ -28,13 +28,13 @@ abbrev pub steps_each : (gap : Option (Option ℕ)) → RState → Bool
 steps_each (Some None) R1 = true
 steps_each _ _ = false
 
--- it stands for these events, as far as they are of an epoch
-pub record Hears (e : ℕ) (es : List Event) (w : CallRows) : Type 0 where
+-- it represents those of these events that are of an epoch
+pub record IsAfter (e : ℕ) (es : List Event) (w : CallRows) : Type 0 where
   pub to_come : w.to_come ≡ w.number - length (calls_of es)
   pub place : (k : ℕ) → has_open w.number e k (calls_of es) ≡ is_at e k w.place
   pub known : IfSome w.place (λ p. p.epoch ≤ e)
 
--- it stands for these rows of a trace: where channels take rows, it is open as the definitions' observer has it
+-- it represents these rows of a trace: where rows go to channels, it is open as the definitions' observer has it
 pub record Follows (i : Interface) (rs : List Item) (w : CallRows) : Type 0 where
   pub to_come : w.to_come ≡ w.number - length (calls_of (events i rs))
   pub place : is_ready (observer i rs).line ≡ true → (k : ℕ) → has_open w.number (observer i rs).epoch k (calls_of (events i rs)) ≡ is_at (observer i rs).epoch k w.place

@@ -34,7 +34,7 @@ character Objects c = if c == 34 then 92 ∷ 34 ∷ [] else (if c == 92 then 92 
 abbrev pub quoted : TableForm → List ℕ → List ℕ
 quoted form text = 34 ∷ (flat_map (character form) text ++ 34 ∷ [])
 
--- a digit before others, unless it is a zero before none
+-- a digit before others; a zero before none is left out
 abbrev pub with_digit : ℕ → List ℕ → List ℕ
 with_digit d [] = if d == 48 then [] else d ∷ []
 with_digit d (e ∷ ds) = d ∷ e ∷ ds

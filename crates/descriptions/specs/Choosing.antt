@@ -1,4 +1,4 @@
--- Which rows are told of, line by line.
+-- Which rows are printed, line by line.
 use Rattle.std.specs.Prelude.{◌≡◌, Bool, List, Option, None, Some, IfSome, length}
 use Rattle.line_model.specs.declared.interface.Interface.{Interface}
 use Rattle.line_model.specs.basics.Records.{Row}
@@ -15,11 +15,11 @@ pub record HasChosen (ls : List Line) (c : Chosen) : Type 0 where
   pub number : c.call.number ≡ asked_call c.rows
   pub call : (i : Interface) → IfSome (head_of ls) (λ j. j ≡ i) → Follows i (items_of i (rows_in ls)) c.call
 
--- whether a row is told of, where there is one
-abbrev pub told_where : Rows → Option Interface → (before : List Row) → Option Row → Option Bool
-told_where rows i before None = None
-told_where rows i before (Some r) = Some (is_chosen_if rows i before (Some r))
+-- whether a row is printed, where there is one
+abbrev pub picked_where : Rows → Option Interface → (before : List Row) → Option Row → Option Bool
+picked_where rows i before None = None
+picked_where rows i before (Some r) = Some (is_chosen_if rows i before (Some r))
 
--- whether the row of the line after others is told of, where it writes one
-abbrev pub told_of_line : Chosen → (before : List Line) → Line → Option Bool
-told_of_line c before l = told_where c.rows (head_of before) (rows_in before) (row_written before l)
+-- whether the row of the line after others is printed, where it writes one
+abbrev pub picked_by_line : Chosen → (before : List Line) → Line → Option Bool
+picked_by_line c before l = picked_where c.rows (head_of before) (rows_in before) (row_written before l)

@@ -8,7 +8,7 @@ use Rattle.descriptions.specs.Members.{IsFurther}
 abbrev pub IsObjectLine : (title : List ℕ) → List ℕ → Type 0
 IsObjectLine title bytes = (members : List ℕ) × (bytes ≡ object title members) × IsFurther members
 
--- so many of them, one after the other
+-- `count` of them, one after the other
 abbrev pub AreObjects : (title : List ℕ) → (count : ℕ) → List ℕ → Type 0
 AreObjects title count bytes = (all : List (List ℕ)) × (length all ≡ count) × (bytes ≡ flat_map (object title) all) × AllByRecursion IsFurther all
 
@@ -16,6 +16,6 @@ AreObjects title count bytes = (all : List (List ℕ)) × (length all ≡ count)
 abbrev pub AreUncounted : List ℕ → Type 0
 AreUncounted bytes = (count : ℕ) × AreObjects (codes "not_counted") count bytes
 
--- those, and one object for each of so many calls
+-- those, and one object for each of `calls` calls
 abbrev pub AreClosingObjects : (calls : ℕ) → List ℕ → Type 0
 AreClosingObjects calls bytes = (uncounted : List ℕ) × (facts : List ℕ) × (bytes ≡ uncounted ++ facts) × AreUncounted uncounted × AreObjects (codes "call_facts") calls facts

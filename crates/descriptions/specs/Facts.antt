@@ -23,9 +23,9 @@ IsFateOf (n ∷ ns) (Counted octets segments) = (octets ≡ n) × (segments ≡ 
 IsFateOf (n ∷ ns) _ = ⊥
 
 -- why the data of a row was not counted, as its fate has it; none where it has no data, or where it was counted
-abbrev pub reason_told : Fate → Option Reason
-reason_told (NotCounted reason) = Some reason
-reason_told _ = None
+abbrev pub reason_in : Fate → Option Reason
+reason_in (NotCounted reason) = Some reason
+reason_in _ = None
 
 -- a row after others, the machine that judged it, what it found, what it counted, and why it did not
 pub record AreFactsOf (i : Interface) (earlier : List Item) (r : Item) (facts : RowFacts) : Type 0 where
@@ -35,4 +35,4 @@ pub record AreFactsOf (i : Interface) (earlier : List Item) (r : Item) (facts : 
   pub judge : IsJudge i (routed (x25 i) (observer i earlier).line r) (observer i earlier) (observer i (earlier ++ r ∷ [])) facts.last.now.judge
   pub finding : (report_of i (earlier ++ r ∷ [])).findings ≡ (report_of i earlier).findings ++ option_to_list facts.last.now.finding
   pub fate : IsFateOf (all_lengths (events_at i (routed (x25 i) (observer i earlier).line r) (observer i earlier) r)) facts.fate
-  pub reason : reason_told facts.fate ≡ reason_at i (observer i earlier) r
+  pub reason : reason_in facts.fate ≡ reason_at i (observer i earlier) r

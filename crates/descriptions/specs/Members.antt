@@ -5,11 +5,11 @@ use Rattle.std.specs.Str.{bytes_eq}
 use Rattle.std.specs.Str.Parse.{AllDigits}
 use Rattle.json_lines.specs.Json.{quoted}
 
--- a byte that stands for itself in a text: no control character, no quotation mark, no backslash
+-- a byte that is written as it is in a string: no control character, no quotation mark, no backslash
 abbrev pub is_plain : ℕ → Bool
 is_plain b = nat_le 32 b && (not (b == 34) && not (b == 92))
 
--- whether bytes are those of a text, or the rest of one after a backslash: a quotation mark or a backslash has one before it
+-- whether bytes are those of a string, or the rest of one after a backslash: a quotation mark or a backslash has one before it
 abbrev pub is_text : (escaped : Bool) → List ℕ → Bool
 is_text false [] = true
 is_text true [] = false

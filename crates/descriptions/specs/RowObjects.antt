@@ -1,5 +1,5 @@
 -- The object of a row: its first members say what the definitions' walk does; others come after them.
-use Rattle.std.specs.Prelude.{◌≡◌, ℕ, Bool, true, false, List, [], ◌∷◌, ◌++◌, Option, None, Some, option_to_list, codes, decimal, flat_map, length}
+use Rattle.std.specs.Prelude.{◌≡◌, ℕ, Bool, true, false, List, [], ◌∷◌, ◌++◌, Option, None, Some, OnOk, Result, option_to_list, codes, decimal, flat_map, length}
 use Rattle.json_lines.specs.Json.{json_text}
 use Rattle.line_model.specs.basics.Records.{Item, Report, Row}
 use Rattle.line_model.specs.channels.Gaps.{GapChannel}
@@ -19,14 +19,18 @@ use Rattle.line_model.specs.observer.Machine.{Observer, routed}
 use Rattle.line_model.specs.observer.Observer.{x25}
 use Rattle.line_model.specs.observer.Report.{code_word, report_of, side_word, state_word, text_of}
 use Rattle.line_model.specs.packets.Says.{gap_of, item_of, items_of}
-use Rattle.line_model.specs.text.Text.{Line, head_of, rows_in}
+use Rattle.line_model.specs.text.Text.{Line, ended_lines, head_of, rows_in}
+use Rattle.channel_run.specs.declared.run.Channel.{Ghosts as Machine}
 use Rattle.channel_run.specs.Run.{row_events}
 use Rattle.restart_epochs.specs.Cutting.{observer}
 use Rattle.channel_run.specs.StatusWord.{view_in}
 use Rattle.channel_run.specs.Views.{is_adrift}
+use Rattle.live_report.specs.Lives.{KeepsRowsOf}
 use Rattle.live_report.specs.declared.judged_row.Judge.{Judge}
 use Rattle.live_report.specs.declared.judged_row.Judge.TheVariants as judge
+use Rattle.live_report.specs.declared.live.Live.{Live}
 use Rattle.annotated_trace.specs.Annotation.{IsOneLine}
+use Rattle.annotated_trace.specs.Printed.{HasAppended}
 use Rattle.annotated_trace.specs.Rows.{is_chosen, row_written}
 use Rattle.annotated_trace.specs.declared.rows.Rows.{Rows}
 use Rattle.descriptions.specs.Closing.{AreClosingObjects}
@@ -128,7 +132,7 @@ pub record IsRowObject (i : Interface) (earlier : List Item) (r : Item) (bytes :
   pub written : bytes ≡ row_head i earlier r found ++ (rest ++ codes "}\n")
 
 -- the object of a row that is printed, and nothing for another
-abbrev pub IsObjectWhere : (told : Bool) → Interface → (earlier : List Item) → Item → List ℕ → Type 0
+abbrev pub IsObjectWhere : (picked : Bool) → Interface → (earlier : List Item) → Item → List ℕ → Type 0
 IsObjectWhere true i earlier r bytes = IsRowObject i earlier r bytes
 IsObjectWhere false i earlier r bytes = bytes ≡ []
 
@@ -140,6 +144,14 @@ IsObjectOf rows _ earlier _ bytes = bytes ≡ []
 -- what a line after others becomes: the object of its row, where it writes one of these rows
 abbrev pub IsLineObject : Rows → (before : List Line) → Line → List ℕ → Type 0
 IsLineObject rows before l bytes = IsObjectOf rows (head_of before) (rows_in before) (row_written before l) bytes
+
+-- a fact on the last row of a text that was fed, and on the rows before it, where this is its line
+abbrev pub OfLastRow : {A C : Type 0} → Machine C A → Live A C → (line : List ℕ) → (Interface → List Item → Item → Type 0) → Type 0
+OfLastRow m live line Fact = (i : Interface) (before : List Line) (l : Line) (r : Row) (text : List ℕ) → KeepsRowsOf m text live → ended_lines text ≡ before ++ l ∷ [] → head_of before ≡ Some i → row_written before l ≡ Some r → line ≡ l ++ 10 ∷ [] → Fact i (items_of i (rows_in before)) (item_of i r)
+
+-- the object of that row was appended, if it is printed and memory was not refused
+abbrev pub AppendsObject : {A C T E : Type 0} → Machine C A → Live A C → (line : List ℕ) → (picked : Bool) → Result T E → (before after : List ℕ) → Type 0
+AppendsObject m live line picked result before after = OfLastRow m live line (λ i earlier r. OnOk result (HasAppended (IsObjectWhere picked i earlier r) before after))
 
 -- what comes after the last row: the objects of the report, those of what was not counted, and one for each of its calls, and no other line
 pub record IsClosing (report : Report) (bytes : List ℕ) : Type 0 where

@@ -52,7 +52,7 @@ pub struct Named<'a> {
     pub name: &'a [u8],
 }
 
-/// What is known of a call besides its record.
+/// What is known of a call apart from its record.
 #[derive(Clone, Copy)]
 pub struct Further<'a> {
     /// When it was opened.
@@ -139,7 +139,7 @@ fn payer<A: Allocator>(call: &CallRecord<A>) -> &Address
     }
 }
 
-/// Where a call is, and between whom.
+/// Returns where a call is, and between whom.
 pub fn place_columns<A: Allocator>(call: &CallRecord<A>) -> [Column<'_>; 4]
     ensures { (form : AnyForm) → flat_map (column_text form) result ≡ place_columns form call.now }
 {
@@ -163,7 +163,7 @@ pub fn place_columns<A: Allocator>(call: &CallRecord<A>) -> [Column<'_>; 4]
     ]
 }
 
-/// From when to when it was open, and how it ended.
+/// Returns from when to when it was open, and how it ended.
 pub fn span_columns<'a, A: Allocator>(
     call: &CallRecord<A>,
     further: &Further<'_>,
@@ -194,7 +194,7 @@ pub fn span_columns<'a, A: Allocator>(
     ]
 }
 
-/// What the packet that cleared it says.
+/// Returns what the packet that cleared it says.
 pub fn cause_columns<'a>(further: &Further<'a>) -> [Column<'a>; 4]
     ensures { (form : AnyForm) → flat_map (column_text form) result ≡ cause_columns form further.now }
 {
@@ -218,7 +218,7 @@ pub fn cause_columns<'a>(further: &Further<'a>) -> [Column<'a>; 4]
     ]
 }
 
-/// What each side sent.
+/// Returns what each side sent.
 pub fn data_columns<'a, A: Allocator>(
     call: &CallRecord<A>,
     further: &Further<'_>,
@@ -255,7 +255,7 @@ pub fn data_columns<'a, A: Allocator>(
     ]
 }
 
-/// Who pays, and what was found.
+/// Returns who pays, and what was found.
 pub fn last_columns<'a, A: Allocator>(
     call: &'a CallRecord<A>,
     further: &Further<'_>,

@@ -1,9 +1,9 @@
-//! What is remembered of each call for the objects after the report.
+//! What is kept of each call for the objects after the report.
 
 use crate::causes::Causes;
 use crate::facts::{EndedCall, RowFacts, gap_of};
 use crate::times::Time;
-use line_model::event::What;
+use line_model::event::{Event, What};
 use line_model::finding::Code;
 use std::alloc::{AllocError, Allocator};
 
@@ -16,7 +16,7 @@ pub struct CodeCount {
     pub count: u64,
 }
 
-/// What is remembered of a call.
+/// What is kept of a call.
 #[derive(Drop)]
 pub struct CallMemory<A: Allocator> {
     /// Those of the packet that cleared it.
@@ -34,7 +34,7 @@ pub struct CallMemory<A: Allocator> {
 }
 
 impl<A: Allocator> CallMemory<A> {
-    /// A call that a row opened, after so many gap rows of all channels.
+    /// Returns a call that a row opened, after `gaps_of_all` gap rows of all channels.
     fn new(alloc: A, start: Option<Time>, gaps_of_all: u32) -> Self {
         CallMemory {
             causes: Causes::none(),
@@ -46,14 +46,14 @@ impl<A: Allocator> CallMemory<A> {
         }
     }
 
-    /// It ends, after so many gap rows of all channels.
+    /// Ends the call, after `gaps_of_all` gap rows of all channels.
     fn end(&mut self, time: Option<Time>, gaps_of_all: u32) {
         self.end = time;
         self.gaps = self.gaps_with(gaps_of_all);
         self.gaps_before = None;
     }
 
-    /// The gap rows in it, where there are so many of all channels.
+    /// Returns the gap rows in it, where there were `gaps_of_all` of all channels.
     fn gaps_with(&self, gaps_of_all: u32) -> u32 {
         match self.gaps_before {
             Some(before) => self.gaps.saturating_add(gaps_of_all.saturating_sub(before)),
@@ -74,7 +74,7 @@ impl<A: Allocator> CallMemory<A> {
     }
 }
 
-/// What is remembered of the calls, in the order of their numbers.
+/// What is kept of the calls, in the order of their numbers.
 #[derive(Drop)]
 pub struct Calls<A: Allocator> {
     alloc: A,
@@ -84,7 +84,7 @@ pub struct Calls<A: Allocator> {
 }
 
 impl<A: Allocator + Copy> Calls<A> {
-    /// There was no call. It takes no memory.
+    /// Returns a value without calls. Allocates no memory.
     pub fn new(alloc: A) -> Self {
         Calls {
             alloc,
@@ -93,57 +93,77 @@ impl<A: Allocator + Copy> Calls<A> {
         }
     }
 
-    /// The call of a number.
+    /// Returns the call of a number, if there is one.
     pub fn get(&self, number: u32) -> Option<&CallMemory<A>> {
         self.calls.get((number as usize).checked_sub(1)?)
     }
 
-    /// The call of a number, to change it.
+    /// Returns the call of a number, to change it.
     fn get_mut(&mut self, number: u32) -> Option<&mut CallMemory<A>> {
         self.calls.get_mut((number as usize).checked_sub(1)?)
     }
 
-    /// The gap rows in a call.
+    /// Returns the gap rows in a call.
     pub fn gaps_of(&self, call: &CallMemory<A>) -> u32 {
         call.gaps_with(self.gaps_of_all)
     }
 
-    /// Takes a gap, of the channel of a call, or of all channels.
-    fn take_gap(&mut self, gap: Option<u16>, open: u32) {
-        if gap.is_none() {
-            self.gaps_of_all = self.gaps_of_all.saturating_add(1);
-        } else if let Some(call) = self.get_mut(open) {
-            call.gaps = call.gaps.saturating_add(1);
+    /// Counts a gap row, of the channel of a call or of all channels.
+    fn take_gap(&mut self, facts: &RowFacts<'_>) {
+        match gap_of(&facts.last.packet) {
+            Some(None) => self.gaps_of_all = self.gaps_of_all.saturating_add(1),
+            Some(Some(_)) => {
+                if let Some(call) = self.get_mut(facts.calls.before) {
+                    call.gaps = call.gaps.saturating_add(1);
+                }
+            }
+            None => {}
         }
     }
 
-    /// Takes a row with the calls that it ended and its time.
+    /// Adds the calls that a row opened. Fails only when memory is refused.
+    fn open(&mut self, events: &[Event], time: Option<Time>) -> Result<(), AllocError> {
+        for event in events {
+            if let What::Open { .. } = event.what {
+                self.calls
+                    .push(CallMemory::new(self.alloc, time, self.gaps_of_all))?;
+            }
+        }
+        Ok(())
+    }
+
+    /// Counts the code of a row's finding, where it has one. Fails only when memory is refused.
+    fn count_finding(&mut self, facts: &RowFacts<'_>) -> Result<(), AllocError> {
+        let Some(finding) = facts.last.finding else {
+            return Ok(());
+        };
+        match self.get_mut(facts.calls.of_row()) {
+            Some(call) => call.count(finding.code),
+            None => Ok(()),
+        }
+    }
+
+    /// Ends the calls that a row ended.
+    fn end(&mut self, ended: &[EndedCall], time: Option<Time>) {
+        let gaps_of_all = self.gaps_of_all;
+        for ended in ended {
+            if let Some(call) = self.get_mut(ended.call) {
+                call.end(time, gaps_of_all);
+            }
+        }
+    }
+
+    /// Records a row with the calls that it ended and its time. Fails only when memory is refused.
     pub fn take(
         &mut self,
         facts: &RowFacts<'_>,
         ended: &[EndedCall],
         time: Option<Time>,
     ) -> Result<(), AllocError> {
-        if let Some(gap) = gap_of(&facts.last.packet) {
-            self.take_gap(gap, facts.calls.before);
-        }
-        let gaps_of_all = self.gaps_of_all;
-        for event in facts.events {
-            if let What::Open { .. } = event.what {
-                self.calls
-                    .push(CallMemory::new(self.alloc, time, gaps_of_all))?;
-            }
-        }
-        if let Some(finding) = &facts.last.finding {
-            if let Some(call) = self.get_mut(facts.calls.of_row()) {
-                call.count(finding.code)?;
-            }
-        }
-        for ended in ended {
-            if let Some(call) = self.get_mut(ended.call) {
-                call.end(time, gaps_of_all);
-            }
-        }
+        self.take_gap(facts);
+        self.open(facts.events, time)?;
+        self.count_finding(facts)?;
+        self.end(ended, time);
         if let Some(call) = self.get_mut(facts.calls.cleared) {
             call.causes = Causes::of(facts.octets);
         }

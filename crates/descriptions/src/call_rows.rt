@@ -6,7 +6,7 @@ ghost use Rattle.line_model.specs.declared.event.Event.{Event as AnyEvent};
 ghost use Rattle.line_model.specs.declared.interface.Interface.{Interface};
 ghost use Rattle.line_model.specs.observer.Calls.{calls_of};
 ghost use Rattle.annotated_trace.specs.Rows.{has_open};
-ghost use Rattle.descriptions.specs.CallRows.{EndsAt, Follows, Hears, OpensAt, is_at, is_in};
+ghost use Rattle.descriptions.specs.CallRows.{EndsAt, Follows, IsAfter, OpensAt, is_at, is_in};
 
 use line_model::event::{Event, What};
 
@@ -20,15 +20,15 @@ struct Place {
 /// A call by its number in the report: whether it is open, and where.
 #[derive(Clone, Copy)]
 pub(crate) struct CallRows {
-    /// 0 is the number of no call.
+    /// Counted from 1; 0 stands for no call.
     number: u32,
-    /// How many calls are still to be opened, up to this one.
+    /// How many calls are still to be opened up to this one.
     to_come: u32,
     place: Option<Place>,
 }
 
 impl CallRows {
-    /// The call of a number in a trace of which no row was taken.
+    /// Returns the call of a number, before the first row of a trace.
     pub(crate) fn new(number: u32) -> Self
         ensures follows { (i : Interface) → Follows i [] result }
         ensures number { result.number ≡ number }
@@ -60,11 +60,11 @@ impl CallRows {
         }
     }
 
-    /// A call is opened.
+    /// Records that a call is opened.
     fn open(&mut self, epoch: u32, channel: u16)
-        ensures heard { (es : List AnyEvent) (e : AnyEvent) → OpensAt epoch channel e
-            → Hears epoch es self.old
-            → Hears epoch (es ++ e ∷ []) self.new }
+        ensures applied { (es : List AnyEvent) (e : AnyEvent) → OpensAt epoch channel e
+            → IsAfter epoch es self.old
+            → IsAfter epoch (es ++ e ∷ []) self.new }
         ensures number { self.new.number ≡ self.old.number }
     {
         if self.to_come == 1 {
@@ -75,11 +75,11 @@ impl CallRows {
         }
     }
 
-    /// The call that is open on a logical channel ends.
+    /// Records the end of the call that is open on a logical channel.
     fn end(&mut self, epoch: u32, channel: u16)
-        ensures heard { (es : List AnyEvent) (e : AnyEvent) → EndsAt epoch channel e
-            → Hears epoch es self.old
-            → Hears epoch (es ++ e ∷ []) self.new }
+        ensures applied { (es : List AnyEvent) (e : AnyEvent) → EndsAt epoch channel e
+            → IsAfter epoch es self.old
+            → IsAfter epoch (es ++ e ∷ []) self.new }
         ensures number { self.new.number ≡ self.old.number }
     {
         if self.is_open(epoch, channel) {
@@ -87,10 +87,10 @@ impl CallRows {
         }
     }
 
-    /// Hears the next event of an epoch.
+    /// Applies the next event of an epoch.
     fn apply(&mut self, event: &Event)
-        ensures heard { (es : List AnyEvent) → Hears event.now.epoch es self.old
-            → Hears event.now.epoch (es ++ event.now ∷ []) self.new }
+        ensures applied { (es : List AnyEvent) → IsAfter event.now.epoch es self.old
+            → IsAfter event.now.epoch (es ++ event.now ∷ []) self.new }
         ensures number { self.new.number ≡ self.old.number }
     {
         match event.what {
@@ -100,14 +100,14 @@ impl CallRows {
         }
     }
 
-    /// The events of the next row of a logical channel: whether the row is one of the call's.
+    /// Applies the events of the next row of a logical channel, and returns whether the row is one of the call's.
     pub(crate) fn apply_row(&mut self, epoch: u32, channel: u16, events: &[Event]) -> bool
-        ensures told { (es : List AnyEvent) → AllByRecursion (λ f. f.epoch ≡ epoch) events.now
-            → Hears epoch es self.old
+        ensures of_call { (es : List AnyEvent) → AllByRecursion (λ f. f.epoch ≡ epoch) events.now
+            → IsAfter epoch es self.old
             → result ≡ (has_open self.old.number epoch channel (calls_of es)
             || has_open self.old.number epoch channel (calls_of (es ++ events.now))) }
-        ensures heard { (es : List AnyEvent) → AllByRecursion (λ f. f.epoch ≡ epoch) events.now
-            → Hears epoch es self.old → Hears epoch (es ++ events.now) self.new }
+        ensures applied { (es : List AnyEvent) → AllByRecursion (λ f. f.epoch ≡ epoch) events.now
+            → IsAfter epoch es self.old → IsAfter epoch (es ++ events.now) self.new }
         ensures number { self.new.number ≡ self.old.number }
     {
         let was_open = self.is_open(epoch, channel);

@@ -11,7 +11,7 @@ use crate::causes::{CauseTable, Causes};
 use crate::chosen::Chosen;
 use crate::closing_objects::{Rest, call_length};
 use crate::diagnostics::diagnostic;
-use crate::row_objects::Past;
+use crate::row_objects::PastRows;
 use crate::table_lines::{Listed, put_entry, put_heading};
 use crate::times::Recorded;
 use annotated_trace::printer::Printer;
@@ -36,7 +36,7 @@ pub trait TableKind {
 
     ghost form: { AnyForm };
 
-    /// The form.
+    /// Returns the form.
     fn form() -> TableForm
         ensures { result ≡ form };
 }
@@ -76,7 +76,7 @@ struct Shares<A: Allocator> {
 }
 
 impl<A: Allocator + Copy> Shares<A> {
-    /// Those of a call.
+    /// Returns those of a call.
     fn of_call(&self, number: u32) -> u64 {
         match (number as usize).checked_sub(1) {
             Some(place) => self.segments.get(place).copied().unwrap_or(0),
@@ -114,18 +114,18 @@ impl<A: Allocator + Copy> Shares<A> {
 pub struct CallTable<A: Allocator, K> {
     alloc: A,
     chosen: Chosen,
-    past: Past<A>,
+    past: PastRows<A>,
     shares: Shares<A>,
     kind: PhantomData<K>,
 }
 
 impl<A: Allocator + Copy, K: TableKind> CallTable<A, K> {
-    /// No line was read. It takes no memory.
+    /// Returns the printer before the first line. Allocates no memory.
     pub fn new(alloc: A) -> Self {
         CallTable {
             alloc,
             chosen: Chosen::new(Rows::All),
-            past: Past::new(alloc),
+            past: PastRows::new(alloc),
             shares: Shares {
                 segments: Vec::new(alloc),
             },
@@ -133,7 +133,7 @@ impl<A: Allocator + Copy, K: TableKind> CallTable<A, K> {
         }
     }
 
-    /// Takes the last row of a trace.
+    /// Records the last row of a trace.
     fn take_row<C: Channel<A>>(
         &mut self,
         trace: &Live<A, C>,
@@ -181,7 +181,7 @@ fn finding_count<A: Allocator>(call: &CallMemory<A>) -> u64 {
     findings
 }
 
-/// What is remembered of a call besides its record, whose DTE sent so many segments.
+/// Returns what is known of a call apart from its record, whose DTE sent `segments_t` segments.
 fn remembered<A: Allocator + Copy>(
     rest: &Rest<A>,
     call: &CallMemory<A>,
@@ -204,7 +204,7 @@ fn remembered<A: Allocator + Copy>(
     }
 }
 
-/// What is known of a call besides its record.
+/// Returns what is known of a call apart from its record.
 fn further<A: Allocator + Copy>(
     rest: &Rest<A>,
     shares: &Shares<A>,
@@ -263,7 +263,7 @@ fn put_entries<W: Sink, A: Allocator + Copy>(
     }
 }
 
-/// Gives a lent sink the table of calls. Where the sink fails it took a first part of it.
+/// Writes the table of calls to a lent sink. Fails where the sink fails, which took a first part of it.
 fn write_table<A: Allocator + Copy, S: LentSink>(
     form: TableForm,
     sources: &Sources<'_, A>,
@@ -304,7 +304,7 @@ impl<A: Allocator + Copy, C: Channel<A>, K: TableKind + Drop> Printer<A, Live<A,
 
     fn begin(&mut self) {
         self.chosen = Chosen::new(Rows::All);
-        self.past = Past::new(self.alloc);
+        self.past = PastRows::new(self.alloc);
         self.shares.segments.clear();
     }
 

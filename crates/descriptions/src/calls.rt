@@ -7,7 +7,7 @@ use packet_decode::fields::CallFields;
 /// The first octet of the user data of a PAD call (X.29 clause 4.1).
 const PAD: u8 = 1;
 
-/// What a call packet says, where it has no fault.
+/// Writes the fields of a call packet without fault.
 pub fn call<P: Prose>(out: &mut P, facts: &RowFacts<'_>) {
     match facts.call_fields() {
         Some(Ok(fields)) => say_fields(out, &fields),
@@ -16,7 +16,7 @@ pub fn call<P: Prose>(out: &mut P, facts: &RowFacts<'_>) {
     }
 }
 
-/// Whether user data is that of a PAD call.
+/// Returns whether user data is that of a PAD call.
 pub fn is_pad(user_data: &[u8]) -> bool {
     !user_data.is_empty() && user_data[0] == PAD
 }
@@ -50,7 +50,7 @@ fn say_facilities<P: Prose>(out: &mut P, fields: &CallFields<'_>) {
     }
 }
 
-/// A value for data from the called DTE, and one for data from the calling DTE.
+/// Writes a value for data from the called DTE, and one for data from the calling DTE.
 fn say_pair<P: Prose>(out: &mut P, name: &str, called: u64, calling: u64) {
     say_number(out, name, called);
     say_number(out, " from the called and ", calling);

@@ -2,7 +2,7 @@
 
 use explanations::lookup::{clearing_cause_row, resetting_cause_row, restarting_cause_row};
 
-/// The cause and the diagnostic code of a packet, as far as it has them.
+/// The cause and the diagnostic code of a packet, each where it has one.
 #[derive(Clone, Copy)]
 pub struct Causes {
     /// The cause.
@@ -12,7 +12,7 @@ pub struct Causes {
 }
 
 impl Causes {
-    /// Neither.
+    /// Returns a value without cause and code.
     pub fn none() -> Self {
         Causes {
             cause: None,
@@ -20,7 +20,7 @@ impl Causes {
         }
     }
 
-    /// Those of the octets of a clear, reset or restart packet.
+    /// Returns those in the octets of a clear, reset or restart packet.
     pub fn of(octets: &[u8]) -> Self {
         Causes {
             cause: octets.get(3).copied(),
@@ -41,7 +41,7 @@ pub enum CauseTable {
 }
 
 impl CauseTable {
-    /// The name of a cause; those from 128 on have none.
+    /// Returns the name of a cause; those from 128 on have none.
     pub fn name(self, cause: u8) -> &'static str {
         let row = match self {
             CauseTable::Clearing => clearing_cause_row(cause),

@@ -1,4 +1,4 @@
-//! Which rows are told of.
+//! Which rows are printed.
 
 ghost use Rattle.std.specs.Prelude.{◌≡◌, ℕ, ◌++◌, ◌∷◌, [], List, None};
 ghost use Rattle.line_model.specs.declared.event.Event.{Event};
@@ -14,7 +14,7 @@ ghost use Rattle.live_report.specs.Observing.{HasKept, HasWalked};
 ghost use Rattle.annotated_trace.specs.Rows.{asked_call, is_of_call, is_chosen};
 ghost use Rattle.line_model.specs.packets.Says.{gap_of};
 ghost use Rattle.descriptions.specs.CallRows.{Follows, steps_each};
-ghost use Rattle.descriptions.specs.Choosing.{HasChosen, told_of_line};
+ghost use Rattle.descriptions.specs.Choosing.{HasChosen, picked_by_line};
 
 use crate::call_rows::CallRows;
 use crate::facts::is_gap_of_all;
@@ -38,7 +38,7 @@ fn steps_each(before: RState, packet: &Packet) -> bool
     }
 }
 
-/// Whether a row that no logical channel took is a gap of all channels that reached each.
+/// Whether a row that went to no logical channel is a gap of all channels that reached each.
 fn reaches_each(last: &JudgedRow) -> bool
     ensures { (i : Interface) (before : List Item) (r : Item) (events : List Event)
         → taker last.now.judge ≡ None → IsJudgedRow i before r last.now events
@@ -57,7 +57,7 @@ fn judge_call<A: Allocator + Copy, C: Channel<A>>(
     observer: &Observer<A, C>,
     last: &JudgedRow,
 ) -> bool
-    ensures told { (i : Interface) (before : List Item) (r : Item) → Follows i before call.old
+    ensures of_call { (i : Interface) (before : List Item) (r : Item) → Follows i before call.old
         → HasWalked C.Channel i (before ++ r ∷ []) observer.now
         → IsJudgedRow i before r last.now observer.now.events.items
         → result ≡ is_of_call i before r call.old.number }
@@ -73,7 +73,7 @@ fn judge_call<A: Allocator + Copy, C: Channel<A>>(
     }
 }
 
-/// The rows that are told of, how many rows were judged, and the call that is named.
+/// The rows that are printed, how many rows were judged, and the call that is named.
 #[derive(Clone, Copy)]
 pub(crate) struct Chosen {
     rows: Rows,
@@ -82,7 +82,7 @@ pub(crate) struct Chosen {
 }
 
 impl Chosen {
-    /// No line was judged.
+    /// Returns the value before the first line.
     pub(crate) fn new(rows: Rows) -> Self
         ensures chosen { HasChosen [] result }
         ensures rows { result.rows ≡ rows }
@@ -94,17 +94,17 @@ impl Chosen {
         }
     }
 
-    /// The rows that are told of.
+    /// Returns the rows that are printed.
     pub(crate) fn rows(&self) -> Rows
         ensures { result ≡ self.now.rows }
     {
         self.rows
     }
 
-    /// Judges the observer's last row, the next one: whether it is told of.
+    /// Judges the next row, the observer's last one, and returns whether it is printed.
     #[inline(always)]
     fn judge<A: Allocator + Copy, C: Channel<A>>(&mut self, observer: &Observer<A, C>) -> bool
-        ensures told { (i : Interface) (before : List Item) (r : Item)
+        ensures picked { (i : Interface) (before : List Item) (r : Item)
             → Follows i before self.old.call
             → self.old.call.number ≡ asked_call self.old.rows
             → HasKept C.Channel i (before ++ r ∷ []) observer.now
@@ -124,17 +124,17 @@ impl Chosen {
         self.rows.chooses(&last.packet, of_call)
     }
 
-    /// Judges the last line of a trace, the next one: whether it writes a row that is told of; none where it writes no
-    /// row.
+    /// Judges the next line, the last one of a trace, and returns whether it writes a row that is printed; none where
+    /// it writes no row.
     #[inline(always)]
     pub(crate) fn judge_line<A: Allocator + Copy, C: Channel<A>>(
         &mut self,
         trace: &Live<A, C>,
     ) -> Option<bool>
-        ensures told { (before : List Line) (line : Line) (text : List ℕ)
+        ensures picked { (before : List Line) (line : Line) (text : List ℕ)
             → HasChosen before self.old → KeepsRowsOf C.Channel text trace.now
             → ended_lines text ≡ before ++ line ∷ []
-            → result ≡ told_of_line self.old before line }
+            → result ≡ picked_by_line self.old before line }
         ensures chosen { (before : List Line) (line : Line) (text : List ℕ)
             → HasChosen before self.old → KeepsRowsOf C.Channel text trace.now
             → ended_lines text ≡ before ++ line ∷ []
@@ -148,7 +148,7 @@ impl Chosen {
             return None;
         }
         self.packets = observer.packets();
-        let told = self.judge(observer);
-        Some(told)
+        let picked = self.judge(observer);
+        Some(picked)
     }
 }

@@ -9,7 +9,7 @@ use line_model::report::{Peak, Report};
 use live_report::uncounted::Uncounted;
 use std::alloc::Allocator;
 
-/// The sums, the calls with their PADs, the accounts, the peak, and what was not counted.
+/// Writes the sums, the calls with their PADs, the accounts, the peak, and what was not counted.
 pub fn report<A: Allocator, P: Page>(notes: &mut P, report: &Report<A>, uncounted: &Uncounted) {
     sums(notes, report);
     calls(notes, &report.calls);

@@ -3,13 +3,13 @@
 
 ghost use Rattle.std.specs.Prelude.{◌≡◌, ◌<◌, IfErr, OnErr, OnOk, codes, length};
 ghost use Rattle.annotated_trace.specs.Printed.{HasTaken, HasTakenFirst};
-ghost use Rattle.descriptions.specs.Members.{IsFurther, IsValue};
+ghost use Rattle.descriptions.specs.Members.{IsFurther};
 ghost use Rattle.descriptions.specs.Closing.{AreClosingObjects, AreObjects, AreUncounted, IsObjectLine};
 ghost use Rattle.descriptions.specs.Writing.{Adds};
 
 use crate::call_memory::{CallMemory, Calls, CodeCount};
 use crate::causes::CauseTable;
-use crate::json::{Json, Out};
+use crate::json::{Element, Json, Out};
 use crate::packet_members::{address_member, cause_members};
 use crate::row_head::code_digits;
 use crate::row_members::{reason_word, time_member};
@@ -87,8 +87,8 @@ fn write_to<'a, A: Allocator + Copy, K: Sink, B: Origin>(
     (lent.give_back(), answer)
 }
 
-/// Gives a sink the objects after those of the report, whose calls these are. Where the sink fails it took a first part of
-/// them.
+/// Writes to a sink the objects after those of the report, whose calls these are. Fails where the sink fails, which
+/// took a first part of them.
 pub fn write_rest<A: Allocator + Copy, K: Sink>(
     rest: &Rest<A>,
     records: &[CallRecord<A>],
@@ -129,7 +129,7 @@ fn uncounted_object<O: Out>(json: &mut Json<O>, reason: Reason, amount: &Amount)
     json.raw(b"}\n");
 }
 
-/// What a call's line of the report does not say.
+/// Writes what a call's line of the report does not say.
 fn call_object<O: Out, A: Allocator + Copy>(
     json: &mut Json<O>,
     number: u32,
@@ -192,7 +192,7 @@ fn memory_members<O: Out, A: Allocator>(json: &mut Json<O>, call: &CallMemory<A>
     time_member(json, ",\"seconds\":", call_length(call));
 }
 
-/// How long a call lasted, where both its rows have times.
+/// Returns how long a call lasted, where both its rows have times.
 pub fn call_length<A: Allocator>(call: &CallMemory<A>) -> Option<Time> {
     let end = call.end?;
     let start = call.start?;
@@ -204,30 +204,15 @@ fn codes_member<O: Out>(json: &mut Json<O>, codes: &[CodeCount])
     ensures { Adds O.has IsFurther json.old.out json.new.out }
 {
     json.member(",\"findings\":");
-    code_counts(json, codes);
+    json.array(codes);
 }
 
-/// An array of codes.
-fn code_counts<O: Out>(json: &mut Json<O>, codes: &[CodeCount])
-    ensures { Adds O.has IsValue json.old.out json.new.out }
-{
-    json.raw(b"[");
-    let mut is_first = true;
-    for known in codes {
-        json.separate(is_first);
-        is_first = false;
-        code_count(json, known);
+impl Element for CodeCount {
+    fn write<O: Out>(&self, json: &mut Json<O>) {
+        let mut code = Buffer::new();
+        json.first("{\"code\":");
+        json.quoted(code_digits(self.code, &mut code));
+        json.number_member(",\"count\":", self.count);
+        json.raw(b"}");
     }
-    json.raw(b"]");
-}
-
-/// How often the rows of a call have a code.
-fn code_count<O: Out>(json: &mut Json<O>, known: &CodeCount)
-    ensures { Adds O.has IsValue json.old.out json.new.out }
-{
-    let mut code = Buffer::new();
-    json.first("{\"code\":");
-    json.quoted(code_digits(known.code, &mut code));
-    json.number_member(",\"count\":", known.count);
-    json.raw(b"}");
 }

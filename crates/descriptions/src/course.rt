@@ -1,4 +1,4 @@
-//! What is remembered of the rows before: the calls, and the sequences of data that PAD calls have begun.
+//! What is kept of the rows before: the calls, and the sequences of data that PAD calls have begun.
 
 ghost use Rattle.std.specs.Prelude.{◌≡◌, ◌<◌, [], ℕ, List, None, OnOk, Some, length};
 ghost use Rattle.line_model.specs.basics.Records.{Item};
@@ -7,7 +7,7 @@ ghost use Rattle.line_model.specs.observer.Calls.{all_lengths};
 ghost use Rattle.restart_epochs.specs.Cutting.{observer};
 ghost use Rattle.live_report.specs.JudgedRows.{IsJudgedRow, taker};
 ghost use Rattle.live_report.specs.Uncounted.{reason_at};
-ghost use Rattle.descriptions.specs.Facts.{AreFactsOf, IsFateOf, reason_told};
+ghost use Rattle.descriptions.specs.Facts.{AreFactsOf, IsFateOf, reason_in};
 
 use crate::facts::{
     CallMove, EndedCall, Fate, RowFacts, counted_in, data_header, is_adrift, is_clear, user_data,
@@ -29,23 +29,23 @@ use restart_epochs::channel_table::ChannelTable;
 use std::alloc::{AllocError, Allocator};
 use std::boxed::Box;
 
-/// What is remembered of a logical channel.
+/// What is kept of a logical channel.
 #[derive(Drop)]
-struct Lane<A: Allocator> {
+struct KnownChannel<A: Allocator> {
     /// The number of its call that is open, or 0.
     call: u32,
     /// The number of its last call, where the clear indication of the DCE is still to come, or 0.
     uncleared: u32,
-    /// It was adrift since its call was opened.
+    /// Whether it was adrift since its call was opened.
     had_gap: bool,
     /// The sequences of data packets that its PAD call has begun.
     sequences: Assembler<A>,
 }
 
-impl<A: Allocator + Copy> Lane<A> {
-    /// A channel without a row, with this packet size in force.
+impl<A: Allocator + Copy> KnownChannel<A> {
+    /// Returns a channel without a row, with this packet size in force.
     fn fresh(alloc: A, size: u16) -> Self {
-        Lane {
+        KnownChannel {
             call: 0,
             uncleared: 0,
             had_gap: false,
@@ -53,7 +53,7 @@ impl<A: Allocator + Copy> Lane<A> {
         }
     }
 
-    /// Takes the data of a row: the PAD message that it completes, if it does.
+    /// Adds the data of a row, and returns the PAD message that it completes, if it does.
     fn completed(
         &mut self,
         alloc: A,
@@ -72,6 +72,20 @@ impl<A: Allocator + Copy> Lane<A> {
             }
             Ok(_) => Ok(None),
             Err(_) => Err(AllocError),
+        }
+    }
+
+    /// Adds the data of a row that may be of a PAD message, and returns the message that it completes, if it does; none in
+    /// a call that had a gap.
+    fn message(
+        &mut self,
+        alloc: A,
+        side: Side,
+        data: Option<DataField<'_>>,
+    ) -> Result<Option<Vec<u8, A>>, AllocError> {
+        match data {
+            Some(data) if !self.had_gap => self.completed(alloc, side, &data),
+            _ => Ok(None),
         }
     }
 
@@ -108,46 +122,53 @@ struct CallCount<A: Allocator> {
 }
 
 impl<A: Allocator + Copy> CallCount<A> {
-    /// Takes a row and its events: what it did to the calls of its channel.
+    /// Applies a row and its events, and returns what it did to the calls of its channel.
     fn take(
         &mut self,
-        lane: &mut Lane<A>,
+        known: &mut KnownChannel<A>,
         last: &JudgedRow,
         events: &[Event],
     ) -> Result<CallMove, AllocError> {
         let mut calls = CallMove::none();
-        calls.before = lane.call;
+        calls.before = known.call;
         for event in events {
             match event.what {
-                What::Open { .. } => {
-                    self.opened = self.opened.saturating_add(1);
-                    calls.opened = self.opened;
-                    lane.call = self.opened;
-                    lane.uncleared = 0;
-                }
-                What::End(how) => {
-                    self.ended.push(EndedCall {
-                        call: lane.call,
-                        how,
-                    })?;
-                    if how == How::T || how == How::N {
-                        lane.uncleared = lane.call;
-                    }
-                    lane.call = 0;
-                }
+                What::Open { .. } => calls.opened = self.open(known),
+                What::End(how) => self.end(known, how)?,
                 _ => {}
             }
         }
-        calls.after = lane.call;
+        calls.after = known.call;
         if is_clear(&last.packet) && (last.side == Side::N || !self.ended.is_empty()) {
-            calls.cleared = lane.uncleared;
-            lane.uncleared = 0;
+            calls.cleared = known.uncleared;
+            known.uncleared = 0;
         }
         Ok(calls)
     }
+
+    /// Opens a call on a channel, and returns its number.
+    fn open(&mut self, known: &mut KnownChannel<A>) -> u32 {
+        self.opened = self.opened.saturating_add(1);
+        known.call = self.opened;
+        known.uncleared = 0;
+        self.opened
+    }
+
+    /// Ends the call of a channel. Fails only when memory is refused.
+    fn end(&mut self, known: &mut KnownChannel<A>, how: How) -> Result<(), AllocError> {
+        self.ended.push(EndedCall {
+            call: known.call,
+            how,
+        })?;
+        if how == How::T || how == How::N {
+            known.uncleared = known.call;
+        }
+        known.call = 0;
+        Ok(())
+    }
 }
 
-/// What is remembered of the rows so far.
+/// What is kept of the rows so far.
 #[derive(Drop)]
 pub struct Course<A: Allocator> {
     alloc: A,
@@ -158,15 +179,15 @@ pub struct Course<A: Allocator> {
     had_gap: bool,
     /// The PAD message that the last row completed.
     message: Option<Vec<u8, A>>,
-    /// The epoch that the last row stands in.
+    /// The epoch of the last row.
     epoch: u32,
-    /// The epoch that the next row stands in.
+    /// The epoch of the next row.
     next_epoch: u32,
-    lanes: ChannelTable<Lane<A>, A>,
+    known_channels: ChannelTable<KnownChannel<A>, A>,
 }
 
 impl<A: Allocator + Copy> Course<A> {
-    /// There was no row. It takes no memory.
+    /// Returns the value before the first row. Allocates no memory.
     pub fn new(alloc: A) -> Self {
         Course {
             alloc,
@@ -179,11 +200,11 @@ impl<A: Allocator + Copy> Course<A> {
             message: None,
             epoch: 1,
             next_epoch: 1,
-            lanes: ChannelTable::new(alloc),
+            known_channels: ChannelTable::new(alloc),
         }
     }
 
-    /// Takes the last row of an observer.
+    /// Applies the last row of an observer. Fails only when memory is refused.
     pub fn take<C: Channel<A>>(
         &mut self,
         interface: &Interface,
@@ -199,25 +220,22 @@ impl<A: Allocator + Copy> Course<A> {
         self.message = None;
         match last.channel() {
             Some(channel) => {
-                let mut lane = self.lane(channel, interface.size)?;
+                let mut known = self.take_known(channel, interface.size)?;
                 let events = observer.events();
-                self.moved = self.calls.take(&mut lane, last, events)?;
-                lane.note_gap(last, self.moved.opened != 0);
-                self.had_gap = lane.had_gap;
-                if let Some(data) = pad_data(interface, octets, last, events) {
-                    if !lane.had_gap {
-                        self.message = lane.completed(self.alloc, last.side, &data)?;
-                    }
-                }
-                lane.settle(last);
-                self.lanes.put(channel, lane);
+                self.moved = self.calls.take(&mut known, last, events)?;
+                known.note_gap(last, self.moved.opened != 0);
+                self.had_gap = known.had_gap;
+                let data = pad_data(interface, octets, last, events);
+                self.message = known.message(self.alloc, last.side, data)?;
+                known.settle(last);
+                self.known_channels.put(channel, known);
                 Ok(())
             }
             None => self.on_interface(last),
         }
     }
 
-    /// The facts of the last row of an observer, which was taken.
+    /// Returns the facts of the last row of an observer, which was applied.
     pub fn facts<'a, C: Channel<A>>(
         &'a self,
         interface: &'a Interface,
@@ -254,15 +272,15 @@ impl<A: Allocator + Copy> Course<A> {
         }
     }
 
-    /// The calls that the last row ended.
+    /// Returns the calls that the last row ended.
     pub fn ended(&self) -> &[EndedCall] {
         self.calls.ended.as_slice()
     }
 
-    /// The number of the call that is open on a channel, or 0.
+    /// Returns the number of the call that is open on a channel, or 0.
     pub fn call_on(&self, channel: u16) -> u32 {
-        match self.lanes.get(channel) {
-            Some(lane) => lane.call,
+        match self.known_channels.get(channel) {
+            Some(known) => known.call,
             None => 0,
         }
     }
@@ -272,7 +290,8 @@ impl<A: Allocator + Copy> Course<A> {
         self.epoch != self.next_epoch && is_in_r1(last)
     }
 
-    /// Takes a row that the restart machine judged. A confirmation that renews the epoch shows a restart that was missed.
+    /// Applies a row that the restart machine judged. A confirmation that renews the epoch shows a restart that was
+    /// missed.
     fn on_interface(&mut self, last: &JudgedRow) -> Result<(), AllocError> {
         if self.renews(last) && last.packet == Packet::RestartConfirm {
             self.end_all(How::Gap)
@@ -283,26 +302,26 @@ impl<A: Allocator + Copy> Course<A> {
         }
     }
 
-    /// Takes out what is remembered of a channel, with this packet size in force where it has no row.
-    fn lane(&mut self, channel: u16, size: u16) -> Result<Box<Lane<A>, A>, AllocError>
-        ensures room { OnOk result (channel < length self.new.lanes.lanes) }
+    /// Removes and returns what is kept of a channel; this packet size is in force where it has no row.
+    fn take_known(&mut self, channel: u16, size: u16) -> Result<Box<KnownChannel<A>, A>, AllocError>
+        ensures room { OnOk result (channel < length self.new.known_channels.open_channels) }
     {
-        match self.lanes.take(channel) {
-            Some(lane) => Ok(lane),
+        match self.known_channels.take(channel) {
+            Some(known) => Ok(known),
             None => {
-                self.lanes.list(channel)?;
-                Ok(Box::new(self.alloc, Lane::fresh(self.alloc, size))?)
+                self.known_channels.list(channel)?;
+                Ok(Box::new(self.alloc, KnownChannel::fresh(self.alloc, size))?)
             }
         }
     }
 
-    /// All calls end, and all channels begin again.
+    /// Ends all calls, and forgets all channels.
     fn end_all(&mut self, how: How) -> Result<(), AllocError> {
-        while let Some((_, lane)) = self.lanes.pop_first() {
-            match lane {
-                Some(lane) if lane.call != 0 => {
+        while let Some((_, known)) = self.known_channels.pop_first() {
+            match known {
+                Some(known) if known.call != 0 => {
                     self.calls.ended.push(EndedCall {
-                        call: lane.call,
+                        call: known.call,
                         how,
                     })?;
                 }
@@ -313,7 +332,7 @@ impl<A: Allocator + Copy> Course<A> {
     }
 }
 
-/// The events of the channel that took a row.
+/// The events of the channel that a row went to.
 fn events_of<'a, A: Allocator + Copy, C: Channel<A>>(
     last: &JudgedRow,
     observer: &'a Observer<A, C>,
@@ -332,7 +351,7 @@ fn fate(last: &JudgedRow, events: &[Event]) -> Fate
     ensures counted { IsFateOf (all_lengths events.now) result }
     ensures reason { (i : AnyInterface) (earlier : List Item) (r : Item)
         → IsJudgedRow i earlier r last.now events.now → (taker last.now.judge ≡ None → events.now ≡ [])
-        → reason_told result ≡ reason_at i (observer i earlier) r }
+        → reason_in result ≡ reason_at i (observer i earlier) r }
 {
     match counted_in(events) {
         Some(counted) => counted,
@@ -345,7 +364,7 @@ fn passed_over(last: &JudgedRow, events: &[Event]) -> Fate
     ensures counted { IsFateOf [] result }
     ensures reason { (i : AnyInterface) (earlier : List Item) (r : Item)
         → IsJudgedRow i earlier r last.now events.now
-        → reason_told result ≡ reason_at i (observer i earlier) r }
+        → reason_in result ≡ reason_at i (observer i earlier) r }
 {
     match reason_of(last, events) {
         Some(reason) => Fate::NotCounted(reason),
@@ -353,7 +372,7 @@ fn passed_over(last: &JudgedRow, events: &[Event]) -> Fate
     }
 }
 
-/// Whether a row took the restart machine out of r1, so all calls end.
+/// Whether a row moved the restart machine out of r1, so all calls end.
 fn leaves_ready(last: &JudgedRow) -> bool {
     match last.judge {
         Judge::Restart { before, after } => before == RState::R1 && after != RState::R1,
@@ -369,8 +388,8 @@ fn is_in_r1(last: &JudgedRow) -> bool {
     }
 }
 
-/// The data of a row of a PAD call, where it was counted and may be of a message, which has Q 1. Data with Q 0 begins and
-/// ends sequences of its own: where it stands inside of a message it is found and not counted.
+/// Returns the data of a row of a PAD call, where it was counted and has Q 1, as messages do. Data with Q 0 belongs to
+/// other sequences: within a message it is a finding, and is not counted.
 fn pad_data<'a>(
     interface: &Interface,
     octets: &'a [u8],

@@ -4,10 +4,10 @@ use crate::chosen::Chosen;
 use crate::closing;
 use crate::course::Course;
 use crate::faults::{Before, fault};
-use crate::prose::Telling;
+use crate::prose::ProseWriter;
 use crate::row_words::row;
 use annotated_trace::describer::Describer;
-use annotated_trace::notes::{Notes, Words};
+use annotated_trace::notes::{NoteWords, Notes};
 use annotated_trace::page::ClosingPage;
 use annotated_trace::rows::Rows;
 use channel_run::run::Channel;
@@ -18,17 +18,17 @@ use live_report::live::Live;
 use live_report::uncounted::Uncounted;
 use std::alloc::{AllocError, Allocator};
 
-/// What is remembered of the rows before.
+/// What is kept of the rows before.
 #[derive(Drop)]
 struct Past<A: Allocator> {
     course: Course<A>,
-    /// What stands before the last row with a finding.
+    /// What was known before the last row with a finding.
     before: Option<Before>,
     uncounted: Uncounted,
 }
 
 impl<A: Allocator + Copy> Past<A> {
-    /// There was no row. It takes no memory.
+    /// Returns the value before the first row. Allocates no memory.
     fn new(alloc: A) -> Self {
         Past {
             course: Course::new(alloc),
@@ -57,13 +57,13 @@ impl<A: Allocator + Copy> Past<A> {
             self.before = Some(Before::of_row(&facts));
         }
         self.uncounted = observer.uncounted();
-        let mut telling = Telling::new(notes);
-        row(&facts, &mut telling);
-        telling.answer()
+        let mut writer = ProseWriter::new(notes);
+        row(&facts, &mut writer);
+        writer.answer()
     }
 }
 
-/// Tells what each row is and did, or each of those that are chosen.
+/// Describes what each row is and did, or each of those that are chosen.
 #[derive(Drop)]
 pub struct Descriptions<A: Allocator> {
     alloc: A,
@@ -74,7 +74,7 @@ pub struct Descriptions<A: Allocator> {
 impl<A: Allocator + Copy> Descriptions<A> {
     ghost use Rattle.std.specs.Prelude.{◌≡◌};
 
-    /// No row was described. It takes no memory.
+    /// Returns the value before the first row. Allocates no memory.
     pub fn new(alloc: A, rows: Rows) -> Self
         ensures { result.chosen.rows ≡ rows }
     {
@@ -103,25 +103,25 @@ impl<A: Allocator + Copy, C: Channel<A>> Describer<A, Live<A, C>> for Descriptio
     }
 
     fn describe(&mut self, trace: &Live<A, C>, notes: &mut Notes<A>) -> Result<bool, AllocError> {
-        let Some(told) = self.chosen.judge_line(trace) else {
+        let Some(picked) = self.chosen.judge_line(trace) else {
             return Ok(false);
         };
         self.past.say_row(trace, notes)?;
         notes.next()?;
-        Ok(told)
+        Ok(picked)
     }
 
     fn explain(
         &mut self,
         trace: &Live<A, C>,
         finding: &Finding,
-        words: &mut Words<A>,
+        words: &mut NoteWords<A>,
     ) -> Result<(), AllocError> {
-        let mut telling = Telling::new(words);
+        let mut writer = ProseWriter::new(words);
         if let Some(before) = &self.past.before {
-            fault(&mut telling, before, trace.row().octets.as_slice(), finding);
+            fault(&mut writer, before, trace.row().octets.as_slice(), finding);
         }
-        telling.answer()
+        writer.answer()
     }
 
     fn close<S: LentSink>(&mut self, report: &Report<A>, page: &mut ClosingPage<S>) {

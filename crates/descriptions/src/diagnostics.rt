@@ -1,6 +1,6 @@
 //! The names of diagnostic codes (X.25 Annex E).
 
-/// A diagnostic code.
+/// Returns the name of a diagnostic code.
 pub fn diagnostic(code: u8) -> &'static str {
     match code {
         0..=15 => sequence(code),

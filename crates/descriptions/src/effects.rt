@@ -12,7 +12,7 @@ use line_model::packet::Packet;
 use line_model::state::RState;
 use live_report::uncounted::Reason;
 
-/// A change of state, or the state where none changed.
+/// Writes a change of state, or the state where it stayed.
 fn moved<P: Prose>(out: &mut P, before: &str, after: &str) {
     if before == after {
         out.say("stays ");
@@ -23,7 +23,7 @@ fn moved<P: Prose>(out: &mut P, before: &str, after: &str) {
     out.say(after);
 }
 
-/// What a packet of the restart machine did, or a gap that no channel took.
+/// Writes what a packet of the restart machine did, or a gap that went to no channel.
 pub fn restart_move<P: Prose>(out: &mut P, facts: &RowFacts<'_>, before: RState, after: RState) {
     moved(
         out,
@@ -39,7 +39,7 @@ pub fn restart_move<P: Prose>(out: &mut P, facts: &RowFacts<'_>, before: RState,
     }
 }
 
-/// What a change of the restart machine means for the channels.
+/// Returns what a change of the restart machine means for the channels.
 fn change(before: RState, after: RState) -> &'static str {
     match (before, after) {
         (RState::R1, RState::R1) => "",
@@ -49,7 +49,8 @@ fn change(before: RState, after: RState) -> &'static str {
     }
 }
 
-/// What a packet means for the channels that ends an epoch after a gap of all channels, and begins the next one at once.
+/// Returns what it means for the channels that a packet ends an epoch after a gap of all channels and begins the next
+/// one at once.
 fn renewal(packet: &Packet) -> &'static str {
     if *packet == Packet::RestartConfirm {
         "; a restart was missed: all channels and their calls end, and all channels are fresh"
@@ -67,7 +68,7 @@ fn known_state(word: &FlowWord) -> &'static str {
     }
 }
 
-/// How the state of a channel changed.
+/// Writes how the state of a channel changed.
 pub fn channel_move<P: Prose>(out: &mut P, before: &FlowWord, after: &FlowWord) {
     moved(out, known_state(before), known_state(after));
     if is_adrift(before) && !is_adrift(after) {
@@ -75,7 +76,7 @@ pub fn channel_move<P: Prose>(out: &mut P, before: &FlowWord, after: &FlowWord) 
     }
 }
 
-/// The call that a row belongs to, by its number in the report; nothing for 0.
+/// Writes the call that a row belongs to, by its number in the report; nothing for 0.
 pub fn of_call<P: Prose>(out: &mut P, call: u32) {
     if call == 0 {
         return;
@@ -83,7 +84,7 @@ pub fn of_call<P: Prose>(out: &mut P, call: u32) {
     say_number(out, "; call ", u64::from(call));
 }
 
-/// What a row told.
+/// Writes what an event of a row is.
 pub fn event<P: Prose>(out: &mut P, event: &Event) {
     match &event.what {
         What::Found { .. } => {}
@@ -121,7 +122,7 @@ fn ending(how: How) -> &'static str {
     }
 }
 
-/// Why data was not counted, in words; a trace may have gaps.
+/// Returns why data was not counted, in words; a trace may have gaps.
 pub fn reason_words(reason: Reason, has_gaps: bool) -> &'static str {
     match reason {
         Reason::Finding => "a finding",

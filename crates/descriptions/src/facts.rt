@@ -6,7 +6,7 @@ ghost use Rattle.line_model.specs.observer.Calls.{all_lengths};
 ghost use Rattle.line_model.specs.channels.GapRestart.{is_of_all};
 ghost use Rattle.line_model.specs.packets.Says.{gap_of};
 ghost use Rattle.live_report.specs.Uncounted.{counts_data};
-ghost use Rattle.descriptions.specs.Facts.{IsFateOf, reason_told};
+ghost use Rattle.descriptions.specs.Facts.{IsFateOf, reason_in};
 
 use call_accounts::so_far::segments_in;
 use channel_run::run::View;
@@ -20,7 +20,7 @@ use live_report::uncounted::Reason;
 use packet_decode::decode::{class_of, header_length};
 use packet_decode::fields::{CallFields, call_fields};
 
-/// Whether a packet stands for a gap of all logical channels.
+/// Returns whether a packet represents a gap of all logical channels.
 pub fn is_gap_of_all(packet: &Packet) -> bool
     ensures { result ≡ is_of_all (gap_of packet.now) }
 {
@@ -38,13 +38,13 @@ pub fn is_gap_of_all(packet: &Packet) -> bool
 pub enum Fate {
     /// It has no data.
     NoData,
-    /// So many octets were counted, in so many segments of 64 octets.
+    /// This many octets were counted, in this many segments of 64 octets.
     Counted { octets: u32, segments: u64 },
-    /// They were not.
+    /// They were not counted.
     NotCounted(Reason),
 }
 
-/// The calls of the logical channel that took a row, by their numbers in the report; 0 where there is none.
+/// The calls of the logical channel that a row went to, by their numbers in the report; 0 where there is none.
 #[derive(Clone, Copy)]
 pub struct CallMove {
     /// The call that was open before.
@@ -58,7 +58,7 @@ pub struct CallMove {
 }
 
 impl CallMove {
-    /// No call.
+    /// Returns no call.
     pub fn none() -> Self {
         CallMove {
             before: 0,
@@ -68,7 +68,8 @@ impl CallMove {
         }
     }
 
-    /// The call that a row belongs to: the one that is open after it, else the one that was open before it.
+    /// Returns the call that a row belongs to: the one that is open after it, otherwise the one that was open before
+    /// it.
     pub fn of_row(&self) -> u32 {
         if self.after != 0 {
             self.after
@@ -96,13 +97,13 @@ pub struct RowFacts<'a> {
     pub interface: &'a Interface,
     /// How many octets it has.
     pub length: usize,
-    /// The octets that are kept of it: of data with Q 0 its header, else all.
+    /// The octets that are kept of it: of data with Q 0 the header, otherwise all.
     pub octets: &'a [u8],
     /// The row as the observer judged it.
     pub last: &'a JudgedRow,
-    /// The stretch between restarts that it stands in.
+    /// Its epoch: the time between two restarts.
     pub epoch: u32,
-    /// The events of the logical channel that took it.
+    /// The events of the logical channel that it went to.
     pub events: &'a [Event],
     /// The calls of that channel.
     pub calls: CallMove,
@@ -110,9 +111,9 @@ pub struct RowFacts<'a> {
     pub fate: Fate,
     /// The octets of the PAD message that it completes, the first 1,025.
     pub message: Option<&'a [u8]>,
-    /// It ended an epoch and began the next one at once.
+    /// Whether it ended an epoch and began the next one at once.
     pub renews: bool,
-    /// The channel that took it had a gap in its call.
+    /// Whether the channel that it went to had a gap in its call.
     pub had_gap: bool,
 }
 
@@ -127,7 +128,7 @@ pub fn is_adrift(word: &FlowWord) -> bool
     bit(word.owner_bits(), ADRIFT)
 }
 
-/// The gap that a packet stands for: of a logical channel, or of all, where it names none.
+/// Returns the gap that a packet represents: of a logical channel, or of all, where it names none.
 pub fn gap_of(packet: &Packet) -> Option<Option<u16>>
     ensures { result ≡ gap_of packet.now }
 {
@@ -142,7 +143,7 @@ pub fn gap_of(packet: &Packet) -> Option<Option<u16>>
 }
 
 impl<'a> RowFacts<'a> {
-    /// What was known before it of the logical channel that took it.
+    /// Returns what was known before it of the logical channel that it went to.
     pub fn view_before(&self) -> Option<View> {
         match &self.last.judge {
             Judge::Channel { before, .. } => Some(view_in(before)),
@@ -150,7 +151,7 @@ impl<'a> RowFacts<'a> {
         }
     }
 
-    /// What a call packet says, or the code of its first fault; none where it is no call packet.
+    /// Returns what a call packet says, or the code of its first fault; none where it is not a call packet.
     pub fn call_fields(&self) -> Option<Result<CallFields<'a>, u8>> {
         match class_of(self.interface, self.octets) {
             Class::Call => Some(call_fields(self.interface, self.octets, false)),
@@ -168,7 +169,7 @@ impl<'a> RowFacts<'a> {
     }
 }
 
-/// The user data of a data packet.
+/// Returns the user data of a data packet.
 pub fn user_data<'a>(interface: &Interface, octets: &'a [u8]) -> &'a [u8] {
     match octets.split_at_checked(header_length(interface)) {
         Some((_, data)) => data,
@@ -176,12 +177,12 @@ pub fn user_data<'a>(interface: &Interface, octets: &'a [u8]) -> &'a [u8] {
     }
 }
 
-/// How many octets of user data a data packet with so many octets has.
+/// Returns how many octets of user data a data packet of `length` octets has.
 pub fn user_octets(interface: &Interface, length: usize) -> u64 {
     length.saturating_sub(header_length(interface)) as u64
 }
 
-/// Whether a packet is a clear request or indication.
+/// Returns whether a packet is a clear request or indication.
 pub fn is_clear(packet: &Packet) -> bool {
     matches!(
         packet,
@@ -192,7 +193,7 @@ pub fn is_clear(packet: &Packet) -> bool {
     )
 }
 
-/// The header of a data packet.
+/// Returns the header of a data packet.
 pub fn data_header(packet: &Packet) -> Option<DataHeader> {
     match packet {
         Packet::Channel {
@@ -203,11 +204,11 @@ pub fn data_header(packet: &Packet) -> Option<DataHeader> {
     }
 }
 
-/// What became of the data of a packet with these events, where it was counted.
+/// Returns what became of the data of a packet with these events, where it was counted.
 pub fn counted_in(events: &[Event]) -> Option<Fate>
     ensures fate { MatchOption result (all_lengths events.now ≡ [])
         (λ fate. IsFateOf (all_lengths events.now) fate) }
-    ensures counted { IfSome result (λ fate. (reason_told fate ≡ None)
+    ensures counted { IfSome result (λ fate. (reason_in fate ≡ None)
         × (counts_data events.now ≡ true)) }
 {
     for event in events {

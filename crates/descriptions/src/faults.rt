@@ -33,7 +33,7 @@ pub struct Before {
 }
 
 impl Before {
-    /// What stands before a row.
+    /// Returns what was known before a row.
     pub fn of_row(facts: &RowFacts<'_>) -> Self {
         Before {
             interface: *facts.interface,
@@ -45,7 +45,8 @@ impl Before {
     }
 }
 
-/// A finding: the name of its code, what is wrong with the values of the row, what the DCE does next, and the clause.
+/// Writes a finding: the name of its code, what is wrong with the values of the row, what the DCE does next, and the
+/// clause.
 pub fn fault<P: Prose>(out: &mut P, before: &Before, octets: &[u8], finding: &Finding) {
     let Some(row) = code_row(finding.code) else {
         return;
@@ -60,7 +61,7 @@ pub fn fault<P: Prose>(out: &mut P, before: &Before, octets: &[u8], finding: &Fi
     out.say(")");
 }
 
-/// What is wrong with a row: with its values, where these tell it.
+/// Writes what is wrong with a row: with its values, where these show it.
 pub fn wrong<P: Prose>(
     out: &mut P,
     before: &Before,
@@ -75,7 +76,7 @@ pub fn wrong<P: Prose>(
     }
 }
 
-/// What an error has the DCE do.
+/// Returns what an error has the DCE do.
 pub fn consequence(finding: &Finding) -> &'static str {
     match finding.code {
         Code::Pad(_) => "No state changes",
@@ -99,7 +100,7 @@ fn reaction(state: StateName, code: u8) -> &'static str {
     }
 }
 
-/// What is wrong with the values of a row, where its values tell it.
+/// Writes what is wrong with the values of a row, where its values show it.
 fn values<P: Prose>(out: &mut P, before: &Before, octets: &[u8], finding: &Finding) -> bool {
     match finding.code {
         Code::Number(INVALID_P_S | INVALID_P_R) if before.had_gap => false,
@@ -116,7 +117,7 @@ fn values<P: Prose>(out: &mut P, before: &Before, octets: &[u8], finding: &Findi
     }
 }
 
-/// A P(S) that does not follow, or lies outside the window.
+/// Writes what is wrong with a P(S) that is not the next one, or lies outside the window.
 fn send_number<P: Prose>(out: &mut P, before: &Before, side: Side) -> bool {
     let Some(header) = header(&before.packet) else {
         return false;
@@ -134,7 +135,7 @@ fn send_number<P: Prose>(out: &mut P, before: &Before, side: Side) -> bool {
     true
 }
 
-/// A P(R) that acknowledges nothing that was sent.
+/// Writes what is wrong with a P(R) that acknowledges nothing that was sent.
 fn receive_number<P: Prose>(out: &mut P, before: &Before, side: Side) -> bool {
     let Some(number) = acknowledged(&before.packet) else {
         return false;
@@ -151,7 +152,7 @@ fn receive_number<P: Prose>(out: &mut P, before: &Before, side: Side) -> bool {
     true
 }
 
-/// The numbers that were allowed, from a first to a last one, which is brought below the modulus.
+/// Writes the numbers that were allowed, from a first to a last one, each modulo the modulus.
 fn range<P: Prose>(out: &mut P, before: &Before, first: u64, last: u64) {
     let modulus = if before.interface.modulus == 8 {
         8
@@ -204,7 +205,7 @@ fn send_window(before: &Before, side: Side) -> SendWindow {
     }
 }
 
-/// A call against the direction of its channel.
+/// Writes that a call goes against the direction of its channel.
 fn direction<P: Prose>(out: &mut P, before: &Before, side: Side) -> bool {
     let interface = &before.interface;
     match side {
@@ -214,7 +215,7 @@ fn direction<P: Prose>(out: &mut P, before: &Before, side: Side) -> bool {
     true
 }
 
-/// Which channels are for calls of one side.
+/// Writes which channels are for calls of one side.
 fn channels<P: Prose>(out: &mut P, below: u16, last: u16, calls: &str) {
     say_number(out, "logical channels ", u64::from(below) + 1);
     say_number(out, " to ", u64::from(last));
@@ -223,7 +224,7 @@ fn channels<P: Prose>(out: &mut P, below: u16, last: u16, calls: &str) {
     out.say(" calls");
 }
 
-/// A channel that the interface does not have.
+/// Writes that the interface does not have a channel.
 fn channel<P: Prose>(out: &mut P, before: &Before, octets: &[u8]) -> bool {
     let channel = logical_channel(octets);
     if octets.len() < 2 || channel <= before.interface.svc {
@@ -235,7 +236,7 @@ fn channel<P: Prose>(out: &mut P, before: &Before, octets: &[u8]) -> bool {
     true
 }
 
-/// How long a packet is.
+/// Writes how long a packet is.
 fn length<P: Prose>(out: &mut P, length: usize, why: &str) -> bool {
     count(out, "", length as u64, " octet");
     out.say(", ");
@@ -243,7 +244,7 @@ fn length<P: Prose>(out: &mut P, length: usize, why: &str) -> bool {
     true
 }
 
-/// How long a packet is that is too long, and what it may have where it is a data packet.
+/// Writes how long a packet is that is too long, and how long data may be.
 fn too_long<P: Prose>(out: &mut P, before: &Before, side: Side) -> bool {
     if header(&before.packet).is_none() {
         return length(out, before.length, "which is too long");
@@ -266,7 +267,7 @@ fn too_long<P: Prose>(out: &mut P, before: &Before, side: Side) -> bool {
     true
 }
 
-/// Bits 6 and 5 of the first octet.
+/// Writes bits 6 and 5 of the first octet.
 fn format<P: Prose>(out: &mut P, before: &Before, octets: &[u8]) -> bool {
     let [first, ..] = octets else {
         return false;
@@ -286,7 +287,7 @@ fn format<P: Prose>(out: &mut P, before: &Before, octets: &[u8]) -> bool {
     true
 }
 
-/// The type octet of a packet.
+/// Writes the type octet of a packet.
 fn packet_type<P: Prose>(out: &mut P, octets: &[u8]) -> bool {
     let [_, _, kind, ..] = octets else {
         return false;
@@ -297,7 +298,7 @@ fn packet_type<P: Prose>(out: &mut P, octets: &[u8]) -> bool {
     true
 }
 
-/// The Q bit of a packet in a sequence with another one.
+/// Writes that a packet has another Q bit than its sequence.
 fn qualifier<P: Prose>(out: &mut P, before: &Before) -> bool {
     let Some(header) = header(&before.packet) else {
         return false;

@@ -12,7 +12,7 @@ use std::alloc::{AllocError, Allocator};
 /// The hex digits of a half of an octet.
 const DIGITS: &[u8; 16] = b"0123456789ABCDEF";
 
-/// Where JSON is written to. It refuses nothing where something is written.
+/// Where JSON is written to. Its calls never fail.
 pub trait Out {
     /// This text was written.
     ghost has: { Self → List ℕ → Type 0 };
@@ -20,6 +20,13 @@ pub trait Out {
     /// Writes bytes.
     fn put(&mut self, bytes: &[u8])
         ensures { (text : List ℕ) → has self.old text → has self.new (text ++ bytes.now) };
+}
+
+/// An element of an array.
+pub trait Element {
+    /// Writes it as a value.
+    fn write<O: Out>(&self, json: &mut Json<O>)
+        ensures { Adds O.has IsValue json.old.out json.new.out };
 }
 
 /// Bytes that grow as long as there is memory for them. Where it is refused nothing is written from then on.
@@ -32,7 +39,7 @@ pub struct Growing<A: Allocator> {
 impl<A: Allocator> Growing<A> {
     ghost use Rattle.std.specs.Prelude.{IfOk};
 
-    /// No bytes. It takes no memory.
+    /// Starts with no bytes. Allocates no memory.
     pub fn new(alloc: A) -> Self {
         Growing {
             bytes: Vec::new(alloc),
@@ -48,7 +55,7 @@ impl<A: Allocator> Growing<A> {
         self.answer = Ok(());
     }
 
-    /// The bytes, where there was memory for all that was written.
+    /// Returns the bytes. Fails where memory was refused for some of what was written.
     pub fn written(&self) -> Result<&[u8], AllocError>
         ensures { (text : List ℕ) → ⟦<Growing<A> as Out>⟧.has self.now text
             → IfOk result (λ bytes. bytes.now ≡ text) }
@@ -103,7 +110,7 @@ impl<O: Out> Json<O> {
         self.raw(beginning.as_bytes());
     }
 
-    /// Writes what stands before the next element of an array.
+    /// Writes what comes before the next element of an array.
     pub fn separate(&mut self, empty: bool)
         ensures { Adds O.has (These (comma_after empty)) self.old.out self.new.out }
     {
@@ -150,14 +157,14 @@ impl<O: Out> Json<O> {
         }
     }
 
-    /// Writes a text.
+    /// Writes a string.
     pub fn text(&mut self, text: &str)
         ensures { Adds O.has IsValue self.old.out self.new.out }
     {
         self.quoted(text.as_bytes());
     }
 
-    /// Writes bytes as a text.
+    /// Writes bytes as a string.
     pub fn quoted(&mut self, bytes: &[u8])
         ensures { Adds O.has IsValue self.old.out self.new.out }
     {
@@ -166,7 +173,7 @@ impl<O: Out> Json<O> {
         self.raw(b"\"");
     }
 
-    /// Writes octets in hex, as a text.
+    /// Writes octets in hex, as a string.
     pub fn hex(&mut self, octets: &[u8])
         ensures { Adds O.has IsValue self.old.out self.new.out }
     {
@@ -184,7 +191,7 @@ impl<O: Out> Json<O> {
         self.value(number);
     }
 
-    /// Writes a member that is a text.
+    /// Writes a member that is a string.
     pub fn text_member(&mut self, beginning: &str, text: &str)
         requires { IsTrue (is_beginning promised beginning.now) }
         ensures { Adds O.has IsFurther self.old.out self.new.out }
@@ -211,6 +218,20 @@ impl<O: Out> Json<O> {
         self.null();
     }
 
+    /// Writes an array.
+    pub fn array<T: Element>(&mut self, elements: &[T])
+        ensures { Adds O.has IsValue self.old.out self.new.out }
+    {
+        self.raw(b"[");
+        let mut is_first = true;
+        for element in elements {
+            self.separate(is_first);
+            is_first = false;
+            element.write(self);
+        }
+        self.raw(b"]");
+    }
+
     /// Writes an object of a number and its name.
     pub fn named(&mut self, value: u8, name: &str)
         ensures { Adds O.has IsValue self.old.out self.new.out }
@@ -221,7 +242,7 @@ impl<O: Out> Json<O> {
         self.raw(b"}");
     }
 
-    /// Writes bytes in a text, with escapes where they need them.
+    /// Writes bytes in a string, with escapes where they need them.
     pub fn words(&mut self, bytes: &[u8])
         ensures { Adds O.has IsText self.old.out self.new.out }
     {
@@ -234,7 +255,7 @@ impl<O: Out> Json<O> {
         }
     }
 
-    /// Writes a byte in a text. A control character becomes a space.
+    /// Writes a byte in a string. A control character becomes a space.
     fn byte(&mut self, byte: u8)
         ensures { Adds O.has IsText self.old.out self.new.out }
     {
@@ -266,7 +287,7 @@ impl<O: Out> Json<O> {
     }
 }
 
-/// The hex digit of a half of an octet.
+/// Returns the hex digit of a half of an octet.
 pub fn hex_digit(half: u8) -> u8
     requires { half < 16 }
     ensures { is_plain result ≡ true }
@@ -274,7 +295,7 @@ pub fn hex_digit(half: u8) -> u8
     DIGITS[usize::from(half)]
 }
 
-/// Whether no byte of a text needs an escape.
+/// Whether no byte of a string needs an escape.
 fn is_plain(bytes: &[u8]) -> bool
     ensures { OnTrue result (IsText bytes.now) }
 {
@@ -286,7 +307,7 @@ fn is_plain(bytes: &[u8]) -> bool
     true
 }
 
-/// Whether a byte of a text needs an escape.
+/// Whether a byte of a string needs an escape.
 fn needs_escape(byte: u8) -> bool
     ensures { result ≡ not (is_plain byte) }
 {

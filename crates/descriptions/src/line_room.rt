@@ -7,14 +7,14 @@ ghost use Rattle.descriptions.specs.Lines.{Puts};
 use itoa::write_digits;
 use std::marker::Model;
 
-/// The bytes that a line may have.
+/// The bytes that a line may have: 1,024.
 const ROOM: usize = 1024;
 
 /// The digits of the longest number.
 const LONGEST: usize = 20;
 
-/// A line in a fixed room, which is written from its end to its front: so the digits of a number stand where they are
-/// made. Of a line that finds no room nothing is left.
+/// A line in a fixed room, which is written from its end to its front, so the digits of a number stay where they are
+/// made. A line that finds no room is dropped.
 #[derive(Drop)]
 pub struct LineRoom {
     room: [u8; ROOM],
@@ -32,7 +32,7 @@ impl Model for LineRoom {
     ghost invariant = { λ line. line.start ≤ 1024 };
 }
 
-/// Puts bytes before those that stand at a place of a room, and returns where they begin.
+/// Puts bytes before those at a place of a room, and returns where they begin.
 #[inline(always)]
 fn put_before(bytes: &[u8], room: &mut [u8], end: usize) -> usize
     requires { (length bytes.now ≤ end) × (end ≤ length room.old) }
@@ -46,7 +46,7 @@ fn put_before(bytes: &[u8], room: &mut [u8], end: usize) -> usize
 }
 
 impl LineRoom {
-    /// An empty line.
+    /// Returns an empty line.
     pub fn new() -> Self
         ensures { result ≡ Some [] }
     {
@@ -65,7 +65,7 @@ impl LineRoom {
         self.fits = true;
     }
 
-    /// The line, if it found room.
+    /// Returns the line, if it found room.
     pub fn line(&self) -> Option<&[u8]>
         ensures { option_map (λ line. line.now) result ≡ self.now }
     {

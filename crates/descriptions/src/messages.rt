@@ -4,7 +4,7 @@ use crate::parameters::parameter;
 use crate::prose::{Prose, say_number};
 use pad::message::{Message, MessageCode, read_message};
 
-/// What a message is for (X.29 Table 3).
+/// Returns what a message is for (X.29 Table 3).
 pub fn name(code: MessageCode) -> &'static str {
     match code {
         MessageCode::Indication => "parameter indication",
@@ -19,7 +19,7 @@ pub fn name(code: MessageCode) -> &'static str {
     }
 }
 
-/// A PAD message that is whole in these octets.
+/// Writes a PAD message that is whole in these octets.
 pub fn message<P: Prose>(out: &mut P, octets: &[u8]) {
     match read_message(octets) {
         Ok(message) => say_message(out, &message),
@@ -37,7 +37,7 @@ fn say_message<P: Prose>(out: &mut P, message: &Message<'_>) {
     }
 }
 
-/// The standard pairs of a message; a read has no values.
+/// Writes the standard pairs of a message; a read has no values.
 fn say_pairs<P: Prose>(out: &mut P, message: &Message<'_>) {
     let read = message.code == MessageCode::Read;
     for pair in message.standard_pairs() {

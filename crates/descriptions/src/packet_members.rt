@@ -20,7 +20,7 @@ use packet_decode::fields::CallFields;
 use pad::message::{Message, MessageCode, read_message};
 use pad::pairs::Pair;
 
-/// The members that say what the packet of a row has.
+/// Writes the members that say what the packet of a row has.
 pub fn packet_members<O: Out>(json: &mut Json<O>, facts: &RowFacts<'_>)
     ensures { Adds O.has IsFurther json.old.out json.new.out }
 {
@@ -32,7 +32,7 @@ pub fn packet_members<O: Out>(json: &mut Json<O>, facts: &RowFacts<'_>)
     }
 }
 
-/// The members of a packet on a logical channel.
+/// Writes the members of a packet on a logical channel.
 fn kind_members<O: Out>(json: &mut Json<O>, facts: &RowFacts<'_>, kind: &PacketKind)
     ensures { Adds O.has IsFurther json.old.out json.new.out }
 {
@@ -51,7 +51,7 @@ fn kind_members<O: Out>(json: &mut Json<O>, facts: &RowFacts<'_>, kind: &PacketK
     }
 }
 
-/// A diagnostic code by number and name, null where there is none.
+/// Writes a diagnostic code by number and name, null where there is none.
 fn diagnostic_member<O: Out>(json: &mut Json<O>, code: Option<u8>)
     ensures { Adds O.has IsFurther json.old.out json.new.out }
 {
@@ -62,14 +62,14 @@ fn diagnostic_member<O: Out>(json: &mut Json<O>, code: Option<u8>)
     }
 }
 
-/// The cause and the diagnostic code of a row's packet.
+/// Writes the cause and the diagnostic code of a row's packet.
 fn row_causes<O: Out>(json: &mut Json<O>, facts: &RowFacts<'_>, table: CauseTable)
     ensures { Adds O.has IsFurther json.old.out json.new.out }
 {
     cause_members(json, &Causes::of(facts.octets), table);
 }
 
-/// A cause by number and name and a diagnostic code, each null where there is none.
+/// Writes a cause by number and name and a diagnostic code, each null where there is none.
 pub fn cause_members<O: Out>(json: &mut Json<O>, causes: &Causes, table: CauseTable)
     ensures { Adds O.has IsFurther json.old.out json.new.out }
 {
@@ -77,7 +77,7 @@ pub fn cause_members<O: Out>(json: &mut Json<O>, causes: &Causes, table: CauseTa
     diagnostic_member(json, causes.diagnostic);
 }
 
-/// A cause by number and name, null where there is none.
+/// Writes a cause by number and name, null where there is none.
 fn cause_member<O: Out>(json: &mut Json<O>, cause: Option<u8>, table: CauseTable)
     ensures { Adds O.has IsFurther json.old.out json.new.out }
 {
@@ -88,7 +88,7 @@ fn cause_member<O: Out>(json: &mut Json<O>, cause: Option<u8>, table: CauseTable
     }
 }
 
-/// The members of a data packet.
+/// Writes the members of a data packet.
 fn data_members<O: Out>(json: &mut Json<O>, facts: &RowFacts<'_>, header: &DataHeader)
     ensures { Adds O.has IsFurther json.old.out json.new.out }
 {
@@ -101,7 +101,7 @@ fn data_members<O: Out>(json: &mut Json<O>, facts: &RowFacts<'_>, header: &DataH
     message_member(json, facts.message);
 }
 
-/// A PAD message, where a data packet completes one.
+/// Writes a PAD message, where a data packet completes one.
 fn message_member<O: Out>(json: &mut Json<O>, message: Option<&[u8]>)
     ensures { Adds O.has IsFurther json.old.out json.new.out }
 {
@@ -111,7 +111,7 @@ fn message_member<O: Out>(json: &mut Json<O>, message: Option<&[u8]>)
     }
 }
 
-/// A PAD message, null where it cannot be read.
+/// Writes a PAD message, null where it cannot be read.
 fn message_object<O: Out>(json: &mut Json<O>, octets: &[u8])
     ensures { Adds O.has IsValue json.old.out json.new.out }
 {
@@ -127,7 +127,7 @@ fn message_object<O: Out>(json: &mut Json<O>, octets: &[u8])
     }
 }
 
-/// The standard pairs of a message, where it has any; a read has no values.
+/// Writes the standard pairs of a message, where it has any; a read has no values.
 fn pairs<O: Out>(json: &mut Json<O>, message: &Message<'_>)
     ensures { Adds O.has IsValue json.old.out json.new.out }
 {
@@ -138,14 +138,14 @@ fn pairs<O: Out>(json: &mut Json<O>, message: &Message<'_>)
     }
 }
 
-/// No pairs.
+/// Writes an empty array of pairs.
 fn no_pairs<O: Out>(json: &mut Json<O>)
     ensures { Adds O.has IsValue json.old.out json.new.out }
 {
     json.raw(b"[]");
 }
 
-/// The standard pairs of a message.
+/// Writes the standard pairs of a message.
 fn standard_pairs<O: Out>(json: &mut Json<O>, message: &Message<'_>)
     ensures { Adds O.has IsValue json.old.out json.new.out }
 {
@@ -160,7 +160,7 @@ fn standard_pairs<O: Out>(json: &mut Json<O>, message: &Message<'_>)
     json.raw(b"]");
 }
 
-/// A pair of a message.
+/// Writes a pair of a message.
 fn pair_object<O: Out>(json: &mut Json<O>, pair: &Pair, read: bool)
     ensures { Adds O.has IsValue json.old.out json.new.out }
 {
@@ -180,7 +180,7 @@ fn parameter<O: Out>(json: &mut Json<O>, reference: u8)
     parameter_name(json, reference);
 }
 
-/// The name of a parameter, null where it has none.
+/// Writes the name of a parameter, null where it has none.
 fn parameter_name<O: Out>(json: &mut Json<O>, reference: u8)
     ensures { Adds O.has IsValue json.old.out json.new.out }
 {
@@ -190,7 +190,7 @@ fn parameter_name<O: Out>(json: &mut Json<O>, reference: u8)
     }
 }
 
-/// An address, null where it has no digit.
+/// Writes an address, null where it has no digit.
 pub fn address_member<O: Out>(json: &mut Json<O>, beginning: &str, address: &Address)
     requires { IsTrue (is_beginning promised beginning.now) }
     ensures { Adds O.has IsFurther json.old.out json.new.out }
@@ -204,7 +204,7 @@ pub fn address_member<O: Out>(json: &mut Json<O>, beginning: &str, address: &Add
     }
 }
 
-/// The members of a call packet without a fault.
+/// Writes the members of a call packet without a fault.
 fn call_members<O: Out>(json: &mut Json<O>, facts: &RowFacts<'_>)
     ensures { Adds O.has IsFurther json.old.out json.new.out }
 {
@@ -213,7 +213,7 @@ fn call_members<O: Out>(json: &mut Json<O>, facts: &RowFacts<'_>)
     }
 }
 
-/// The fields of a call packet.
+/// Writes the fields of a call packet.
 fn field_members<O: Out>(json: &mut Json<O>, fields: &CallFields<'_>)
     ensures { Adds O.has IsFurther json.old.out json.new.out }
 {
@@ -227,7 +227,7 @@ fn field_members<O: Out>(json: &mut Json<O>, fields: &CallFields<'_>)
     json.flag_member(",\"pad\":", is_pad(fields.user_data));
 }
 
-/// The packet sizes of a call, null where it asks for none.
+/// Writes the packet sizes of a call, null where it asks for none.
 fn sizes_member<O: Out>(json: &mut Json<O>, sizes: Option<(u16, u16)>)
     ensures { Adds O.has IsFurther json.old.out json.new.out }
 {
@@ -238,7 +238,7 @@ fn sizes_member<O: Out>(json: &mut Json<O>, sizes: Option<(u16, u16)>)
     }
 }
 
-/// The windows of a call, null where it asks for none.
+/// Writes the windows of a call, null where it asks for none.
 fn windows_member<O: Out>(json: &mut Json<O>, windows: Option<(u8, u8)>)
     ensures { Adds O.has IsFurther json.old.out json.new.out }
 {
@@ -249,7 +249,7 @@ fn windows_member<O: Out>(json: &mut Json<O>, windows: Option<(u8, u8)>)
     }
 }
 
-/// A value for data from the called DTE, and one for data from the calling DTE.
+/// Writes a value for data from the called DTE, and one for data from the calling DTE.
 fn pair_of<O: Out>(json: &mut Json<O>, called: u64, calling: u64)
     ensures { Adds O.has IsValue json.old.out json.new.out }
 {
@@ -259,7 +259,7 @@ fn pair_of<O: Out>(json: &mut Json<O>, called: u64, calling: u64)
     json.raw(b"}");
 }
 
-/// The user data of a call, null where it has none.
+/// Writes the user data of a call, null where it has none.
 fn user_data_member<O: Out>(json: &mut Json<O>, user_data: &[u8])
     ensures { Adds O.has IsFurther json.old.out json.new.out }
 {
@@ -271,7 +271,7 @@ fn user_data_member<O: Out>(json: &mut Json<O>, user_data: &[u8])
     }
 }
 
-/// What became known of PADs, where something did.
+/// Writes what became known of PADs, where something did.
 pub fn settings_member<O: Out>(json: &mut Json<O>, events: &[Event])
     ensures { Adds O.has IsFurther json.old.out json.new.out }
 {
@@ -291,7 +291,7 @@ fn has_setting(events: &[Event]) -> bool {
     false
 }
 
-/// An array of what became known of PADs.
+/// Writes an array of what became known of PADs.
 fn settings<O: Out>(json: &mut Json<O>, events: &[Event])
     ensures { Adds O.has IsValue json.old.out json.new.out }
 {
@@ -312,7 +312,7 @@ fn settings<O: Out>(json: &mut Json<O>, events: &[Event])
     json.raw(b"]");
 }
 
-/// What is known of a parameter.
+/// Writes what is known of a parameter.
 fn setting<O: Out>(json: &mut Json<O>, pad: Side, reference: u8, entry: Entry)
     ensures { Adds O.has IsValue json.old.out json.new.out }
 {
@@ -329,7 +329,7 @@ fn setting<O: Out>(json: &mut Json<O>, pad: Side, reference: u8, entry: Entry)
     json.raw(b"}");
 }
 
-/// The side of a PAD.
+/// Writes the side of a PAD.
 fn pad_member<O: Out>(json: &mut Json<O>, pad: Side)
     ensures { Adds O.has (IsMembers []) json.old.out json.new.out }
 {
@@ -339,7 +339,7 @@ fn pad_member<O: Out>(json: &mut Json<O>, pad: Side)
     }
 }
 
-/// The value of a parameter, null where it is not known.
+/// Writes the value of a parameter, null where it is not known.
 fn value_member<O: Out>(json: &mut Json<O>, value: Option<u8>)
     ensures { Adds O.has IsFurther json.old.out json.new.out }
 {

@@ -5,23 +5,24 @@ use crate::causes::{CauseTable, Causes};
 use crate::diagnostics::diagnostic;
 use crate::facts::{RowFacts, user_octets};
 use crate::names;
+use crate::packet_names::packet_name;
 use crate::prose::{Prose, bracketed, count, say_number};
 use line_model::packet::{DataHeader, Packet, PacketKind};
 
-/// The packet of a row, with its side, its logical channel and its fields.
+/// Says the packet of a row, with its side, its logical channel and its fields.
 pub fn packet<P: Prose>(out: &mut P, facts: &RowFacts<'_>) {
     let side = facts.last.side;
     match &facts.last.packet {
         Packet::Channel { channel, kind } => {
             say_number(out, names::side_on_channel(side), u64::from(*channel));
             out.say(": ");
-            out.say(names::packet(side, &facts.last.packet));
+            out.say(packet_name(side, &facts.last.packet));
             channel_fields(out, facts, kind)
         }
         packet => {
             out.say(names::side(side));
             out.say(": ");
-            out.say(names::packet(side, packet));
+            out.say(packet_name(side, packet));
             interface_fields(out, facts, packet)
         }
     }

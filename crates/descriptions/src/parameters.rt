@@ -6,7 +6,7 @@ use explanations::lookup::parameter_row;
 use line_model::event::Entry;
 use line_model::state::Side;
 
-/// A parameter by its reference, with its name where X.3 has one.
+/// Writes a parameter by its reference, with its name where X.3 has one.
 pub fn parameter<P: Prose>(out: &mut P, reference: u8) {
     say_number(out, "parameter ", u64::from(reference));
     if let Some(named) = parameter_row(reference) {
@@ -14,7 +14,7 @@ pub fn parameter<P: Prose>(out: &mut P, reference: u8) {
     }
 }
 
-/// What is known of a parameter of the PAD on a side.
+/// Writes what is known of a parameter of the PAD on a side.
 pub fn setting<P: Prose>(out: &mut P, pad: Side, reference: u8, entry: Entry) {
     out.say("PAD of the ");
     out.say(names::side(pad));

@@ -1,13 +1,13 @@
-//! Words, numbers and octets, one behind the other.
+//! Words, numbers and octets, one after the other.
 
-use annotated_trace::notes::{Notes, Words};
+use annotated_trace::notes::{NoteWords, Notes};
 use annotated_trace::page::ClosingPage;
 use line_model::address::Address;
 use line_model::lending::LentSink;
 use std::alloc::{AllocError, Allocator};
 
-/// What prose is written to: the comments of a row, the words of a mark, or the page of the closing comments. It refuses
-/// nothing where something is said.
+/// The target of words: the comments of a row, the words of a mark, or the page of the closing comments. Its calls
+/// never fail.
 pub trait Prose {
     /// Appends words.
     fn say(&mut self, words: &str);
@@ -19,33 +19,32 @@ pub trait Prose {
     fn octets(&mut self, octets: &[u8]);
 }
 
-/// What comments of several lines are written to.
+/// The target of comments of several lines.
 pub trait Page: Prose {
     /// Begins a further line.
     fn next_line(&mut self);
 }
 
-/// Notes or words that are said as long as there is memory for them. Where it is refused nothing is said from then on,
-/// and the answer tells it.
+/// Writes notes or words while memory lasts. Once memory is refused, nothing more is written, and `answer` fails.
 #[derive(Drop)]
-pub struct Telling<'a, T> {
+pub struct ProseWriter<'a, T> {
     to: &'a mut T,
     answer: Result<(), AllocError>,
 }
 
-impl<'a, T> Telling<'a, T> {
-    /// Nothing was said.
+impl<'a, T> ProseWriter<'a, T> {
+    /// Returns a writer that has written nothing.
     pub fn new(to: &'a mut T) -> Self {
-        Telling { to, answer: Ok(()) }
+        ProseWriter { to, answer: Ok(()) }
     }
 
-    /// Whether there was memory for all that was said.
+    /// Fails where memory was refused for something that was to be written.
     pub fn answer(&self) -> Result<(), AllocError> {
         self.answer
     }
 }
 
-impl<A: Allocator + Copy> Page for Telling<'_, Notes<A>> {
+impl<A: Allocator + Copy> Page for ProseWriter<'_, Notes<A>> {
     fn next_line(&mut self) {
         if self.answer.is_ok() {
             self.answer = self.to.next();
@@ -53,7 +52,7 @@ impl<A: Allocator + Copy> Page for Telling<'_, Notes<A>> {
     }
 }
 
-impl<A: Allocator + Copy> Prose for Telling<'_, Notes<A>> {
+impl<A: Allocator + Copy> Prose for ProseWriter<'_, Notes<A>> {
     fn say(&mut self, words: &str) {
         if self.answer.is_ok() {
             self.answer = self.to.say(words);
@@ -73,7 +72,7 @@ impl<A: Allocator + Copy> Prose for Telling<'_, Notes<A>> {
     }
 }
 
-impl<A: Allocator + Copy> Prose for Telling<'_, Words<A>> {
+impl<A: Allocator + Copy> Prose for ProseWriter<'_, NoteWords<A>> {
     fn say(&mut self, words: &str) {
         if self.answer.is_ok() {
             self.answer = self.to.say(words);
@@ -119,14 +118,14 @@ pub fn say_number<P: Prose>(out: &mut P, words: &str, number: u64) {
     out.number(number);
 }
 
-/// Appends a name in brackets, which a space stands before.
+/// Appends a space and a name in brackets.
 pub fn bracketed<P: Prose>(out: &mut P, name: &str) {
     out.say(" (");
     out.say(name);
     out.say(")");
 }
 
-/// Appends words and a number with the name of what it counts, which begins with a space and stands in the plural but for 1.
+/// Appends words and a number with the name of what it counts, which begins with a space and is plural except after 1.
 pub fn count<P: Prose>(out: &mut P, words: &str, number: u64, one: &str) {
     say_number(out, words, number);
     out.say(one);

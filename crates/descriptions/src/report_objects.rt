@@ -1,4 +1,4 @@
-//! The objects of a report go to a sink.
+//! Writes the objects of a report to a sink.
 
 ghost use Rattle.std.specs.Prelude.{◌≡◌, ◌<◌, ◌≤◌, IfErr, OnErr, OnOk};
 ghost use Rattle.line_model.specs.basics.Device.{with_more};
@@ -13,7 +13,7 @@ use line_model::report::Report;
 use report_merge::text::write_report;
 use std::alloc::Allocator;
 
-/// Gives a lent sink the objects of the lines of a report. Where the sink fails it took a first part of them.
+/// Writes to a lent sink the objects of the lines of a report. Fails where the sink fails, which took a first part.
 pub fn write_report_objects<A: Allocator, S: LentSink>(
     report: &Report<A>,
     sink: S,

@@ -123,7 +123,7 @@ fn append_counted<A: Allocator>(fate: Fate, out: &mut Vec<u8, A>) -> Result<(), 
     )
 }
 
-/// A code, as the report prints it.
+/// Returns a code, as the report prints it.
 pub fn code_digits<'a>(code: Code, buffer: &'a mut Buffer) -> &'a [u8]
     ensures { result.now ≡ code_word code }
 {

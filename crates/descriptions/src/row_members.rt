@@ -5,13 +5,13 @@ ghost use Rattle.std.specs.Prelude.{IfSome, IsTrue, None};
 ghost use Rattle.line_model.specs.packets.Says.{gap_of};
 ghost use Rattle.descriptions.specs.Members.{IsFurther, IsText, IsValue, promised};
 ghost use Rattle.descriptions.specs.RowObjects.{IsRest};
-ghost use Rattle.descriptions.specs.Writing.{Adds, AreDigits, IsOpenArray, is_beginning};
+ghost use Rattle.descriptions.specs.Writing.{Adds, AreDigits, is_beginning};
 
 use crate::facts::{EndedCall, Fate, RowFacts, gap_of};
 use crate::faults::{Before, consequence, wrong};
-use crate::json::{Json, Out};
+use crate::json::{Element, Json, Out};
 use crate::packet_members::{packet_members, settings_member};
-use crate::packet_types::packet_type;
+use crate::packet_names::packet_type;
 use crate::sentence::Sentence;
 use crate::times::{BILLIONTHS, Recorded, Time};
 use channel_run::status_word::view_in;
@@ -229,7 +229,7 @@ fn is_up(events: &[Event]) -> bool {
     false
 }
 
-/// How a call ended, in the words of the report.
+/// Returns how a call ended, in the words of the report.
 pub fn how_word(how: How) -> &'static str {
     match how {
         How::T => "T",
@@ -245,34 +245,19 @@ fn ends_member<O: Out>(json: &mut Json<O>, ended: &[EndedCall])
     ensures { Adds O.has IsFurther json.old.out json.new.out }
 {
     json.member(",\"ends\":");
-    ended_calls(json, ended);
+    json.array(ended);
 }
 
-/// An array of calls that ended.
-fn ended_calls<O: Out>(json: &mut Json<O>, ended: &[EndedCall])
-    ensures { Adds O.has IsValue json.old.out json.new.out }
-{
-    json.raw(b"[");
-    let mut is_first = true;
-    for ended in ended {
-        json.separate(is_first);
-        is_first = false;
-        ended_call(json, ended);
+impl Element for EndedCall {
+    fn write<O: Out>(&self, json: &mut Json<O>) {
+        json.first("{\"call\":");
+        json.value(u64::from(self.call));
+        json.text_member(",\"how\":", how_word(self.how));
+        json.raw(b"}");
     }
-    json.raw(b"]");
 }
 
-/// A call that ended.
-fn ended_call<O: Out>(json: &mut Json<O>, ended: &EndedCall)
-    ensures { Adds O.has IsValue json.old.out json.new.out }
-{
-    json.first("{\"call\":");
-    json.value(u64::from(ended.call));
-    json.text_member(",\"how\":", how_word(ended.how));
-    json.raw(b"}");
-}
-
-/// The word of a reason for which data was not counted.
+/// Returns the word of a reason for which data was not counted.
 pub fn reason_word(reason: Reason) -> &'static str {
     match reason {
         Reason::Finding => "finding",
@@ -303,7 +288,7 @@ fn frame_member<O: Out>(json: &mut Json<O>, recorded: Recorded)
     }
 }
 
-/// A time, as a number of seconds.
+/// Writes a time, as a number of seconds.
 pub fn time_member<O: Out>(json: &mut Json<O>, beginning: &str, time: Option<Time>)
     requires { IsTrue (is_beginning promised beginning.now) }
     ensures { Adds O.has IsFurther json.old.out json.new.out }
@@ -341,11 +326,11 @@ fn billionths<O: Out>(json: &mut Json<O>, billionths: u32)
 {
     json.digits(u64::from(billionths / BILLIONTHS[0]));
     let mut rest = billionths % BILLIONTHS[0];
-    for worth in &BILLIONTHS[1..] {
+    for place_value in &BILLIONTHS[1..] {
         if rest != 0 {
-            let digit = rest.checked_div(*worth).unwrap_or(0);
+            let digit = rest.checked_div(*place_value).unwrap_or(0);
             json.digits(u64::from(digit));
-            rest = rest.checked_rem(*worth).unwrap_or(0);
+            rest = rest.checked_rem(*place_value).unwrap_or(0);
         }
     }
 }

@@ -1,22 +1,21 @@
 //! The rows of a trace as objects.
 
-ghost use Rattle.std.specs.Prelude.{◌≡◌, ℕ, ◌++◌, ◌∷◌, [], List, IfSome, None, OnOk, Some, false, length};
+ghost use Rattle.std.specs.Prelude.{◌≡◌, ◌++◌, ◌∷◌, [], List, IfSome, None, OnOk, Some, false, length};
 ghost use Rattle.line_model.specs.basics.Records.{Item, Row};
 ghost use Rattle.line_model.specs.declared.interface.Interface.{Interface};
-ghost use Rattle.line_model.specs.packets.Says.{gap_of, item_of, items_of};
+ghost use Rattle.line_model.specs.packets.Says.{gap_of};
 ghost use Rattle.line_model.specs.text.RowLine.{row_of};
-ghost use Rattle.line_model.specs.text.Text.{Line, ended_lines, head_of, rows_in};
-ghost use Rattle.live_report.specs.Lives.{KeepsRowsOf};
+ghost use Rattle.line_model.specs.text.Text.{Line};
 ghost use Rattle.annotated_trace.specs.Printed.{HasAppended};
-ghost use Rattle.annotated_trace.specs.Rows.{row_written};
 ghost use Rattle.descriptions.specs.Facts.{AreFactsOf};
 ghost use Rattle.descriptions.specs.Members.{IsText};
-ghost use Rattle.descriptions.specs.RowObjects.{IsObjectWhere, IsRest, IsRowObject};
+ghost use Rattle.descriptions.specs.RowObjects.{AppendsObject, IsObjectWhere, IsRest, IsRowObject, OfLastRow};
 ghost use Rattle.descriptions.specs.Writing.{Holds};
 
 use crate::call_memory::Calls;
 use crate::chosen::Chosen;
 use crate::closing_objects::{Rest, write_rest};
+use crate::common_objects::{CommonRow, common_object};
 use crate::course::Course;
 use crate::facts::{EndedCall, RowFacts};
 use crate::json::{Growing, Json, Out};
@@ -25,7 +24,6 @@ use crate::report_objects::write_report_objects;
 use crate::row_head::append_head;
 use crate::row_members::row_members;
 use crate::times::Recorded;
-use crate::usual_objects::{UsualRow, usual_object};
 use annotated_trace::printer::Printer;
 use annotated_trace::rows::Rows;
 use channel_run::run::Channel;
@@ -54,7 +52,7 @@ fn append_object<A: Allocator>(
 
 /// What is remembered of the rows before, and of the comments before the next one.
 #[derive(Drop)]
-pub(crate) struct Past<A: Allocator> {
+pub(crate) struct PastRows<A: Allocator> {
     course: Course<A>,
     rest: Rest<A>,
     /// When and where the next row was recorded.
@@ -63,10 +61,10 @@ pub(crate) struct Past<A: Allocator> {
     members: Json<Growing<A>>,
 }
 
-impl<A: Allocator + Copy> Past<A> {
-    /// There was no row. It takes no memory.
+impl<A: Allocator + Copy> PastRows<A> {
+    /// Starts before the first row. Allocates no memory.
     pub(crate) fn new(alloc: A) -> Self {
-        Past {
+        PastRows {
             course: Course::new(alloc),
             rest: Rest {
                 calls: Calls::new(alloc),
@@ -83,20 +81,18 @@ impl<A: Allocator + Copy> Past<A> {
     /// The object of the last row of a trace, where it is printed, is of the common case, and no comment says when or where
     /// it was recorded. Such a row changes nothing that is remembered.
     #[inline(always)]
-    fn usual_object<'r, C: Channel<A>>(
+    fn common_object<'r, C: Channel<A>>(
         &self,
         trace: &Live<A, C>,
         line: &[u8],
-        is_told: bool,
+        is_picked: bool,
         room: &'r mut LineRoom,
     ) -> Option<&'r [u8]>
-        ensures object { (i : Interface) (before : List Line) (l : Line) (r : Row) (text : List ℕ)
-            → KeepsRowsOf C.Channel text trace.now → ended_lines text ≡ before ++ l ∷ []
-            → head_of before ≡ Some i → row_written before l ≡ Some r → line.now ≡ l ++ 10 ∷ []
-            → IfSome result (λ object. IsObjectWhere is_told i (items_of i (rows_in before)) (item_of i r) object.now) }
-        ensures untold { is_told ≡ false → result ≡ None }
+        ensures object { OfLastRow C.Channel trace.now line.now
+            (λ i earlier r. IfSome result (λ object. IsObjectWhere is_picked i earlier r object.now)) }
+        ensures unpicked { is_picked ≡ false → result ≡ None }
     {
-        if !is_told {
+        if !is_picked {
             return None;
         }
         let Some(observer) = trace.observer() else {
@@ -114,31 +110,27 @@ impl<A: Allocator + Copy> Past<A> {
         if self.recorded.is_some() {
             return None;
         }
-        let usual = UsualRow {
+        let common = CommonRow {
             row,
             events: observer.events(),
             epoch: observer.epoch(),
             call: self.course.call_on(channel),
             digits,
         };
-        usual_object(room, &usual)
+        common_object(room, &common)
     }
 
-    /// Takes the last row of a trace, and appends its object where it is told of.
+    /// Reads the last row of a trace, and appends its object where it is chosen.
     #[inline(never)]
     pub(crate) fn append_row<C: Channel<A>>(
         &mut self,
         trace: &Live<A, C>,
         line: &[u8],
-        told: bool,
+        picked: bool,
         out: &mut Vec<u8, A>,
     ) -> Result<(), AllocError>
-        ensures object { (i : Interface) (before : List Line) (l : Line) (r : Row) (text : List ℕ)
-            → KeepsRowsOf C.Channel text trace.now → ended_lines text ≡ before ++ l ∷ []
-            → head_of before ≡ Some i → row_written before l ≡ Some r → line.now ≡ l ++ 10 ∷ []
-            → OnOk result
-            (HasAppended (IsObjectWhere told i (items_of i (rows_in before)) (item_of i r)) out.old.items out.new.items) }
-        ensures untold { told ≡ false → out.new.items ≡ out.old.items }
+        ensures object { AppendsObject C.Channel trace.now line.now picked result out.old.items out.new.items }
+        ensures unpicked { picked ≡ false → out.new.items ≡ out.old.items }
     {
         let recorded = self.recorded.take().unwrap_or(Recorded::UNKNOWN);
         let Some(observer) = trace.observer() else {
@@ -159,7 +151,7 @@ impl<A: Allocator + Copy> Past<A> {
             .take(&facts, self.course.ended(), recorded.time)?;
         self.rest.uncounted = observer.uncounted();
         self.rest.has_gaps = interface.gaps;
-        if !told {
+        if !picked {
             return Ok(());
         }
         let ended = self.course.ended();
@@ -167,7 +159,7 @@ impl<A: Allocator + Copy> Past<A> {
         append_object(&facts, self.members.out.written()?, out)
     }
 
-    /// Takes a line that writes no row: a comment may say when and where the next one was recorded.
+    /// Reads a line that writes no row: a comment may say when and where the next one was recorded.
     pub(crate) fn take_comment(&mut self, line: &[u8]) {
         if let Some(recorded) = Recorded::of_comment(line) {
             self.recorded = Some(recorded);
@@ -212,7 +204,7 @@ fn without_lf(line: &[u8]) -> &[u8]
     }
 }
 
-/// The hex digits at the end of a row's line that write so many octets, where they come after a space.
+/// The hex digits at the end of a row's line that write `octets` octets, where they come after a space.
 fn last_digits(line: &[u8], octets: usize) -> Option<&[u8]>
     ensures { (l : Line) (r : Row) → line.now ≡ l ++ 10 ∷ [] → row_of l ≡ Some r
         → octets ≡ length r.octets → IfSome result (λ digits. IsText digits.now) }
@@ -232,46 +224,42 @@ fn last_digits(line: &[u8], octets: usize) -> Option<&[u8]>
 pub struct RowObjects<A: Allocator> {
     alloc: A,
     chosen: Chosen,
-    past: Past<A>,
-    /// Room for the object of a row that is as most are.
+    past: PastRows<A>,
+    /// Room for the object of a row of the fast path.
     room: LineRoom,
 }
 
 impl<A: Allocator + Copy> RowObjects<A> {
     ghost use Rattle.std.specs.Prelude.{◌≡◌};
 
-    /// No row was printed. It takes no memory.
+    /// Starts before the first row. Allocates no memory.
     pub fn new(alloc: A, rows: Rows) -> Self
         ensures { result.chosen.rows ≡ rows }
     {
         RowObjects {
             alloc,
             chosen: Chosen::new(rows),
-            past: Past::new(alloc),
+            past: PastRows::new(alloc),
             room: LineRoom::new(),
         }
     }
 
-    /// Takes the last row of a trace, and appends its object where it is told of.
+    /// Reads the last row of a trace, and appends its object where it is chosen.
     #[inline(always)]
     fn print_row<C: Channel<A>>(
         &mut self,
         trace: &Live<A, C>,
         line: &[u8],
-        told: bool,
+        picked: bool,
         out: &mut Vec<u8, A>,
     ) -> Result<(), AllocError>
-        ensures object { (i : Interface) (before : List Line) (l : Line) (r : Row) (text : List ℕ)
-            → KeepsRowsOf C.Channel text trace.now → ended_lines text ≡ before ++ l ∷ []
-            → head_of before ≡ Some i → row_written before l ≡ Some r → line.now ≡ l ++ 10 ∷ []
-            → OnOk result
-            (HasAppended (IsObjectWhere told i (items_of i (rows_in before)) (item_of i r)) out.old.items out.new.items) }
-        ensures untold { told ≡ false → out.new.items ≡ out.old.items }
+        ensures object { AppendsObject C.Channel trace.now line.now picked result out.old.items out.new.items }
+        ensures unpicked { picked ≡ false → out.new.items ≡ out.old.items }
         ensures chosen { self.new.chosen ≡ self.old.chosen }
     {
-        match self.past.usual_object(trace, line, told, &mut self.room) {
+        match self.past.common_object(trace, line, picked, &mut self.room) {
             Some(object) => out.extend_from_slice(object),
-            None => self.past.append_row(trace, line, told, out),
+            None => self.past.append_row(trace, line, picked, out),
         }
     }
 }
@@ -294,7 +282,7 @@ impl<A: Allocator + Copy, C: Channel<A>> Printer<A, Live<A, C>> for RowObjects<A
 
     fn begin(&mut self) {
         self.chosen = Chosen::new(self.chosen.rows());
-        self.past = Past::new(self.alloc);
+        self.past = PastRows::new(self.alloc);
     }
 
     #[inline(always)]
@@ -305,7 +293,7 @@ impl<A: Allocator + Copy, C: Channel<A>> Printer<A, Live<A, C>> for RowObjects<A
         out: &mut Vec<u8, A>,
     ) -> Result<(), AllocError> {
         match self.chosen.judge_line(trace) {
-            Some(told) => self.print_row(trace, line, told, out),
+            Some(picked) => self.print_row(trace, line, picked, out),
             None => {
                 if let Some(recorded) = Recorded::of_comment(line) {
                     self.past.recorded = Some(recorded);

@@ -9,7 +9,7 @@ use line_model::event::What;
 use live_report::judged_row::Judge;
 use live_report::uncounted::Reason;
 
-/// Says what a row is, and on a further line what it did.
+/// Writes what a row is, and on a further line what it did.
 pub fn row<P: Page>(facts: &RowFacts<'_>, notes: &mut P) {
     match gap_of(&facts.last.packet) {
         Some(channel) => gap(channel, notes),
@@ -24,7 +24,7 @@ pub fn row<P: Page>(facts: &RowFacts<'_>, notes: &mut P) {
     left_out(facts, notes);
 }
 
-/// Says that packets of a logical channel may not have been recorded, or of any, where none is named.
+/// Writes that packets of a logical channel may not have been recorded, or of any, where none is named.
 fn gap<P: Page>(channel: Option<u16>, notes: &mut P) {
     notes.say("a gap: packets on ");
     match channel {
@@ -34,7 +34,7 @@ fn gap<P: Page>(channel: Option<u16>, notes: &mut P) {
     notes.say(" may be missing");
 }
 
-/// Says how the state changed.
+/// Writes how the state changed.
 fn moved<P: Page>(facts: &RowFacts<'_>, notes: &mut P) {
     match &facts.last.judge {
         Judge::Restart { before, after } => restart_move(notes, facts, *before, *after),
@@ -42,7 +42,7 @@ fn moved<P: Page>(facts: &RowFacts<'_>, notes: &mut P) {
     }
 }
 
-/// Says the call that a row belongs to, and its events.
+/// Writes the call that a row belongs to, and its events.
 fn calls<P: Page>(facts: &RowFacts<'_>, notes: &mut P) {
     let mut call = facts.calls.before;
     let mut is_named = false;
@@ -62,7 +62,8 @@ fn calls<P: Page>(facts: &RowFacts<'_>, notes: &mut P) {
     }
 }
 
-/// Says why data was not counted. Of a row with a finding the finding says it, and of one in a restart its move.
+/// Writes why data was not counted. Writes nothing for a row with a finding, or one in a restart, which the finding or
+/// the move explains.
 fn left_out<P: Page>(facts: &RowFacts<'_>, notes: &mut P) {
     match facts.fate {
         Fate::NotCounted(Reason::Finding | Reason::Restart) => {}

@@ -10,8 +10,8 @@ use line_model::fault::Fault;
 use line_model::lending::LentSink;
 use line_model::write_buffer::WriteBuffer;
 
-/// A lent sink that takes JSON in parts, through a buffer. It takes no memory. Where the sink fails nothing is sent from
-/// then on, and `finish` says so.
+/// A lent sink that accepts JSON in parts, through a buffer. Allocates no memory. Once the sink fails, nothing more is
+/// sent, and `finish` returns the failure.
 #[derive(Drop)]
 pub struct Sending<S: LentSink> {
     sink: S,
@@ -19,7 +19,7 @@ pub struct Sending<S: LentSink> {
 }
 
 impl<S: LentSink> Sending<S> {
-    /// Nothing was put yet. The sink is as it was lent.
+    /// Returns a writer before the first byte. The sink is as it was lent.
     pub fn new(sink: S) -> Self
         requires { (S.taken sink, S.failures sink) ≡ S.before }
         ensures { ⟦<Sending<S> as Out>⟧.has result [] }
@@ -30,7 +30,7 @@ impl<S: LentSink> Sending<S> {
         }
     }
 
-    /// Gives the sink back. It took all that was put, or it has failed and took a first part of it.
+    /// Returns the sink. It took all that was put, or it has failed and took a first part of it.
     pub fn finish(self) -> (S, Result<(), Fault>)
         ensures ok { (text : List ℕ) → ⟦<Sending<S> as Out>⟧.has self text
             → OnOk result.1 (S.taken result.0 ≡ with_more S.before.0 text) }

@@ -1,25 +1,25 @@
-//! Words that stand in a text of an object.
+//! Words of a string of an object.
 
 use crate::json::hex_digit;
 use crate::prose::Prose;
 use arrayvec::ArrayVec;
 use itoa::Buffer;
 
-/// A sentence, up to 1,024 bytes. Words that find no room in it are left out.
+/// A sentence, up to 1,024 bytes. Words that find no room in it are dropped.
 #[derive(Drop)]
 pub struct Sentence {
     words: ArrayVec<u8, 1024>,
 }
 
 impl Sentence {
-    /// Nothing was said.
+    /// Returns an empty sentence.
     pub fn new() -> Self {
         Sentence {
             words: ArrayVec::new(),
         }
     }
 
-    /// Its bytes.
+    /// Returns its bytes.
     pub fn as_bytes(&self) -> &[u8] {
         self.words.as_slice()
     }

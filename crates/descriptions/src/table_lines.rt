@@ -132,7 +132,7 @@ fn put_quoted<W: Sink>(form: TableForm, text: &[u8], out: &mut WriteBuffer, sink
     out.put(sink, b"\"");
 }
 
-/// Puts that nothing is known.
+/// Puts an absent value.
 fn put_absent<W: Sink>(form: TableForm, out: &mut WriteBuffer, sink: &mut W)
     ensures { PutsTo W.Sink sink.old sink.new out.old out.new (absent form) }
 {
@@ -208,7 +208,7 @@ fn put_after_call<W: Sink>(form: TableForm, out: &mut WriteBuffer, sink: &mut W)
     }
 }
 
-/// Puts the heading.
+/// Writes the heading.
 pub fn put_heading<W: Sink>(form: TableForm, out: &mut WriteBuffer, sink: &mut W)
     ensures { PutsTo W.Sink sink.old sink.new out.old out.new (heading form) }
 {
@@ -225,11 +225,11 @@ pub struct Listed<'a, A: Allocator> {
     pub number: u64,
     /// Its record.
     pub record: &'a CallRecord<A>,
-    /// What is known of it besides.
+    /// What is known of it apart from its record.
     pub further: Further<'a>,
 }
 
-/// Puts the entry of a call.
+/// Writes the entry of a call.
 pub fn put_entry<W: Sink, A: Allocator>(
     form: TableForm,
     call: &Listed<'_, A>,

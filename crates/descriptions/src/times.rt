@@ -1,4 +1,4 @@
-//! Times and frames of rows, which stand in comments before them.
+//! Times and frames of rows, which are in comments before them.
 
 use trace_text::cuts::split_at_byte;
 
@@ -34,14 +34,14 @@ pub struct Recorded {
 }
 
 impl Recorded {
-    /// No comment says when or where.
+    /// The value where no comment says when or where.
     pub const UNKNOWN: Recorded = Recorded {
         time: None,
         frame: None,
     };
 
-    /// Reads a comment `#@ SECONDS` or `#@ SECONDS FRAME`, where another word than a time in place of SECONDS says none.
-    /// Returns `None` for any other line.
+    /// Reads a comment `#@ SECONDS` or `#@ SECONDS FRAME`; a word in place of SECONDS that is not a time, such as `-`,
+    /// means no time. Returns `None` for any other line.
     pub fn of_comment(line: &[u8]) -> Option<Recorded> {
         let [b'#', b'@', b' ', words @ ..] = line else {
             return None;
@@ -79,7 +79,7 @@ impl Time {
         })
     }
 
-    /// How long it is from another time; none where that is later.
+    /// Returns how long it is after another time; none where that is later.
     pub fn since(&self, start: &Time) -> Option<Time> {
         let seconds = self.seconds.checked_sub(start.seconds)?;
         match self.billionths.checked_sub(start.billionths) {
@@ -142,9 +142,9 @@ fn part_of_second(digits: &[u8]) -> Option<u32> {
         return None;
     }
     let mut billionths: u32 = 0;
-    for (byte, worth) in digits.iter().zip(&BILLIONTHS) {
+    for (byte, place_value) in digits.iter().zip(&BILLIONTHS) {
         let value = digit(*byte)?;
-        billionths = billionths.saturating_add(worth.saturating_mul(u32::from(value)));
+        billionths = billionths.saturating_add(place_value.saturating_mul(u32::from(value)));
     }
     Some(billionths)
 }

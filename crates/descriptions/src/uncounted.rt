@@ -4,7 +4,7 @@ use crate::effects::reason_words;
 use crate::prose::{Page, count};
 use live_report::uncounted::{Amount, REASONS, Uncounted};
 
-/// A line of an amount and its reason, where there is any.
+/// Writes a line of an amount and its reason, where there is any.
 fn say_amount<P: Page>(notes: &mut P, amount: &Amount, reason: &str) {
     if amount.packets == 0 {
         return;
@@ -16,7 +16,7 @@ fn say_amount<P: Page>(notes: &mut P, amount: &Amount, reason: &str) {
     count(notes, " with ", amount.octets, " octet");
 }
 
-/// A line for each reason, of a trace that may have gaps.
+/// Writes a line for each reason, of a trace that may have gaps.
 pub fn say_uncounted<P: Page>(notes: &mut P, uncounted: &Uncounted, has_gaps: bool) {
     for reason in &REASONS {
         say_amount(

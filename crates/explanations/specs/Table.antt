@@ -18,12 +18,12 @@ use Rattle.explanations.specs.declared.explanation.Explanation.{Explanation}
 use Rattle.explanations.specs.declared.explanation.Topic.{Topic}
 use Rattle.explanations.specs.declared.explanation.Topic as topic
 
--- a word, and what it is the name of
+-- a word with the topic that explains it
 pub record Key : Type 0 where
   pub topic : Topic
   pub word : List ℕ
 
--- what a row of the table explains
+-- the word and the topic of a row of the table
 abbrev pub key : Explanation → Key
 key e = record { topic = e.topic; word = e.word.now }
 
@@ -113,7 +113,7 @@ fault_word (Double id) = codes "piece"
 fault_word (Stranger id) = codes "piece"
 fault_word (Missing id) = codes "piece"
 
--- the refusals: the faults, arguments that are no text, a word that is not explained, and a trace that cannot be opened
+-- the refusals: the faults, arguments that are not text, a word that is not explained, and a trace that cannot be opened
 abbrev pub refusal_keys : List Key
 refusal_keys = all_of topic.TheVariants.Refusal
     (map fault_word (Memory ∷ Trace 1 HeaderMissing ∷ Read ∷ Write ∷ Start ∷ Double 0 ∷ Stranger 0 ∷ Missing 0 ∷ [])
@@ -157,7 +157,7 @@ abbrev pub time_out_keys : List Key
 time_out_keys = all_of topic.TheVariants.Term
     (codes "T10" ∷ codes "T11" ∷ codes "T12" ∷ codes "T13" ∷ codes "T20" ∷ codes "T21" ∷ codes "T22" ∷ codes "T23" ∷ [])
 
--- all words that are explained, in the order of the table; a word may stand more than once
+-- all words that are explained, in the order of the table; a word may be there more than once
 abbrev pub table_keys : List Key
 table_keys =
     field_keys ++ report_field_keys ++ state_keys ++ flow_code_keys ++ packet_code_keys ++ message_keys ++ header_word_keys

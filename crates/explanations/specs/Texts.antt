@@ -4,7 +4,7 @@ use Rattle.explanations.specs.declared.explanation.Explanation.{Explanation}
 use Rattle.explanations.specs.declared.explanation.Topic.{Topic}
 use Rattle.explanations.specs.declared.explanation.Topic.TheVariants.{Line, Side, Direction, Ending, Setting, Absent, State, Code, Message, Kind, Refusal, Status, Parameter, Field, Header, ClearingCause, ResettingCause, RestartingCause, Term}
 
--- what is told of a word of a topic
+-- what is printed of a word of a topic
 abbrev pub topic_word : Topic → List ℕ
 topic_word Line = codes "line of the report"
 topic_word Side = codes "side"
@@ -37,7 +37,7 @@ topic_document Header = codes "/usr/share/doc/x25scan/TRACE.md"
 topic_document Term = codes "/usr/share/doc/x25scan/CODES.md"
 topic_document _ = codes "/usr/share/doc/x25scan/REPORT.md"
 
--- parts of a text, one after the other
+-- the parts of a text, one after the other
 abbrev pub joined : List (List ℕ) → List ℕ
 joined [] = []
 joined (part ∷ []) = part

@@ -19,11 +19,11 @@ use line_model::device::Beginning;
 use line_model::fault::Kind;
 use std::alloc::{AllocError, Global};
 
-/// What is said of a text that is too large.
+/// The sentence on a trace text that is too large.
 const TOO_LARGE: &str =
     "The text has more than 2^30 bytes: cut it after a restart confirmation, and begin each part with the header (/usr/share/doc/x25scan/GUIDE.md has the command).";
 
-/// What is wrong by the lines themselves, if they show it.
+/// Returns what is wrong by the lines themselves, if they show it.
 fn lines_advice(
     alloc: Global,
     kind: Kind,
@@ -44,7 +44,7 @@ fn lines_advice(
     }
 }
 
-/// The meaning of a kind of faulty line, as the table of explanations has it.
+/// Returns the meaning of a kind of faulty line, as the table of explanations has it.
 fn meaning(alloc: Global, kind: Kind) -> Result<String, AllocError> {
     let word = format!(in alloc; "{}", kind.number())?;
     let found = explain(alloc, all().as_slice(), word.as_str())?;
@@ -54,8 +54,9 @@ fn meaning(alloc: Global, kind: Kind) -> Result<String, AllocError> {
     }
 }
 
-/// What is wrong with a trace that was refused by a rule, in a sentence: by the lines themselves where they say more,
-/// else the meaning of the rule. Of the lines the first that breaks the rule is the faulty one.
+/// Returns what is wrong with a trace that was refused by a rule, in a sentence: by the lines themselves where they say
+/// more, otherwise the meaning of the rule. The faulty line is the first one that breaks the rule. Fails only when
+/// memory is refused.
 pub fn advice(
     alloc: Global,
     kind: Kind,

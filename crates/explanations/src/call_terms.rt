@@ -107,7 +107,7 @@ const CALL_TERMS: [Explanation; 9] = [
     },
 ];
 
-/// The terms of calls.
+/// Returns the terms of calls.
 pub fn call_terms() -> &'static [Explanation]
     ensures { map key result.now ≡ call_term_keys }
 {

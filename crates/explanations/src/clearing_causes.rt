@@ -162,7 +162,7 @@ const CLEARING_CAUSES: [Explanation; 14] = [
     },
 ];
 
-/// The causes of clears.
+/// Returns the causes of clears.
 pub fn clearing_causes() -> &'static [Explanation]
     ensures { map key result.now ≡ clearing_cause_keys }
 {

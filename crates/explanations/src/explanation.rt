@@ -48,55 +48,45 @@ impl Topic {
     ghost use Rattle.explanations.specs.Table.{topic_name};
     ghost use Rattle.explanations.specs.Texts.{topic_document, topic_word};
 
-    /// The name of the topic, by which all its words are asked for (profile).
+    /// Returns the name of the topic, by which all its words are asked for (profile).
     pub fn name(self) -> &'static str
         ensures { result.now ≡ topic_name self }
     {
-        match self {
-            Topic::Line => "line",
-            Topic::Side => "side",
-            Topic::Direction => "direction",
-            Topic::Ending => "end",
-            Topic::Setting => "setting",
-            Topic::Absent => "absent",
-            Topic::State => "state",
-            Topic::Code => "code",
-            Topic::Message => "message",
-            Topic::Kind => "kind",
-            Topic::Refusal => "refusal",
-            Topic::Status => "status",
-            Topic::Parameter => "parameter",
-            Topic::Field => "field",
-            Topic::Header => "header",
-            Topic::ClearingCause | Topic::ResettingCause | Topic::RestartingCause => "cause",
-            Topic::Term => "term",
-        }
+        self.name_and_word().0
     }
 
-    /// What is printed of a word of this topic (profile).
+    /// Returns what is printed of a word of this topic (profile).
     pub fn word(self) -> &'static str
         ensures { result.now ≡ topic_word self }
     {
+        self.name_and_word().1
+    }
+
+    /// The name of the topic, and what is printed of its words.
+    fn name_and_word(self) -> (&'static str, &'static str)
+        ensures name { result.0.now ≡ topic_name self }
+        ensures word { result.1.now ≡ topic_word self }
+    {
         match self {
-            Topic::Line => "line of the report",
-            Topic::Side => "side",
-            Topic::Direction => "direction of a call",
-            Topic::Ending => "end of a call",
-            Topic::Setting => "word of a setting",
-            Topic::Absent => "absent value",
-            Topic::State => "state",
-            Topic::Code => "diagnostic code",
-            Topic::Message => "code of a PAD message",
-            Topic::Kind => "kind of faulty line",
-            Topic::Refusal => "refusal",
-            Topic::Status => "exit status",
-            Topic::Parameter => "PAD parameter",
-            Topic::Field => "field of the report",
-            Topic::Header => "word of the header",
-            Topic::ClearingCause => "cause of a clear",
-            Topic::ResettingCause => "cause of a reset",
-            Topic::RestartingCause => "cause of a restart",
-            Topic::Term => "term",
+            Topic::Line => ("line", "line of the report"),
+            Topic::Side => ("side", "side"),
+            Topic::Direction => ("direction", "direction of a call"),
+            Topic::Ending => ("end", "end of a call"),
+            Topic::Setting => ("setting", "word of a setting"),
+            Topic::Absent => ("absent", "absent value"),
+            Topic::State => ("state", "state"),
+            Topic::Code => ("code", "diagnostic code"),
+            Topic::Message => ("message", "code of a PAD message"),
+            Topic::Kind => ("kind", "kind of faulty line"),
+            Topic::Refusal => ("refusal", "refusal"),
+            Topic::Status => ("status", "exit status"),
+            Topic::Parameter => ("parameter", "PAD parameter"),
+            Topic::Field => ("field", "field of the report"),
+            Topic::Header => ("header", "word of the header"),
+            Topic::ClearingCause => ("cause", "cause of a clear"),
+            Topic::ResettingCause => ("cause", "cause of a reset"),
+            Topic::RestartingCause => ("cause", "cause of a restart"),
+            Topic::Term => ("term", "term"),
         }
     }
 

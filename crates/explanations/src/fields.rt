@@ -231,7 +231,7 @@ const FIELDS: [Explanation; 21] = [
         word: "-",
         name: "absent",
         meaning: "The field has no value: no address, no row that brought the call up or ended it, no peak.",
-        when: "In C, A and P lines. In a row of a trace it stands for no octets.",
+        when: "In C, A and P lines. In a row of a trace it means that there are no octets.",
         clause: "profile",
         definition: "crates/line_model/specs/observer/Report.antt",
         example: "P 0 -",
@@ -239,7 +239,7 @@ const FIELDS: [Explanation; 21] = [
     },
 ];
 
-/// The letters of the lines in their order, and the words of their fields.
+/// Returns the letters of the lines in their order, and the words of their fields.
 pub fn fields() -> &'static [Explanation]
     ensures { map key result.now ≡ field_keys }
 {

@@ -173,7 +173,7 @@ const FLOW_CODES: [Explanation; 15] = [
     },
 ];
 
-/// The diagnostic codes of sequence numbers and of packets that the state does not allow.
+/// Returns the diagnostic codes of sequence numbers and of packets that the state does not allow.
 pub fn flow_codes() -> &'static [Explanation]
     ensures { map key result.now ≡ flow_code_keys }
 {

@@ -118,7 +118,7 @@ const HEADER_WORDS: [Explanation; 10] = [
     },
 ];
 
-/// The words of a header, in their order.
+/// Returns the words of a header, in their order.
 pub fn header_words() -> &'static [Explanation]
     ensures { map key result.now ≡ header_word_keys }
 {

@@ -107,7 +107,7 @@ const KINDS: [Explanation; 9] = [
     },
 ];
 
-/// The kinds of faulty lines, by their numbers.
+/// Returns the kinds of faulty lines, by their numbers.
 pub fn kinds() -> &'static [Explanation]
     ensures { map key result.now ≡ kind_keys }
 {

@@ -41,7 +41,8 @@ fn row_with(section: &'static [Explanation], word: &[u8]) -> Option<&'static Exp
     None
 }
 
-/// The row of a code of a finding: that with the code's word in the report. A number that is no diagnostic code has none.
+/// Returns the row of a code of a finding: the row with the code's word in the report. A number that is not a
+/// diagnostic code has none.
 pub fn code_row(code: Code) -> Option<&'static Explanation>
     ensures { option_map (λ row. key row.now) result ≡ code_key code }
 {
@@ -66,28 +67,28 @@ fn row_of(section: &'static [Explanation], number: u8) -> Option<&'static Explan
     row_with(section, buffer.format(number).as_bytes())
 }
 
-/// The row of a cause of a clear, where the Recommendation has one; 128 to 255 have none.
+/// Returns the row of a cause of a clear, where the Recommendation has one; 128 to 255 have none.
 pub fn clearing_cause_row(cause: u8) -> Option<&'static Explanation>
     ensures { option_map (λ row. key row.now) result ≡ cause_key clearing_cause_keys cause }
 {
     row_of(clearing_causes(), cause)
 }
 
-/// The row of a cause of a reset, where the Recommendation has one; 128 to 255 have none.
+/// Returns the row of a cause of a reset, where the Recommendation has one; 128 to 255 have none.
 pub fn resetting_cause_row(cause: u8) -> Option<&'static Explanation>
     ensures { option_map (λ row. key row.now) result ≡ cause_key resetting_cause_keys cause }
 {
     row_of(resetting_causes(), cause)
 }
 
-/// The row of a cause of a restart, where the Recommendation has one; 128 to 255 have none.
+/// Returns the row of a cause of a restart, where the Recommendation has one; 128 to 255 have none.
 pub fn restarting_cause_row(cause: u8) -> Option<&'static Explanation>
     ensures { option_map (λ row. key row.now) result ≡ cause_key restarting_cause_keys cause }
 {
     row_of(restarting_causes(), cause)
 }
 
-/// The row of a parameter of a PAD by its reference, where X.3 has one.
+/// Returns the row of a parameter of a PAD by its reference, where X.3 has one.
 pub fn parameter_row(reference: u8) -> Option<&'static Explanation>
     ensures { option_map (λ row. key row.now) result ≡ parameter_key reference }
 {

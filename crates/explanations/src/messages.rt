@@ -63,7 +63,7 @@ const MESSAGES: [Explanation; 5] = [
     },
 ];
 
-/// The codes of findings on PAD messages.
+/// Returns the codes of findings on PAD messages.
 pub fn messages() -> &'static [Explanation]
     ensures { map key result.now ≡ message_keys }
 {

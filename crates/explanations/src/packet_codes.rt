@@ -184,7 +184,7 @@ const PACKET_CODES: [Explanation; 16] = [
     },
 ];
 
-/// The diagnostic codes of packets that no state allows, and of formats.
+/// Returns the diagnostic codes of packets that no state allows, and of formats.
 pub fn packet_codes() -> &'static [Explanation]
     ensures { map key result.now ≡ packet_code_keys }
 {

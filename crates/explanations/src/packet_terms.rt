@@ -129,7 +129,7 @@ const PACKET_TERMS: [Explanation; 11] = [
     },
 ];
 
-/// The terms of packets.
+/// Returns the terms of packets.
 pub fn packet_terms() -> &'static [Explanation]
     ensures { map key result.now ≡ packet_term_keys }
 {

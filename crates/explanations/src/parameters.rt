@@ -250,7 +250,7 @@ const PARAMETERS: [Explanation; 22] = [
     },
 ];
 
-/// The parameters of X.3, by their references.
+/// Returns the parameters of X.3, by their references.
 pub fn parameters() -> &'static [Explanation]
     ensures { map key result.now ≡ parameter_keys }
 {

@@ -43,7 +43,7 @@ const REFUSALS: [Explanation; 11] = [
         topic: Topic::Refusal,
         word: "write",
         name: "write failed",
-        meaning: "Standard output did not take the report or what else was asked for, as a full device. A second line has what the system says.",
+        meaning: "Standard output did not accept all of what was printed: its device is full, for example. A second line has what the system says.",
         when: "With status 3. A first part of the report may have been written. Nothing is printed where the reader of standard output went away, as head does, nor where help or the version was asked for, which has status 0.",
         clause: "profile",
         definition: "crates/line_model/specs/basics/Faults.antt",
@@ -129,7 +129,7 @@ const REFUSALS: [Explanation; 11] = [
     },
 ];
 
-/// The refusals of the program.
+/// Returns the refusals of the program.
 pub fn refusals() -> &'static [Explanation]
     ensures { map key result.now ≡ refusal_keys }
 {

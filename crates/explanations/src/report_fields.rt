@@ -327,7 +327,7 @@ const REPORT_FIELDS: [Explanation; 29] = [
     },
 ];
 
-/// The fields of the report's lines, in the order in which they come first.
+/// Returns the fields of the report's lines, in the order in which they come first.
 pub fn report_fields() -> &'static [Explanation]
     ensures { map key result.now ≡ report_field_keys }
 {

@@ -107,7 +107,7 @@ const RESETTING_CAUSES: [Explanation; 9] = [
     },
 ];
 
-/// The causes of resets.
+/// Returns the causes of resets.
 pub fn resetting_causes() -> &'static [Explanation]
     ensures { map key result.now ≡ resetting_cause_keys }
 {

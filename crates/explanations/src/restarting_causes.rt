@@ -63,7 +63,7 @@ const RESTARTING_CAUSES: [Explanation; 5] = [
     },
 ];
 
-/// The causes of restarts.
+/// Returns the causes of restarts.
 pub fn restarting_causes() -> &'static [Explanation]
     ensures { map key result.now ≡ restarting_cause_keys }
 {

@@ -162,7 +162,7 @@ const STATES: [Explanation; 14] = [
     },
 ];
 
-/// The states, in the order of the Annexes.
+/// Returns the states, in the order of the Annexes.
 pub fn states() -> &'static [Explanation]
     ensures { map key result.now ≡ state_keys }
 {

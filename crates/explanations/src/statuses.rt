@@ -44,7 +44,7 @@ const STATUSES: [Explanation; 5] = [
         word: "3",
         name: "another fault",
         meaning: "Memory, a thread, the opening, the reading or the writing failed.",
-        when: "At any time; standard error says which, but for a reader of standard output that went away.",
+        when: "At any time. Standard error says which, except when the reader of standard output has gone away.",
         clause: "profile",
         definition: "crates/command_line/specs/Program.antt",
         example: "x25scan < t; echo $? prints 3",
@@ -63,7 +63,7 @@ const STATUSES: [Explanation; 5] = [
     },
 ];
 
-/// The exit statuses, by their numbers.
+/// Returns the exit statuses, by their numbers.
 pub fn statuses() -> &'static [Explanation]
     ensures { map key result.now ≡ status_keys }
 {

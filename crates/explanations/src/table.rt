@@ -27,8 +27,8 @@ use std::alloc::{AllocError, Global};
 /// How many sections the table has.
 pub const SECTIONS: usize = 18;
 
-/// The table: its sections, each the words of one part of what the program prints or reads. It explains all words of the
-/// report, of a header and of the refusals, the causes and some terms, and no other.
+/// Returns the table: its sections, each the words of one part of what the program prints or reads. It explains all
+/// words of the report, of a header and of the refusals, the causes and some terms, and no other.
 pub fn all() -> [&'static [Explanation]; SECTIONS]
     ensures { map key (rows result) ≡ table_keys }
 {
@@ -54,8 +54,8 @@ pub fn all() -> [&'static [Explanation]; SECTIONS]
     ]
 }
 
-/// Whether a row explains a word: it is the row's own, its name, the name of its topic, or that and the row's own with a
-/// space between them, as `22`, `HeaderForm`, `kind` and `kind 22`.
+/// Whether a row explains a word: the row's own, its name, the name of its topic, or the topic and the row's own with a
+/// space between them, such as `22`, `HeaderForm`, `kind` and `kind 22`.
 fn explains(alloc: Global, explanation: &Explanation, word: &[u8]) -> Result<bool, AllocError>
     ensures { IfOk result (λ answer. answer ≡ is_of word.now explanation.now) }
 {
@@ -121,7 +121,7 @@ pub fn push_explanations_of_topic(
     push_explanations(alloc, sections, both.as_slice(), found)
 }
 
-/// The explanations of a word among those of some sections, in their order; none where no row has the word.
+/// Returns the explanations of a word among those of some sections, in their order; none where no row has the word.
 pub fn explain(
     alloc: Global,
     sections: &[&'static [Explanation]],

@@ -129,7 +129,7 @@ const TERMS: [Explanation; 11] = [
     },
 ];
 
-/// The terms of recordings and of what is counted.
+/// Returns the terms of recordings and of what is counted.
 pub fn terms() -> &'static [Explanation]
     ensures { map key result.now ≡ term_keys }
 {

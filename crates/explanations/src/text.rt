@@ -38,7 +38,7 @@ fn explanation_text(alloc: Global, explanation: &Explanation) -> Result<String, 
     )
 }
 
-/// The text of explanations, one after the other.
+/// Returns the text of explanations, one after the other.
 pub fn explanations_text(alloc: Global, found: &[Explanation]) -> Result<String, AllocError>
     ensures { IfOk result (λ text. string_bytes text ≡ explanations_text found.now) }
 {
@@ -66,7 +66,7 @@ fn push_headings(
     Ok(())
 }
 
-/// The list of the words of some sections, a line each.
+/// Returns the list of the words of some sections, a line each.
 pub fn headings_text(
     alloc: Global,
     sections: &[&'static [Explanation]],

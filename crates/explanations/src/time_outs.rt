@@ -96,7 +96,7 @@ const TIME_OUTS: [Explanation; 8] = [
     },
 ];
 
-/// The time-outs of requests, those of the DCE first.
+/// Returns the time-outs of requests, those of the DCE first.
 pub fn time_outs() -> &'static [Explanation]
     ensures { map key result.now ≡ time_out_keys }
 {

@@ -14,7 +14,7 @@ at_place (f ∷ fs) (suc i) d words lt =
     subst (λ k. members (map field_shown (drop i fs)) words ≡ member (field_shown (get_or fs i d)) (first_word words) ++ members (map field_shown (drop k (f ∷ fs))) (drop 1 words)) (sym e)
     (at_place fs i d words (omega arith))
 
--- a loop's turn over fields, for what is true of the texts before and after
+-- one pass of a loop over fields, for what is true of the texts before and after
 pub member_turn : {B : Type 0} → (fields : List Field) (i : ℕ) (d : Field) (words rest : List (List ℕ)) (word all : List ℕ) (first before after : B → List ℕ → Type 0) → i < length fields
     → word ≡ first_word words → rest ≡ drop 1 words
     → (done : List ℕ) × (done ++ members (map field_shown (drop i fields)) words ≡ all) × ((b : B) (text : List ℕ) → first b text → before b (text ++ done))

@@ -28,26 +28,26 @@ two_parts before taken text h =
     let n = length (since before taken) in
     (since before taken, drop n text, sym (take-append-drop n text) ∙ ap (λ front. front ++ drop n text) h.1, h.0)
 
-pub parts_of : (before taken : Option (List ℕ)) (told text : List ℕ) → ◌≡◌ {A = Option (List ℕ)} (Some told) (Some text) → IsFirstPart before taken (json_text told)
+pub parts_of : (before taken : Option (List ℕ)) (given text : List ℕ) → ◌≡◌ {A = Option (List ℕ)} (Some given) (Some text) → IsFirstPart before taken (json_text given)
     → (front : List ℕ) × (rest : List ℕ) × (json_text text ≡ front ++ rest) × (taken ≡ with_more before front)
-parts_of before taken told text is h =
-    let same : told ≡ text = cc in
+parts_of before taken given text is h =
+    let same : given ≡ text = cc in
     two_parts before taken (json_text text) (subst (λ t. IsFirstPart before taken (json_text t)) same h)
 
 -- ---- between calls and inside them
 
-writes_by : (before taken : Option (List ℕ) × ℕ) (l : JsonLines) (failed : Bool) → l.buffer.failed ≡ failed → Stands before taken l → Writes before taken l.buffer (json_text l.told.bytes)
+writes_by : (before taken : Option (List ℕ) × ℕ) (l : JsonLines) (failed : Bool) → l.buffer.failed ≡ failed → Stands before taken l → Writes before taken l.buffer (json_text l.given.bytes)
 writes_by before taken l false is s = record {
-  sent = json_text l.told.bytes;
+  sent = json_text l.given.bytes;
   left = [];
   took = s.2 is;
-  whole = append-nil (json_text l.told.bytes);
+  whole = append-nil (json_text l.given.bytes);
   held = λ e. sym s.1;
   rising = s.4;
   cause = λ e. s.5 e;
 }
 writes_by before taken l true is s =
-    let parts = two_parts before.0 taken.0 (json_text l.told.bytes) s.3 in
+    let parts = two_parts before.0 taken.0 (json_text l.given.bytes) s.3 in
     record {
       sent = parts.0;
       left = parts.1;
@@ -64,19 +64,19 @@ goes_of before taken l s = record { writes = writes_by before taken l l.buffer.f
 pub stands_of : (before taken : Option (List ℕ) × ℕ) (l : JsonLines) → Goes before taken l → l.buffer.bytes.items ≡ [] → (0 < length l.refused.bytes → l.buffer.failed ≡ true) → Stands before taken l
 stands_of before taken l g empty refused =
     let w = g.writes in
-    let all : l.buffer.failed ≡ false → taken.0 ≡ with_more before.0 (json_text l.told.bytes) = λ fine.
+    let all : l.buffer.failed ≡ false → taken.0 ≡ with_more before.0 (json_text l.given.bytes) = λ fine.
     w.took ∙ ap (with_more before.0) (sym (append-nil w.sent) ∙ ap (λ left. w.sent ++ left) (sym (w.held fine ∙ empty)) ∙ w.whole) in
-    (g.line, empty, all, first_part before.0 taken.0 w.sent w.left (json_text l.told.bytes) w.took w.whole, w.rising, w.cause, refused)
+    (g.line, empty, all, first_part before.0 taken.0 w.sent w.left (json_text l.given.bytes) w.took w.whole, w.rising, w.cause, refused)
 
 -- nothing was taken yet
-pub stands_new : (taken : Option (List ℕ) × ℕ) (l : JsonLines) → l.line.items ≡ [] → l.buffer.bytes.items ≡ [] → l.buffer.failed ≡ false → l.told.bytes ≡ [] → l.refused.bytes ≡ [] → Stands taken taken l
-stands_new taken l line empty fine told refused =
-    let text : json_text l.told.bytes ≡ [] = ap json_text told in
+pub stands_new : (taken : Option (List ℕ) × ℕ) (l : JsonLines) → l.line.items ≡ [] → l.buffer.bytes.items ≡ [] → l.buffer.failed ≡ false → l.given.bytes ≡ [] → l.refused.bytes ≡ [] → Stands taken taken l
+stands_new taken l line empty fine given refused =
+    let text : json_text l.given.bytes ≡ [] = ap json_text given in
     let none : (o : Option (List ℕ)) → o ≡ with_more o [] = λ o. sym (with_more-nil o) in (
-      line ∙ ap (λ t. take line_room (begun_line t)) (sym told),
+      line ∙ ap (λ t. take line_room (begun_line t)) (sym given),
       empty,
       λ e. none taken.0 ∙ ap (with_more taken.0) (sym text),
-      first_part taken.0 taken.0 [] [] (json_text l.told.bytes) (none taken.0) (sym text),
+      first_part taken.0 taken.0 [] [] (json_text l.given.bytes) (none taken.0) (sym text),
       omega arith,
       λ e. absurd (let off = fine in cc),
       λ some. absurd (let e : length l.refused.bytes ≡ 0 = ap length refused in omega (arith, e, some)),
@@ -89,24 +89,24 @@ nothing_refused before taken l s fine some any = absurd (let failed = s.6 some i
 -- ---- a byte more
 
 -- a line has ended: its object was put, and the next line is held, which is empty
-pub ends_line : (before taken after : Option (List ℕ) × ℕ) (l m : JsonLines) → Goes before taken l → m.told.bytes ≡ l.told.bytes ++ 10 ∷ [] → m.line.items ≡ [] → Puts taken after l.buffer m.buffer (json_line l.line.items) → Goes before after m
-ends_line before taken after l m g told empty puts =
-    let text : json_text l.told.bytes ++ json_line l.line.items ≡ json_text m.told.bytes =
-    ap (λ line. json_text l.told.bytes ++ json_line line) g.line
-    ∙ ap (λ object. json_text l.told.bytes ++ object) (json_line_cut (begun_line l.told.bytes))
-    ∙ sym (json_lf l.told.bytes) ∙ ap json_text (sym told) in
+pub ends_line : (before taken after : Option (List ℕ) × ℕ) (l m : JsonLines) → Goes before taken l → m.given.bytes ≡ l.given.bytes ++ 10 ∷ [] → m.line.items ≡ [] → Puts taken after l.buffer m.buffer (json_line l.line.items) → Goes before after m
+ends_line before taken after l m g given empty puts =
+    let text : json_text l.given.bytes ++ json_line l.line.items ≡ json_text m.given.bytes =
+    ap (λ line. json_text l.given.bytes ++ json_line line) g.line
+    ∙ ap (λ object. json_text l.given.bytes ++ object) (json_line_cut (begun_line l.given.bytes))
+    ∙ sym (json_lf l.given.bytes) ∙ ap json_text (sym given) in
     record {
-      writes = subst (Writes before after m.buffer) text (puts before (json_text l.told.bytes) g.writes);
-      line = empty ∙ ap (take line_room) (sym (ap begun_line told ∙ begun-lf l.told.bytes));
+      writes = subst (Writes before after m.buffer) text (puts before (json_text l.given.bytes) g.writes);
+      line = empty ∙ ap (take line_room) (sym (ap begun_line given ∙ begun-lf l.given.bytes));
     }
 
 -- a byte of a line: what was put stays, and the line goes on as far as there is room
-pub goes_on : (before taken : Option (List ℕ) × ℕ) (l m : JsonLines) (b : ℕ) → Goes before taken l → is_lf b ≡ false → m.told.bytes ≡ l.told.bytes ++ b ∷ [] → m.buffer ≡ l.buffer
-    → m.line.items ≡ take line_room (begun_line l.told.bytes ++ b ∷ []) → Goes before taken m
-goes_on before taken l m b g other told same line =
+pub goes_on : (before taken : Option (List ℕ) × ℕ) (l m : JsonLines) (b : ℕ) → Goes before taken l → is_lf b ≡ false → m.given.bytes ≡ l.given.bytes ++ b ∷ [] → m.buffer ≡ l.buffer
+    → m.line.items ≡ take line_room (begun_line l.given.bytes ++ b ∷ []) → Goes before taken m
+goes_on before taken l m b g other given same line =
     let lacks : list_any is_lf (b ∷ []) ≡ false = rw other refl in
-    let text : json_text l.told.bytes ≡ json_text m.told.bytes = ap (flat_map json_line) (sym (ended-more l.told.bytes (b ∷ []) lacks)) ∙ ap json_text (sym told) in
+    let text : json_text l.given.bytes ≡ json_text m.given.bytes = ap (flat_map json_line) (sym (ended-more l.given.bytes (b ∷ []) lacks)) ∙ ap json_text (sym given) in
     record {
-      writes = subst (λ c. Writes before taken c (json_text m.told.bytes)) (sym same) (subst (Writes before taken l.buffer) text g.writes);
-      line = line ∙ ap (take line_room) (sym (ap begun_line told ∙ begun-more l.told.bytes (b ∷ []) lacks));
+      writes = subst (λ c. Writes before taken c (json_text m.given.bytes)) (sym same) (subst (Writes before taken l.buffer) text g.writes);
+      line = line ∙ ap (take line_room) (sym (ap begun_line given ∙ begun-more l.given.bytes (b ∷ []) lacks));
     }

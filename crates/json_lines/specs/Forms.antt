@@ -1,16 +1,16 @@
 -- The lines of a report by their letters, and the names of their fields (profile).
 use Rattle.std.specs.Prelude.{ℕ, List, [], ◌∷◌, codes, if◌then◌else◌}
 use Rattle.std.specs.Str.{bytes_eq}
-use Rattle.json_lines.specs.declared.fields.Kind.{Kind}
-use Rattle.json_lines.specs.declared.fields.Kind.TheVariants.{Number, Text}
+use Rattle.json_lines.specs.declared.fields.FieldKind.{FieldKind}
+use Rattle.json_lines.specs.declared.fields.FieldKind.TheVariants.{Number, Text}
 
 -- a field of a line: its name, and how its value is written
 pub record Field : Type 0 where
   pub name : List ℕ
-  pub kind : Kind
+  pub kind : FieldKind
 
--- what a line tells, and the fields behind its letter
-pub record Form : Type 0 where
+-- what a line says, and the fields after its letter
+pub record LineForm : Type 0 where
   pub title : List ℕ
   pub fields : List Field
 
@@ -18,12 +18,12 @@ pub record Form : Type 0 where
 abbrev pub number : List ℕ → Field
 number name = record { name = name; kind = Number }
 
--- a field whose value is a text: a word, or an address, whose leading zeros count
+-- a field whose value is a string: a word, or an address, whose leading zeros count
 abbrev pub text : List ℕ → Field
 text name = record { name = name; kind = Text }
 
 -- F packet side state code
-abbrev pub finding : Form
+abbrev pub finding : LineForm
 finding = record {
   title = codes "finding";
   fields =
@@ -32,7 +32,7 @@ finding = record {
 }
 
 -- C call epoch channel direction called calling opened up ended how dataT octT dataN octN segments
-abbrev pub call : Form
+abbrev pub call : LineForm
 call = record {
   title = codes "call";
   fields =
@@ -41,7 +41,7 @@ call = record {
 }
 
 -- S call side parameter word value
-abbrev pub setting : Form
+abbrev pub setting : LineForm
 setting = record {
   title = codes "setting";
   fields =
@@ -50,7 +50,7 @@ setting = record {
 }
 
 -- A address calls segments
-abbrev pub account : Form
+abbrev pub account : LineForm
 account = record {
   title = codes "account";
   fields =
@@ -59,7 +59,7 @@ account = record {
 }
 
 -- P count packet
-abbrev pub peak : Form
+abbrev pub peak : LineForm
 peak = record {
   title = codes "peak";
   fields =
@@ -68,11 +68,11 @@ peak = record {
 }
 
 -- G gaps
-abbrev pub gaps : Form
+abbrev pub gaps : LineForm
 gaps = record { title = codes "gaps"; fields = number (codes "gaps") ∷ [] }
 
 -- Z packets findings calls octets segments
-abbrev pub sums : Form
+abbrev pub sums : LineForm
 sums = record {
   title = codes "sums";
   fields =
@@ -80,12 +80,12 @@ sums = record {
       ∷ [];
 }
 
--- a line that begins as no line of a report does
-abbrev pub unknown : Form
+-- a line that does not begin as a line of a report
+abbrev pub unknown : LineForm
 unknown = record { title = codes "unknown"; fields = [] }
 
 -- the form of the lines that begin with a word
-abbrev pub form_of : List ℕ → Form
+abbrev pub form_of : List ℕ → LineForm
 form_of letter =
     if bytes_eq letter (codes "F") then finding
     else if bytes_eq letter (codes "C") then call

@@ -4,8 +4,8 @@ use Rattle.std.specs.Str.{bytes_eq}
 use Rattle.line_model.specs.text.Text.{ended_lines}
 use Rattle.line_model.specs.text.Header.{words_of}
 use Rattle.line_model.specs.observer.Report.{dash}
-use Rattle.json_lines.specs.declared.fields.Kind.{Kind}
-use Rattle.json_lines.specs.declared.fields.Kind.TheVariants.{Number, Text}
+use Rattle.json_lines.specs.declared.fields.FieldKind.{FieldKind}
+use Rattle.json_lines.specs.declared.fields.FieldKind.TheVariants.{Number, Text}
 use Rattle.json_lines.specs.Forms.{Field, form_of}
 
 -- a word between quotation marks
@@ -13,15 +13,15 @@ abbrev pub quoted : List ℕ → List ℕ
 quoted word = 34 ∷ word ++ 34 ∷ []
 
 -- a word as a value of JSON
-abbrev pub written : Kind → List ℕ → List ℕ
+abbrev pub written : FieldKind → List ℕ → List ℕ
 written Number word = word
 written Text word = quoted word
 
 -- the value of a word; a dash is what is absent
-abbrev pub value : Kind → List ℕ → List ℕ
+abbrev pub value : FieldKind → List ℕ → List ℕ
 value kind word = if bytes_eq word dash then codes "null" else written kind word
 
--- a field behind others, with its word
+-- a field after others, with its word
 abbrev pub member : Field → List ℕ → List ℕ
 member field word = 44 ∷ quoted field.name ++ 58 ∷ value field.kind word
 
@@ -35,11 +35,11 @@ abbrev pub members : List Field → List (List ℕ) → List ℕ
 members [] words = []
 members (field ∷ fields) words = member field (first_word words) ++ members fields (drop 1 words)
 
--- an object up to what it tells
+-- an object up to what it says
 abbrev pub beginning : (title : List ℕ) → List ℕ
 beginning title = codes "{" ++ quoted (codes "line") ++ codes ":" ++ quoted title
 
--- an object in its line: what it tells, and its members
+-- an object in its line: what it says, and its members
 abbrev pub object : (title : List ℕ) → (members : List ℕ) → List ℕ
 object title members = beginning title ++ members ++ 125 ∷ 10 ∷ []
 
@@ -47,7 +47,7 @@ object title members = beginning title ++ members ++ 125 ∷ 10 ∷ []
 abbrev pub object_of : List (List ℕ) → List ℕ
 object_of words = object (form_of (first_word words)).title (members (form_of (first_word words)).fields (drop 1 words))
 
--- how many octets no line of a report has (profile)
+-- each line of a report has fewer octets than this (profile)
 abbrev pub line_room : ℕ
 line_room = 256
 

@@ -6,10 +6,10 @@ ghost use Rattle.json_lines.specs.Shown.{form_shown};
 
 /// How the value of a field is written. What is absent is `null` in both.
 #[derive(Clone, Copy)]
-pub enum Kind {
+pub enum FieldKind {
     /// As a number of JSON.
     Number,
-    /// As a text of JSON.
+    /// As a string of JSON.
     Text,
 }
 
@@ -19,242 +19,242 @@ pub struct Field {
     /// Its name.
     pub name: &'static str,
     /// How its value is written.
-    pub kind: Kind,
+    pub kind: FieldKind,
 }
 
-/// What a line tells, and by which fields.
+/// The name of a kind of line, and its fields.
 #[derive(Clone, Copy)]
-pub struct Form {
-    /// What the member `line` says.
+pub struct LineForm {
+    /// The value of the member `line`.
     pub title: &'static str,
-    /// The fields behind the letter, in the order of the line.
+    /// The fields after the letter, in the order of the line.
     pub fields: &'static [Field],
 }
 
 const FINDING: [Field; 4] = [
     Field {
         name: "packet",
-        kind: Kind::Number,
+        kind: FieldKind::Number,
     },
     Field {
         name: "side",
-        kind: Kind::Text,
+        kind: FieldKind::Text,
     },
     Field {
         name: "state",
-        kind: Kind::Text,
+        kind: FieldKind::Text,
     },
     Field {
         name: "code",
-        kind: Kind::Text,
+        kind: FieldKind::Text,
     },
 ];
 
 const CALL: [Field; 15] = [
     Field {
         name: "call",
-        kind: Kind::Number,
+        kind: FieldKind::Number,
     },
     Field {
         name: "epoch",
-        kind: Kind::Number,
+        kind: FieldKind::Number,
     },
     Field {
         name: "channel",
-        kind: Kind::Number,
+        kind: FieldKind::Number,
     },
     Field {
         name: "direction",
-        kind: Kind::Text,
+        kind: FieldKind::Text,
     },
     Field {
         name: "called",
-        kind: Kind::Text,
+        kind: FieldKind::Text,
     },
     Field {
         name: "calling",
-        kind: Kind::Text,
+        kind: FieldKind::Text,
     },
     Field {
         name: "opened",
-        kind: Kind::Number,
+        kind: FieldKind::Number,
     },
     Field {
         name: "up",
-        kind: Kind::Number,
+        kind: FieldKind::Number,
     },
     Field {
         name: "ended",
-        kind: Kind::Number,
+        kind: FieldKind::Number,
     },
     Field {
         name: "how",
-        kind: Kind::Text,
+        kind: FieldKind::Text,
     },
     Field {
         name: "data_t",
-        kind: Kind::Number,
+        kind: FieldKind::Number,
     },
     Field {
         name: "octets_t",
-        kind: Kind::Number,
+        kind: FieldKind::Number,
     },
     Field {
         name: "data_n",
-        kind: Kind::Number,
+        kind: FieldKind::Number,
     },
     Field {
         name: "octets_n",
-        kind: Kind::Number,
+        kind: FieldKind::Number,
     },
     Field {
         name: "segments",
-        kind: Kind::Number,
+        kind: FieldKind::Number,
     },
 ];
 
 const SETTING: [Field; 5] = [
     Field {
         name: "call",
-        kind: Kind::Number,
+        kind: FieldKind::Number,
     },
     Field {
         name: "side",
-        kind: Kind::Text,
+        kind: FieldKind::Text,
     },
     Field {
         name: "parameter",
-        kind: Kind::Number,
+        kind: FieldKind::Number,
     },
     Field {
         name: "word",
-        kind: Kind::Text,
+        kind: FieldKind::Text,
     },
     Field {
         name: "value",
-        kind: Kind::Number,
+        kind: FieldKind::Number,
     },
 ];
 
 const ACCOUNT: [Field; 3] = [
     Field {
         name: "address",
-        kind: Kind::Text,
+        kind: FieldKind::Text,
     },
     Field {
         name: "calls",
-        kind: Kind::Number,
+        kind: FieldKind::Number,
     },
     Field {
         name: "segments",
-        kind: Kind::Number,
+        kind: FieldKind::Number,
     },
 ];
 
 const PEAK: [Field; 2] = [
     Field {
         name: "count",
-        kind: Kind::Number,
+        kind: FieldKind::Number,
     },
     Field {
         name: "packet",
-        kind: Kind::Number,
+        kind: FieldKind::Number,
     },
 ];
 
 const GAPS: [Field; 1] = [Field {
     name: "gaps",
-    kind: Kind::Number,
+    kind: FieldKind::Number,
 }];
 
 const SUMS: [Field; 5] = [
     Field {
         name: "packets",
-        kind: Kind::Number,
+        kind: FieldKind::Number,
     },
     Field {
         name: "findings",
-        kind: Kind::Number,
+        kind: FieldKind::Number,
     },
     Field {
         name: "calls",
-        kind: Kind::Number,
+        kind: FieldKind::Number,
     },
     Field {
         name: "octets",
-        kind: Kind::Number,
+        kind: FieldKind::Number,
     },
     Field {
         name: "segments",
-        kind: Kind::Number,
+        kind: FieldKind::Number,
     },
 ];
 
-fn finding() -> Form
+fn finding() -> LineForm
     ensures { form_shown result ≡ finding }
 {
-    Form {
+    LineForm {
         title: "finding",
         fields: &FINDING,
     }
 }
 
-fn call() -> Form
+fn call() -> LineForm
     ensures { form_shown result ≡ call }
 {
-    Form {
+    LineForm {
         title: "call",
         fields: &CALL,
     }
 }
 
-fn setting() -> Form
+fn setting() -> LineForm
     ensures { form_shown result ≡ setting }
 {
-    Form {
+    LineForm {
         title: "setting",
         fields: &SETTING,
     }
 }
 
-fn account() -> Form
+fn account() -> LineForm
     ensures { form_shown result ≡ account }
 {
-    Form {
+    LineForm {
         title: "account",
         fields: &ACCOUNT,
     }
 }
 
-fn peak() -> Form
+fn peak() -> LineForm
     ensures { form_shown result ≡ peak }
 {
-    Form {
+    LineForm {
         title: "peak",
         fields: &PEAK,
     }
 }
 
-fn gaps() -> Form
+fn gaps() -> LineForm
     ensures { form_shown result ≡ gaps }
 {
-    Form {
+    LineForm {
         title: "gaps",
         fields: &GAPS,
     }
 }
 
-fn sums() -> Form
+fn sums() -> LineForm
     ensures { form_shown result ≡ sums }
 {
-    Form {
+    LineForm {
         title: "sums",
         fields: &SUMS,
     }
 }
 
-/// The form of the lines that begin with a word; of a word that no line of a report begins with, one without fields.
-pub fn form_of(letter: &[u8]) -> Form
+/// Returns the form of the lines that begin with a word; for any other word, a form without fields.
+pub fn form_of(letter: &[u8]) -> LineForm
     ensures { form_shown result ≡ form_of letter.now }
 {
     match letter {
@@ -265,7 +265,7 @@ pub fn form_of(letter: &[u8]) -> Form
         [b'P'] => peak(),
         [b'G'] => gaps(),
         [b'Z'] => sums(),
-        _ => Form {
+        _ => LineForm {
             title: "unknown",
             fields: &[],
         },

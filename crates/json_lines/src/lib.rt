@@ -1,4 +1,5 @@
-//! The report as JSON lines: a sink that takes the text of a report and gives another sink one object for each line.
+//! The report as JSON lines: a sink that accepts the text of a report and writes to another one an object for each
+//! line.
 #![tactic(auto)]
 
 pub mod fields;

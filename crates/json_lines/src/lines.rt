@@ -1,4 +1,4 @@
-//! A text that comes in parts, and the objects of its lines.
+//! The text of a report, which comes in parts, and the objects of its lines.
 
 ghost use Rattle.std.specs.Prelude.{◌≡◌, ℕ, ◌+◌, List, [], ◌∷◌, ◌++◌, Option, OnErr, OnOk, is_err, length, if◌then◌else◌};
 ghost use Rattle.line_model.specs.basics.Written.{has_failed};
@@ -10,41 +10,41 @@ use line_model::device::Sink;
 use line_model::history::History;
 use line_model::write_buffer::WriteBuffer;
 
-/// The line that has not ended, and the objects that are on their way to a sink.
+/// The line that has not ended, and the objects on their way to a sink.
 #[derive(Drop)]
 pub struct JsonLines {
     buffer: WriteBuffer,
     line: ArrayVec<u8, 256>,
-    /// The bytes that were taken.
-    told: History,
+    /// The bytes that were accepted.
+    given: History,
     /// A byte for each refusal.
     refused: History,
 }
 
 impl JsonLines {
-    /// Nothing was taken.
+    /// Returns a value that has accepted nothing.
     pub fn new() -> JsonLines
         ensures stands { (taken : Option (List ℕ) × ℕ) → Stands taken taken result }
-        ensures told { result.told.bytes ≡ [] }
+        ensures given { result.given.bytes ≡ [] }
         ensures refused { result.refused.bytes ≡ [] }
     {
         JsonLines {
             buffer: WriteBuffer::new(),
             line: ArrayVec::new(),
-            told: History::new(),
+            given: History::new(),
             refused: History::new(),
         }
     }
 
-    /// Takes a byte.
+    /// Accepts a byte.
     fn take_byte<W: Sink>(&mut self, sink: &mut W, byte: u8)
         ensures goes { (before : Option (List ℕ) × ℕ)
             → Goes before (W.taken sink.old, W.failures sink.old) self.old
             → Goes before (W.taken sink.new, W.failures sink.new) self.new }
-        ensures told { self.new.told.bytes ≡ self.old.told.bytes ++ byte ∷ [] }
+        ensures given { self.new.given.bytes ≡ self.old.given.bytes ++ byte ∷ [] }
         ensures refused { self.new.refused.bytes ≡ self.old.refused.bytes }
     {
-        self.told = History::with(&self.told, &byte);
+        self.given = History::with(&self.given, &byte);
         if byte == b'\n' {
             put_object(&mut self.buffer, sink, self.line.as_slice());
             self.line.clear();
@@ -53,14 +53,14 @@ impl JsonLines {
         }
     }
 
-    /// Takes bytes, and has a sink take the objects of the lines that end in them. Once the sink has failed it refuses
-    /// all bytes; what was taken before the sink failed stays taken.
+    /// Accepts bytes, and writes to a sink the objects of the lines that end in them. Once the sink has failed it
+    /// refuses all bytes; what was accepted before the sink failed stays accepted.
     pub fn take<W: Sink>(&mut self, sink: &mut W, bytes: &[u8]) -> Result<(), ()>
         ensures stands { (before : Option (List ℕ) × ℕ)
             → Stands before (W.taken sink.old, W.failures sink.old) self.old
             → Stands before (W.taken sink.new, W.failures sink.new) self.new }
-        ensures ok { OnOk result (self.new.told.bytes ≡ self.old.told.bytes ++ bytes.now) }
-        ensures err { OnErr result (self.new.told.bytes ≡ self.old.told.bytes) }
+        ensures ok { OnOk result (self.new.given.bytes ≡ self.old.given.bytes ++ bytes.now) }
+        ensures err { OnErr result (self.new.given.bytes ≡ self.old.given.bytes) }
         ensures refused { length self.new.refused.bytes
             ≡ (if is_err result then length self.old.refused.bytes + 1 else length
             self.old.refused.bytes) }
@@ -76,7 +76,7 @@ impl JsonLines {
         Ok(())
     }
 
-    /// The sink has failed.
+    /// Returns whether the sink has failed.
     pub fn has_failed(&self) -> bool
         ensures { result ≡ has_failed self.now.buffer }
     {

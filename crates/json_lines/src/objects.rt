@@ -5,8 +5,8 @@ ghost use Rattle.json_lines.specs.Json.{beginning, json_line, member, members, q
 ghost use Rattle.json_lines.specs.Shown.{field_shown};
 ghost use Rattle.line_model.specs.basics.Written.{PutsTo};
 
-use crate::fields::{Field, Kind, form_of};
-use crate::words::Words;
+use crate::fields::{Field, FieldKind, form_of};
+use crate::words::ReportWords;
 use line_model::device::Sink;
 use line_model::write_buffer::WriteBuffer;
 
@@ -20,15 +20,15 @@ fn put_quoted<W: Sink>(out: &mut WriteBuffer, sink: &mut W, word: &[u8])
 }
 
 /// Puts a word as a value.
-fn put_value<W: Sink>(out: &mut WriteBuffer, sink: &mut W, kind: Kind, word: &[u8])
+fn put_value<W: Sink>(out: &mut WriteBuffer, sink: &mut W, kind: FieldKind, word: &[u8])
     ensures { PutsTo W.Sink sink.old sink.new out.old out.new (value kind word.now) }
 {
     if word == b"-".as_slice() {
         out.put(sink, b"null");
     } else {
         match kind {
-            Kind::Number => out.put(sink, word),
-            Kind::Text => put_quoted(out, sink, word),
+            FieldKind::Number => out.put(sink, word),
+            FieldKind::Text => put_quoted(out, sink, word),
         }
     }
 }
@@ -45,7 +45,12 @@ fn put_member<W: Sink>(out: &mut WriteBuffer, sink: &mut W, field: &Field, word:
 }
 
 /// Puts fields, each with its word.
-fn put_members<W: Sink>(out: &mut WriteBuffer, sink: &mut W, fields: &[Field], mut words: Words<'_>)
+fn put_members<W: Sink>(
+    out: &mut WriteBuffer,
+    sink: &mut W,
+    fields: &[Field],
+    mut words: ReportWords<'_>,
+)
     ensures { PutsTo W.Sink sink.old sink.new out.old out.new
         (members (map field_shown fields.now) words.entry) }
 {
@@ -65,11 +70,11 @@ fn put_beginning<W: Sink>(out: &mut WriteBuffer, sink: &mut W, title: &str)
     put_quoted(out, sink, title.as_bytes());
 }
 
-/// Puts the object of a line.
+/// Writes the object of a line.
 pub fn put_object<W: Sink>(out: &mut WriteBuffer, sink: &mut W, line: &[u8])
     ensures { PutsTo W.Sink sink.old sink.new out.old out.new (json_line line.now) }
 {
-    let mut words = Words::new(line);
+    let mut words = ReportWords::new(line);
     let form = form_of(words.take());
     put_beginning(out, sink, form.title);
     put_members(out, sink, form.fields, words);

@@ -1,5 +1,5 @@
-//! A sink that gives another one the objects of the lines that it takes. Who has a `&mut` to that one lends it
-//! (`line_model::lending`); a scan, or whatever writes a report, writes to a `JsonSink`, and `finish` gives the sink back.
+//! A sink that writes to another sink an object for each line that it accepts. The caller lends that sink
+//! (`line_model::lending`), has a scan write its report to a `JsonSink`, and gets the sink back from `finish`.
 
 ghost use Rattle.std.specs.Prelude.{◌≡◌, ℕ, List, [], Option};
 ghost use Rattle.json_lines.specs.Standing.{Stands};
@@ -11,9 +11,9 @@ use line_model::lending::LentSink;
 use std::io;
 use streams::output::Output;
 
-/// Takes the text of a report in parts of any size, and has another sink take the object of each line as soon as the
-/// line feed was taken. It takes no memory. Of a failure of that sink the next call tells, or `finish`; from then on
-/// nothing is taken, and that sink is not asked.
+/// Accepts the text of a report in parts of any size, and writes the object of each line that a line feed has ended to
+/// another sink, in order. Allocates no memory. The next call or `finish` returns a failure of that sink; from then on
+/// nothing is accepted, and that sink is not asked.
 #[derive(Drop)]
 pub struct JsonSink<S: LentSink> {
     sink: S,
@@ -29,7 +29,7 @@ impl<S: LentSink> JsonSink<S> {
     ghost use Rattle.json_lines.specs.Json.{json_text, object_of};
     ghost use Rattle.json_lines.specs.Reports.{IsHeld, report_words};
 
-    /// Nothing was taken yet. The sink is as it was lent.
+    /// Returns a sink that has accepted nothing. `sink` is as it was lent.
     pub fn new(sink: S) -> Self
         requires before { (S.taken sink, S.failures sink) ≡ S.before }
         ensures taken { ⟦<JsonSink<S> as Sink>⟧.taken result ≡ Some [] }
@@ -41,12 +41,12 @@ impl<S: LentSink> JsonSink<S> {
         }
     }
 
-    /// Gives the sink back, with `Write` where it has failed. It took the objects of all lines that were taken and have
+    /// Returns the sink, with `Write` where it has failed. It took the objects of all lines that were accepted and have
     /// ended, or it has failed and took a first part of them. A line that has not ended has no object.
     pub fn finish(self) -> (S, Result<(), Fault>)
         ensures ok { (text : List ℕ) → ⟦<JsonSink<S> as Sink>⟧.taken self ≡ Some text
             → OnOk result.1 (S.taken result.0 ≡ with_more S.before.0 (json_text text)) }
-        // Of a report none is that of an unknown line: each is that of the words of its line.
+        // Each line of a report becomes the object of its words, and none that of an unknown line.
         ensures report { (r : Report) → IsHeld r
             → ⟦<JsonSink<S> as Sink>⟧.taken self ≡ Some (text_of r)
             → OnOk result.1 (S.taken result.0
@@ -73,7 +73,7 @@ impl<S: LentSink> JsonSink<S> {
 impl<S: LentSink> Sink for JsonSink<S> {
     ghost use Rattle.std.specs.Prelude.{Some, length};
 
-    ghost taken = { λ s. Some s.lines.told.bytes };
+    ghost taken = { λ s. Some s.lines.given.bytes };
 
     ghost failures = { λ s. length s.lines.refused.bytes };
 

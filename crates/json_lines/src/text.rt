@@ -1,4 +1,4 @@
-//! A whole text of a report as JSON lines.
+//! The whole text of a report as JSON lines.
 
 ghost use Rattle.std.specs.Prelude.{◌≡◌, ◌<◌, ◌++◌, ℕ, List, IfErr, OnErr, OnOk};
 ghost use Rattle.line_model.specs.basics.Device.{with_more};
@@ -33,7 +33,7 @@ fn write_to<'a, K: Sink, B: Origin>(text: &[u8], sink: &'a mut K) -> (&'a mut K,
     }
 }
 
-/// Gives a sink the objects of the lines of a text. Where the sink fails it took a first part of them.
+/// Writes to a sink the objects of the lines of a text. Fails where the sink fails, which took a first part of them.
 pub fn write_json_lines<K: Sink>(text: &[u8], sink: &mut K) -> Result<(), Fault>
     ensures ok { OnOk result (K.taken sink.new
         ≡ with_more (K.taken sink.old) (json_text text.now)) }

@@ -6,13 +6,13 @@ ghost use Rattle.json_lines.specs.Json.{first_word, line_words};
 use std::marker::Model;
 use trace_text::words::Words as LineWords;
 
-/// The words of a line of a report that are still to come. Single spaces part them.
+/// The words of a line of a report that are left. Single spaces separate them.
 #[derive(Drop)]
-pub struct Words<'a> {
+pub struct ReportWords<'a> {
     words: LineWords<'a>,
 }
 
-impl<'a> Model for Words<'a> {
+impl<'a> Model for ReportWords<'a> {
     ghost use Rattle.std.specs.Prelude.{List, ℕ};
 
     ghost Value = { List (List ℕ) };
@@ -20,11 +20,11 @@ impl<'a> Model for Words<'a> {
     ghost view = { λ w. w.words };
 }
 
-/// The octets that a line of a report does not have.
+/// The number of octets that each line of a report stays below: 256.
 const LINE_ROOM: usize = 256;
 
-impl<'a> Words<'a> {
-    /// The words of a line, none where it is too long for a report.
+impl<'a> ReportWords<'a> {
+    /// Returns the words of a line; none where the line is too long for a report.
     pub fn new(line: &'a [u8]) -> Self
         ensures { result ≡ line_words line.entry.now }
     {
@@ -33,10 +33,10 @@ impl<'a> Words<'a> {
         } else {
             LineWords::new(line)
         };
-        Words { words }
+        ReportWords { words }
     }
 
-    /// The next word, which may be empty, if one is left.
+    /// Removes and returns the next word, which may be empty, if one is left.
     pub fn next(&mut self) -> Option<&'a [u8]>
         ensures { MatchOption result ((self.old ≡ [])
             × (self.new ≡ [])) (λ word. self.old ≡ word.now ∷ self.new) }
@@ -44,7 +44,7 @@ impl<'a> Words<'a> {
         self.words.next()
     }
 
-    /// The next word, or a dash where none is left.
+    /// Removes and returns the next word, or a dash where none is left.
     pub fn take(&mut self) -> &'a [u8]
         ensures word { result.now ≡ first_word self.old }
         ensures rest { self.new ≡ drop 1 self.old }

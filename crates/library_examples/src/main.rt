@@ -60,7 +60,7 @@ const PIECES: [&[u8]; 4] = [
     b"0104AA\n",
 ];
 
-/// How many bundles of pieces wait for the workers at the most.
+/// The most bundles of pieces that wait for the workers.
 const WAITING: usize = 64;
 
 /// Judges the packets, and feeds the pieces to an observer.

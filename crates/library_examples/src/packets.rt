@@ -18,15 +18,16 @@ pub struct SentPacket<'a> {
     pub octets: &'a [u8],
 }
 
-/// Has an observer take a packet as the row of this number; `line` is room for the line that writes it.
+/// Feeds a packet to an observer as the row of this number. `line` is scratch room. Fails with the first faulty line,
+/// or when memory is refused.
 pub fn take_packet<A: Allocator + Copy, C: Channel<A>>(
     live: &mut Live<A, C>,
     number: u32,
     packet: SentPacket<'_>,
     line: &mut Vec<u8, A>,
 ) -> Result<(), Fault>
-    requires { IsFed C.interface_of C.number_of C.stands_for live.old }
-    ensures { IsFed C.interface_of C.number_of C.stands_for live.new }
+    requires { IsFed C.interface_of C.number_of C.represents live.old }
+    ensures { IsFed C.interface_of C.number_of C.represents live.new }
 {
     if live.packet(number, packet.side, packet.octets)? {
         return Ok(());
@@ -35,8 +36,8 @@ pub fn take_packet<A: Allocator + Copy, C: Channel<A>>(
     live.feed(line.as_slice())
 }
 
-/// The report of packets on an interface, whose header is the first line of a trace with its line feed. The packets are
-/// numbered from 1.
+/// Returns the report of packets on an interface. `header` is the header line of a trace with its line feed, and the
+/// packets are numbered from 1. Fails with the first faulty line, or when memory is refused.
 pub fn judge<A: Allocator + Copy, C: Channel<A>>(
     alloc: A,
     header: &[u8],

@@ -1,4 +1,5 @@
-//! A live observer: it is fed a trace in pieces, counts the findings as they come, and gives its report at any moment.
+//! A live observer: it is fed a trace in pieces, counts the findings as they come, and returns its report at any
+//! moment.
 
 ghost use Rattle.live_report.specs.Lives.{IsFed};
 
@@ -8,13 +9,13 @@ use line_model::fault::Fault;
 use live_report::live::Live;
 use std::alloc::Allocator;
 
-/// Feeds an observer, and returns how many findings came.
+/// Feeds an observer, and returns how many findings the rows gave.
 fn count_findings<A: Allocator + Copy, C: Channel<A>>(
     live: &mut Live<A, C>,
     piece: &[u8],
 ) -> Result<usize, Fault>
-    requires { IsFed C.interface_of C.number_of C.stands_for live.old }
-    ensures { IsFed C.interface_of C.number_of C.stands_for live.new }
+    requires { IsFed C.interface_of C.number_of C.represents live.old }
+    ensures { IsFed C.interface_of C.number_of C.represents live.new }
 {
     live.feed(piece)?;
     Ok(live.found().len())

@@ -8,7 +8,7 @@ use Rattle.std.proofs.lemmas.Bool.{cases_lt, lt-ltb, le-ltb}
 use Rattle.std.proofs.lemmas.List.{append-nil}
 use Rattle.line_model.specs.declared.event.What.{What}
 use Rattle.line_model.specs.basics.Records.{CallRecord}
-use Rattle.line_model.specs.observer.Calls.{tells_up, tells_end, calls_of, up_times, up_at}
+use Rattle.line_model.specs.observer.Calls.{is_up_event, is_end_event, calls_of, up_times, up_at}
 use Rattle.line_model.specs.observer.Machine.{Machine, Observer}
 use Rattle.line_model.specs.observer.MachineEvents.{walk_events}
 use Rattle.line_model.specs.observer.Observer.{event_by}
@@ -101,10 +101,10 @@ highest_is cs = highest_more [] cs (0, None) (record { greatest = tt; first = re
 
 module _ (X L S : Type 0) (number : X → ℕ) (m : Machine X L S What) (is_up : ℕ → S → Bool) (moves : MovesCalls m is_up) (start : Observer L S) (rs : List X) (is_walk : IsWalk m start rs) (up : IsStrictlyIncreasing (0 ∷ map number rs)) where
   -- the peak after any row is the greatest number of calls that are up at once
-  pub peak_of_ups : IsPeakOfTimes (λ n. how_many (times.is_up_at n) (drawn (λ v. tells_up v.what) (times_of tells_end number) (walk_events m start rs))) (highest (counts m is_up number start rs)).0 (highest (counts m is_up number start rs)).1
+  pub peak_of_ups : IsPeakOfTimes (λ n. how_many (times.is_up_at n) (drawn (λ v. is_up_event v.what) (times_of is_end_event number) (walk_events m start rs))) (highest (counts m is_up number start rs)).0 (highest (counts m is_up number start rs)).1
   peak_of_ups =
       peak_law m start rs number is_walk.channels is_walk.fresh is_walk.ready up
-      moves.valid is_up tells_up tells_end (marks_calls m is_up moves)
+      moves.valid is_up is_up_event is_end_event (marks_calls m is_up moves)
       (highest (counts m is_up number start rs)).0 (highest (counts m is_up number start rs)).1 (highest_is (counts m is_up number start rs))
 
   calls_up_at : (n : ℕ) → how_many (times.is_up_at n) (drawn goes_up (span_of X number) (walk_events m start rs)) ≡ up_at (calls_of (map (event_by number) (walk_events m start rs))) n
@@ -118,7 +118,7 @@ module _ (X L S : Type 0) (number : X → ℕ) (m : Machine X L S What) (is_up :
       let span = span_of X number in
       let call = call_of X number in
       let no_line : filter goes_up (filter is_line vs) ≡ [] =
-      line_none m tells_up (λ e l x. risen_marks (m.line_events e l x) ∙ ap (how_many is_risen) (moves.unmarked_line e l x)) start rs in
+      line_none m is_up_event (λ e l x. risen_marks (m.line_events e l x) ∙ ap (how_many is_risen) (moves.unmarked_line e l x)) start rs in
       sym (how_many_rearranged (times.is_up_at n) (drawn goes_up span vs) (drawn_apart m start rs plan goes_up span) (drawn_is_rearranged m start rs plan goes_up span is_walk.channels is_walk.fresh is_walk.ready is_plan))
       ∙ ap (λ l. how_many (times.is_up_at n) (map (λ v. span v (filter (belongs v.epoch v.channel) (filter is_line vs))) l ++ flat_map (λ p. drawn goes_up span (value_of m p.0 p.1 ps)) plan)) no_line
       ∙ sym (how_many_parts (up_by n) (times.is_up_at n) (calls_in number m start rs) (λ p. drawn goes_up span (value_of m p.0 p.1 ps)) plan

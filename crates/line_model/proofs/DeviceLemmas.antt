@@ -1,4 +1,4 @@
--- What a sink took, part by part.
+-- What a sink accepted, part by part.
 use Rattle.std.proofs.Common.{◌≡◌, ◌∙◌, sym, ap, refl, ℕ, List, [], ◌++◌, Option, Some, None, append_assoc, take, drop, length, ◌-◌, arith}
 use Rattle.std.proofs.lemmas.List.{append-nil, take-append-drop}
 use Rattle.std.proofs.lemmas.Grind.{common_steps}

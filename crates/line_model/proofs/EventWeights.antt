@@ -33,8 +33,8 @@ weighing a f w = 0
 abbrev pub found_by : What → ℕ
 found_by w = weighing 1 (λ n. 0) w
 
-abbrev pub heard_by : (ℕ → ℕ) → What → ℕ
-heard_by q w = weighing 0 q w
+abbrev pub accepted_by : (ℕ → ℕ) → What → ℕ
+accepted_by q w = weighing 0 q w
 
 abbrev pub octets_by : ℕ → ℕ
 octets_by n = n
@@ -46,7 +46,7 @@ segments_by n = (n + 63) / 64
 abbrev pub weight : (What → ℕ) → List Event → ℕ
 weight f es = total (λ e. f e.what) es
 
--- events of rows, and as they are told
+-- events of rows, and as they are reported
 pub row_weight : {X : Type 0} → (number : X → ℕ) (f : What → ℕ) (vs : List (RowEvent X What)) → weight f (map (event_by number) vs) ≡ total (λ v. f v.what) vs
 row_weight number f [] = refl
 row_weight number f (v ∷ vs) = ap (λ n. f v.what + n) (row_weight number f vs)
@@ -60,49 +60,49 @@ findings_weight (e ∷ es) = at e.what (findings_weight es)
     at (Found x s c) h = omega arith
     at w h = omega arith
 
-pub packets_weight : (es : List Event) → length (all_lengths es) ≡ weight (heard_by (λ n. 1)) es
+pub packets_weight : (es : List Event) → length (all_lengths es) ≡ weight (accepted_by (λ n. 1)) es
 packets_weight [] = refl
 packets_weight (e ∷ es) = at e.what (packets_weight es)
   where
-    at : (w : What) → length (all_lengths es) ≡ weight (heard_by (λ n. 1)) es
-        → length (all_lengths (record { epoch = e.epoch; channel = e.channel; packet = e.packet; what = w } ∷ es)) ≡ heard_by (λ n. 1) w + weight (heard_by (λ n. 1)) es
+    at : (w : What) → length (all_lengths es) ≡ weight (accepted_by (λ n. 1)) es
+        → length (all_lengths (record { epoch = e.epoch; channel = e.channel; packet = e.packet; what = w } ∷ es)) ≡ accepted_by (λ n. 1) w + weight (accepted_by (λ n. 1)) es
     at (Data x n) h = omega arith
     at w h = omega arith
 
-pub octets_weight : (es : List Event) → sum (all_lengths es) ≡ weight (heard_by octets_by) es
+pub octets_weight : (es : List Event) → sum (all_lengths es) ≡ weight (accepted_by octets_by) es
 octets_weight [] = refl
 octets_weight (e ∷ es) = at e.what (octets_weight es)
   where
-    at : (w : What) → sum (all_lengths es) ≡ weight (heard_by octets_by) es
-        → sum (all_lengths (record { epoch = e.epoch; channel = e.channel; packet = e.packet; what = w } ∷ es)) ≡ heard_by octets_by w + weight (heard_by octets_by) es
+    at : (w : What) → sum (all_lengths es) ≡ weight (accepted_by octets_by) es
+        → sum (all_lengths (record { epoch = e.epoch; channel = e.channel; packet = e.packet; what = w } ∷ es)) ≡ accepted_by octets_by w + weight (accepted_by octets_by) es
     at (Data x n) h = omega (arith, sum_by-cons (λ (k : ℕ). k) n (all_lengths es))
     at w h = omega arith
 
-pub segments_weight : (es : List Event) → segments_of (all_lengths es) ≡ weight (heard_by segments_by) es
+pub segments_weight : (es : List Event) → segments_of (all_lengths es) ≡ weight (accepted_by segments_by) es
 segments_weight [] = refl
 segments_weight (e ∷ es) = at e.what (segments_weight es)
   where
-    at : (w : What) → segments_of (all_lengths es) ≡ weight (heard_by segments_by) es
-        → segments_of (all_lengths (record { epoch = e.epoch; channel = e.channel; packet = e.packet; what = w } ∷ es)) ≡ heard_by segments_by w + weight (heard_by segments_by) es
+    at : (w : What) → segments_of (all_lengths es) ≡ weight (accepted_by segments_by) es
+        → segments_of (all_lengths (record { epoch = e.epoch; channel = e.channel; packet = e.packet; what = w } ∷ es)) ≡ accepted_by segments_by w + weight (accepted_by segments_by) es
     at (Data x n) h = omega (arith, sum_by-cons (λ (k : ℕ). k) ((n + 63) / 64) (map (λ k. (k + 63) / 64) (all_lengths es)))
     at w h = omega arith
 
-pub sides_weight : (es : List Event) → sum (lengths_from T es) + sum (lengths_from N es) ≡ weight (heard_by octets_by) es
+pub sides_weight : (es : List Event) → sum (lengths_from T es) + sum (lengths_from N es) ≡ weight (accepted_by octets_by) es
 sides_weight [] = refl
 sides_weight (e ∷ es) = at e.what (sides_weight es)
   where
-    at : (w : What) → sum (lengths_from T es) + sum (lengths_from N es) ≡ weight (heard_by octets_by) es
+    at : (w : What) → sum (lengths_from T es) + sum (lengths_from N es) ≡ weight (accepted_by octets_by) es
         → sum (lengths_from T (record { epoch = e.epoch; channel = e.channel; packet = e.packet; what = w } ∷ es)) + sum (lengths_from N (record { epoch = e.epoch; channel = e.channel; packet = e.packet; what = w } ∷ es))
-        ≡ heard_by octets_by w + weight (heard_by octets_by) es
+        ≡ accepted_by octets_by w + weight (accepted_by octets_by) es
     at (Data T n) h = omega (arith, sum_by-cons (λ (k : ℕ). k) n (lengths_from T es))
     at (Data N n) h = omega (arith, sum_by-cons (λ (k : ℕ). k) n (lengths_from N es))
     at w h = omega arith
 
 -- a segment has an octet at least
-pub fewer_segments : (es : List Event) → weight (heard_by segments_by) es ≤ weight (heard_by octets_by) es
+pub fewer_segments : (es : List Event) → weight (accepted_by segments_by) es ≤ weight (accepted_by octets_by) es
 fewer_segments [] = omega arith
 fewer_segments (e ∷ es) = at e.what (fewer_segments es)
   where
-    at : (w : What) → weight (heard_by segments_by) es ≤ weight (heard_by octets_by) es → heard_by segments_by w + weight (heard_by segments_by) es ≤ heard_by octets_by w + weight (heard_by octets_by) es
+    at : (w : What) → weight (accepted_by segments_by) es ≤ weight (accepted_by octets_by) es → accepted_by segments_by w + weight (accepted_by segments_by) es ≤ accepted_by octets_by w + weight (accepted_by octets_by) es
     at (Data x n) h = omega arith
     at w h = omega arith

@@ -1,4 +1,4 @@
--- A fault of the first lines of a text is final.
+-- A fault of the first lines of an input is final.
 use Rattle.std.proofs.Common.{◌≡◌, ◌∙◌, sym, ap, ℕ, ◌+◌, ◌≤◌, List, [], ◌∷◌, ◌++◌, length, Option, Some, None, refl}
 use Rattle.std.specs.Option.{option_or, option_map}
 use Rattle.line_model.specs.text.Text.{Line, begun_kind, begun_line, early, end_kind, ended_lines, fault, first_fault, form_kind, line_kind, size_kind, size_of}

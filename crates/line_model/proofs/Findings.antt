@@ -29,7 +29,7 @@ use Rattle.line_model.specs.Laws.{FindingsLaw}
 use Rattle.line_model.proofs.Merged.{merge_law}
 use Rattle.line_model.proofs.SingleGaps.{value_of_single}
 use Rattle.line_model.proofs.Planned.{plan_law}
-use Rattle.line_model.proofs.OneFinding.{tells_finding, one_finding}
+use Rattle.line_model.proofs.OneFinding.{is_finding_event, one_finding}
 use Rattle.line_model.proofs.WalkedRows.{IsWalk, interface_walk}
 
 -- the finding of an event
@@ -47,13 +47,13 @@ finding_at number v = finding_with (number v.row) v.what
 abbrev pub make : {X : Type 0} → (X → ℕ) → RowEvent X What → List (RowEvent X What) → Finding
 make number v vs = finding_at number v
 
-pub findings_are : {X : Type 0} → (number : X → ℕ) (us : List (RowEvent X What)) → findings_of (map (event_by number) us) ≡ map (finding_at number) (filter tells_finding us)
+pub findings_are : {X : Type 0} → (number : X → ℕ) (us : List (RowEvent X What)) → findings_of (map (event_by number) us) ≡ map (finding_at number) (filter is_finding_event us)
 findings_are number [] = refl
 findings_are number (u ∷ us) = at u.what (findings_are number us)
   where
-    at : (w : What) → findings_of (map (event_by number) us) ≡ map (finding_at number) (filter tells_finding us)
+    at : (w : What) → findings_of (map (event_by number) us) ≡ map (finding_at number) (filter is_finding_event us)
         → findings_of (map (event_by number) (record { epoch = u.epoch; channel = u.channel; row = u.row; what = w } ∷ us))
-        ≡ map (finding_at number) (filter tells_finding (record { epoch = u.epoch; channel = u.channel; row = u.row; what = w } ∷ us))
+        ≡ map (finding_at number) (filter is_finding_event (record { epoch = u.epoch; channel = u.channel; row = u.row; what = w } ∷ us))
     at (Found x s c) h = ap (λ (l : List Finding). record { packet = number u.row; side = x; state = s; code = c } ∷ l) h
     at w h = h
 
@@ -68,26 +68,26 @@ abbrev pub findings_of_line : {X L S : Type 0} → (X → ℕ) → Machine X L S
 findings_of_line number m start rs = findings_of (map (event_by number) (filter is_line (walk_events m start rs)))
 
 pub findings_apart : {X L S : Type 0} → (number : X → ℕ) (m : Machine X L S What) (start : Observer L S) (rs : List X) (plan : List (ℕ × ℕ))
-    → findings_of_line number m start rs ++ flat_map (findings_in number m start rs) plan ≡ drawn_apart m start rs plan tells_finding (make number)
+    → findings_of_line number m start rs ++ flat_map (findings_in number m start rs) plan ≡ drawn_apart m start rs plan is_finding_event (make number)
 findings_apart number m start rs plan =
     ap (λ l. l ++ flat_map (findings_in number m start rs) plan) (findings_are number (filter is_line (walk_events m start rs)))
-    ∙ ap (λ l. drawn tells_finding (make number) (filter is_line (walk_events m start rs)) ++ l) (at plan)
+    ∙ ap (λ l. drawn is_finding_event (make number) (filter is_line (walk_events m start rs)) ++ l) (at plan)
   where
-    at : (qs : List (ℕ × ℕ)) → flat_map (findings_in number m start rs) qs ≡ flat_map (λ p. drawn tells_finding (make number) (value_of m p.0 p.1 (placed m start rs))) qs
+    at : (qs : List (ℕ × ℕ)) → flat_map (findings_in number m start rs) qs ≡ flat_map (λ p. drawn is_finding_event (make number) (value_of m p.0 p.1 (placed m start rs))) qs
     at [] = refl
     at (q ∷ qs) =
         ap (λ l. l ++ flat_map (findings_in number m start rs) qs) (findings_are number (value_of m q.0 q.1 (placed m start rs)))
-        ∙ ap (λ l. drawn tells_finding (make number) (value_of m q.0 q.1 (placed m start rs)) ++ l) (at qs)
+        ∙ ap (λ l. drawn is_finding_event (make number) (value_of m q.0 q.1 (placed m start rs)) ++ l) (at qs)
 
 -- the findings of the line part and of the pieces, in the order of their packets, are those of the walk
-pub findings_merged : {X L S : Type 0} → (number : X → ℕ) (m : Machine X L S What) → OnePerRow m tells_finding → (start : Observer L S) (rs : List X) → IsWalk m start rs → IsStrictlyIncreasing (map number rs)
+pub findings_merged : {X L S : Type 0} → (number : X → ℕ) (m : Machine X L S What) → OnePerRow m is_finding_event → (start : Observer L S) (rs : List X) → IsWalk m start rs → IsStrictlyIncreasing (map number rs)
     → (merged : List Finding) → IsPermutation (findings_of_line number m start rs ++ flat_map (findings_in number m start rs) (plan_of m start rs)) merged
     → IsStrictlyIncreasing (map (λ f. f.packet) merged)
     → merged ≡ findings_of (map (event_by number) (walk_events m start rs))
 findings_merged number m one start rs is_walk up merged same rising =
     let qs = plan_of m start rs in
     merge_law m start rs number is_walk.channels is_walk.fresh is_walk.ready up qs (plan_law m start rs is_walk.channels)
-    tells_finding (make number) (λ f. f.packet) one (λ v us. packet_is (number v.row) v.what) merged (subst (λ l. IsPermutation l merged) (findings_apart number m start rs qs) same) rising
+    is_finding_event (make number) (λ f. f.packet) one (λ v us. packet_is (number v.row) v.what) merged (subst (λ l. IsPermutation l merged) (findings_apart number m start rs qs) same) rising
     ∙ sym (findings_are number (walk_events m start rs))
 
 -- ---- the events of a piece, by its record and in the walk

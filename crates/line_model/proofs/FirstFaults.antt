@@ -1,4 +1,4 @@
--- The first fault of a text by any rule on the contents of lines: a fault of the first lines is final, and what stands
+-- The first fault of an input by any rule on the contents of lines: a fault of the first lines is final, and what stands
 -- before it stays.
 use Rattle.std.proofs.Common.{◌≡◌, ◌∙◌, sym, ap, subst, ℕ, zero, suc, ◌+◌, ◌-◌, ◌<◌, ◌≤◌, Bool, true, false, List, [], ◌∷◌, ◌++◌, length, take, Option, Some, None, refl, arith, append_assoc, append-nil, length-append, ◌⊎◌, inl, inr}
 use Rattle.std.specs.Option.{option_or, option_map}
@@ -34,17 +34,17 @@ abbrev pub begun_by : Rule → List Line → Line → Option Kind
 begun_by form ended [] = None
 begun_by form ended (b ∷ bs) = kind_by form ended 0 (b ∷ bs)
 
--- the fault of the line begun, if the text ends here
+-- the fault of the line begun, if the input ends here
 abbrev pub end_by : Rule → List Line → Line → Option (ℕ × Kind)
 end_by form ended begun =
     option_or (option_map (λ kind. (length ended + 1, kind)) (begun_by form ended begun))
     (elim (content_of (ended ++ line_or_none begun)) [ [] ↦ Some (length (ended ++ line_or_none begun) + 1, HeaderMissing) | l ∷ ls ↦ None ])
 
--- the first fault, if the text ends here
+-- the first fault, if the input ends here
 abbrev pub fault_by : Rule → List ℕ → Option (ℕ × Kind)
 fault_by form text = option_or (first_by form [] (ended_lines text)) (end_by form (ended_lines text) (begun_line text))
 
--- the first fault however the text goes on
+-- the first fault however the input goes on
 abbrev pub early_by : Rule → List ℕ → Option (ℕ × Kind)
 early_by form text =
     option_or (first_by form [] (ended_lines text))
@@ -153,7 +153,7 @@ module _ (form : Rule) where
           omega arith
       here None (m ∷ ms) e = absurd (cc)
 
-  -- a text without an early fault has one behind its ended lines at the earliest
+  -- an input without an early fault has one after its ended lines at the earliest
   fault_above : (es ls : List Line) (b : Line) (at : ℕ × Kind) → first_by form [] es ≡ None → option_or (first_by form [] (es ++ ls)) (end_by form (es ++ ls) b) ≡ Some at → length es < at.0
   fault_above es ls b at none h = here (first_by form es ls) refl (sym (ap (λ o. option_or o (end_by form (es ++ ls) b)) (first_by-append [] es ls ∙ ap (λ o. option_or o (first_by form es ls)) none)) ∙ h)
     where
@@ -200,7 +200,7 @@ ended_first text (b ∷ more) = at (is_lf b) refl (ended_first (text ++ b ∷ []
         (begun_line text ∷ later.0, whole ∙ later.1 ∙ ap (λ l. l ++ later.0) lf ∙ append_assoc (ended_lines text) (begun_line text ∷ []) later.0)
     at false e later = (later.0, whole ∙ later.1 ∙ ap (λ l. l ++ later.0) (ended-more text (b ∷ []) (rw e refl)))
 
--- the lines before an early fault, or those that ended, are the first ones of a text that goes on
+-- the lines before an early fault, or those that ended, are the first ones of an input that goes on
 pub good_first : (form : Rule) (text more : List ℕ)
     → (rest : List Line) × (good_lines (fault_by form (text ++ more)) (lines_of (text ++ more)) ≡ good_lines (early_by form text) (ended_lines text) ++ rest)
 good_first form text more = by_early (early_by form text) refl

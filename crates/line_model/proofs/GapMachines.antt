@@ -22,7 +22,7 @@ use Rattle.line_model.proofs.Walks.{Decides}
 use Rattle.line_model.proofs.Handed.{all_range, flags, lines, of_said, once_range}
 use Rattle.line_model.proofs.MovesCalls.{steps_are}
 
--- two states of the restart machine can be told apart
+-- two states of the restart machine are equal or not
 pub gap_lines : Decides GapLine
 gap_lines k l =
     elim (lines k.line l.line) [

@@ -30,7 +30,7 @@ use Rattle.line_model.specs.channels.FlowControl.{Counts, count_data, count_rece
 use Rattle.line_model.specs.channels.Pad.{form_fault, is_indication, is_set}
 use Rattle.line_model.specs.channels.Verdicts.{Verdict}
 use Rattle.line_model.specs.channels.Verdicts.Verdict.{Fails, Moves, Transfers, EndsOwed, Nothing}
-use Rattle.line_model.specs.channels.ChannelStep.{Outcome, counts_of, ending, entering, heard_of, report_nothing, state_named, verdict}
+use Rattle.line_model.specs.channels.ChannelStep.{Outcome, counts_of, ending, entering, accepted_of, report_nothing, state_named, verdict}
 use Rattle.line_model.specs.channels.Gaps.{Certainty, Doubts, GapChannel, WhileAdrift, drifting, gap_step, idle_name, is_hidden_by_gap, largest_terms, with_largest_terms}
 use Rattle.line_model.specs.channels.Gaps.Certainty.{Adrift, Certain, Settled}
 use Rattle.line_model.specs.channels.GapStep.{GapOutcome, accepting_in_doubt, acknowledged_data, adrift_acceptance, adrift_carried, adrift_entry, adrift_fault, adrift_received, adrift_reset, adrift_step, adrift_step_by, adrift_transfer, brought_up, calling_state, certainty_with, cleared_by, coming_up, completed_for_data, completed_for_receive, completed_to, counted_in_doubt, counting_in_doubt, data_in_doubt, data_reported, doubts_in, failing_in_doubt, hidden_when_up, is_in_d1, is_in_use, is_mixed, is_own_acceptance, is_resetting, may_be_begun, message_in_doubt, of_call, owed_after, packet_step, passing, receive_in_doubt, receive_of, resetting_state, settings_by_form, settings_in_doubt, settled_verdict, terms_of_acceptance, transferring_in_doubt, window_in_doubt, with_certainty, with_interrupt}
@@ -128,7 +128,7 @@ brought_more p c d o ws h same t none = record {
     turn = h.turns.turned.turn;
     before = h.turns.turned.before;
     behind = phase ∙ h.turns.turned.behind;
-    told = marks_append o.reported ws ∙ ap (λ l. marks o.reported ++ l) none ∙ append-nil (marks o.reported) ∙ h.turns.turned.told;
+    marked = marks_append o.reported ws ∙ ap (λ l. marks o.reported ++ l) none ∙ append-nil (marks o.reported) ∙ h.turns.turned.marked;
   };
   sound = record {
     suits = transfer_suits p d.state t;
@@ -309,14 +309,14 @@ mixed_is false m x s size p v message b d c h = inr (record { marks = message_un
 counted_is : (m : ℕ) (x : Side) (s : StateName) (size : ℕ) (p : AcceptedData) (v : Result Counts ℕ) (b : Doubts) (d c : Channel) → SameCall c d → Transferred x s c (counted_in_doubt m x s size p v b d c).outcome
 counted_is m x s size p (Err n) b d c h = inl (n, refl)
 counted_is m x s size p (Ok v) b d c h =
-    let hs = may_be_begun b.hidden size x d.heard in
+    let hs = may_be_begun b.hidden size x d.accepted in
     mixed_is (is_mixed b.hidden (of_side x b.sequences) p hs) m x s size p v (message_in_doubt b.hidden (of_side x b.sequences) size p hs d) b d c h
 
 data_is : (i : Interface) (s : StateName) (r : Item) (h : Option DataHeader) (b : Doubts) (c : Channel) → Transferred r.side s c (data_in_doubt i s r h b c).outcome
 data_is i s r None b c = inr (record { marks = refl; same_state = refl; same_opening = refl })
 data_is i s r (Some h) b c =
     let d = completed_for_data i.modulus b r.side h c in
-    counted_is i.modulus r.side s (size_in_force i c r.side) (heard_of i r h) (count_data i.modulus (window_in_doubt i b c r.side) (counts_of d) r.side h.send h.receive) b d c
+    counted_is i.modulus r.side s (size_in_force i c r.side) (accepted_of i r h) (count_data i.modulus (window_in_doubt i b c r.side) (counts_of d) r.side h.send h.receive) b d c
     (completed_same i.modulus (of_side (other r.side) b.numbers) (other r.side) h.receive c (completed_to i.modulus (of_side r.side b.numbers) r.side h.send c)
     (completed_same i.modulus (of_side r.side b.numbers) r.side h.send c c (refl, refl)))
 
@@ -466,7 +466,7 @@ gap_turns i n all_channels g s =
     let same = gap_state (is_hidden_by_gap i n c) i (entering named false c) in
     record {
       turns = record {
-        turned = record { turn = stays (phase_of p c.state); before = refl; behind = ap (phase_of p) same.0 ∙ w.same_phase; told = refl };
+        turned = record { turn = stays (phase_of p c.state); before = refl; behind = ap (phase_of p) same.0 ∙ w.same_phase; marked = refl };
         sound = record {
           suits = ap (suits p) same.0 ∙ w.suits;
           held = ap (λ o. elim o [ None ↦ false | Some q ↦ true ]) same.1 ∙ s.held ∙ sym (ap is_held (ap (phase_of p) same.0 ∙ w.same_phase));

@@ -24,7 +24,7 @@ use Rattle.line_model.specs.channels.FlowControl.{Counts, count_data, count_rece
 use Rattle.line_model.specs.channels.Pad.{form_fault, is_indication, is_set}
 use Rattle.line_model.specs.channels.Verdicts.{Verdict}
 use Rattle.line_model.specs.channels.Verdicts.Verdict.{Fails, Moves, Transfers, EndsOwed, Nothing}
-use Rattle.line_model.specs.channels.ChannelStep.{counts_of, heard_of, judged, report_nothing, verdict}
+use Rattle.line_model.specs.channels.ChannelStep.{counts_of, accepted_of, judged, report_nothing, verdict}
 use Rattle.line_model.specs.channels.Gaps.{Certainty, Doubts, GapChannel, WhileAdrift, largest_terms}
 use Rattle.line_model.specs.channels.Gaps.Certainty.{Adrift, Certain, Settled}
 use Rattle.line_model.specs.channels.GapStep.{GapOutcome, accepting_in_doubt, acknowledged_data, adrift_carried, adrift_entry, adrift_fault, adrift_received, adrift_step, adrift_step_by, brought_up, coming_up, completed_for_data, completed_for_receive, counted_in_doubt, counting_in_doubt, data_in_doubt, data_reported, failing_in_doubt, hidden_when_up, is_in_use, is_mixed, is_resetting, may_be_begun, message_in_doubt, packet_step, receive_in_doubt, receive_of, settings_by_form, settings_in_doubt, settled_verdict, transferring_in_doubt, window_in_doubt}
@@ -68,7 +68,7 @@ module _ (a : ℕ) (f : ℕ → ℕ) (b : ℕ) where
 
   data_few : (i : Interface) (r : Item) (h : Option DataHeader) → IsMost a f b r → IsFew (data_reported i r h)
   data_few i r None most = omega arith
-  data_few i r (Some h) most = let e = most (heard_of i r h).length (omega arith) in omega arith
+  data_few i r (Some h) most = let e = most (accepted_of i r h).length (omega arith) in omega arith
 
   received_few : (i : Interface) (r : Item) (w : WhileAdrift) (g : GapChannel) (n : Option ℕ) (l : Option LastData) → IsMost a f b r → IsFew (adrift_received i r w g n l).reported
   received_few i r w g (Some n) (Some l) most = data_few i r (header_in r.packet) most
@@ -117,15 +117,15 @@ module _ (a : ℕ) (f : ℕ → ℕ) (b : ℕ) where
   counted_few : (m : ℕ) (x : Side) (s : StateName) (size : ℕ) (p : AcceptedData) (v : Result Counts ℕ) (t : Doubts) (d c : Channel) → a + f p.length ≤ b → IsFew (counted_in_doubt m x s size p v t d c).outcome.reported
   counted_few m x s size p (Err n) t d c le = let few = failing_few a f x s n c in omega arith
   counted_few m x s size p (Ok v) t d c le =
-      let hs = may_be_begun t.hidden size x d.heard in
+      let hs = may_be_begun t.hidden size x d.accepted in
       mixed_few (is_mixed t.hidden (of_side x t.sequences) p hs) m x s size p v (message_in_doubt t.hidden (of_side x t.sequences) size p hs d) t d c le
 
   doubted_few : (i : Interface) (s : StateName) (r : Item) (h : Option DataHeader) (t : Doubts) (c : Channel) → IsMost a f b r → IsFew (data_in_doubt i s r h t c).outcome.reported
   doubted_few i s r None t c most = omega arith
   doubted_few i s r (Some h) t c most =
       let d = completed_for_data i.modulus t r.side h c in
-      counted_few i.modulus r.side s (size_in_force i c r.side) (heard_of i r h) (count_data i.modulus (window_in_doubt i t c r.side) (counts_of d) r.side h.send h.receive) t d c
-      (most (heard_of i r h).length (omega arith))
+      counted_few i.modulus r.side s (size_in_force i c r.side) (accepted_of i r h) (count_data i.modulus (window_in_doubt i t c r.side) (counts_of d) r.side h.send h.receive) t d c
+      (most (accepted_of i r h).length (omega arith))
 
   receive_few : (m : ℕ) (x : Side) (s : StateName) (n : Option ℕ) (t : Doubts) (c : Channel) → a ≤ b → IsFew (receive_in_doubt m x s n t c).outcome.reported
   receive_few m x s None t c le = omega arith

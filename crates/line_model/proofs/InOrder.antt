@@ -17,7 +17,7 @@ use Rattle.line_model.specs.observer.Report.{findings_of}
 use Rattle.line_model.specs.observer.Calls.{calls_of}
 use Rattle.line_model.specs.observer.Observer.{x25, start, event_by, events, is_up}
 use Rattle.line_model.specs.Laws.{CallsLaw, CallsOrderLaw, FindingsOrderLaw}
-use Rattle.line_model.proofs.OneFinding.{tells_finding, one_finding}
+use Rattle.line_model.proofs.OneFinding.{is_finding_event, one_finding}
 use Rattle.line_model.proofs.Findings.{findings_apart, findings_are, findings_in, findings_of_line, make, packet_is, plan_lists}
 use Rattle.line_model.proofs.Rearranged.{IsPermutation-from_rearranged}
 use Rattle.line_model.proofs.Rising.{Rises, rises-from_RisesFrom, rises-from_index}
@@ -54,15 +54,15 @@ drawn_in_order m start rs is_walk number up kind make key one keyed =
           (rises-all m start rs number kind one (rises-from_index (map number rs) up))),
     )
 
-pub findings_ordered : {X L S : Type 0} → (number : X → ℕ) (m : Machine X L S What) → OnePerRow m tells_finding → (start : Observer L S) (rs : List X) → IsWalk m start rs → IsStrictlyIncreasing (map number rs)
+pub findings_ordered : {X L S : Type 0} → (number : X → ℕ) (m : Machine X L S What) → OnePerRow m is_finding_event → (start : Observer L S) (rs : List X) → IsWalk m start rs → IsStrictlyIncreasing (map number rs)
     → IsPermutation (findings_of_line number m start rs ++ flat_map (findings_in number m start rs) (plan_of m start rs)) (findings_of (map (event_by number) (walk_events m start rs)))
     × IsStrictlyIncreasing (map (λ f. f.packet) (findings_of (map (event_by number) (walk_events m start rs))))
 findings_ordered number m one start rs is_walk up =
     let qs = plan_of m start rs in
     let are = findings_are number (walk_events m start rs) in
-    let w = drawn_in_order m start rs is_walk number up tells_finding (make number) (λ f. f.packet) one (λ v us. packet_is (number v.row) v.what) in (
+    let w = drawn_in_order m start rs is_walk number up is_finding_event (make number) (λ f. f.packet) one (λ v us. packet_is (number v.row) v.what) in (
       subst (λ l. IsPermutation l (findings_of (map (event_by number) (walk_events m start rs)))) (sym (findings_apart number m start rs qs))
-          (subst (λ l. IsPermutation (drawn_apart m start rs qs tells_finding (make number)) l) (sym are) w.0),
+          (subst (λ l. IsPermutation (drawn_apart m start rs qs is_finding_event (make number)) l) (sym are) w.0),
       subst (λ l. IsStrictlyIncreasing (map (λ f. f.packet) l)) (sym are) w.1,
     )
 

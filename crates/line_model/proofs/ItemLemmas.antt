@@ -46,7 +46,7 @@ pub items-length : (hs : List Head) (os : List ℕ) → length (items_of hs os) 
 items-length [] os = refl
 items-length (h ∷ hs) os = ap suc (items-length hs (drop (kept h) os))
 
--- some rows of a list are as many as heads of it were taken
+-- some rows of a list are as many as heads of it were chosen
 pub place-length : (hs : List Head) (os : List ℕ) (first count : ℕ) → first + count ≤ length hs → length (items_of (take count (drop first hs)) os) ≡ count
 place-length hs os first count inside =
     let room : count ≤ length (drop first hs) = omega (arith, inside, length-drop first hs) in

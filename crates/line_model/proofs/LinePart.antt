@@ -1,4 +1,4 @@
--- Of a kind that the line part never tells, the line has no events.
+-- Of a kind that the line part never has, the line has no events.
 use Rattle.std.proofs.Common.{◌≡◌, ◌∷◌, [], ◌++◌, ℕ, Bool, true, false, Option, Some, None, List, refl, ◌∙◌, ap}
 use Rattle.std.proofs.lemmas.List.{append-nil}
 use Rattle.std.specs.List.{filter, flat_map}

@@ -14,7 +14,7 @@ use Rattle.line_model.proofs.LinePart.{line_none}
 use Rattle.line_model.proofs.OncePerRow.{one_per_row}
 use Rattle.line_model.proofs.Phases.{Phase, Closed, IsUp}
 use Rattle.line_model.proofs.RowOpenings.{IsOnce, end_opens_none, is_opened, opened_marks}
-use Rattle.line_model.proofs.Turns.{Turn, stays, opens, reopens, replaces, rises, cancels, clears, from_of, to_of, marks_of, end_marks, is_held, Turned}
+use Rattle.line_model.proofs.Turns.{PhaseTurn, stays, opens, reopens, replaces, rises, cancels, clears, from_of, to_of, marks_of, end_marks, is_held, Turned}
 
 -- whether a call is up
 abbrev pub stands_up : Phase → Bool
@@ -22,7 +22,7 @@ stands_up IsUp = true
 stands_up _ = false
 
 -- in the states that channels reach (valid), each step makes one turn of the channel's call, and its closing ends the call
--- that is open; the line part tells nothing of calls
+-- that is open; the line part has no events of calls
 pub record MovesCalls {X L S : Type 0} (m : Machine X L S What) (is_up : ℕ → S → Bool) : Type 0 where
   pub valid : ℕ → S → Bool
   pub phase : ℕ → S → Phase
@@ -42,9 +42,9 @@ pub record MovesCalls {X L S : Type 0} (m : Machine X L S What) (is_up : ℕ →
 
 -- a turn without a mark stays in its phase
 pub unmarked_stays : (old new : Phase) (ws : List What) → Turned old new ws → ws ≡ [] → new ≡ old
-unmarked_stays old new ws t none = t.behind ∙ at t.turn (sym t.told ∙ ap marks none) ∙ sym t.before
+unmarked_stays old new ws t none = t.behind ∙ at t.turn (sym t.marked ∙ ap marks none) ∙ sym t.before
   where
-    at : (t : Turn) → marks_of t ≡ [] → to_of t ≡ from_of t
+    at : (t : PhaseTurn) → marks_of t ≡ [] → to_of t ≡ from_of t
     at (stays p) e = refl
     at opens e = cc
     at reopens e = cc

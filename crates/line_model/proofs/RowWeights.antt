@@ -20,8 +20,8 @@ use Rattle.line_model.specs.declared.finding.Xcode.{Xcode}
 use Rattle.line_model.specs.declared.finding.Xcode.TheVariants.{X3}
 use Rattle.line_model.specs.basics.Records.{Item}
 use Rattle.line_model.specs.basics.Octets.{bits}
-use Rattle.line_model.specs.channels.Pad.{Pair, is_indication, is_set, indicated_by, indicated, asked, set_told, settings_told, settings_after, message_fault}
-use Rattle.line_model.specs.channels.Channels.{Channel, AcceptedData, Opening, Told, is_permanent, other}
+use Rattle.line_model.specs.channels.Pad.{Pair, is_indication, is_set, indicated_by, indicated, asked, events_of_set, events_of_settings, settings_after, message_fault}
+use Rattle.line_model.specs.channels.Channels.{Channel, AcceptedData, Opening, PadMessage, is_permanent, other}
 use Rattle.line_model.specs.channels.FlowControl.{Counts, count_data}
 use Rattle.line_model.specs.channels.Sequences.{begun, is_alike}
 use Rattle.line_model.specs.observer.MachineEvents.{stamp}
@@ -29,7 +29,7 @@ use Rattle.line_model.specs.observer.Observer.{event_of}
 use Rattle.line_model.specs.packets.Formats.{packet_fault, size_in_force, window_in_force}
 use Rattle.line_model.specs.packets.Classes.{packet_class}
 use Rattle.line_model.specs.packets.Says.{header_in}
-use Rattle.line_model.specs.channels.ChannelStep.{heard_of, completed_message, call_change, judged, verdict, ending_open, after_error, failing, changing, entering, telling, option_found, data_alike, data_counted, data_step, counting, transferring, verdict_step, channel_step, counts_of}
+use Rattle.line_model.specs.channels.ChannelStep.{accepted_of, completed_message, call_change, judged, verdict, ending_open, after_error, failing, changing, entering, data_reports, option_found, data_alike, data_counted, data_step, counting, transferring, verdict_step, channel_step, counts_of}
 use Rattle.line_model.proofs.EventWeights.{total, total-append, weight, weighing}
 
 pub ending_none : (a : ℕ) (f : ℕ → ℕ) (h : How) (o : Option Opening) (c : Channel) → total (weighing a f) (ending_open h o c).reported ≡ 0
@@ -60,11 +60,11 @@ map_none : (a : ℕ) (f : ℕ → ℕ) (g : Pair → What) → ((p : Pair) → w
 map_none a f g h [] = refl
 map_none a f g h (p ∷ ps) = let more = map_none a f g h ps in let none = h p in omega arith
 
-set_none : (a : ℕ) (f : ℕ → ℕ) (b : Bool) (x : Side) (xs : List ℕ) → total (weighing a f) (set_told b x xs) ≡ 0
+set_none : (a : ℕ) (f : ℕ → ℕ) (b : Bool) (x : Side) (xs : List ℕ) → total (weighing a f) (events_of_set b x xs) ≡ 0
 set_none a f true x xs = refl
 set_none a f false x xs = map_none a f (asked (other x)) (λ p. refl) _
 
-pub settings_none : (a : ℕ) (f : ℕ → ℕ) (b d : Bool) (x : Side) (xs : List ℕ) → total (weighing a f) (settings_told b d x xs) ≡ 0
+pub settings_none : (a : ℕ) (f : ℕ → ℕ) (b d : Bool) (x : Side) (xs : List ℕ) → total (weighing a f) (events_of_settings b d x xs) ≡ 0
 settings_none a f true d x xs = map_none a f (indicated x) (λ p. indicated_none a f (eqb (bits 8 8 p.reference) 1) x p) _
 settings_none a f false true x xs = set_none a f (eqb (length xs) 1) x xs
 settings_none a f false false x xs = refl
@@ -78,10 +78,10 @@ found_few : (a : ℕ) (f : ℕ → ℕ) (x : Side) (e : Option Xcode) → total 
 found_few a f x None = omega arith
 found_few a f x (Some e) = omega arith
 
-telling_few : (a : ℕ) (f : ℕ → ℕ) (x : Side) (p : AcceptedData) (told : List Told) (m : Option (List ℕ)) → total (weighing a f) (telling x p told m) ≤ a + f p.length
-telling_few a f x p told None = omega arith
-telling_few a f x p told (Some m) =
-    let e = message_fault x told m in
+data_reports_few : (a : ℕ) (f : ℕ → ℕ) (x : Side) (p : AcceptedData) (pad_messages : List PadMessage) (m : Option (List ℕ)) → total (weighing a f) (data_reports x p pad_messages m) ≤ a + f p.length
+data_reports_few a f x p pad_messages None = omega arith
+data_reports_few a f x p pad_messages (Some m) =
+    let e = message_fault x pad_messages m in
     let later : List What = settings_after e x m in
     let parts = total-append (weighing a f) (option_to_list (option_found x e)) (DataEvent x p.length ∷ later) in
     let front = found_few a f x e in
@@ -90,11 +90,11 @@ telling_few a f x p told (Some m) =
 
 alike_few : (a : ℕ) (f : ℕ → ℕ) (i : Interface) (x : Side) (s : StateName) (p : AcceptedData) (v : Counts) (b : Bool) (c : Channel) → total (weighing a f) (data_alike i x s p v b c).reported ≤ a + f p.length
 alike_few a f i x s p v false c = let few = failing_few a f x s INCONSISTENT_Q_BIT_SETTING c in omega arith
-alike_few a f i x s p v true c = telling_few a f x p c.told (completed_message i x c p)
+alike_few a f i x s p v true c = data_reports_few a f x p c.pad_messages (completed_message i x c p)
 
 counted_few : (a : ℕ) (f : ℕ → ℕ) (i : Interface) (x : Side) (s : StateName) (p : AcceptedData) (r : Result Counts ℕ) (c : Channel) → total (weighing a f) (data_counted i x s p r c).reported ≤ a + f p.length
 counted_few a f i x s p (Err n) c = let few = failing_few a f x s n c in omega arith
-counted_few a f i x s p (Ok v) c = alike_few a f i x s p v (is_alike p (begun (size_in_force i c x) x c.heard)) c
+counted_few a f i x s p (Ok v) c = alike_few a f i x s p v (is_alike p (begun (size_in_force i c x) x c.accepted)) c
 
 -- no less than a finding with a data packet of no more octets than a row has
 abbrev pub IsMost : ℕ → (ℕ → ℕ) → ℕ → Item → Type 0
@@ -103,8 +103,8 @@ IsMost a f b r = (n : ℕ) → n ≤ r.length → a + f n ≤ b
 data_few : (a : ℕ) (f : ℕ → ℕ) (b : ℕ) (i : Interface) (s : StateName) (r : Item) (h : Option DataHeader) (c : Channel) → IsMost a f b r → total (weighing a f) (data_step i s r h c).reported ≤ b
 data_few a f b i s r None c most = omega arith
 data_few a f b i s r (Some h) c most =
-    let few = counted_few a f i r.side s (heard_of i r h) (count_data i.modulus (window_in_force i c r.side) (counts_of c) r.side h.send h.receive) c in
-    let enough = most (heard_of i r h).length (omega arith) in
+    let few = counted_few a f i r.side s (accepted_of i r h) (count_data i.modulus (window_in_force i c r.side) (counts_of c) r.side h.send h.receive) c in
+    let enough = most (accepted_of i r h).length (omega arith) in
     omega arith
 
 counting_few : (a : ℕ) (f : ℕ → ℕ) (b : ℕ) (x : Side) (s : StateName) (r : Result Counts ℕ) (c : Channel) → a ≤ b → total (weighing a f) (counting x s r c).reported ≤ b

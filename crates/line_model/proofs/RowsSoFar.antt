@@ -8,7 +8,7 @@ use Rattle.line_model.specs.basics.Records.{Row}
 use Rattle.line_model.proofs.Rising.{RisesFrom}
 use Rattle.line_model.proofs.InOrder.{index-from_rises}
 
--- their numbers rise from above 0 to `last` at the most, and they have no more than so many octets
+-- their numbers rise from above 0 to `last` at the most, and they have at most `most` octets
 pub record RowsTo (last most : ℕ) (rs : List Row) : Type 0 where
   pub rising : RisesFrom 0 (map (λ r. r.number) rs)
   pub below : All (λ r. r.number ≤ last) rs

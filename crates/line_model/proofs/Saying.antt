@@ -8,7 +8,7 @@ use Rattle.line_model.specs.declared.packet.Class.TheVariants.{Short, WrongForma
 use Rattle.line_model.specs.declared.packet.DataHeader.{DataHeader}
 use Rattle.line_model.specs.declared.packet.Packet as packet
 use Rattle.line_model.specs.declared.packet.PacketKind as kind
-use Rattle.line_model.specs.basics.Records.{Row, Item}
+use Rattle.line_model.specs.basics.Records.{Row, Item, ReadRow}
 use Rattle.line_model.specs.basics.Octets.{octet, bits, channel_of}
 use Rattle.line_model.specs.basics.Choice.{first_that}
 use Rattle.line_model.specs.packets.Classes.{class_of, data_header, format_of, line_type, packet_of, packet_with, receive_number, type_class}
@@ -155,10 +155,6 @@ pub last_said : (i : Interface) (items : List Item) (item : Item) → AreSaid i 
 last_said i [] item said = said.0
 last_said i (x ∷ items) item said = last_said i items item said.1
 
-pub said_push : (i : Interface) (items : List Item) (item : Item) → AreSaid i items → IsSaid i item → AreSaid i (items ++ item ∷ [])
-said_push i [] item said one = (one, tt)
-said_push i (x ∷ items) item said one = (said.0, said_push i items item said.1 one)
-
 pub said_numbers : (i : Interface) (rs : List Row) → map (λ r. r.number) (items_of i rs) ≡ map (λ r. r.number) rs
 said_numbers i [] = refl
 said_numbers i (r ∷ rs) = ap (λ ns. r.number ∷ ns) (said_numbers i rs)
@@ -174,3 +170,7 @@ said_count i (r ∷ rs) = ap suc (said_count i rs)
 pub items_more : (i : Interface) (rs more : List Row) → items_of i (rs ++ more) ≡ items_of i rs ++ items_of i more
 items_more i [] more = refl
 items_more i (r ∷ rs) more = ap (λ l. item_of i r ∷ l) (items_more i rs more)
+
+-- what rows say, and one that was read after them
+pub row_said : (i : Interface) (rs : List Row) (r : Row) (row : ReadRow) → row ≡ read_row r → items_of i rs ++ item_read i row ∷ [] ≡ items_of i (rs ++ r ∷ [])
+row_said i rs r row is = ap (λ item. items_of i rs ++ item ∷ []) (ap (item_read i) is ∙ read_says i r) ∙ sym (items_more i rs (r ∷ []))

@@ -1,17 +1,14 @@
 -- Gaps of all channels: what is said of them, and that of several with no other row between them the last one alone does what
 -- they do.
-use Rattle.std.proofs.Common.{◌≡◌, ◌∙◌, Bool, true, false, not, ◌&&◌, ◌||◌, ℕ, Option, Some, None, is_some, List, [], ◌∷◌, ◌++◌, length, inr, refl, sym, ap}
-use Rattle.std.specs.Prelude.{IfSome}
+use Rattle.std.proofs.Common.{◌≡◌, ◌∙◌, Bool, true, false, not, ◌&&◌, ◌||◌, ℕ, Option, Some, None, is_some, List, [], ◌∷◌, ◌++◌, inr, refl, sym, ap}
 use Rattle.std.proofs.lemmas.Bool.{and_parts, false≢true}
 use Rattle.line_model.specs.declared.interface.Interface.{Interface}
 use Rattle.line_model.specs.declared.state.Side.TheVariants.{T}
-use Rattle.line_model.specs.declared.packet.Packet.TheVariants.{GapOfAll}
 use Rattle.line_model.specs.declared.gap.Owed.{Owed}
 use Rattle.line_model.specs.declared.event.What.{What}
-use Rattle.line_model.specs.basics.Records.{Item, Row}
-use Rattle.line_model.specs.basics.Bounds.{IsGapRow, IsItem, IsSaid}
-use Rattle.line_model.specs.packets.Says.{gap_item, gap_of, item_of, packet_or_gap, said_octets}
-use Rattle.line_model.specs.packets.Classes.{class_of, packet_of}
+use Rattle.line_model.specs.basics.Records.{Item}
+use Rattle.line_model.specs.basics.Bounds.{IsItem}
+use Rattle.line_model.specs.packets.Says.{gap_item, gap_of}
 use Rattle.line_model.specs.channels.Channels.{Channel, Opening, is_in_transfer, is_open, is_permanent}
 use Rattle.line_model.specs.channels.ChannelStep.{entering}
 use Rattle.line_model.specs.channels.Gaps.{GapChannel, drifting, gap_step, idle_name, owed_at_gap, with_largest_terms}
@@ -20,7 +17,6 @@ use Rattle.line_model.specs.observer.MachineEvents.{RowEvent}
 use Rattle.line_model.specs.observer.Observer.{x25, row_step, step_by}
 use Rattle.line_model.specs.pieces.Pieces.{piece_value, step_events}
 use Rattle.line_model.specs.pieces.Plans.{begins_with_gap, single_gaps}
-use Rattle.line_model.proofs.PacketClass.{no_gap_with}
 
 -- ---- what is said of them
 
@@ -34,24 +30,6 @@ gap_said i k n recorded = record {
   };
   channel = inr refl;
 }
-
--- nothing but its number is said of it
-pub said_gap : (i : Interface) (r : Item) → IsSaid i r → is_gap_of_all r ≡ true → r ≡ gap_item r.number
-said_gap i r said h = at said.row.gap said.lawful said.says
-  where
-    row : Row
-    row = said.row
-
-    is_item : (gap : Option (Option ℕ)) → r ≡ record (item_of i row) { packet = packet_or_gap gap (packet_of i row.octets) } → is_of_all (gap_of (packet_or_gap gap (packet_of i row.octets))) ≡ true
-    is_item gap says = sym (ap is_gap_of_all says) ∙ h
-
-    at : (gap : Option (Option ℕ)) → IfSome gap (IsGapRow i row) → r ≡ record (item_of i row) { packet = packet_or_gap gap (packet_of i row.octets) } → r ≡ gap_item r.number
-    at None lawful says = absurd (false≢true (sym (ap is_of_all (no_gap_with i row.octets (class_of i row.octets))) ∙ is_item None says))
-    at (Some (Some c)) lawful says = absurd (false≢true (is_item (Some (Some c)) says))
-    at (Some None) lawful says =
-        let same : r ≡ gap_item row.number =
-        says ∙ (λ j. record { number = row.number; side = lawful.side j; packet = GapOfAll; length = length (lawful.octets j); octets = said_octets (lawful.octets j) }) in
-        same ∙ ap (λ (x : Item). gap_item x.number) (sym same)
 
 -- ---- a gap after a gap
 

@@ -1,4 +1,4 @@
--- What the first lines of a text say stays, and the rows of a text are of its interface.
+-- What the first lines of an input say stays, and the rows of an input are of its interface.
 use Rattle.std.proofs.Common.{◌≡◌, ◌∙◌, sym, ap, ap₂, subst, ℕ, zero, suc, ◌+◌, ◌-◌, ◌≤◌, Bool, true, false, not, cond, ◌&&◌, List, [], ◌∷◌, ◌++◌, length, take, drop, Option, Some, None, refl, arith, ◌⊎◌, inl, inr, append_assoc, append-nil, length-append}
 use Rattle.std.specs.Prelude.{IfSome, is_none}
 use Rattle.std.specs.List.{cons_option, filter_map}
@@ -217,7 +217,7 @@ sound_ended text = at (first_fault [] (ended_lines text)) refl
     at (Some f) h = sound_front (ended_lines text) f h
     at None h = sound_good (option_map (λ kind. (length (ended_lines text) + 1, kind)) (size_kind (size_of (ended_lines text)) 0 (length (begun_line text)))) (ended_lines text) (sound_all [] (ended_lines text) h)
 
--- the lines of a text before its first fault
+-- the lines of an input before its first fault
 sound_lines : (text : List ℕ) → AreSound [] (good_lines (fault text) (lines_of text))
 unfolding fault
 sound_lines text = at (first_fault [] es) refl

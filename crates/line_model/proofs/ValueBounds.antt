@@ -1,4 +1,4 @@
--- What a piece is worth is within its rows.
+-- The result of a piece is within its rows.
 use Rattle.std.proofs.Common.{◌≡◌, ℕ, ◌+◌, ◌≤◌, Bool, cond, not, ◌||◌, Option, List, [], ◌∷◌, map, sym, ap, subst, arith}
 use Rattle.std.specs.Prelude.{option_map, take_while}
 use Rattle.std.specs.List.{AllByRecursion}
@@ -14,7 +14,7 @@ use Rattle.line_model.specs.observer.Observer.{x25, event_of}
 use Rattle.line_model.specs.observer.Calls.{is_end, is_opening, members, record_of, calls_of}
 use Rattle.line_model.specs.pieces.Plans.{row_of_end, piece_events, value}
 use Rattle.line_model.specs.basics.Bounds.{IsPiece, IsPieceReport}
-use Rattle.line_model.proofs.EventWeights.{total, total-sum_by, heard_by, octets_by, segments_by, weight, findings_weight, octets_weight, segments_weight, sides_weight, fewer_segments}
+use Rattle.line_model.proofs.EventWeights.{total, total-sum_by, accepted_by, octets_by, segments_by, weight, findings_weight, octets_weight, segments_weight, sides_weight, fewer_segments}
 use Rattle.line_model.proofs.PieceCalls.{IsOf, piece_of_one, alongside_all}
 use Rattle.line_model.proofs.GapWeights.{piece_few}
 use Rattle.line_model.proofs.RowWeights.{total-ones}
@@ -25,34 +25,34 @@ abbrev goes_on : Event → Bool
 goes_on f = not (is_end f || is_opening f)
 
 -- the events of the first call, and those of the calls that are opened later, are apart
-few_in_calls : (q : ℕ → ℕ) (f : CallRecord → ℕ) → ((e : Event) (o : Bool) (a b : List ℕ) (r : Bool) (later : List Event) → f (record_of e o a b r later) ≡ weight (heard_by q) (members e later))
+few_in_calls : (q : ℕ → ℕ) (f : CallRecord → ℕ) → ((e : Event) (o : Bool) (a b : List ℕ) (r : Bool) (later : List Event) → f (record_of e o a b r later) ≡ weight (accepted_by q) (members e later))
     → (e k : ℕ) (vs : List (RowEvent Item What)) → AllByRecursion (IsOf e k) vs
-    → total f (calls_of (map event_of vs)) + weight (heard_by q) (take_while goes_on (map event_of vs)) ≤ weight (heard_by q) (map event_of vs)
+    → total f (calls_of (map event_of vs)) + weight (accepted_by q) (take_while goes_on (map event_of vs)) ≤ weight (accepted_by q) (map event_of vs)
 few_in_calls q f is e k [] all = omega arith
 few_in_calls q f is e k (v ∷ vs) all =
-    subst (λ l. total f (calls_of (map event_of (v ∷ vs))) + weight (heard_by q) l ≤ weight (heard_by q) (map event_of (v ∷ vs)))
+    subst (λ l. total f (calls_of (map event_of (v ∷ vs))) + weight (accepted_by q) l ≤ weight (accepted_by q) (map event_of (v ∷ vs)))
     (sym (take_while-cons goes_on (event_of v) (map event_of vs))) (at v.epoch v.channel v.row v.what all.0 (few_in_calls q f is e k vs all.1))
   where
     at : (d : ℕ) (c : Option ℕ) (x : Item) (w : What) → IsOf e k (record { epoch = d; channel = c; row = x; what = w })
-        → total f (calls_of (map event_of vs)) + weight (heard_by q) (take_while goes_on (map event_of vs)) ≤ weight (heard_by q) (map event_of vs)
+        → total f (calls_of (map event_of vs)) + weight (accepted_by q) (take_while goes_on (map event_of vs)) ≤ weight (accepted_by q) (map event_of vs)
         → total f (calls_of (map event_of (record { epoch = d; channel = c; row = x; what = w } ∷ vs)))
-        + weight (heard_by q) (cond (goes_on (event_of (record { epoch = d; channel = c; row = x; what = w }))) (event_of (record { epoch = d; channel = c; row = x; what = w }) ∷ take_while goes_on (map event_of vs)) [])
-        ≤ heard_by q w + weight (heard_by q) (map event_of vs)
+        + weight (accepted_by q) (cond (goes_on (event_of (record { epoch = d; channel = c; row = x; what = w }))) (event_of (record { epoch = d; channel = c; row = x; what = w }) ∷ take_while goes_on (map event_of vs)) [])
+        ≤ accepted_by q w + weight (accepted_by q) (map event_of vs)
     at d c x (Open o a b r) its h =
         let u : RowEvent Item What = record { epoch = d; channel = c; row = x; what = Open o a b r } in
         let own = is (event_of u) o a b r (map event_of vs) in
-        let same = ap (λ l. weight (heard_by q) (take_while goes_on l)) (alongside_all Item (λ r. r.number) e k u its vs all.1) in
+        let same = ap (λ l. weight (accepted_by q) (take_while goes_on l)) (alongside_all Item (λ r. r.number) e k u its vs all.1) in
         omega arith
     at d c x (End t) its h = omega arith
     at d c x (Data y n) its h = omega arith
     at d c x w its h = omega arith
 
 octets_in_call : (e : Event) (o : Bool) (a b : List ℕ) (r : Bool) (later : List Event)
-    → (record_of e o a b r later).oct_t + (record_of e o a b r later).oct_n ≡ weight (heard_by octets_by) (members e later)
+    → (record_of e o a b r later).oct_t + (record_of e o a b r later).oct_n ≡ weight (accepted_by octets_by) (members e later)
 octets_in_call e o a b r later = sides_weight (members e later)
 
 segments_in_call : (e : Event) (o : Bool) (a b : List ℕ) (r : Bool) (later : List Event)
-    → (record_of e o a b r later).segments ≡ weight (heard_by segments_by) (members e later)
+    → (record_of e o a b r later).segments ≡ weight (accepted_by segments_by) (members e later)
 segments_in_call e o a b r later = segments_weight (members e later)
 
 -- ---- all together

@@ -1,4 +1,4 @@
--- Texts that a sink takes in parts.
+-- Texts that a sink accepts in parts.
 use Rattle.std.proofs.Common.{◌≡◌, ℕ, true, false, ◌<◌, ◌≤◌, List, [], ◌++◌, sym, ap, ◌∙◌, subst, arith, Option, append_assoc}
 use Rattle.std.proofs.lemmas.List.{append-nil}
 use Rattle.line_model.specs.basics.Device.{with_more}
@@ -17,29 +17,6 @@ flushed before taken after c d text front rest w fine split sent all empty risin
   held = λ e. all e ∙ sym empty;
   rising = omega (arith, w.rising, rising);
   cause = λ e. omega (arith, w.rising, cause e);
-}
-
--- after a failure nothing is known of what is held
-pub given_up : (before taken : Option (List ℕ) × ℕ) (c d : WriteBuffer) (text more : List ℕ) → Writes before taken c text → c.failed ≡ true → d.failed ≡ true → Writes before taken d (text ++ more)
-given_up before taken c d text more w was failed = record {
-  sent = w.sent;
-  left = w.left ++ more;
-  took = w.took;
-  whole = sym (append_assoc w.sent w.left more) ∙ ap (λ l. l ++ more) w.whole;
-  held = λ e. absurd (cc);
-  rising = w.rising;
-  cause = λ e. w.cause was;
-}
-
-pub held_more : (before taken : Option (List ℕ) × ℕ) (c d : WriteBuffer) (text more : List ℕ) → Writes before taken c text → d.failed ≡ c.failed → d.bytes.items ≡ c.bytes.items ++ more → Writes before taken d (text ++ more)
-held_more before taken c d text more w same items = record {
-  sent = w.sent;
-  left = w.left ++ more;
-  took = w.took;
-  whole = sym (append_assoc w.sent w.left more) ∙ ap (λ l. l ++ more) w.whole;
-  held = λ e. ap (λ l. l ++ more) (w.held (sym same ∙ e)) ∙ sym items;
-  rising = w.rising;
-  cause = λ e. w.cause (sym same ∙ e);
 }
 
 pub passed : (before taken after : Option (List ℕ) × ℕ) (c d : WriteBuffer) (text more front rest : List ℕ) → Writes before taken c text → c.failed ≡ false → c.bytes.items ≡ [] → more ≡ front ++ rest → after.0 ≡ with_more taken.0 front

@@ -1,4 +1,4 @@
--- What holds of every interface, and of what its rows say.
+-- Theorems about every interface and its rows.
 use Rattle.std.specs.Prelude.{◌∷◌, map, ◌++◌, ◌≡◌, ℕ, ◌≤◌, List, Some, filter}
 use Rattle.std.specs.List.{flat_map}
 use Rattle.std.specs.List.Sorted.{IsPermutation, IsStrictlyIncreasing}
@@ -11,7 +11,7 @@ use Rattle.line_model.specs.pieces.Shuffle.{IsShuffle, SameWalks}
 use Rattle.line_model.specs.pieces.Pieces.{is_of, placed, value_of}
 use Rattle.line_model.specs.pieces.Merge.{IsPlan, drawn}
 use Rattle.line_model.specs.observer.Peak.{IsPeakOfTimes, how_many, is_up_at, times_of}
-use Rattle.line_model.specs.observer.Calls.{tells_up, tells_end, calls_of, up_at}
+use Rattle.line_model.specs.observer.Calls.{is_up_event, is_end_event, calls_of, up_at}
 use Rattle.line_model.specs.pieces.Plan.{plan_of}
 use Rattle.line_model.specs.observer.Observer.{x25, start, events, peak}
 use Rattle.line_model.specs.observer.Report.{findings_of}
@@ -39,7 +39,7 @@ FindingsLaw = (i : Interface) (rs : List Item) → AreSaid i rs → IsStrictlyIn
     → IsStrictlyIncreasing (map (λ f. f.packet) merged)
     → merged ≡ findings_of (events i rs)
 
--- the findings of the restart machine and of the pieces are those of the walk, which stand in the order of their packets
+-- the findings of the restart machine and of the pieces are those of the walk, which are in the order of their packets
 pub record FindingsOfPieces (i : Interface) (rs : List Item) : Type 0 where
   pub same_findings : IsPermutation (line_findings i rs ++ flat_map (λ p. (value p).findings) (plan i rs)) (findings_of (events i rs))
   pub in_order : IsStrictlyIncreasing (map (λ f. f.packet) (findings_of (events i rs)))
@@ -59,7 +59,7 @@ NumbersLaw = (i : Interface) (rs : List Item) → IsNumbered (plan i rs)
 abbrev pub PeakLaw : Type 0
 PeakLaw = (i : Interface) (rs : List Item) → AreSaid i rs → IsStrictlyIncreasing (0 ∷ map (λ r. r.number) rs)
     → IsPeakOfTimes
-    (λ n. how_many (is_up_at n) (drawn (λ v. tells_up v.what) (times_of tells_end (λ r. r.number)) (walk_events (x25 i) (start i) rs)))
+    (λ n. how_many (is_up_at n) (drawn (λ v. is_up_event v.what) (times_of is_end_event (λ r. r.number)) (walk_events (x25 i) (start i) rs)))
     (peak i rs).0 (peak i rs).1
 
 -- the calls of the pieces, in the order of their opening packets, are those of the walk
@@ -74,7 +74,7 @@ abbrev pub CallsPeakLaw : Type 0
 CallsPeakLaw = (i : Interface) (rs : List Item) → AreSaid i rs → IsStrictlyIncreasing (0 ∷ map (λ r. r.number) rs)
     → IsPeakOfTimes (up_at (calls_of (events i rs))) (peak i rs).0 (peak i rs).1
 
--- the calls of the pieces are those of the walk, which stand in the order of their opening packets
+-- the calls of the pieces are those of the walk, which are in the order of their opening packets
 pub record CallsOfPieces (i : Interface) (rs : List Item) : Type 0 where
   pub same_calls : IsPermutation (flat_map (λ p. (value p).calls) (plan i rs)) (calls_of (events i rs))
   pub in_order : IsStrictlyIncreasing (map (λ c. c.opened) (calls_of (events i rs)))
@@ -83,18 +83,18 @@ pub record CallsOfPieces (i : Interface) (rs : List Item) : Type 0 where
 abbrev pub CallsOrderLaw : Type 0
 CallsOrderLaw = (i : Interface) (rs : List Item) → AreSaid i rs → IsStrictlyIncreasing (map (λ r. r.number) rs) → CallsOfPieces i rs
 
--- the interface that the first lines of a text set up is that of the text however it goes on
+-- the interface that the first lines of an input set up is that of the input whatever follows
 abbrev pub EarlyHeadLaw : Type 0
 EarlyHeadLaw = (text more : List ℕ) (i : Interface) → early_head text ≡ Some i → head (text ++ more) ≡ Some i
 
--- the rows of the first lines of a text are the first rows of the text however it goes on
+-- the rows of the first lines of an input are the first rows of the input whatever follows
 abbrev pub EarlyRowsLaw : Type 0
 EarlyRowsLaw = (text more : List ℕ) → (rest : List Row) × (rows (text ++ more) ≡ early_rows text ++ rest)
 
--- the rows of a text are of the interface that it sets up
+-- the rows of an input are of the interface that it sets up
 abbrev pub RowsLaw : Type 0
 RowsLaw = (text : List ℕ) (i : Interface) → head text ≡ Some i → AreRows i (rows text)
 
--- so are those of its first lines
+-- the rows of its first lines are of it too
 abbrev pub FirstRowsLaw : Type 0
 FirstRowsLaw = (text : List ℕ) (i : Interface) → early_head text ≡ Some i → AreRows i (early_rows text)

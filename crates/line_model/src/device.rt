@@ -17,16 +17,16 @@ pub enum Beginning {
     Text,
     /// With a line, after a row of this number, or after none where it is 0.
     Line(u32),
-    /// In the midst of a line.
+    /// In the middle of a line.
     Midst,
 }
 
 /// Where a trace comes from, in chunks of any size up to 65,536 bytes, which it lends.
 pub trait Source {
-    /// The bytes that it will give up to its end, where it tells them.
+    /// The bytes that it will give up to its end, where it shows them.
     ghost left: { Self → Option (List ℕ) };
 
-    /// The bytes that were left before its last call, where it tells them.
+    /// The bytes that were left before its last call, where it shows them.
     ghost before: { Self → Option (List ℕ) };
 
     /// The bytes that its last call gave.
@@ -38,7 +38,7 @@ pub trait Source {
     /// How often it failed.
     ghost failures: { Self → ℕ };
 
-    /// Reads the next bytes, at most 65,536; none is the end.
+    /// Reads the next bytes, at most 65,536; none at the end. Fails where the source fails; nothing was read then.
     fn read(&mut self) -> Result<(), ()>
         ensures few { OnOk result (length (last_given self.new) ≤ 2 ^ 16) }
         ensures given { OnOk result (Gives (left self.old) (left self.new) (last_given self.new)) }
@@ -47,12 +47,12 @@ pub trait Source {
         ensures calls { calls self.new ≡ calls self.old + 1 }
         ensures failures { failures self.new ≡ (if is_err result then failures self.old + 1 else failures self.old) };
 
-    /// The bytes that its last call gave.
+    /// Returns the bytes that its last call gave.
     fn latest(&self) -> &[u8]
         ensures { result.now ≡ last_given self.now };
 
-    /// Is given whole lines of its text that were refused after more of it was read, and the number of the row before
-    /// them. A source that is asked later what is wrong with them keeps them.
+    /// Receives whole lines of its text that were refused after more of it was read, and the number of the row before
+    /// them. A source that is asked later what is wrong with them keeps them; by default it does nothing.
     fn keep_refused(&mut self, lines: &[u8], number_before: u32)
         ensures left { left self.new ≡ left self.old }
         ensures before { before self.new ≡ before self.old }
@@ -63,13 +63,14 @@ pub trait Source {
 
 /// Where a report goes.
 pub trait Sink {
-    /// The bytes that it took, where it tells them.
+    /// The bytes that it accepted, where it shows them.
     ghost taken: { Self → Option (List ℕ) };
 
     /// How often it failed.
     ghost failures: { Self → ℕ };
 
-    /// Takes bytes from the front of a slice, and says how many: at least one of a slice that is not empty.
+    /// Accepts bytes from the front of a slice and returns how many: at least one of a slice that is not empty. Fails
+    /// where the sink fails; nothing was accepted then.
     fn write(&mut self, bytes: &[u8]) -> Result<usize, ()>
         ensures fits { IfOk result (λ n. n ≤ length bytes.now) }
         ensures some { IfOk result (λ n. 0 < length bytes.now → 0 < n) }
@@ -88,7 +89,7 @@ pub struct SliceSource<'a> {
 }
 
 impl<'a> SliceSource<'a> {
-    /// A source of these bytes.
+    /// Returns a source of these bytes.
     pub fn new(bytes: &'a [u8]) -> Self
         ensures left { ⟦<SliceSource<'a> as Source>⟧.left result ≡ Some bytes.entry.now }
         ensures calls { ⟦<SliceSource<'a> as Source>⟧.calls result ≡ 0 }
@@ -135,7 +136,7 @@ pub struct VecSink<A: Allocator> {
 }
 
 impl<A: Allocator> VecSink<A> {
-    /// A sink that goes on after these bytes.
+    /// Returns a sink that goes on after these bytes.
     pub fn new(bytes: Vec<u8, A>) -> Self
         ensures taken { ⟦<VecSink<A> as Sink>⟧.taken result ≡ Some bytes.items }
         ensures failures { ⟦<VecSink<A> as Sink>⟧.failures result ≡ 0 }
@@ -146,7 +147,7 @@ impl<A: Allocator> VecSink<A> {
         }
     }
 
-    /// The bytes that it holds.
+    /// Returns the bytes that it holds.
     pub fn as_slice(&self) -> &[u8]
         ensures { ⟦<VecSink<A> as Sink>⟧.taken self.now ≡ Some result.now }
     {

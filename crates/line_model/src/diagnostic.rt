@@ -1,5 +1,5 @@
 //! The names of the diagnostic codes that findings have (X.25 Annex E). The state tables have the codes as numbers;
-//! what else gives a code, in definitions and in code, names it by these constants.
+//! everything else names them by these constants.
 
 /// Invalid P(S) (1).
 pub const INVALID_P_S: u8 = 1;

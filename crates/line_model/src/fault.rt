@@ -1,4 +1,4 @@
-//! Why a call gave up, and which rule a line of the trace breaks.
+//! Why a call failed, and which rule a line of the trace breaks.
 
 use std::alloc::{AllocError, AllocFailed};
 use thiserror::Error;
@@ -30,7 +30,7 @@ impl Kind {
     ghost use Rattle.std.specs.Prelude.{◌≡◌};
     ghost use Rattle.line_model.specs.basics.Faults.{kind_number};
 
-    /// The number of the rule, 21 to 29.
+    /// Returns the number of the rule, 21 to 29.
     pub fn number(self) -> u8
         ensures { result ≡ kind_number self }
     {
@@ -38,7 +38,7 @@ impl Kind {
     }
 }
 
-/// Why a call gave up. Faults are numbered 1 to 8 in this order.
+/// Why a call failed. Faults are numbered 1 to 8 in this order.
 #[derive(Clone, Copy, Debug, PartialEq, Eq, Error)]
 pub enum Fault {
     /// A growth of memory was refused.
@@ -56,7 +56,7 @@ pub enum Fault {
     /// A thread could not be started.
     #[error("thread refused")]
     Start,
-    /// A report with this id stands already.
+    /// A report with this id was posted before.
     #[error("piece {0} posted twice")]
     Double(u32),
     /// No piece has this id.
@@ -71,7 +71,7 @@ impl Fault {
     ghost use Rattle.std.specs.Prelude.{◌≡◌};
     ghost use Rattle.line_model.specs.basics.Faults.{fault_number};
 
-    /// The number of the fault, 1 to 8.
+    /// Returns the number of the fault, 1 to 8.
     pub fn number(&self) -> u8
         ensures { result ≡ fault_number self.now }
     {

@@ -18,7 +18,7 @@ pub enum Owed {
 pub struct LastData {
     /// The number after its P(S).
     pub next: u8,
-    /// The last P(R) of its side, in it or after it.
+    /// The last P(R) of its side, in this packet or after it.
     pub receive: u8,
 }
 

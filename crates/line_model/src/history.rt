@@ -1,12 +1,12 @@
-//! What happened so far, which contracts alone see. These types take no room, and their functions do nothing when they
-//! run. They say something of what really happened only as far as the type that keeps them ties them to that.
+//! Counts and bytes that contracts alone see. The types have no bytes at run time, and their functions do nothing. They
+//! say what happened as far as the type that keeps them ties them to it.
 
 ghost use Rattle.std.specs.Prelude.{◌≡◌, ℕ, ◌+◌, List, [], ◌∷◌, ◌++◌};
 ghost use Rattle.std.specs.Borrow.{ftrue};
 
 use std::marker::Model;
 
-/// Bytes that there were.
+/// A list of bytes.
 #[derive(Drop)]
 pub struct History {
     pub ghost bytes: { List ℕ },
@@ -17,21 +17,21 @@ impl Model for History {
 }
 
 impl History {
-    /// No bytes yet.
+    /// Returns an empty list.
     pub fn new() -> History
         ensures { result.bytes ≡ [] }
     {
         History::of(b"")
     }
 
-    /// These bytes.
+    /// Returns the list of these bytes.
     pub fn of(_bytes: &[u8]) -> History
         ensures { result.bytes ≡ _bytes.now }
     {
         History {}
     }
 
-    /// The bytes before, and one more.
+    /// Returns the list with one more byte.
     pub fn with(_before: &History, _byte: &u8) -> History
         ensures { result.bytes ≡ _before.now.bytes ++ _byte.now ∷ [] }
     {
@@ -39,7 +39,7 @@ impl History {
     }
 }
 
-/// How often something happened. It has no bound. Contracts see the number.
+/// A count without a bound. Contracts see the number.
 #[derive(Drop)]
 pub struct Count {
     // A byte for each time.
@@ -55,7 +55,7 @@ impl Model for Count {
 }
 
 impl Count {
-    /// It did not happen yet.
+    /// Returns the count 0.
     pub fn new() -> Count
         ensures { result ≡ 0 }
     {
@@ -64,7 +64,7 @@ impl Count {
         }
     }
 
-    /// It happened once more.
+    /// Adds 1.
     pub fn add_one(&mut self)
         ensures { self.new ≡ self.old + 1 }
     {

@@ -32,14 +32,14 @@ pub struct Interface {
 impl Interface {
     ghost use Rattle.line_model.specs.channels.Channels.{is_permanent, is_against, is_joined, fresh_state};
 
-    /// Whether a logical channel is a permanent virtual circuit.
+    /// Returns whether a logical channel is a permanent virtual circuit.
     pub fn is_permanent(&self, channel: u16) -> bool
         ensures { result ≡ is_permanent self.now channel }
     {
         1 <= channel && channel <= self.pvc
     }
 
-    /// Whether a call of a side goes against the direction of a one-way channel (X.25 Annex A).
+    /// Returns whether a call of a side goes against the direction of a one-way channel (X.25 Annex A).
     pub fn is_against(&self, side: Side, channel: u16) -> bool
         ensures { result ≡ is_against self.now side channel }
     {
@@ -49,7 +49,7 @@ impl Interface {
         }
     }
 
-    /// The state of a fresh channel: p1 or d1, and unknown where the trace began in the middle of its epoch (profile).
+    /// Returns the state of a fresh channel: p1, d1, or unknown where the trace joins in its epoch (profile).
     pub fn fresh_state(&self, epoch: u32, channel: u16) -> ChannelState
         ensures { result ≡ fresh_state (is_joined self.now epoch) (is_permanent self.now channel) }
     {

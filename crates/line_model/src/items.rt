@@ -1,4 +1,4 @@
-//! What rows say, in two lists: what stands before the octets of each row, and the octets that are kept.
+//! What rows say, in two lists: the head of each row, and the octets that are kept.
 
 ghost use Rattle.std.specs.Prelude.{◌≡◌, ◌++◌, ◌∷◌, [], length, OnErr, OnOk, IfOk, ◌==◌};
 ghost use Rattle.line_model.specs.packets.Says.{gap_item};
@@ -20,7 +20,7 @@ pub struct Head {
     kept: u32,
 }
 
-/// What rows say, in order. It takes memory for all heads and for all octets that are kept, and none for a single row.
+/// What rows say, in order. One list has the heads of all rows, and the other the octets that are kept of them.
 ///
 /// ```text
 ///  heads   1 T call, 5 octets │ 2 N accepted, 3 octets │ 3 T data, 68 octets
@@ -44,7 +44,7 @@ impl<A: Allocator> Model for Items<A> {
     ghost invariant = { λ i. octets_of i.heads.items ≡ length i.octets.items };
 }
 
-/// What a row says (X.25 clause 5), where its octets lie.
+/// What a row says (X.25 clause 5); the octets are borrowed.
 #[derive(Drop)]
 pub struct ItemRef<'a> {
     /// The packet number.
@@ -55,12 +55,12 @@ pub struct ItemRef<'a> {
     pub packet: Packet,
     /// How many octets it has.
     pub length: usize,
-    /// Those octets that say more: all, but none of data with Q 0.
+    /// The octets that are kept: none of data with Q 0, all of any other row.
     pub octets: &'a [u8],
 }
 
 impl ItemRef<'_> {
-    /// What a gap of all channels says, by its number (profile).
+    /// Returns what a gap of all channels says, by its number (profile).
     pub fn gap_of_all(number: u32) -> ItemRef<'static>
         ensures { result ≡ gap_item number }
     {
@@ -82,7 +82,7 @@ impl<'a> Model for ItemRef<'a> {
     ghost view = { λ i. record { number = i.number; side = i.side; packet = i.packet; length = i.length; octets = i.octets.now } };
 }
 
-/// What the rows say that are left of some, first to last.
+/// An iterator over what rows say, in order.
 #[derive(Drop)]
 pub struct Iter<'a> {
     heads: &'a [Head],
@@ -102,7 +102,7 @@ impl<'a> Model for Iter<'a> {
 }
 
 impl<'a> Iter<'a> {
-    /// No rows.
+    /// Returns no rows.
     pub(crate) fn none() -> Self
         ensures { result ≡ [] }
     {
@@ -138,26 +138,26 @@ impl<'a> Iterator for Iter<'a> {
 }
 
 impl<A: Allocator> Items<A> {
-    /// How many rows there are.
+    /// Returns how many rows there are.
     pub fn len(&self) -> usize
         ensures { result ≡ length self.now }
     {
         self.heads.len()
     }
 
-    /// Whether there is no row.
+    /// Returns whether there is no row.
     pub fn is_empty(&self) -> bool
         ensures { result ≡ (length self.now == 0) }
     {
         self.heads.is_empty()
     }
 
-    /// The allocator of both lists.
+    /// Returns the allocator of both lists.
     pub fn allocator(&self) -> &A {
         self.heads.allocator()
     }
 
-    /// What the rows say, in order.
+    /// Returns what the rows say, in order.
     pub fn iter(&self) -> Iter<'_>
         ensures { result ≡ self.now }
     {
@@ -167,7 +167,7 @@ impl<A: Allocator> Items<A> {
         }
     }
 
-    /// Drops all rows. The room of both lists is kept.
+    /// Drops all rows. The memory of both lists is kept.
     pub fn clear(&mut self)
         ensures { self.new ≡ [] }
     {
@@ -175,7 +175,8 @@ impl<A: Allocator> Items<A> {
         self.octets.clear();
     }
 
-    /// Appends what a row of less than 2^32 octets says. Where memory is refused nothing changes.
+    /// Appends what a row says. Fails when memory is refused, and for a row of 2^32 octets or more; nothing changes
+    /// then.
     pub fn push(&mut self, item: &ItemRef<'_>) -> Result<(), AllocError>
         ensures ok { OnOk result (self.new ≡ self.old ++ item.now ∷ []) }
         ensures refused { OnErr result (self.new ≡ self.old) }
@@ -211,7 +212,7 @@ impl<A: Allocator> Items<A> {
 }
 
 impl<A: Allocator + Copy> Items<A> {
-    /// No rows. It takes no memory.
+    /// Returns a list without rows. It needs no memory.
     pub fn new(alloc: A) -> Self
         ensures { result ≡ [] }
     {
@@ -221,7 +222,7 @@ impl<A: Allocator + Copy> Items<A> {
         }
     }
 
-    /// No rows, with room for so many and for so many octets.
+    /// Returns a list without rows, with room for `rows` rows and `octets` octets.
     pub fn with_capacity(alloc: A, rows: usize, octets: usize) -> Result<Self, AllocError>
         ensures { IfOk result (λ items. items ≡ []) }
     {

@@ -1,4 +1,4 @@
-//! What holds of the definitions alone.
+//! Theorems about the definitions alone.
 
 ghost use Rattle.std.specs.Prelude.{◌≡◌, ℕ, List, ◌++◌, Some};
 ghost use Rattle.line_model.specs.traces.WorkedTraces.{WorkedTraces};
@@ -7,7 +7,8 @@ ghost use Rattle.line_model.specs.traces.WorkedGapTraces.{WorkedGapTraces};
 ghost use Rattle.line_model.specs.text.Text.{early, fault};
 ghost use Rattle.line_model.specs.declared.fault.Kind.{Kind};
 
-/// Where rows of different channels change places, each row has the same events, and the observer ends the same.
+/// Where rows of different channels change places, each row has the same events, and the observer is the same at the
+/// end.
 pub fn shuffle()
     ensures { ShuffleLaw }
 {}
@@ -27,12 +28,12 @@ pub fn findings()
     ensures { FindingsLaw }
 {}
 
-/// The findings of the restart machine and of the pieces are those of the walk, which rise by their packets.
+/// The findings of the restart machine and of the pieces are those of the walk, whose packets rise.
 pub fn findings_order()
     ensures { FindingsOrderLaw }
 {}
 
-/// The values of the pieces add up to the observer's totals over the channels.
+/// The results of the pieces add up to the observer's totals over the channels.
 pub fn totals()
     ensures sums { TotalsLaw }
     ensures numbers { NumbersLaw }
@@ -53,7 +54,7 @@ pub fn calls_peak()
     ensures { CallsPeakLaw }
 {}
 
-/// The calls of the pieces are those of the walk, which rise by their opening packets.
+/// The calls of the pieces are those of the walk, whose opening packets rise.
 pub fn calls_order()
     ensures { CallsOrderLaw }
 {}
@@ -63,7 +64,7 @@ pub fn worked_traces()
     ensures { WorkedTraces }
 {}
 
-/// What the first lines of a text say stays however it goes on: their fault, the interface that they set up, and their rows.
+/// What the first lines of an input say stays as it goes on: their fault, the interface they set up, and their rows.
 pub fn fault()
     ensures stays { (text more : List ℕ) (at : ℕ × Kind) → early text ≡ Some at → early (text ++ more) ≡ Some at }
     ensures whole { (text more : List ℕ) (at : ℕ × Kind) → early text ≡ Some at → fault (text ++ more) ≡ Some at }
@@ -71,7 +72,7 @@ pub fn fault()
     ensures rows { EarlyRowsLaw }
 {}
 
-/// The rows of a text are of its interface: gaps only where it says so, of its channels or of all.
+/// The rows of an input are of its interface: gaps only where it says so, of its channels or of all.
 pub fn rows()
     ensures all { RowsLaw }
     ensures first { FirstRowsLaw }

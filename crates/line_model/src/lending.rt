@@ -1,13 +1,13 @@
-//! A sink that is lent to a value which writes to it, and comes back.
+//! A sink that is lent to a value which writes to it, and is given back.
 //!
-//! A function that is generic over sinks promises what its sink took, and not which sink it was. So a value that holds the
-//! `&mut` of another sink can't promise by a field that it still holds the same one afterwards: its type has to. The type
-//! of a sink that was lent, a `LentSink`, knows what the sink had taken before. A function with a `&mut K` has another one
-//! lend it, which is generic over the `Origin`, and takes back what that returns:
+//! A function that is generic over sinks promises what its sink accepted, and not which sink it was. So a value that
+//! holds the `&mut` of another sink can't promise by a field that it still holds the same one afterwards: its type has
+//! to. The type of a sink that was lent, a `LentSink`, knows what the sink had accepted before. A function with a
+//! `&mut K` calls another one, which is generic over the `Origin` and lends the sink, and receives what that returns:
 //!
 //! ```text
 //!  write_lines(sink: &mut K) ─▶ write_to::<K, Brand>(sink) ─▶ Borrowed ─▶ a value that writes to any LentSink
-//!  take_back(sink)           ◀─ (sink, answer)             ◀─ give_back
+//!  take_back(sink)           ◀─ (sink, result)             ◀─ give_back
 //! ```
 
 ghost use Rattle.std.specs.Prelude.{◌≡◌};
@@ -15,8 +15,8 @@ ghost use Rattle.std.specs.Prelude.{◌≡◌};
 use crate::device::Sink;
 use std::marker::{Brand, PhantomData};
 
-/// Which sink is lent, and what it had taken and how often it had failed before. Contracts alone see it, and each call
-/// picks it.
+/// Which sink is lent, and what it had accepted and how often it had failed before. Contracts alone see it, and each
+/// call chooses one.
 pub trait Origin {
     ghost use Rattle.std.specs.Prelude.{ℕ, List, Option};
 
@@ -37,7 +37,7 @@ impl Origin for Brand {
 pub trait LentSink: Sink {
     ghost use Rattle.std.specs.Prelude.{ℕ, List, Option};
 
-    /// What it had taken, and how often it had failed before.
+    /// What it had accepted, and how often it had failed before.
     ghost before: { Option (List ℕ) × ℕ };
 }
 
@@ -50,7 +50,7 @@ pub struct Borrowed<'a, K: Sink, B: Origin> {
 }
 
 impl<'a, K: Sink, B: Origin> Borrowed<'a, K, B> {
-    /// Borrows the sink of the origin.
+    /// Returns the sink of the origin, borrowed.
     pub fn new(sink: &'a mut K) -> Self
         requires name { sink.ghost_name ≡ B.name }
         ensures taken { ⟦<Borrowed<'a, K, B> as Sink>⟧.taken result ≡ K.taken sink.entry.now }
@@ -63,7 +63,7 @@ impl<'a, K: Sink, B: Origin> Borrowed<'a, K, B> {
         }
     }
 
-    /// The sink.
+    /// Returns the sink.
     pub fn get_ref(&self) -> &K
         ensures taken { K.taken result.now ≡ ⟦<Borrowed<'a, K, B> as Sink>⟧.taken self.now }
         ensures failures { K.failures result.now
@@ -72,7 +72,7 @@ impl<'a, K: Sink, B: Origin> Borrowed<'a, K, B> {
         self.sink
     }
 
-    /// Gives back the sink that was lent.
+    /// Returns the sink that was lent.
     pub fn give_back(self) -> &'a mut K
         ensures name { result.ghost_name ≡ B.name }
         ensures taken { K.taken result.now ≡ ⟦<Borrowed<'a, K, B> as Sink>⟧.taken self.entry }
@@ -97,7 +97,7 @@ impl<K: Sink, B: Origin> LentSink for Borrowed<'_, K, B> {
     ghost before = { B.before };
 }
 
-/// Takes back what was lent. It is as it came back.
+/// Takes back what was lent, as it was given back.
 pub fn take_back<T>(_lent: &mut T)
     ensures { _lent.new ≡ _lent.old }
 {}

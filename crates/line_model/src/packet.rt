@@ -2,14 +2,14 @@
 
 ghost use Rattle.std.specs.Prelude.{◌≡◌};
 
-/// The class of a packet, by which the state tables tell packets apart (X.25 Table 5-2; the classes of faulty packets are profile).
+/// The class of a packet, as the state tables have it (X.25 Table 5-2; the classes of faulty packets are profile).
 #[derive(Clone, Copy, PartialEq, Eq, Debug)]
 pub enum Class {
     /// Under two octets.
     Short,
     /// The general format identifier does not fit the interface's modulus.
     WrongFormat,
-    /// No assigned logical channel, or no packet of channel 0.
+    /// An unassigned logical channel, or a packet that channel 0 does not have.
     Unassigned,
     /// Restart request or indication.
     Restart,
@@ -66,7 +66,7 @@ pub struct DataHeader {
     pub qualified: bool,
 }
 
-/// What stands on an assigned channel: data with its header, RR and RNR with P(R). A header that is cut short is `None`.
+/// A packet on an assigned channel: data with its header, RR and RNR with P(R). A header that is cut short is `None`.
 #[derive(Clone, Copy, PartialEq, Eq, Debug)]
 pub enum PacketKind {
     /// A packet without a type.
@@ -99,7 +99,7 @@ pub enum PacketKind {
     Rej,
     /// A type that no packet has.
     Undefined,
-    /// No packet: packets on the channel may not have been recorded (profile).
+    /// Not a packet: packets on the channel may not have been recorded (profile).
     Gap,
 }
 
@@ -110,7 +110,7 @@ pub enum Packet {
     Short,
     /// The general format identifier does not fit the interface's modulus.
     WrongFormat,
-    /// No assigned logical channel, or no packet of channel 0.
+    /// An unassigned logical channel, or a packet that channel 0 does not have.
     Unassigned,
     /// Diagnostic, on channel 0.
     Diagnostic,
@@ -122,14 +122,14 @@ pub enum Packet {
     RestartConfirm,
     /// A packet on an assigned logical channel.
     Channel { channel: u16, kind: PacketKind },
-    /// No packet: packets on any channel may not have been recorded (profile).
+    /// Not a packet: packets on any channel may not have been recorded (profile).
     GapOfAll,
 }
 
 impl Class {
     ghost use Rattle.line_model.specs.channels.RestartMachine.{is_outside};
 
-    /// Whether a packet of the class is judged outside the machines.
+    /// Returns whether a packet of the class is judged outside the machines.
     pub fn is_outside(self) -> bool
         ensures { result ≡ is_outside self }
     {
@@ -147,7 +147,7 @@ impl Class {
 impl Packet {
     ghost use Rattle.line_model.specs.packets.Classes.{packet_class};
 
-    /// The class of a packet.
+    /// Returns the class of a packet.
     pub fn class(&self) -> Class
         ensures { result ≡ packet_class self.now }
     {
@@ -168,7 +168,7 @@ impl Packet {
 impl PacketKind {
     ghost use Rattle.line_model.specs.packets.Classes.{kind_class};
 
-    /// The class of what stands on a channel.
+    /// Returns the class of a packet on a channel.
     fn class(&self) -> Class
         ensures { result ≡ kind_class self.now }
     {

@@ -1,4 +1,4 @@
-//! What the rows of a piece say: parts that came whole, and rows that came one by one.
+//! What the rows of a piece say: parts that were added whole, and rows that were added one by one.
 
 ghost use Rattle.std.specs.Prelude.{◌≡◌, ◌++◌, ◌∷◌, [], length, OnErr, OnOk, IfOk, ◌==◌};
 
@@ -36,10 +36,10 @@ impl<A: Allocator> Model for PieceItems<A> {
     ghost invariant = { λ p. p.count ≡ length (all_items p.parts.items p.last) };
 }
 
-/// What the rows of a piece say that are left, first to last.
+/// An iterator over what the rows of a piece say, in order.
 #[derive(Drop)]
 pub struct Iter<'a, A: Allocator = Global> {
-    /// The rows that are left of the part that was begun.
+    /// The rest of the part that was begun.
     begun: items::Iter<'a>,
     parts: &'a [PartItems<A>],
     last: items::Iter<'a>,
@@ -79,26 +79,26 @@ impl<'a, A: Allocator> Iterator for Iter<'a, A> {
 }
 
 impl<A: Allocator> PieceItems<A> {
-    /// How many rows there are.
+    /// Returns how many rows there are.
     pub fn len(&self) -> usize
         ensures { result ≡ length self.now }
     {
         self.count
     }
 
-    /// Whether there is no row.
+    /// Returns whether there is no row.
     pub fn is_empty(&self) -> bool
         ensures { result ≡ (length self.now == 0) }
     {
         self.count == 0
     }
 
-    /// The allocator of all parts.
+    /// Returns the allocator of all parts.
     pub fn allocator(&self) -> &A {
         self.parts.allocator()
     }
 
-    /// What the rows say, in order.
+    /// Returns what the rows say, in order.
     pub fn iter(&self) -> Iter<'_, A>
         ensures { result ≡ self.now }
     {
@@ -109,7 +109,7 @@ impl<A: Allocator> PieceItems<A> {
         }
     }
 
-    /// Appends the rows of a part, which takes no memory for them. Where memory is refused nothing changes.
+    /// Appends the rows of a part, without a copy. Fails only when memory is refused, and nothing changes then.
     pub fn add(&mut self, part: PartItems<A>) -> Result<(), AllocError>
         ensures ok { OnOk result (self.new ≡ self.old ++ part) }
         ensures refused { OnErr result (self.new ≡ self.old) }
@@ -126,14 +126,14 @@ impl<A: Allocator> PieceItems<A> {
 }
 
 impl<A: Allocator + Copy> PieceItems<A> {
-    /// No rows. It takes no memory.
+    /// Returns a list without rows. It needs no memory.
     pub fn new(alloc: A) -> Self
         ensures { result ≡ [] }
     {
         PieceItems::of(PartItems::own(Items::new(alloc)))
     }
 
-    /// The rows of a part. It takes no memory.
+    /// Returns the rows of a part. It needs no memory.
     pub fn of(part: PartItems<A>) -> Self
         ensures { result ≡ part }
     {
@@ -144,7 +144,8 @@ impl<A: Allocator + Copy> PieceItems<A> {
         }
     }
 
-    /// Appends what a row of less than 2^32 octets says. Where memory is refused nothing changes.
+    /// Appends what a row says. Fails when memory is refused, and for a row of 2^32 octets or more; nothing changes
+    /// then.
     pub fn push(&mut self, item: &ItemRef<'_>) -> Result<(), AllocError>
         ensures ok { OnOk result (self.new ≡ self.old ++ item.now ∷ []) }
         ensures refused { OnErr result (self.new ≡ self.old) }
@@ -161,7 +162,7 @@ impl<A: Allocator + Copy> PieceItems<A> {
         self.add(PartItems::own(part))
     }
 
-    /// The same rows once more, as one part.
+    /// Returns a copy of the rows, as one part. Fails only when memory is refused.
     pub fn copy(&self) -> Result<PieceItems<A>, AllocError>
         ensures { IfOk result (λ items. items ≡ self.now) }
     {

@@ -6,7 +6,7 @@ use crate::totals::Summary;
 use std::alloc::{Allocator, Global};
 use std::marker::Model;
 
-/// How many virtual calls were up at once at the most, and the first row after which they were, none for 0.
+/// The greatest number of virtual calls that were up at once, and the first row after which they were; none for 0.
 #[derive(Clone, Copy, Debug, PartialEq, Eq)]
 pub struct Peak {
     /// How many were up.
@@ -15,7 +15,7 @@ pub struct Peak {
     pub packet: Option<u32>,
 }
 
-/// The report of a trace. Each list stands in the order in which its lines are written.
+/// The report of a trace. Each list is in the order in which its lines are written.
 #[derive(Drop)]
 pub struct Report<A: Allocator = Global> {
     /// By packet.
@@ -28,7 +28,7 @@ pub struct Report<A: Allocator = Global> {
     pub peak: Peak,
     /// How many gaps there are, where gaps are rows (profile).
     pub gaps: Option<u32>,
-    /// The sums. A gap is no packet.
+    /// The sums. A gap is not a packet.
     pub summary: Summary,
 }
 

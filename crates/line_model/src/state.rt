@@ -14,7 +14,7 @@ pub enum Side {
 impl Side {
     ghost use Rattle.line_model.specs.channels.Channels.{other};
 
-    /// The side at the other end of the interface.
+    /// Returns the side at the other end of the interface.
     pub fn other(self) -> Side
         ensures { result ≡ other self }
     {
@@ -66,14 +66,14 @@ pub enum DState {
     D3,
 }
 
-/// The state of a channel. `Transfer` stands in p4 and on permanent circuits.
+/// The state of a channel: `Transfer` in p4 and on permanent circuits.
 #[derive(Clone, Copy, PartialEq, Eq, Debug)]
 pub enum ChannelState {
     /// Call set-up or clearing.
     Setup(PState),
     /// Data transfer.
     Transfer(DState),
-    /// The trace began in the middle, and nothing was heard of the channel yet.
+    /// The trace began in the middle, and the state of the channel is not known yet.
     Unknown,
 }
 
@@ -100,7 +100,7 @@ pub enum StateName {
 impl RState {
     ghost use Rattle.line_model.specs.channels.RestartMachine.{restart_name};
 
-    /// The name of the state.
+    /// Returns the name of the state.
     pub fn name(self) -> StateName
         ensures { result ≡ restart_name self }
     {
@@ -115,7 +115,7 @@ impl RState {
 impl PState {
     ghost use Rattle.line_model.specs.channels.ChannelStep.{setup_name};
 
-    /// The name of the state.
+    /// Returns the name of the state.
     pub fn name(self) -> StateName
         ensures { result ≡ setup_name self }
     {
@@ -134,7 +134,7 @@ impl PState {
 impl DState {
     ghost use Rattle.line_model.specs.channels.ChannelStep.{transfer_name};
 
-    /// The name of the state.
+    /// Returns the name of the state.
     pub fn name(self) -> StateName
         ensures { result ≡ transfer_name self }
     {
@@ -149,7 +149,7 @@ impl DState {
 impl StateName {
     ghost use Rattle.line_model.specs.channels.ChannelStep.{state_named};
 
-    /// The state of a channel that enters this one; entering p4 enters d1.
+    /// Returns the state of a channel that enters this one; entering p4 enters d1.
     pub fn entered(self) -> ChannelState
         ensures { result ≡ state_named self }
     {

@@ -1,5 +1,5 @@
-//! The state tables (X.25 Annexes B and C; the codes and the judgement of the DCE are profile). The codes stand as
-//! numbers here, as in the tables of the definitions; `crate::diagnostic` has their names.
+//! The state tables (X.25 Annexes B and C; the codes and the judgement of the DCE are profile). The codes are numbers
+//! here, as in the tables of the definitions; `crate::diagnostic` has their names.
 
 ghost use Rattle.std.specs.Prelude.{◌≡◌, if◌then◌else◌};
 ghost use Rattle.line_model.specs.channels.Tables.{action_t, action_n, code_of};
@@ -28,7 +28,7 @@ pub enum Action {
     ToChannel,
 }
 
-/// What a packet of the DTE does in a state (X.25 Tables C-2 to C-4); a pair that no table has passes.
+/// Returns what a packet of the DTE does in a state (X.25 Tables C-2 to C-4); a pair that no table has passes.
 pub fn table_t(state: StateName, class: Class) -> Action
     ensures { result ≡ action_t state class }
 {
@@ -143,7 +143,7 @@ pub fn table_t(state: StateName, class: Class) -> Action
     }
 }
 
-/// The code that a class gives by itself, 0 where it has none.
+/// Returns the code that a class alone gives, 0 where it has none.
 fn own_code(class: Class) -> u8
     ensures { result ≡ code_of class }
 {
@@ -157,7 +157,7 @@ fn own_code(class: Class) -> u8
     }
 }
 
-/// What a packet of the DCE does in a state.
+/// Returns what a packet of the DCE does in a state.
 pub fn table_n(state: StateName, owed: bool, class: Class) -> Action
     ensures { result ≡ action_n state owed class }
 {
@@ -273,7 +273,7 @@ pub fn table_n(state: StateName, owed: bool, class: Class) -> Action
     }
 }
 
-/// Passes while the indication is owed.
+/// Returns an error, or that the packet passes while the indication is owed.
 fn owed_or(owed: bool, code: u8) -> Action
     ensures { result ≡ (if owed then Action.Pass else Action.Error code) }
 {

@@ -8,7 +8,7 @@ use crate::device::Sink;
 use crate::fault::Fault;
 use arrayvec::ArrayVec;
 
-/// Gives a sink all of some bytes. Where the sink fails it took a first part of them.
+/// Writes all bytes to a sink. Fails where the sink fails, which accepted a first part of them.
 pub fn write_all<W: Sink>(sink: &mut W, bytes: &[u8]) -> Result<(), Fault>
     ensures ok { OnOk result (TakesAll W.Sink sink.old sink.new bytes.now) }
     ensures part { OnErr result (TakesFront W.Sink sink.old sink.new bytes.now) }
@@ -26,15 +26,15 @@ pub fn write_all<W: Sink>(sink: &mut W, bytes: &[u8]) -> Result<(), Fault>
     Ok(())
 }
 
-/// Holds the last bytes of a text, so a sink takes many small parts in few writes. It takes no memory.
+/// Holds the last bytes of a text, so that small parts go to a sink in few writes. It needs no memory.
 ///
 /// ```text
 ///  text put so far:  F 5 T d1 1\nC 1 1 1 out - - 1 2|
 ///                    `---- sent -----'`--- held ----'
 /// ```
 ///
-/// Each call gets the sink anew; what is promised is of a text that goes to one sink. After the sink has failed, the
-/// buffer drops what is put and asks the sink no more.
+/// Each call gets the sink as an argument; the contracts are about a text that goes to one sink. After the sink has
+/// failed, the buffer drops what is put, and does not ask the sink again.
 #[derive(Drop)]
 pub struct WriteBuffer {
     bytes: ArrayVec<u8, 4096>,
@@ -42,7 +42,7 @@ pub struct WriteBuffer {
 }
 
 impl WriteBuffer {
-    /// An empty buffer.
+    /// Returns an empty buffer.
     pub fn new() -> WriteBuffer
         ensures nothing { (taken : Option (List ℕ) × ℕ) → Writes taken taken result [] }
         ensures empty { held_bytes result ≡ [] }
@@ -54,7 +54,7 @@ impl WriteBuffer {
         }
     }
 
-    /// Whether the sink has failed.
+    /// Returns whether the sink has failed.
     pub fn has_failed(&self) -> bool
         ensures { result ≡ has_failed self.now }
     {
@@ -104,7 +104,8 @@ impl WriteBuffer {
         }
     }
 
-    /// Puts bytes after those of the text so far. They are held where there is room; else what is held is sent first.
+    /// Puts bytes after those of the text so far. They are held where there is room; otherwise what is held is sent
+    /// first.
     pub fn put<W: Sink>(&mut self, sink: &mut W, bytes: &[u8])
         ensures { PutsTo W.Sink sink.old sink.new self.old self.new bytes.now }
     {
@@ -114,7 +115,8 @@ impl WriteBuffer {
         }
     }
 
-    /// Sends what is held. The sink took the whole text, or it has failed and took a first part of it.
+    /// Sends what is held. The sink then has the whole text. Fails where the sink has failed, which accepted a first
+    /// part.
     pub fn end<W: Sink>(mut self, sink: &mut W) -> Result<(), Fault>
         ensures ok { OfWriting W.Sink sink.old self (λ before text.
             OnOk result (W.taken sink.new ≡ with_more before.0 text)) }

@@ -1,4 +1,4 @@
--- A chunk that is read row by row, and an observer that takes the rows.
+-- A chunk that is read row by row, and an observer that reads the rows.
 use Rattle.std.proofs.Common.{arith, true, ◌≡◌, ◌∙◌, ◌≤◌, ◌^◌, All, map, sum_by, length, sym, ap, subst, refl, ℕ, List, [], ◌∷◌, ◌++◌, Some, None, append-nil, append_assoc}
 use Rattle.std.proofs.lemmas.List.Elements.{All-map}
 use Rattle.line_model.specs.declared.fault.Fault.{Fault}
@@ -10,12 +10,12 @@ use Rattle.line_model.specs.channels.Gaps.{GapChannel}
 use Rattle.line_model.specs.basics.Records.{Item, Row, ReadRow}
 use Rattle.line_model.specs.text.Text.{early, early_head, early_rows}
 use Rattle.trace_text.specs.Progress.{Progress}
-use Rattle.trace_text.specs.StandsFor.{AreKnown, StandsFor as IsReaderOf, TakesRow, ReadsChunk}
+use Rattle.trace_text.specs.Represents.{AreKnown, Represents as IsReaderOf, TakesRow, ReadsChunk}
 use Rattle.trace_text.proofs.Grows.{early_head_stays}
 use Rattle.trace_text.proofs.RefusalLemmas.{head_stands, known-here}
 use Rattle.trace_text.proofs.RowsOfText.{early_numbers, early_octets, early_rises}
 use Rattle.live_report.specs.declared.observer.Observer.{Observer}
-use Rattle.live_report.specs.Observing.{AreItems, StandsFor as IsObserverOf}
+use Rattle.live_report.specs.Observing.{AreItems, Represents as IsObserverOf}
 use Rattle.live_report.specs.Found.{HasFound, IsFoundUpTo, found_at}
 use Rattle.live_report.specs.Lives.{IsLastRow, IsObserving}
 use Rattle.live_report.proofs.LastLemmas.{same_last}
@@ -36,11 +36,11 @@ items_sound i rs lawful rising numbers octets = record {
   octets = subst (λ n. n ≤ 2 ^ 31) (sym (said_lengths i rs)) octets;
 }
 
--- what the rows say of a text that has no fault so far
+-- what the rows say of a trace text that has no fault so far
 pub early_trace : (i : Interface) (text : List ℕ) → early text ≡ None → early_head text ≡ Some i → AreItems i (items_of i (early_rows text))
 early_trace i text sound head = items_sound i (early_rows text) (first_rows_law text i head) (early_rises text sound) (early_numbers text sound) (early_octets text sound)
 
--- a row was taken off the front of a chunk, and this one was put of it
+-- a row was removed from the front of a chunk, and this one was put of it
 abbrev pub ReadsRow : (before after : Progress) (chunk rest : List ℕ) → ReadRow → Type 0
 ReadsRow before after chunk rest row = (taken : Row) × TakesRow before after chunk rest taken × (row ≡ read_row taken)
 
@@ -50,7 +50,7 @@ header_stays reader after text more i s h kept = kept ∙ early_head_stays text 
 
 -- ---- the last row
 
--- the row that was taken is the last one
+-- the row that was read is the last one
 pub taken_is_last : (reader after : Progress) (text chunk rest : List ℕ) (row : ReadRow) → IsReaderOf reader text → (t : ReadsRow reader after chunk rest row) → IsLastRow (early_rows (text ++ t.1.taken)) row
 taken_is_last reader after text chunk rest row s t before r is = t.2 ∙ ap read_row (same_last (early_rows text) before t.0 r (sym (t.1.rows text s) ∙ is)).1
 
@@ -68,7 +68,7 @@ still_last reader after text chunk row s t last = subst (λ rows. IsLastRow rows
 
 -- ---- the course of a chunk
 
--- some of a chunk was read, the observer took its rows, what they found was appended, and the last one of them is kept
+-- some of a chunk was read, the observer read its rows, what they found was appended, and the last one of them is kept
 pub record Course {A C : Type 0} (I : C → Interface) (N : C → ℕ) (S : C → GapChannel → Type 0) (i : Interface) (text chunk : List ℕ) (reader : Progress) (o : Observer A C) (rest : List ℕ) (out out_after : List Finding) (row row_after : ReadRow) : Type 0 where
   pub read : List ℕ
   pub whole : chunk ≡ read ++ rest
@@ -85,14 +85,14 @@ course_begun I N S i text chunk reader o out row w = record {
   last = λ keeps. subst (λ x. IsLastRow (early_rows x) row) (sym (append-nil text));
 }
 
--- what a row says that was taken comes after what the rows before it say
+-- what a row says that was read comes after what the rows before it say
 pub next_items : (i : Interface) (reader after : Progress) (text chunk rest : List ℕ) (row : ReadRow) → IsReaderOf reader text → (t : ReadsRow reader after chunk rest row)
     → items_of i (early_rows (text ++ t.1.taken)) ≡ items_of i (early_rows text) ++ item_read i row ∷ []
 next_items i reader after text chunk rest row s t =
     let is = t.1.rows text s in
     ap (items_of i) is ∙ items_more i (early_rows text) (t.0 ∷ []) ∙ ap (λ r. items_of i (early_rows text) ++ r ∷ []) (sym (read_says i t.0) ∙ ap (item_read i) (sym t.2))
 
--- the row that was taken may come next
+-- the row that was read may come next
 pub next_rows : (i : Interface) (reader after : Progress) (text chunk rest : List ℕ) (row : ReadRow) → IsReaderOf reader text → ReadsRow reader after chunk rest row → after.interface ≡ Some i → AreItems i (items_of i (early_rows text) ++ item_read i row ∷ [])
 next_rows i reader after text chunk rest row s t h =
     let stands = t.1.stands text s in

@@ -21,7 +21,7 @@ use Rattle.line_model.specs.pieces.Pieces.{step_rows}
 use Rattle.line_model.specs.pieces.Plans.{single_gaps}
 use Rattle.line_model.specs.observer.Report.{findings_of, report_of}
 use Rattle.restart_epochs.specs.OpenRows.{OpenRows}
-use Rattle.restart_epochs.specs.Cutting.{Cutting, StandsFor as IsCutterOf, items_if, items_out, observer, places}
+use Rattle.restart_epochs.specs.Cutting.{Cutting, Represents as IsCutterOf, items_if, items_out, observer, places}
 use Rattle.restart_epochs.specs.declared.walk.EpochWalk.{EpochWalk}
 use Rattle.restart_epochs.specs.declared.walk.Step.{Step}
 use Rattle.restart_epochs.specs.Walks.{passed, route_finding, turn_of, IsStep}
@@ -31,7 +31,7 @@ use Rattle.restart_epochs.proofs.Steps.{in_r1_alone, on_channel, routed_to, rout
 use Rattle.restart_epochs.proofs.States.{after_rows, states_of}
 use Rattle.channel_run.specs.Run.{row_events}
 use Rattle.channel_run.specs.Live.{channel_after, channel_so_far}
-use Rattle.live_report.specs.Lanes.{begun_piece}
+use Rattle.live_report.specs.OpenChannels.{begun_piece}
 use Rattle.live_report.specs.Observing.{epoch_at, open_piece}
 use Rattle.live_report.specs.Turns.{FindsAt, FindsBy, epoch_of, reached_piece}
 use Rattle.live_report.proofs.GapLemmas.{after_single}
@@ -131,7 +131,7 @@ found_on_channel i rs c r s to =
     ∙ ap (λ l. findings_of (events i rs) ++ l)
     ((λ j. findings_of (map event_of (row_events_by (x25 i) o r (in_r1_alone i o.line r here j) (routed_to i o.line r here j)))) ∙ ap findings_of (events_on i rs c r s to))
 
--- ---- what a call answers
+-- ---- what a call returns
 
 -- a row that is passed finds what the restart machine does
 passed_finds : {B : Type 0} → (of_all : Bool) (line found : Option Finding) (v : EpochWalk B) (gap : ℕ) (rows : OpenRows) (r : Item) → FindsAt (passed of_all) line v gap rows r found → found ≡ line

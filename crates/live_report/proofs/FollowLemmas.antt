@@ -1,4 +1,4 @@
--- What a follower told.
+-- What a follower wrote.
 use Rattle.std.proofs.Common.{◌≡◌, ◌∙◌, sym, ap, ℕ, ◌+◌, ◌≤◌, List, [], ◌++◌, length, drop, Option, None, Result, Ok, Err, OnOk, OnErr, arith, append-nil, append_assoc, length-append}
 use Rattle.std.proofs.Math.Seq.{drop-append_seam}
 use Rattle.line_model.specs.basics.Device.{with_more}
@@ -13,7 +13,7 @@ use Rattle.line_model.proofs.TextLemmas.{size_kind-none}
 use Rattle.report_merge.specs.Parts.{findings_text, rest_text}
 use Rattle.report_merge.proofs.WrittenLemmas.{two_parts}
 use Rattle.trace_text.specs.Progress.{Progress, bytes_fed}
-use Rattle.trace_text.specs.StandsFor.{StandsFor as IsReaderOf, IsTextFault}
+use Rattle.trace_text.specs.Represents.{Represents as IsReaderOf, IsTextFault}
 use Rattle.trace_text.proofs.FeedLemmas.{size-sound}
 use Rattle.live_report.specs.Follows.{HasFindings, HasFirst}
 use Rattle.live_report.specs.Found.{HasFound, IsFoundBy, IsFoundUpTo, found, found_text}
@@ -45,9 +45,9 @@ found_length out known all h = omega (arith, ap (λ (xs : List Finding). length 
 pub fed_few : (reader : Progress) (text : List ℕ) → IsReaderOf reader text → bytes_fed reader ≤ 1073741824
 fed_few reader text s = omega (arith, s.start, ap (λ (xs : List ℕ). length xs) s.begun, (size_kind-none (size_of (ended_lines text)) 0 (length (begun_line text)) (size-sound text s.sound)).1)
 
--- ---- what the sink took
+-- ---- what the sink received
 
--- a sink took all of some bytes, or has failed and took a first part of them
+-- a sink received all of some bytes, or has failed and received a first part of them
 part_of : {T : Type 0} → (w : Result T Fault) (old new : Option (List ℕ)) (bytes : List ℕ) → OnOk w (new ≡ with_more old bytes)
     → OnErr w ((front : List ℕ) × (rest : List ℕ) × (bytes ≡ front ++ rest) × (new ≡ with_more old front)) → (front : List ℕ) × (back : List ℕ) × (bytes ≡ front ++ back) × (new ≡ with_more old front)
 part_of (Ok x) old new bytes h e = (bytes, [], sym (append-nil bytes), h)
@@ -57,10 +57,10 @@ pub always : {T : Type 0} → (w : Result T Fault) (P : Type 0) → P → OnOk w
 always (Ok x) P h = h
 always (Err f) P h = tt
 
--- the sink took a first part of what came
-pub told_first : {T U : Type 0} → (r : Result T Fault) (w : Result U Fault) (before old new : Option (List ℕ)) (text all : List ℕ) (written out : List Finding) → written ≡ out → HasFindings before old text → IsFoundBy r [] out (found text) (found all)
+-- the sink received a first part of what came
+pub written_first : {T U : Type 0} → (r : Result T Fault) (w : Result U Fault) (before old new : Option (List ℕ)) (text all : List ℕ) (written out : List Finding) → written ≡ out → HasFindings before old text → IsFoundBy r [] out (found text) (found all)
     → OnOk w (new ≡ with_more old (findings_text written)) → OnErr w ((front : List ℕ) × (rest : List ℕ) × (findings_text written ≡ front ++ rest) × (new ≡ with_more old front)) → HasFirst before new (found_text all)
-told_first r w before old new text all written out same h e ok err =
+written_first r w before old new text all written out same h e ok err =
     let more = found_rest r out (found text) (found all) e in
     let part = part_of w old new (findings_text written) ok err in
     let front = found_text text ++ part.0 in
@@ -73,13 +73,13 @@ told_first r w before old new text all written out same h e ok err =
       part.3 ∙ ap (λ o. with_more o part.0) h ∙ with_more-append before (found_text text) part.0 ∙ ap (with_more before) (front_of front back (found_text all) whole),
     )
 
--- the sink took all that came
-pub told_all : {T : Type 0} → (w : Result T Fault) (before old new : Option (List ℕ)) (text all : List ℕ) (written out : List Finding) → written ≡ out → HasFindings before old text → HasFound [] out (found text) (found all)
+-- the sink received all that came
+pub written_all : {T : Type 0} → (w : Result T Fault) (before old new : Option (List ℕ)) (text all : List ℕ) (written out : List Finding) → written ≡ out → HasFindings before old text → HasFound [] out (found text) (found all)
     → OnOk w (new ≡ with_more old (findings_text written)) → OnOk w (HasFindings before new all)
-told_all (Ok x) before old new text all written out same h e ok =
+written_all (Ok x) before old new text all written out same h e ok =
     ok ∙ ap (λ o. with_more o (findings_text written)) h ∙ with_more-append before (found_text text) (findings_text written)
     ∙ ap (with_more before) (ap (λ xs. found_text text ++ findings_text xs) same ∙ sym (lines_more (found text) out) ∙ ap findings_text (sym (found_here out (found text) (found all) e)))
-told_all (Err f) before old new text all written out same h e ok = tt
+written_all (Err f) before old new text all written out same h e ok = tt
 
 pub text_report : (f : Fault) → IsTextFault f → IsReportFault f
 text_report Memory h = tt
@@ -88,27 +88,27 @@ text_report _ h = absurd h
 
 -- ---- the rest of the report
 
--- the findings that were told stand first in a report
-pub told_front : (text : List ℕ) (r : Report) → early text ≡ None → IsReportOf text r → (others : List Finding) × (r.findings ≡ found text ++ others)
-told_front text r sound is =
+-- the findings that were written come first in a report
+pub written_front : (text : List ℕ) (r : Report) → early text ≡ None → IsReportOf text r → (others : List Finding) × (r.findings ≡ found text ++ others)
+written_front text r sound is =
     let nil = append-nil text in
     let others = found_in_report text [] is.interface sound (ap head nil ∙ is.header) in
     (others.0, ap (λ (x : Report). x.findings) is.report ∙ ap (λ x. (report_of is.interface (items_of is.interface (rows x))).findings) (sym nil) ∙ others.1)
 
-pub told_within : (text : List ℕ) (r : Report) (told : ℕ) → early text ≡ None → IsReportOf text r → told ≡ length (found text) → told ≤ length r.findings
-told_within text r told sound is n =
-    let others = told_front text r sound is in
+pub written_within : (text : List ℕ) (r : Report) (findings_written : ℕ) → early text ≡ None → IsReportOf text r → findings_written ≡ length (found text) → findings_written ≤ length r.findings
+written_within text r findings_written sound is n =
+    let others = written_front text r sound is in
     omega (arith, n, ap (λ (xs : List Finding). length xs) others.1, length-append (found text) others.0)
 
--- the others stand behind them
-pub told_split : (text : List ℕ) (r : Report) (told : ℕ) → early text ≡ None → IsReportOf text r → told ≡ length (found text) → trace_report text ≡ found_text text ++ (findings_text (drop told r.findings) ++ rest_text r)
-told_split text r told sound is n =
-    let others = told_front text r sound is in
-    let behind : drop told r.findings ≡ others.0 = ap (λ k. drop k r.findings) n ∙ ap (drop (length (found text))) others.1 ∙ drop-append_seam (found text) others.0 in
+-- the others come after them
+pub written_split : (text : List ℕ) (r : Report) (findings_written : ℕ) → early text ≡ None → IsReportOf text r → findings_written ≡ length (found text) → trace_report text ≡ found_text text ++ (findings_text (drop findings_written r.findings) ++ rest_text r)
+written_split text r findings_written sound is n =
+    let others = written_front text r sound is in
+    let behind : drop findings_written r.findings ≡ others.0 = ap (λ k. drop k r.findings) n ∙ ap (drop (length (found text))) others.1 ∙ drop-append_seam (found text) others.0 in
     sym (report_text text r is) ∙ sym (two_parts r) ∙ ap (λ xs. xs ++ rest_text r) (ap findings_text others.1 ∙ lines_more (found text) others.0)
     ∙ append_assoc (found_text text) (findings_text others.0) (rest_text r) ∙ ap (λ xs. found_text text ++ (findings_text xs ++ rest_text r)) (sym behind)
 
--- two parts were taken behind what was told
+-- two parts were received after what was written
 pub taken_whole : (before old mid new : Option (List ℕ)) (a b c whole : List ℕ) → whole ≡ a ++ (b ++ c) → old ≡ with_more before a → mid ≡ with_more old b → new ≡ with_more mid c → new ≡ with_more before whole
 taken_whole before old mid new a b c whole w h k l =
     l ∙ ap (λ o. with_more o c) (k ∙ ap (λ o. with_more o b) h ∙ with_more-append before a b) ∙ with_more-append before (a ++ b) c ∙ ap (with_more before) (append_assoc a b c ∙ sym w)
@@ -125,6 +125,6 @@ taken_last before old mid new a b c whole front back w h k split l =
     taken_first before mid new (a ++ b) c whole [] front back (k ∙ ap (λ o. with_more o b) h ∙ with_more-append before a b)
     (w ∙ sym (append_assoc a b c) ∙ ap (λ xs. (a ++ b) ++ xs) (sym (append-nil c))) split l
 
--- a sink that took nothing has the findings of no text
-pub nothing_told : (taken : Option (List ℕ)) → HasFindings taken taken []
-nothing_told taken = sym (with_more-nil taken) ∙ ap (with_more taken) (sym (ap findings_text (nothing_found [] early_rows-nothing)))
+-- a sink that received nothing has the findings of no text
+pub nothing_written : (taken : Option (List ℕ)) → HasFindings taken taken []
+nothing_written taken = sym (with_more-nil taken) ∙ ap (with_more taken) (sym (ap findings_text (nothing_found [] early_rows-nothing)))

@@ -1,4 +1,4 @@
--- What a text found so far grows with it.
+-- What a trace text found so far grows with it.
 use Rattle.std.proofs.Common.{◌≡◌, ◌∙◌, sym, ap, refl, subst, ℕ, ◌≤◌, List, [], ◌++◌, map, length, Option, Some, None, append-nil, append_assoc, arith}
 use Rattle.std.specs.Option.{option_to_list}
 use Rattle.line_model.specs.declared.interface.Interface.{Interface}
@@ -12,7 +12,7 @@ use Rattle.line_model.specs.basics.Records.{Row, Item}
 use Rattle.line_model.specs.observer.Report.{findings_of, report_of}
 use Rattle.line_model.specs.text.Text.{early_head, early_rows}
 use Rattle.restart_epochs.proofs.LineFindings.{events_append}
-use Rattle.trace_text.specs.StandsFor.{AreKnown}
+use Rattle.trace_text.specs.Represents.{AreKnown}
 use Rattle.live_report.specs.Found.{HasFound, IsFoundUpTo, found, found_at}
 use Rattle.live_report.proofs.FindingLemmas.{findings_append}
 use Rattle.line_model.specs.packets.Says.{items_of}

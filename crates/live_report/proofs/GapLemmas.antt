@@ -36,9 +36,9 @@ gap_silent : (i : Interface) (e k : ℕ) (gap : ℕ) (g : GapChannel) (items : L
 gap_silent i e k gap g [] = refl
 gap_silent i e k gap g (r ∷ items) = ap (λ (vs : List (RowEvent Item What)). step_events (x25 i) e k g r ((x25 i).for_all r) ++ vs) (gap_silent i e k gap (row_step i k g r).after items)
 
--- so a piece is worth the same with it
-pub worth_so_far : (gap : ℕ) (p : Piece) → value (record p { items = with_gap gap p.items; end = None }) ≡ value (record p { end = None })
-worth_so_far gap p = at (gap_after gap (last_number p.items))
+-- so the result of a piece is the same with it
+pub value_so_far : (gap : ℕ) (p : Piece) → value (record p { items = with_gap gap p.items; end = None }) ≡ value (record p { end = None })
+value_so_far gap p = at (gap_after gap (last_number p.items))
   where
     at : (o : Option ℕ) → value (record p { items = p.items ++ gap_items o; end = None }) ≡ value (record p { end = None })
     at None = ap (λ items. value (record p { items = items; end = None })) (append-nil p.items)

@@ -1,4 +1,4 @@
--- The row that an observer took last, by the route of the row.
+-- The row that an observer read last, by the route of the row.
 use Rattle.std.proofs.Common.{◌≡◌, ◌∙◌, sym, ap, subst, refl, ℕ, ◌≤◌, Bool, true, false, true≢false, List, [], ◌∷◌, ◌++◌, length, length-append, Option, Some, None, option_to_list, arith}
 use Rattle.std.specs.Prelude.{MatchOption}
 use Rattle.line_model.specs.declared.event.Event.{Event}
@@ -14,16 +14,16 @@ use Rattle.line_model.specs.pieces.Plan.{has_some}
 use Rattle.channel_run.specs.Live.{channel_so_far}
 use Rattle.channel_run.specs.Run.{row_events}
 use Rattle.restart_epochs.specs.OpenRows.{OpenRows, HasMore, last_number, rows_of}
-use Rattle.restart_epochs.specs.Cutting.{Cutting, HasTurned, IsTakenBy, StandsFor as IsCutterOf, gap_turned, items_out, observer, places, rows_if}
+use Rattle.restart_epochs.specs.Cutting.{Cutting, HasTurned, IsTakenBy, Represents as IsCutterOf, gap_turned, items_out, observer, places, rows_if}
 use Rattle.restart_epochs.specs.declared.walk.EpochWalk.{EpochWalk}
 use Rattle.restart_epochs.specs.declared.walk.Step.{Step}
-use Rattle.restart_epochs.specs.declared.walk.Turn.{Turn}
+use Rattle.restart_epochs.specs.declared.walk.ChannelEffect.{ChannelEffect}
 use Rattle.restart_epochs.specs.Walks.{epoch_after, passed, turn_of, IsStep}
 use Rattle.restart_epochs.proofs.GapRows.{last_pushed, no_gap}
-use Rattle.restart_epochs.proofs.LaneSteps.{start_stays}
+use Rattle.restart_epochs.proofs.OpenChannelSteps.{start_stays}
 use Rattle.restart_epochs.proofs.Routes.{is_to_channel}
 use Rattle.restart_epochs.proofs.Steps.{on_channel, routed_to, routed_none}
-use Rattle.live_report.specs.Lanes.{begun_piece}
+use Rattle.live_report.specs.OpenChannels.{begun_piece}
 use Rattle.live_report.specs.Observing.{epoch_at}
 use Rattle.live_report.specs.Turns.{epoch_of, reached_piece, HasEvents, JudgesBy}
 use Rattle.live_report.specs.JudgedRows.{IsJudge, IsJudgedRow, IsRestart, IsTaker, KnowsLast, taker}
@@ -76,8 +76,8 @@ open_is_ready i rs c k s some = at (is_ready (observer i rs).line) refl
     at true e = e
     at false e = absurd (true≢false (sym some ∙ ap has_some (s.rows k ∙ ap (λ b. rows_if b i (places i rs) (observer i rs).epoch k) e)))
 
--- what a turn makes known of a row
-pub record Judged {B : Type 0} (turn : Turn) (item : Item) (walk : EpochWalk B) (gap : ℕ) (machine : GapLine) (rows rows_after : OpenRows) (row : JudgedRow) (events : List Event) : Type 0 where
+-- what a step makes known of a row
+pub record Judged {B : Type 0} (turn : ChannelEffect) (item : Item) (walk : EpochWalk B) (gap : ℕ) (machine : GapLine) (rows rows_after : OpenRows) (row : JudgedRow) (events : List Event) : Type 0 where
   pub number : row.number ≡ item.number
   pub side : row.side ≡ item.side
   pub packet : row.packet ≡ item.packet

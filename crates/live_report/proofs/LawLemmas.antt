@@ -1,4 +1,4 @@
--- What was found so far stands first in what is found of each text that goes on, and in its report.
+-- What was found so far comes first in what is found of each text that goes on, and in its report.
 use Rattle.std.proofs.Common.{◌≡◌, ◌∙◌, sym, ap, refl, ℕ, ◌+◌, ◌-◌, ◌≤◌, List, [], ◌∷◌, ◌++◌, length, Option, Some, None, take, arith, append-nil, append_assoc, length-append}
 use Rattle.std.specs.Option.{option_or, option_map}
 use Rattle.std.proofs.lemmas.Grind.{flat_map-append}
@@ -113,7 +113,7 @@ in_report given rest i (Some j) e h is =
     let grown = findings_grow i (items_of i (early_rows given)) (items_of i rs.0) in
     (grown.0, ap (λ l. (report_of i (items_of i l)).findings) rs.1 ∙ ap (λ l. (report_of i l).findings) (items_more i (early_rows given) rs.0) ∙ grown.1 ∙ ap (λ xs. xs ++ grown.0) (ap (λ k. found_at k given) (sym same) ∙ sym (found_under j given e)))
 
--- the findings so far stand first in the report of a text
+-- the findings so far come first in the report of a trace text
 pub found_in_report : (given rest : List ℕ) (i : Interface) → early given ≡ None → head (given ++ rest) ≡ Some i → (others : List Finding) × ((report_of i (items_of i (rows (given ++ rest)))).findings ≡ found given ++ others)
 found_in_report given rest i h is = in_report given rest i (early_head given) refl h is
 

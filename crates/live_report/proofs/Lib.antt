@@ -1,5 +1,5 @@
 pub mod GapLemmas
-pub mod LaneLemmas
+pub mod OpenChannelLemmas
 pub mod EndingLemmas
 pub mod FindingLemmas
 pub mod LastLemmas
@@ -15,3 +15,4 @@ pub mod ReportLemmas
 pub mod TraceObserverLemmas
 pub mod LawLemmas
 pub mod FollowLemmas
+pub mod ScanLemmas

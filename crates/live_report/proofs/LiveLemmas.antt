@@ -11,13 +11,13 @@ use Rattle.line_model.specs.declared.fault.Fault.TheVariants.{Memory}
 use Rattle.line_model.specs.declared.finding.Finding.{Finding}
 use Rattle.line_model.specs.text.Text.{early_rows}
 use Rattle.trace_text.specs.Progress.{Progress}
-use Rattle.trace_text.specs.StandsFor.{StandsFor as IsReaderOf, ReadsChunk, TakesRow}
+use Rattle.trace_text.specs.Represents.{Represents as IsReaderOf, ReadsChunk, TakesRow}
 use Rattle.trace_text.proofs.Grows.{early_head_stays}
 use Rattle.trace_text.proofs.RefusalLemmas.{head_stands, known-here}
 use Rattle.live_report.specs.declared.live.Live.{Live}
 use Rattle.live_report.specs.declared.observer.Observer.{Observer}
-use Rattle.live_report.specs.Observing.{AreItems, StandsFor as IsObserverOf}
-use Rattle.live_report.specs.Lives.{IsLastRow, IsObserved, IsObserving, StandsFor}
+use Rattle.live_report.specs.Observing.{AreItems, Represents as IsObserverOf}
+use Rattle.live_report.specs.Lives.{IsLastRow, IsObserved, IsObserving, Represents}
 use Rattle.live_report.specs.Found.{HasFound, IsFoundBy, IsFoundUpTo, found, found_at}
 use Rattle.live_report.proofs.FoundLemmas.{found_none, found_under, found_unheaded, nothing_found}
 use Rattle.live_report.proofs.ChunkLemmas.{ReadsRow, next_items, next_rows, observed_row, taken_is_last}
@@ -46,19 +46,19 @@ pub fault_of : {T : Type 0} → (r : Result T Fault) (P : Fault → Type 0) → 
 fault_of (Ok x) P h = tt
 fault_of (Err f) P h = h
 
-pub observing_of : {A C : Type 0} → (I : C → Interface) (N : C → ℕ) (S : C → GapChannel → Type 0) (live : Live A C) (text : List ℕ) (o : Observer A C) → StandsFor I N S live text → live.observer ≡ Some o
+pub observing_of : {A C : Type 0} → (I : C → Interface) (N : C → ℕ) (S : C → GapChannel → Type 0) (live : Live A C) (text : List ℕ) (o : Observer A C) → Represents I N S live text → live.observer ≡ Some o
     → (i : Interface) × IsObserving I N S i text live.lines o
 observing_of I N S live text o s h =
     let seen : IsObserved I N S text live.lines.interface (Some o) = subst (IsObserved I N S text live.lines.interface) h s.observed in
     (seen.0, record { reads = s.reads; header = seen.1; observes = seen.2 })
 
-pub keeps_rows : {A C : Type 0} → (I : C → Interface) (N : C → ℕ) (S : C → GapChannel → Type 0) (live : Live A C) (text : List ℕ) (o : Observer A C) → StandsFor I N S live text → live.keeps_rows ≡ true → live.observer ≡ Some o → o.keeps_rows ≡ true
+pub keeps_rows : {A C : Type 0} → (I : C → Interface) (N : C → ℕ) (S : C → GapChannel → Type 0) (live : Live A C) (text : List ℕ) (o : Observer A C) → Represents I N S live text → live.keeps_rows ≡ true → live.observer ≡ Some o → o.keeps_rows ≡ true
 keeps_rows I N S live text o s keeps h = subst (λ x. IfSome x (λ z. z.keeps_rows ≡ live.keeps_rows)) h s.keeps ∙ keeps
 
-pub nothing_seen : {A C : Type 0} → (I : C → Interface) (N : C → ℕ) (S : C → GapChannel → Type 0) (live : Live A C) (text : List ℕ) → StandsFor I N S live text → live.observer ≡ None → early_rows text ≡ []
+pub nothing_seen : {A C : Type 0} → (I : C → Interface) (N : C → ℕ) (S : C → GapChannel → Type 0) (live : Live A C) (text : List ℕ) → Represents I N S live text → live.observer ≡ None → early_rows text ≡ []
 nothing_seen I N S live text s h = subst (IsObserved I N S text live.lines.interface) h s.observed
 
-pub stands_observing : {A C : Type 0} → (I : C → Interface) (N : C → ℕ) (S : C → GapChannel → Type 0) (i : Interface) (live : Live A C) (text : List ℕ) (o : Observer A C) → IsObserving I N S i text live.lines o → live.observer ≡ Some o → live.refused ≡ None → o.keeps_rows ≡ live.keeps_rows → (live.keeps_rows ≡ true → IsLastRow (early_rows text) live.rows.last) → StandsFor I N S live text
+pub stands_observing : {A C : Type 0} → (I : C → Interface) (N : C → ℕ) (S : C → GapChannel → Type 0) (i : Interface) (live : Live A C) (text : List ℕ) (o : Observer A C) → IsObserving I N S i text live.lines o → live.observer ≡ Some o → live.refused ≡ None → o.keeps_rows ≡ live.keeps_rows → (live.keeps_rows ≡ true → IsLastRow (early_rows text) live.rows.last) → Represents I N S live text
 stands_observing I N S i live text o w h running keeps last = record {
   reads = w.reads;
   running = running;
@@ -117,7 +117,7 @@ pub passed_rows : (i : Interface) (reader after : Progress) (text line : List �
 passed_rows i reader after text line row s t h =
     subst (λ r. AreItems i (items_of i (early_rows text) ++ r ∷ [])) (read_says i row) (next_rows i reader after text line [] (read_row row) s (row, t, refl) h)
 
--- the reader went past the line of a row, and the observer took it
+-- the reader went past the line of a row, and the observer read it
 pub passed_row : {A C : Type 0} → (I : C → Interface) (N : C → ℕ) (S : C → GapChannel → Type 0) (i : Interface) (text line : List ℕ) (row : Row) (reader after : Progress) (o next : Observer A C) (out out_after more : List Finding)
     → (w : IsObserving I N S i text reader o) → TakesRow reader after line [] row → after.interface ≡ reader.interface → IsObserverOf I N S i (items_of i (early_rows text) ++ item_of i row ∷ []) next
     → out_after ≡ out ++ more → (report_of i (items_of i (early_rows text) ++ item_of i row ∷ [])).findings ≡ found_at i text ++ more
@@ -136,7 +136,7 @@ passed_row I N S i text line row reader after o next out out_after more w takes 
       subst (λ x. IsLastRow (early_rows x) (read_row row)) all (taken_is_last reader after text line [] (read_row row) w.reads t),
     )
 
--- it was fed a text with the line, or still that text
+-- it was fed a trace text with the line, or still that text
 pub fed_on : (r : Result Bool Fault) (o : Option Fault) (P : List ℕ → Type 0) (text line : List ℕ) → o ≡ result_err r → (r ≡ Ok true → P (text ++ line)) → (r ≡ Ok false → P text) → o ≡ None → (fed : List ℕ) × P fed
 fed_on (Ok true) o P text line e taken passed none = (text ++ line, taken refl)
 fed_on (Ok false) o P text line e taken passed none = (text, passed refl)

@@ -1,4 +1,4 @@
--- The report of a text, from the observer of its rows.
+-- The report of a trace text, from the observer of its rows.
 use Rattle.std.proofs.Common.{Bool, Err, IfErr, IfOk, List, None, Ok, Option, Result, Some, [], ap, append-nil, false, length, refl, subst, sym, true, ℕ, ◌∷◌, ◌++◌, ◌∙◌, ◌≡◌}
 use Rattle.line_model.specs.basics.Device.{with_more}
 use Rattle.line_model.specs.basics.Records.{Item, ReadRow, Report, Row}
@@ -10,7 +10,7 @@ use Rattle.line_model.specs.declared.fault.Fault.{Fault}
 use Rattle.line_model.specs.declared.fault.Fault.TheVariants.{Memory, Trace, Write}
 use Rattle.line_model.specs.declared.totals.Summary.{Summary}
 use Rattle.trace_text.specs.Progress.{Progress}
-use Rattle.trace_text.specs.StandsFor.{StandsFor as IsReaderOf, IsFaultOf, IsTextFault, last_row}
+use Rattle.trace_text.specs.Represents.{Represents as IsReaderOf, IsFaultOf, IsTextFault, last_row}
 use Rattle.trace_text.proofs.RefusalLemmas.{head_stands}
 use Rattle.trace_text.proofs.RowsOfText.{text_numbers, text_octets, text_rises}
 use Rattle.live_report.specs.Observing.{AreItems, last_item}
@@ -22,20 +22,20 @@ use Rattle.live_report.proofs.ChunkLemmas.{items_sound}
 use Rattle.line_model.proofs.Saying.{items_more, read_says}
 use Rattle.line_model.proofs.TextRows.{early_head_law, rows_law}
 
--- a report of the rows of a text is the text's
-pub told_at : (text : List ℕ) (i : Interface) (rs : List Item) (answer : Result Report Fault) → IfOk answer (λ r. r ≡ report_of i rs) → fault text ≡ None → head text ≡ Some i → items_of i (rows text) ≡ rs → IfOk answer (IsReportOf text)
-told_at text i rs (Ok r) h sound header same = record { sound = sound; interface = i; header = header; report = h ∙ ap (report_of i) (sym same) }
-told_at text i rs (Err f) h sound header same = tt
+-- a report of the rows of a trace text is the text's
+pub reported_at : (text : List ℕ) (i : Interface) (rs : List Item) (answer : Result Report Fault) → IfOk answer (λ r. r ≡ report_of i rs) → fault text ≡ None → head text ≡ Some i → items_of i (rows text) ≡ rs → IfOk answer (IsReportOf text)
+reported_at text i rs (Ok r) h sound header same = record { sound = sound; interface = i; header = header; report = h ∙ ap (report_of i) (sym same) }
+reported_at text i rs (Err f) h sound header same = tt
 
 pub memory_only : {T : Type 0} → (P : Fault → Type 0) (answer : Result T Fault) → IfErr answer (λ f. f ≡ Memory) → P Memory → IfErr answer P
 memory_only P (Ok x) h m = tt
 memory_only P (Err f) h m = subst P (sym h) m
 
--- the rows of a text that has no fault
+-- the rows of a trace text that has no fault
 pub whole_trace : (i : Interface) (text : List ℕ) → fault text ≡ None → head text ≡ Some i → AreItems i (items_of i (rows text))
 whole_trace i text sound header = items_sound i (rows text) (rows_law text i header) (text_rises text sound) (text_numbers text sound) (text_octets text sound)
 
--- what the rows of a text say, with the row of a last line that no LF ended
+-- what the rows of a trace text say, with the row of a last line that no LF ended
 pub ended_items : (i : Interface) (text : List ℕ) (has_row : Bool) (row : ReadRow) → (last : Row) × (rows text ≡ early_rows text ++ last_row has_row last) × (has_row ≡ true → row ≡ read_row last) → items_of i (rows text) ≡ items_of i (early_rows text) ++ last_item i has_row row
 ended_items i text false row end = ap (items_of i) end.1 ∙ items_more i (early_rows text) []
 ended_items i text true row end = ap (items_of i) end.1 ∙ items_more i (early_rows text) (end.0 ∷ []) ∙ ap (λ r. items_of i (early_rows text) ++ r ∷ []) (sym (read_says i end.0) ∙ ap (item_read i) (sym (end.2 refl)))
@@ -75,7 +75,7 @@ untaken taken bytes _ h = absurd h
 pub unwritten : (f : Fault) → IsTextFault f → f ≡ Write → ⊥
 unwritten f h w = subst IsTextFault w h
 
--- ---- an answer is one of two, and so is what was refused
+-- ---- a result is one of two, and so is what was refused
 
 pub apart : (refused : Option Fault) (f : Fault) → refused ≡ None → refused ≡ Some f → ⊥
 apart refused f none some = cc

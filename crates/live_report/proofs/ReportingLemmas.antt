@@ -1,4 +1,4 @@
--- The open channels are asked one by one what their pieces are worth so far.
+-- The open channels return one by one the results of their pieces so far.
 use Rattle.std.proofs.Common.{◌≡◌, ◌∙◌, sym, ap, subst, ℕ, true, List, [], ◌∷◌, ◌++◌, map, length, Some, None, append_assoc, append-nil, length-append}
 use Rattle.std.specs.List.{AllByRecursion}
 use Rattle.line_model.specs.declared.interface.Interface.{Interface}
@@ -8,10 +8,10 @@ use Rattle.line_model.specs.pieces.Plan.{has_some}
 use Rattle.line_model.specs.pieces.Plans.{value}
 use Rattle.restart_epochs.specs.Cutting.{items_out}
 use Rattle.restart_epochs.specs.OpenRows.{OpenRows, rows_of, IsListing}
-use Rattle.restart_epochs.specs.OpenLanes.{OpenLanes, value_at}
+use Rattle.restart_epochs.specs.ChannelTables.{ChannelTables, value_at}
 use Rattle.live_report.specs.AddedPieces.{pieces_of}
-use Rattle.live_report.specs.Lanes.{OpenEpoch, begun_piece, ended_piece, LaneFor, LanesFor}
-use Rattle.live_report.specs.declared.lanes.OpenChannel.{OpenChannel}
+use Rattle.live_report.specs.OpenChannels.{OpenEpoch, begun_piece, ended_piece, OpenChannelFor, OpenChannelsFor}
+use Rattle.live_report.specs.declared.open_channels.OpenChannel.{OpenChannel}
 
 -- some first channels were asked, and these are left
 pub record Reporting (e : OpenEpoch) (gap : ℕ) (rows : OpenRows) (first out : List PieceReport) (left : List ℕ) : Type 0 where
@@ -39,6 +39,6 @@ pub reporting_all : (e : OpenEpoch) (gap : ℕ) (rows : OpenRows) (first out : L
 reporting_all e gap rows first out left t none = sym (append-nil out) ∙ ap (λ ks. out ++ map value (pieces_of e gap None rows (length out) ks)) (sym none) ∙ t.values
 
 -- a channel that has an open channel
-pub reported_open : {A C : Type 0} → (I : C → Interface) (N : C → ℕ) (S : C → GapChannel → Type 0) (e : OpenEpoch) (rows : OpenRows) (k : ℕ) (table : OpenLanes (OpenChannel A C)) (entry : OpenChannel A C)
-    → LanesFor I N S e rows table → Some entry ≡ value_at table k → LaneFor I N S (begun_piece e k (rows_of rows k)) (Some entry)
-reported_open I N S e rows k table entry f some = subst (LaneFor I N S (begun_piece e k (rows_of rows k))) (sym some) (f.each k)
+pub reported_open : {A C : Type 0} → (I : C → Interface) (N : C → ℕ) (S : C → GapChannel → Type 0) (e : OpenEpoch) (rows : OpenRows) (k : ℕ) (table : ChannelTables (OpenChannel A C)) (entry : OpenChannel A C)
+    → OpenChannelsFor I N S e rows table → Some entry ≡ value_at table k → OpenChannelFor I N S (begun_piece e k (rows_of rows k)) (Some entry)
+reported_open I N S e rows k table entry f some = subst (OpenChannelFor I N S (begun_piece e k (rows_of rows k))) (sym some) (f.each k)

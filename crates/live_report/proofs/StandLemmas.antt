@@ -1,4 +1,4 @@
--- An observer that stands for some rows stands for one more after it took it.
+-- An observer that represents some rows represents one more after it read it.
 use Rattle.std.proofs.Common.{◌≡◌, ◌∙◌, sym, ap, subst, refl, ℕ, suc, ◌+◌, ◌<◌, ◌≤◌, true, true≢false, List, [], ◌∷◌, ◌++◌, map, length, Option, Some, None, arith}
 use Rattle.std.specs.Prelude.{All, sum_by}
 use Rattle.std.proofs.lemmas.List.{map-append}
@@ -11,46 +11,46 @@ use Rattle.line_model.specs.pieces.Plans.{value}
 use Rattle.line_model.specs.text.Text.{last_or}
 use Rattle.line_model.proofs.Rising.{RisesFrom, rises-from_index}
 use Rattle.restart_epochs.specs.OpenRows.{OpenRows, no_rows, rows_of, IsSame}
-use Rattle.restart_epochs.specs.OpenLanes.{OpenLanes, value_at, IsEmpty}
+use Rattle.restart_epochs.specs.ChannelTables.{ChannelTables, value_at, IsEmpty}
 use Rattle.restart_epochs.specs.Cutting.{Cutting, IsCutting, IsCounted, given_of, no_cutting}
 use Rattle.restart_epochs.proofs.Pushes.{Pushed}
 use Rattle.restart_epochs.proofs.Listings.{nothing_cut, nothing_bound}
 use Rattle.live_report.specs.declared.observer.Observer.{Observer}
-use Rattle.live_report.specs.declared.lanes.OpenChannel.{OpenChannel}
-use Rattle.live_report.specs.Lanes.{OpenEpoch, begun_piece, LaneFor, LanesFor}
+use Rattle.live_report.specs.declared.open_channels.OpenChannel.{OpenChannel}
+use Rattle.live_report.specs.OpenChannels.{OpenEpoch, begun_piece, OpenChannelFor, OpenChannelsFor}
 use Rattle.live_report.specs.JudgedRows.{KnowsLast}
 use Rattle.live_report.specs.Uncounted.{none_left_out, uncounted_of}
-use Rattle.live_report.specs.Observing.{AreItems, Holds, StandsFor}
+use Rattle.live_report.specs.Observing.{AreItems, Holds, Represents}
 use Rattle.live_report.proofs.LastLemmas.{no_row}
 use Rattle.line_model.proofs.LineLemmas.{last_or-add}
 
--- ---- lanes
+-- ---- open channels
 
 -- the open channels of the same rows
-pub lanes_same : {A C : Type 0} → (I : C → Interface) (N : C → ℕ) (S : C → GapChannel → Type 0) (e n : OpenEpoch) (rows more : OpenRows) (table : OpenLanes (OpenChannel A C))
-    → LanesFor I N S e rows table → n ≡ e → IsSame rows more → LanesFor I N S n more table
-lanes_same I N S e n rows more table f same_epoch same = record {
+pub open_channels_same : {A C : Type 0} → (I : C → Interface) (N : C → ℕ) (S : C → GapChannel → Type 0) (e n : OpenEpoch) (rows more : OpenRows) (table : ChannelTables (OpenChannel A C))
+    → OpenChannelsFor I N S e rows table → n ≡ e → IsSame rows more → OpenChannelsFor I N S n more table
+open_channels_same I N S e n rows more table f same_epoch same = record {
   channels = f.channels ∙ sym same.channels;
-  each = λ k. subst (λ items. LaneFor I N S (begun_piece n k items) (value_at table k)) (sym (same.rows k))
-      (subst (λ m. LaneFor I N S (begun_piece m k (rows_of rows k)) (value_at table k)) (sym same_epoch) (f.each k));
+  each = λ k. subst (λ items. OpenChannelFor I N S (begun_piece n k items) (value_at table k)) (sym (same.rows k))
+      (subst (λ m. OpenChannelFor I N S (begun_piece m k (rows_of rows k)) (value_at table k)) (sym same_epoch) (f.each k));
 }
 
 other_epoch : {A C : Type 0} → (I : C → Interface) (N : C → ℕ) (S : C → GapChannel → Type 0) (e n : OpenEpoch) (k : ℕ) (items : List Item) (o : Option (OpenChannel A C)) → items ≡ []
-    → LaneFor I N S (begun_piece e k items) o → LaneFor I N S (begun_piece n k items) o
+    → OpenChannelFor I N S (begun_piece e k items) o → OpenChannelFor I N S (begun_piece n k items) o
 other_epoch I N S e n k items None none l = l
 other_epoch I N S e n k items (Some entry) none l = absurd (true≢false (sym l.0 ∙ ap has_some none))
 
 -- where no channel has rows, the epoch makes no difference
-pub lanes_bare : {A C : Type 0} → (I : C → Interface) (N : C → ℕ) (S : C → GapChannel → Type 0) (e n : OpenEpoch) (rows : OpenRows) (table : OpenLanes (OpenChannel A C))
-    → LanesFor I N S e rows table → ((k : ℕ) → rows_of rows k ≡ []) → LanesFor I N S n rows table
-lanes_bare I N S e n rows table f none = record { channels = f.channels; each = λ k. other_epoch I N S e n k (rows_of rows k) (value_at table k) (none k) (f.each k) }
+pub open_channels_bare : {A C : Type 0} → (I : C → Interface) (N : C → ℕ) (S : C → GapChannel → Type 0) (e n : OpenEpoch) (rows : OpenRows) (table : ChannelTables (OpenChannel A C))
+    → OpenChannelsFor I N S e rows table → ((k : ℕ) → rows_of rows k ≡ []) → OpenChannelsFor I N S n rows table
+open_channels_bare I N S e n rows table f none = record { channels = f.channels; each = λ k. other_epoch I N S e n k (rows_of rows k) (value_at table k) (none k) (f.each k) }
 
 -- no open channels, for no rows
-pub lanes_none : {A C : Type 0} → (I : C → Interface) (N : C → ℕ) (S : C → GapChannel → Type 0) (e : OpenEpoch) (rows : OpenRows) (table : OpenLanes (OpenChannel A C))
-    → IsEmpty table → rows ≡ no_rows → LanesFor I N S e rows table
-lanes_none I N S e rows table empty none = record {
+pub open_channels_none : {A C : Type 0} → (I : C → Interface) (N : C → ℕ) (S : C → GapChannel → Type 0) (e : OpenEpoch) (rows : OpenRows) (table : ChannelTables (OpenChannel A C))
+    → IsEmpty table → rows ≡ no_rows → OpenChannelsFor I N S e rows table
+open_channels_none I N S e rows table empty none = record {
   channels = empty.channels ∙ ap (λ o. o.channels) (sym none);
-  each = λ k. subst (LaneFor I N S (begun_piece e k (rows_of rows k))) (sym (empty.values k)) (ap (λ o. rows_of o k) none);
+  each = λ k. subst (OpenChannelFor I N S (begun_piece e k (rows_of rows k))) (sym (empty.values k)) (ap (λ o. rows_of o k) none);
 }
 
 -- ---- rows
@@ -83,8 +83,8 @@ may_come i c rs r last octets h =
 -- ---- one more row
 
 pub next_stands : {A C : Type 0} → (I : C → Interface) (N : C → ℕ) (S : C → GapChannel → Type 0) (i : Interface) (rs : List Item) (r : Item) (more : List Piece) (before new : Observer A C) (after : Cutting)
-    → (s : StandsFor I N S i rs before) → AreItems i (rs ++ r ∷ []) → Pushed i rs r more after → IsCutting after → IsCounted r s.cutting after → Holds I N S after (map value (given_of i rs) ++ map value more) new
-    → (new.keeps_rows ≡ true → KnowsLast i (rs ++ r ∷ []) new.last new.events.items) → new.uncounted ≡ uncounted_of i (rs ++ r ∷ []) → StandsFor I N S i (rs ++ r ∷ []) new
+    → (s : Represents I N S i rs before) → AreItems i (rs ++ r ∷ []) → Pushed i rs r more after → IsCutting after → IsCounted r s.cutting after → Holds I N S after (map value (given_of i rs) ++ map value more) new
+    → (new.keeps_rows ≡ true → KnowsLast i (rs ++ r ∷ []) new.last new.events.items) → new.uncounted ≡ uncounted_of i (rs ++ r ∷ []) → Represents I N S i (rs ++ r ∷ []) new
 next_stands I N S i rs r more before new after s sound pushed bounds counted holds known uncounted = record {
   sound = sound;
   cutting = after;
@@ -101,7 +101,7 @@ of_no_length : (ps : List Piece) → 0 ≡ length ps → ps ≡ []
 of_no_length [] h = refl
 of_no_length (p ∷ ps) h = absurd (omega (arith, h))
 
-pub nothing_taken : {A C : Type 0} → (I : C → Interface) (N : C → ℕ) (S : C → GapChannel → Type 0) (i : Interface) (o : Observer A C) → Holds I N S (no_cutting i) [] o → o.uncounted ≡ none_left_out → StandsFor I N S i [] o
+pub nothing_taken : {A C : Type 0} → (I : C → Interface) (N : C → ℕ) (S : C → GapChannel → Type 0) (i : Interface) (o : Observer A C) → Holds I N S (no_cutting i) [] o → o.uncounted ≡ none_left_out → Represents I N S i [] o
 nothing_taken I N S i o holds uncounted = record {
   sound = record { said = tt; rising = λ k lt. absurd (omega (arith, lt)); numbers = λ k d lt. absurd (omega (arith, lt)); octets = omega arith };
   cutting = no_cutting i;

@@ -9,29 +9,29 @@ use Rattle.line_model.specs.basics.Records.{Item, PieceReport}
 use Rattle.line_model.specs.basics.Bounds.{IsPiece, IsSaid}
 use Rattle.line_model.specs.channels.Gaps.{GapChannel}
 use Rattle.line_model.specs.pieces.Plans.{end_at, value}
-use Rattle.restart_epochs.specs.OpenLanes.{OpenLanes, IsEmpty}
+use Rattle.restart_epochs.specs.ChannelTables.{ChannelTables, IsEmpty}
 use Rattle.restart_epochs.specs.OpenRows.{OpenRows, gap_after, last_number, no_rows, rows_of, IsListing}
 use Rattle.restart_epochs.specs.declared.walk.EpochWalk.{EpochWalk}
 use Rattle.restart_epochs.specs.declared.walk.Step.{Step}
-use Rattle.restart_epochs.specs.declared.walk.Turn.{Turn}
-use Rattle.restart_epochs.specs.declared.walk.Turn.TheVariants.{ToChannel, ToAll, Ends, Stays}
+use Rattle.restart_epochs.specs.declared.walk.ChannelEffect.{ChannelEffect}
+use Rattle.restart_epochs.specs.declared.walk.ChannelEffect.TheVariants.{ToChannel, ToAll, Ends, Stays}
 use Rattle.restart_epochs.specs.Walks.{epoch_after, start_after, turn_of, IsAdvanced, IsSameWalk, IsStep}
-use Rattle.restart_epochs.specs.Cutting.{Cutting, IsCutting, IsTakenBy, HasTurned, StandsFor as IsCutterOf, ended_by, gap_turned, given_after, given_of, items_out}
-use Rattle.restart_epochs.proofs.Bounds.{lane_piece}
-use Rattle.restart_epochs.proofs.LaneSteps.{start_stays}
+use Rattle.restart_epochs.specs.Cutting.{Cutting, IsCutting, IsTakenBy, HasTurned, Represents as IsCutterOf, ended_by, gap_turned, given_after, given_of, items_out}
+use Rattle.restart_epochs.proofs.Bounds.{channel_piece}
+use Rattle.restart_epochs.proofs.OpenChannelSteps.{start_stays}
 use Rattle.restart_epochs.proofs.Listings.{bare, has_one_more, rows_with}
 use Rattle.restart_epochs.proofs.Taken.{enters_unready, takes, taken_bounds}
 use Rattle.report_merge.specs.Gathered.{gathered}
 use Rattle.live_report.specs.declared.observer.Observer.{Observer}
 use Rattle.live_report.specs.JudgedRows.{KnowsLast}
 use Rattle.live_report.specs.Uncounted.{uncounted_of}
-use Rattle.live_report.specs.declared.lanes.OpenChannel.{OpenChannel}
-use Rattle.live_report.specs.Lanes.{OpenEpoch, begun_piece, LaneFor, LanesFor}
+use Rattle.live_report.specs.declared.open_channels.OpenChannel.{OpenChannel}
+use Rattle.live_report.specs.OpenChannels.{OpenEpoch, begun_piece, OpenChannelFor, OpenChannelsFor}
 use Rattle.live_report.specs.AddedPieces.{ArePieces}
 use Rattle.live_report.specs.Turns.{MayTurn, epoch_of}
-use Rattle.live_report.specs.Observing.{AreItems, Holds, StandsFor, epoch_at}
+use Rattle.live_report.specs.Observing.{AreItems, Holds, Represents, epoch_at}
 use Rattle.live_report.proofs.GapLemmas.{piece_front}
-use Rattle.live_report.proofs.StandLemmas.{MayCome, lanes_bare, lanes_same, may_come, next_stands}
+use Rattle.live_report.proofs.StandLemmas.{MayCome, open_channels_bare, open_channels_same, may_come, next_stands}
 use Rattle.line_model.proofs.Saying.{last_said}
 use Rattle.line_model.specs.channels.GapRestart.{routing}
 use Rattle.line_model.specs.packets.Says.{gap_items, gap_of}
@@ -39,12 +39,12 @@ use Rattle.line_model.specs.observer.Report.{gaps_of}
 
 -- ---- what a cutter keeps after one more row
 
-abbrev pub rows_after : Turn → Item → (gap : ℕ) → OpenRows → OpenRows
+abbrev pub rows_after : ChannelEffect → Item → (gap : ℕ) → OpenRows → OpenRows
 rows_after (ToChannel channel) item gap rows = rows_with rows gap channel item
 rows_after Ends item gap rows = no_rows
 rows_after _ item gap rows = rows
 
-pub has_turned : (turn : Turn) (item : Item) (gap : ℕ) (rows : OpenRows) → HasTurned turn item gap rows (rows_after turn item gap rows)
+pub has_turned : (turn : ChannelEffect) (item : Item) (gap : ℕ) (rows : OpenRows) → HasTurned turn item gap rows (rows_after turn item gap rows)
 has_turned (ToChannel channel) item gap rows = has_one_more rows gap channel item
 has_turned Ends item gap rows = (refl, λ k. inl refl)
 has_turned ToAll item gap rows = record { rows = λ k. refl; channels = refl }
@@ -87,11 +87,11 @@ on_any (Ok x) P p = p
 on_any (Err e) P p = tt
 
 -- where all ended, there are none, and no rows
-pub lanes_ended : {A C : Type 0} → (I : C → Interface) (N : C → ℕ) (S : C → GapChannel → Type 0) (e : OpenEpoch) (rows after : OpenRows) (item : Item) (gap : ℕ) (table : OpenLanes (OpenChannel A C))
-    → IsListing rows → HasTurned Ends item gap rows after → IsEmpty table → LanesFor I N S e after table
-lanes_ended {A} {C} I N S e rows after item gap table listing turned empty = record {
+pub open_channels_ended : {A C : Type 0} → (I : C → Interface) (N : C → ℕ) (S : C → GapChannel → Type 0) (e : OpenEpoch) (rows after : OpenRows) (item : Item) (gap : ℕ) (table : ChannelTables (OpenChannel A C))
+    → IsListing rows → HasTurned Ends item gap rows after → IsEmpty table → OpenChannelsFor I N S e after table
+open_channels_ended {A} {C} I N S e rows after item gap table listing turned empty = record {
   channels = empty.channels ∙ sym turned.0;
-  each = λ k. subst (LaneFor I N S (begun_piece e k (rows_of after k))) (sym (empty.values k)) (none k (turned.1 k));
+  each = λ k. subst (OpenChannelFor I N S (begun_piece e k (rows_of after k))) (sym (empty.values k)) (none k (turned.1 k));
 }
   where
     none : (k : ℕ) → (rows_of after k ≡ []) ⊎ ((rows_of after k ≡ rows_of rows k) × AllByRecursion (λ j. j ≢ k) rows.channels) → rows_of after k ≡ []
@@ -107,26 +107,26 @@ step_of I N S c reports o item step h is = subst (λ l. IsStep l c.epoch item st
 pub epoch_here : {A C : Type 0} → (I : C → Interface) (N : C → ℕ) (S : C → GapChannel → Type 0) (c : Cutting) (reports : List PieceReport) (o : Observer A C) (v : EpochWalk A) → Holds I N S c reports o → IsSameWalk o.walk v → epoch_of v ≡ epoch_at c
 epoch_here I N S c reports o v h same = λ t. record { interface = (same.interface ∙ h.interface) t; number = (same.epoch ∙ h.epoch) t; start = (same.start ∙ h.start) t }
 
-pub lanes_at : {A C : Type 0} → (I : C → Interface) (N : C → ℕ) (S : C → GapChannel → Type 0) (c : Cutting) (reports : List PieceReport) (o : Observer A C) (v : EpochWalk A) → Holds I N S c reports o → IsSameWalk o.walk v → LanesFor I N S (epoch_of v) c.open_rows o.lanes.table
-lanes_at I N S c reports o v h same = lanes_same I N S (epoch_at c) (epoch_of v) c.open_rows c.open_rows o.lanes.table h.lanes (epoch_here I N S c reports o v h same) (record { rows = λ k. refl; channels = refl })
+pub open_channels_at : {A C : Type 0} → (I : C → Interface) (N : C → ℕ) (S : C → GapChannel → Type 0) (c : Cutting) (reports : List PieceReport) (o : Observer A C) (v : EpochWalk A) → Holds I N S c reports o → IsSameWalk o.walk v → OpenChannelsFor I N S (epoch_of v) c.open_rows o.open_channels.table
+open_channels_at I N S c reports o v h same = open_channels_same I N S (epoch_at c) (epoch_of v) c.open_rows c.open_rows o.open_channels.table h.open_channels (epoch_here I N S c reports o v h same) (record { rows = λ k. refl; channels = refl })
 
 -- the rows of each channel, with the last gap of all channels after them, can be a piece
-pub pieces_here : {A C : Type 0} → (I : C → Interface) (N : C → ℕ) (S : C → GapChannel → Type 0) (c : Cutting) (reports : List PieceReport) (o : Observer A C) → Holds I N S c reports o → IsCutting c → ArePieces (epoch_at c) o.lanes.gap c.open_rows
-pieces_here I N S c reports o h bounds k = subst (λ n. IsPiece c.interface k (items_out n c.open_rows k)) (sym h.gap) (lane_piece c k bounds)
+pub pieces_here : {A C : Type 0} → (I : C → Interface) (N : C → ℕ) (S : C → GapChannel → Type 0) (c : Cutting) (reports : List PieceReport) (o : Observer A C) → Holds I N S c reports o → IsCutting c → ArePieces (epoch_at c) o.open_channels.gap c.open_rows
+pieces_here I N S c reports o h bounds k = subst (λ n. IsPiece c.interface k (items_out n c.open_rows k)) (sym h.gap) (channel_piece c k bounds)
 
-pub pieces_at : {A C : Type 0} → (I : C → Interface) (N : C → ℕ) (S : C → GapChannel → Type 0) (c : Cutting) (reports : List PieceReport) (o : Observer A C) (v : EpochWalk A) → Holds I N S c reports o → IsSameWalk o.walk v → IsCutting c → ArePieces (epoch_of v) o.lanes.gap c.open_rows
-pieces_at I N S c reports o v h same bounds = subst (λ e. ArePieces e o.lanes.gap c.open_rows) (sym (epoch_here I N S c reports o v h same)) (pieces_here I N S c reports o h bounds)
+pub pieces_at : {A C : Type 0} → (I : C → Interface) (N : C → ℕ) (S : C → GapChannel → Type 0) (c : Cutting) (reports : List PieceReport) (o : Observer A C) (v : EpochWalk A) → Holds I N S c reports o → IsSameWalk o.walk v → IsCutting c → ArePieces (epoch_of v) o.open_channels.gap c.open_rows
+pieces_at I N S c reports o v h same bounds = subst (λ e. ArePieces e o.open_channels.gap c.open_rows) (sym (epoch_here I N S c reports o v h same)) (pieces_here I N S c reports o h bounds)
 
 -- what the next row says, by the interface that the observer holds
-pub said_here : {A C : Type 0} → (I : C → Interface) (N : C → ℕ) (S : C → GapChannel → Type 0) (i : Interface) (rs : List Item) (o : Observer A C) (item : Item) (j : Interface) → StandsFor I N S i rs o → AreItems i (rs ++ item ∷ []) → o.walk.interface ≡ j → IsSaid j item
+pub said_here : {A C : Type 0} → (I : C → Interface) (N : C → ℕ) (S : C → GapChannel → Type 0) (i : Interface) (rs : List Item) (o : Observer A C) (item : Item) (j : Interface) → Represents I N S i rs o → AreItems i (rs ++ item ∷ []) → o.walk.interface ≡ j → IsSaid j item
 said_here I N S i rs o item j s sound same = subst (λ x. IsSaid x item) (sym (s.holds.interface ∙ s.cut.interface) ∙ same) (last_said i rs item sound.said)
 
 -- ---- bounds
 
-pub next_of : {A C : Type 0} → (I : C → Interface) (N : C → ℕ) (S : C → GapChannel → Type 0) (i : Interface) (rs : List Item) (o : Observer A C) (r : Item) → (s : StandsFor I N S i rs o) → AreItems i (rs ++ r ∷ []) → MayCome s.cutting r
+pub next_of : {A C : Type 0} → (I : C → Interface) (N : C → ℕ) (S : C → GapChannel → Type 0) (i : Interface) (rs : List Item) (o : Observer A C) (r : Item) → (s : Represents I N S i rs o) → AreItems i (rs ++ r ∷ []) → MayCome s.cutting r
 next_of I N S i rs o r s sound = may_come i s.cutting rs r s.last s.octets sound
 
-bounds_after : {A C : Type 0} → (I : C → Interface) (N : C → ℕ) (S : C → GapChannel → Type 0) (i : Interface) (rs : List Item) (o : Observer A C) (item : Item) (step : Step) (s : StandsFor I N S i rs o) → AreItems i (rs ++ item ∷ [])
+bounds_after : {A C : Type 0} → (I : C → Interface) (N : C → ℕ) (S : C → GapChannel → Type 0) (i : Interface) (rs : List Item) (o : Observer A C) (item : Item) (step : Step) (s : Represents I N S i rs o) → AreItems i (rs ++ item ∷ [])
     → IsSaid s.cutting.interface item → IsStep s.cutting.line s.cutting.epoch item step → IsCutting (cutting_after s.cutting item step)
 bounds_after I N S i rs o item step s sound packet is =
     let may = next_of I N S i rs o item s sound in
@@ -134,17 +134,17 @@ bounds_after I N S i rs o item step s sound packet is =
 
 -- the rows of a channel up to its own last one can be a piece
 own_rows : (c : Cutting) (k : ℕ) → IsCutting c → IsPiece c.interface k (rows_of c.open_rows k)
-own_rows c k h = piece_front c.interface k (rows_of c.open_rows k) (gap_items (gap_after c.gap (last_number (rows_of c.open_rows k)))) (lane_piece c k h)
+own_rows c k h = piece_front c.interface k (rows_of c.open_rows k) (gap_items (gap_after c.gap (last_number (rows_of c.open_rows k)))) (channel_piece c k h)
 
 -- the rows of the channel that a row goes to, with this one, can be a piece
-may_turn : {A C : Type 0} → (I : C → Interface) (N : C → ℕ) (S : C → GapChannel → Type 0) (i : Interface) (rs : List Item) (o : Observer A C) (item : Item) (step : Step) (s : StandsFor I N S i rs o) → AreItems i (rs ++ item ∷ [])
+may_turn : {A C : Type 0} → (I : C → Interface) (N : C → ℕ) (S : C → GapChannel → Type 0) (i : Interface) (rs : List Item) (o : Observer A C) (item : Item) (step : Step) (s : Represents I N S i rs o) → AreItems i (rs ++ item ∷ [])
     → IsSaid s.cutting.interface item → IsStep s.cutting.line s.cutting.epoch item step → MayTurn step.turn s.cutting.interface s.cutting.gap item s.cutting.open_rows
 may_turn I N S i rs o item step s sound packet is = at step.turn refl
   where
     c : Cutting
     c = s.cutting
 
-    at : (t : Turn) → step.turn ≡ t → MayTurn t c.interface c.gap item c.open_rows
+    at : (t : ChannelEffect) → step.turn ≡ t → MayTurn t c.interface c.gap item c.open_rows
     at (ToChannel k) e =
         subst (IsPiece c.interface k) (has_one_more c.open_rows c.gap k item).row
         (subst (λ t. IsPiece c.interface k (rows_of (rows_after t item c.gap c.open_rows) k)) e (own_rows (cutting_after c item step) k (bounds_after I N S i rs o item step s sound packet is)))
@@ -153,10 +153,10 @@ may_turn I N S i rs o item step s sound packet is = at step.turn refl
     at Stays e = tt
 
 -- the same by what the observer holds
-pub turns_at : {A C : Type 0} → (I : C → Interface) (N : C → ℕ) (S : C → GapChannel → Type 0) (i : Interface) (rs : List Item) (o : Observer A C) (item : Item) (step : Step) (v : EpochWalk A) (s : StandsFor I N S i rs o) → AreItems i (rs ++ item ∷ [])
-    → IsSaid s.cutting.interface item → IsStep s.cutting.line s.cutting.epoch item step → IsSameWalk o.walk v → MayTurn step.turn v.interface o.lanes.gap item s.cutting.open_rows
+pub turns_at : {A C : Type 0} → (I : C → Interface) (N : C → ℕ) (S : C → GapChannel → Type 0) (i : Interface) (rs : List Item) (o : Observer A C) (item : Item) (step : Step) (v : EpochWalk A) (s : Represents I N S i rs o) → AreItems i (rs ++ item ∷ [])
+    → IsSaid s.cutting.interface item → IsStep s.cutting.line s.cutting.epoch item step → IsSameWalk o.walk v → MayTurn step.turn v.interface o.open_channels.gap item s.cutting.open_rows
 turns_at I N S i rs o item step v s sound packet is same =
-    subst (λ j. MayTurn step.turn j o.lanes.gap item s.cutting.open_rows) (sym (same.interface ∙ s.holds.interface))
+    subst (λ j. MayTurn step.turn j o.open_channels.gap item s.cutting.open_rows) (sym (same.interface ∙ s.holds.interface))
     (subst (λ n. MayTurn step.turn s.cutting.interface n item s.cutting.open_rows) (sym s.holds.gap) (may_turn I N S i rs o item step s sound packet is))
 
 -- ---- the epoch after the row
@@ -179,9 +179,9 @@ epoch_stays i rs c item step s is = at (routing c.line item).route refl
     at (Found state code) e = inl (same (Found state code) e refl)
     at Pass e = inl (same Pass e refl)
 
-lanes_moved : {A C : Type 0} → (I : C → Interface) (N : C → ℕ) (S : C → GapChannel → Type 0) (e n : OpenEpoch) (rows : OpenRows) (table : OpenLanes (OpenChannel A C)) → LanesFor I N S e rows table → (n ≡ e) ⊎ ((k : ℕ) → rows_of rows k ≡ []) → LanesFor I N S n rows table
-lanes_moved I N S e n rows table f (inl same) = subst (λ m. LanesFor I N S m rows table) (sym same) f
-lanes_moved I N S e n rows table f (inr none) = lanes_bare I N S e n rows table f none
+open_channels_moved : {A C : Type 0} → (I : C → Interface) (N : C → ℕ) (S : C → GapChannel → Type 0) (e n : OpenEpoch) (rows : OpenRows) (table : ChannelTables (OpenChannel A C)) → OpenChannelsFor I N S e rows table → (n ≡ e) ⊎ ((k : ℕ) → rows_of rows k ≡ []) → OpenChannelsFor I N S n rows table
+open_channels_moved I N S e n rows table f (inl same) = subst (λ m. OpenChannelsFor I N S m rows table) (sym same) f
+open_channels_moved I N S e n rows table f (inr none) = open_channels_bare I N S e n rows table f none
 
 -- ---- one more row
 
@@ -191,11 +191,11 @@ counted_gap false r n = refl
 
 pub holds_after : {A C : Type 0} → (I : C → Interface) (N : C → ℕ) (S : C → GapChannel → Type 0) (i : Interface) (rs : List Item) (c : Cutting) (reports : List PieceReport) (item : Item) (step : Step) (o new : Observer A C) (v : EpochWalk A)
     → IsCutterOf i rs c → IsStep c.line c.epoch item step → Holds I N S c reports o → IsSameWalk o.walk v → IsAdvanced step v new.walk → length reports ≡ c.given
-    → new.ended ≡ gathered (reports ++ map value (ended_by step.turn v.interface v.epoch v.start (end_at item) (length reports) o.lanes.gap c.open_rows))
-    → new.lanes.gap ≡ gap_turned step.turn item o.lanes.gap
-    → LanesFor I N S (epoch_of v) (rows_after step.turn item c.gap c.open_rows) new.lanes.table
+    → new.ended ≡ gathered (reports ++ map value (ended_by step.turn v.interface v.epoch v.start (end_at item) (length reports) o.open_channels.gap c.open_rows))
+    → new.open_channels.gap ≡ gap_turned step.turn item o.open_channels.gap
+    → OpenChannelsFor I N S (epoch_of v) (rows_after step.turn item c.gap c.open_rows) new.open_channels.table
     → Holds I N S (cutting_after c item step) (reports ++ map value (ended_by step.turn c.interface c.epoch c.start (end_at item) c.given c.gap c.open_rows)) new
-holds_after I N S i rs c reports item step o new v s is h same on many ended gap lanes =
+holds_after I N S i rs c reports item step o new v s is h same on many ended gap open_channels =
     let here = epoch_here I N S c reports o v h same in
     let rows = rows_after step.turn item c.gap c.open_rows in
     record {
@@ -208,19 +208,19 @@ holds_after I N S i rs c reports item step o new v s is h same on many ended gap
       findings = on.findings ∙ ap (λ l. l ++ option_to_list step.finding) (same.findings ∙ h.findings);
       ended = ended ∙ (λ t. gathered (reports ++ map value (ended_by step.turn (here t).interface (here t).number (here t).start (end_at item) (many t) (h.gap t) c.open_rows)));
       gap = gap ∙ ap (gap_turned step.turn item) h.gap;
-      lanes = lanes_moved I N S (epoch_at c) (epoch_at (cutting_after c item step)) rows new.lanes.table
-          (lanes_same I N S (epoch_of v) (epoch_at c) rows rows new.lanes.table lanes (sym here) (record { rows = λ k. refl; channels = refl })) (epoch_stays i rs c item step s is);
+      open_channels = open_channels_moved I N S (epoch_at c) (epoch_at (cutting_after c item step)) rows new.open_channels.table
+          (open_channels_same I N S (epoch_of v) (epoch_at c) rows rows new.open_channels.table open_channels (sym here) (record { rows = λ k. refl; channels = refl })) (epoch_stays i rs c item step s is);
     }
 
-pub stands_after : {A C : Type 0} → (I : C → Interface) (N : C → ℕ) (S : C → GapChannel → Type 0) (i : Interface) (rs : List Item) (r : Item) (o new : Observer A C) (item : Item) (step : Step) (s : StandsFor I N S i rs o) → item ≡ r → AreItems i (rs ++ item ∷ [])
+pub stands_after : {A C : Type 0} → (I : C → Interface) (N : C → ℕ) (S : C → GapChannel → Type 0) (i : Interface) (rs : List Item) (r : Item) (o new : Observer A C) (item : Item) (step : Step) (s : Represents I N S i rs o) → item ≡ r → AreItems i (rs ++ item ∷ [])
     → IsSaid s.cutting.interface item → IsStep s.cutting.line s.cutting.epoch item step
     → Holds I N S (cutting_after s.cutting item step) (map value (given_of i rs) ++ map value (ended_by step.turn s.cutting.interface s.cutting.epoch s.cutting.start (end_at item) s.cutting.given s.cutting.gap s.cutting.open_rows)) new
-    → (new.keeps_rows ≡ true → KnowsLast i (rs ++ item ∷ []) new.last new.events.items) → new.uncounted ≡ uncounted_of i (rs ++ item ∷ []) → StandsFor I N S i (rs ++ r ∷ []) new
+    → (new.keeps_rows ≡ true → KnowsLast i (rs ++ item ∷ []) new.last new.events.items) → new.uncounted ≡ uncounted_of i (rs ++ item ∷ []) → Represents I N S i (rs ++ r ∷ []) new
 stands_after I N S i rs r o new item step s same sound packet is holds known uncounted =
     let c = s.cutting in
     let after = cutting_after c item step in
     let t = is_taken c item step in
     let may = next_of I N S i rs o item s sound in
-    subst (λ x. StandsFor I N S i (rs ++ x ∷ []) new) same
+    subst (λ x. Represents I N S i (rs ++ x ∷ []) new) same
     (next_stands I N S i rs item (ended_by step.turn c.interface c.epoch c.start (end_at item) c.given c.gap c.open_rows) o new after s sound (takes i rs c after item step s.cut s.bounds may.rising packet is t)
     (bounds_after I N S i rs o item step s sound packet is) t.counted holds known uncounted)

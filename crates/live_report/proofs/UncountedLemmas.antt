@@ -15,8 +15,8 @@ use Rattle.channel_run.specs.Views.{IsViewOf, is_adrift}
 use Rattle.data_transfer.specs.Packed.{Packed}
 use Rattle.restart_epochs.specs.Cutting.{observer}
 use Rattle.live_report.specs.JudgedRows.{IsJudge, IsJudgedRow}
-use Rattle.live_report.specs.Observing.{AreItems, StandsFor}
-use Rattle.live_report.specs.Uncounted.{AreFew, LeftOut, amount_of, amounts_of, grown, is_data, is_same, left_out, left_out_at, left_out_by, none_left_out, counts_data, has_finding, reason_of_state, reason_at, reason_by, reason_on, tells_data, trace_uncounted, uncounted_of, user_octets, with_one}
+use Rattle.live_report.specs.Observing.{AreItems, Represents}
+use Rattle.live_report.specs.Uncounted.{AreFew, LeftOut, amount_of, amounts_of, grown, is_data, is_same, left_out, left_out_at, left_out_by, none_left_out, counts_data, has_finding, reason_of_state, reason_at, reason_by, reason_on, is_data_event, trace_uncounted, uncounted_of, user_octets, with_one}
 use Rattle.live_report.specs.declared.judged_row.Judge.TheVariants as judge
 use Rattle.live_report.specs.declared.judged_row.JudgedRow.{JudgedRow}
 use Rattle.live_report.specs.declared.observer.Observer.{Observer as Running}
@@ -29,7 +29,7 @@ use Rattle.channel_run.specs.Run.{data_events, row_events}
 
 -- ---- why the data of a row was not counted
 
--- by the channel that took it
+-- by the channel that it went to
 by_taker : (i : Interface) (o more : Observer GapLine GapChannel) (r : Item) (events : List Event) (taker : Option ℕ) (k : ℕ) (before after : Packed) (accepted : Option ℕ) (answer : Option Reason)
     → IsJudge i taker o more (judge.Channel k before after accepted) → ((n : ℕ) → taker ≡ Some n → events ≡ row_events i o.epoch n (o.states n) r)
     → ((j : Interface) (c : GapChannel) → IsViewOf j c (view_in before) → answer ≡ reason_on c events) → answer ≡ reason_by i taker o r
@@ -57,7 +57,7 @@ or_true false c h = h
 -- where its channel accepted data, it was counted
 pub has_data : (events : List Event) (epoch k : ℕ) (r : Item) (n : ℕ) → counts_data (events ++ data_events epoch k r (Some n)) ≡ true
 has_data [] epoch k r n = refl
-has_data (e ∷ es) epoch k r n = or_true (tells_data e.what) (counts_data (es ++ data_events epoch k r (Some n))) (has_data es epoch k r n)
+has_data (e ∷ es) epoch k r n = or_true (is_data_event e.what) (counts_data (es ++ data_events epoch k r (Some n))) (has_data es epoch k r n)
 
 counted_on : (i : Interface) (o more : Observer GapLine GapChannel) (r : Item) (events : List Event) (taker : Option ℕ) (k : ℕ) (before after : Packed) (accepted : Option ℕ)
     → IsJudge i taker o more (judge.Channel k before after accepted) → ((n : ℕ) → taker ≡ Some n → events ≡ row_events i o.epoch n (o.states n) r) → counts_data events ≡ true → None ≡ reason_by i taker o r
@@ -203,10 +203,10 @@ uncounted_same i earlier r came =
     ∙ ap amounts_of (sym (left_out_more i (start i) earlier r))
 
 -- the rows of a trace are few
-pub few_with : {A C : Type 0} → (I : C → Interface) (N : C → ℕ) (S : C → GapChannel → Type 0) (i : Interface) (rs : List Item) (r : Item) (o : Running A C) → StandsFor I N S i rs o → AreItems i (rs ++ r ∷ []) → AreFew (rs ++ r ∷ [])
+pub few_with : {A C : Type 0} → (I : C → Interface) (N : C → ℕ) (S : C → GapChannel → Type 0) (i : Interface) (rs : List Item) (r : Item) (o : Running A C) → Represents I N S i rs o → AreItems i (rs ++ r ∷ []) → AreFew (rs ++ r ∷ [])
 few_with I N S i rs r o s sound = record { rows = omega (arith, length-append rs (r ∷ []), s.cut.packets, s.bounds.rows, s.bounds.last); octets = omega (arith, sound.octets) }
 
--- what was not counted of the rows of a text
+-- what was not counted of the rows of a trace text
 pub of_the_text : {T E : Type 0} → (answer : Result T E) (text : List ℕ) (i : Interface) (rs : List Item) (u : Uncounted) → OnOk answer (u ≡ uncounted_of i rs) → head text ≡ Some i → items_of i (rows text) ≡ rs → OnOk answer (u ≡ trace_uncounted text)
 of_the_text (Ok x) text i rs u h header same =
     h ∙ ap (uncounted_of i) (sym same) ∙ ap (λ o. elim o as (λ _. Uncounted) [ None ↦ none_left_out | Some j ↦ uncounted_of j (items_of j (rows text)) ]) (sym header)

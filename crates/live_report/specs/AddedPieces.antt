@@ -1,4 +1,4 @@
--- What the pieces of the open epoch are worth, gathered behind what the pieces before them gave.
+-- The results of the pieces of the open epoch, gathered after those of the pieces before them.
 use Rattle.std.specs.Prelude.{◌≡◌, ℕ, ◌++◌, List, Option, Result, OnOk, length, map}
 use Rattle.line_model.specs.basics.Bounds.{IsPiece}
 use Rattle.line_model.specs.basics.Records.{Piece, PieceReport}
@@ -6,11 +6,11 @@ use Rattle.line_model.specs.declared.piece.PieceEnd.{PieceEnd}
 use Rattle.line_model.specs.pieces.Plans.{value}
 use Rattle.channel_run.specs.declared.run.Channel.{Ghosts as Machine}
 use Rattle.restart_epochs.specs.Cutting.{items_out, pieces_out}
-use Rattle.restart_epochs.specs.OpenLanes.{IsEmpty}
+use Rattle.restart_epochs.specs.ChannelTables.{IsEmpty}
 use Rattle.restart_epochs.specs.OpenRows.{OpenRows, IsListing}
 use Rattle.report_merge.specs.Gathered.{Gathered, gathered}
-use Rattle.live_report.specs.Lanes.{LanesStandFor, OpenEpoch}
-use Rattle.live_report.specs.declared.lanes.OpenChannels.{OpenChannels}
+use Rattle.live_report.specs.OpenChannels.{ChannelsRepresent, OpenEpoch}
+use Rattle.live_report.specs.declared.open_channels.OpenChannels.{OpenChannels}
 
 -- the rows of each channel, with a gap of all channels after the last of them, can be a piece
 abbrev pub ArePieces : OpenEpoch → (gap : ℕ) → OpenRows → Type 0
@@ -22,15 +22,15 @@ pieces_of e gap end rows id ks = pieces_out e.interface e.number e.start end (it
 
 -- open channels represent the rows of some epoch, after which some reports were gathered
 abbrev pub MayAddPieces : {A C : Type 0} → Machine C A → OpenChannels A C → Gathered → Type 0
-MayAddPieces m lanes parts =
-    (e : OpenEpoch) × (rows : OpenRows) × (first : List PieceReport) × LanesStandFor m e rows lanes × ArePieces e lanes.gap rows × IsListing rows × (parts ≡ gathered first)
+MayAddPieces m open_channels parts =
+    (e : OpenEpoch) × (rows : OpenRows) × (first : List PieceReport) × ChannelsRepresent m e rows open_channels × ArePieces e open_channels.gap rows × IsListing rows × (parts ≡ gathered first)
 
 -- of any such epoch and reports: the values of its pieces, with this end, were gathered after them
 abbrev pub AddsPieces : {A C T E : Type 0} → Machine C A → (end : Option PieceEnd) → OpenChannels A C → (before after : Gathered) → Result T E → Type 0
-AddsPieces m end lanes before after result =
-    (e : OpenEpoch) (rows : OpenRows) (first : List PieceReport) → LanesStandFor m e rows lanes → ArePieces e lanes.gap rows → IsListing rows → before ≡ gathered first
-    → OnOk result (after ≡ gathered (first ++ map value (pieces_of e lanes.gap end rows (length first) rows.channels)))
+AddsPieces m end open_channels before after result =
+    (e : OpenEpoch) (rows : OpenRows) (first : List PieceReport) → ChannelsRepresent m e rows open_channels → ArePieces e open_channels.gap rows → IsListing rows → before ≡ gathered first
+    → OnOk result (after ≡ gathered (first ++ map value (pieces_of e open_channels.gap end rows (length first) rows.channels)))
 
 -- of any such epoch: no channel of it is left
-abbrev pub EmptiesLanes : {A C T E : Type 0} → Machine C A → (before after : OpenChannels A C) → Result T E → Type 0
-EmptiesLanes m before after result = (e : OpenEpoch) (rows : OpenRows) → LanesStandFor m e rows before → ArePieces e before.gap rows → IsListing rows → OnOk result (IsEmpty after.table × (after.gap ≡ 0))
+abbrev pub EmptiesOpenChannels : {A C T E : Type 0} → Machine C A → (before after : OpenChannels A C) → Result T E → Type 0
+EmptiesOpenChannels m before after result = (e : OpenEpoch) (rows : OpenRows) → ChannelsRepresent m e rows before → ArePieces e before.gap rows → IsListing rows → OnOk result (IsEmpty after.table × (after.gap ≡ 0))

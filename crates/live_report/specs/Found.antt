@@ -1,4 +1,4 @@
--- What a text found so far.
+-- What a trace text found so far.
 use Rattle.std.specs.Prelude.{◌≡◌, ℕ, List, [], ◌++◌, Some, None, Result, Ok, Err}
 use Rattle.line_model.specs.observer.Report.{report_of}
 use Rattle.line_model.specs.text.Text.{early_head, early_rows}
@@ -27,19 +27,19 @@ pub record HasFound (out out_after known known_after : List Finding) : Type 0 wh
   pub out_has : out_after ≡ out ++ more
   pub known_has : known_after ≡ known ++ more
 
--- the first ones of the findings that came to the known ones were appended to a list
+-- the first of the new findings were appended to a list
 pub record HasFoundSome (out out_after known known_after : List Finding) : Type 0 where
   pub more : List Finding
   pub rest : List Finding
   pub out_has : out_after ≡ out ++ more
   pub known_has : known_after ≡ known ++ (more ++ rest)
 
--- at a refusal all findings that came were appended, or where memory ran out some first ones
+-- at a refusal all new findings were appended, or where memory ran out some first ones
 abbrev pub IsFoundUpTo : Fault → (out out_after known known_after : List Finding) → Type 0
 IsFoundUpTo Memory out out_after known known_after = HasFoundSome out out_after known known_after
 IsFoundUpTo _ out out_after known known_after = HasFound out out_after known known_after
 
--- the findings that came to the known ones were appended to a list
+-- the new findings were appended to a list
 abbrev pub IsFoundBy : {T : Type 0} → Result T Fault → (out out_after known known_after : List Finding) → Type 0
 IsFoundBy (Ok x) out out_after known known_after = HasFound out out_after known known_after
 IsFoundBy (Err f) out out_after known known_after = IsFoundUpTo f out out_after known known_after

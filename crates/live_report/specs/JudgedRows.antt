@@ -16,8 +16,9 @@ use Rattle.restart_epochs.specs.Cutting.{observer}
 use Rattle.live_report.specs.declared.judged_row.Judge.{Judge}
 use Rattle.live_report.specs.declared.judged_row.Judge.TheVariants as judge
 use Rattle.live_report.specs.declared.judged_row.JudgedRow.{JudgedRow}
+use Rattle.live_report.specs.declared.judged_row.RowOutcome.{RowOutcome}
 
--- the logical channel that took a row; none where the restart machine judged it
+-- the logical channel that a row went to; none where the restart machine judged it
 abbrev pub taker : Judge → Option ℕ
 taker (judge.Restart before after) = None
 taker (judge.Channel k before after accepted) = Some k
@@ -32,13 +33,14 @@ abbrev pub IsTaker : Interface → (k : ℕ) → (before after : GapChannel) →
 IsTaker i k b a (judge.Channel n before after accepted) = (n ≡ k) × IsViewOf i b (view_in before) × IsViewOf i a (view_in after)
 IsTaker i k b a _ = ⊥
 
--- the logical channel that took a row, or the restart machine where none did, as an observer has it before and after the row
+-- the logical channel that a row went to, or the restart machine where none did, as an observer has it before and after
+-- the row
 abbrev pub IsJudge : Interface → (taker : Option ℕ) → (before after : Observer GapLine GapChannel) → Judge → Type 0
 IsJudge i None b a j = IsRestart b.line.line.state a.line.line.state j
 IsJudge i (Some k) b a j = IsTaker i k (b.states k) (a.states k) j
 
--- a row after others, as it was judged: its number, its side and its packet, the machine that judged it, what it found, and the events on
--- the channel that took it
+-- a row after others, as it was judged: its number, its side and its packet, the machine that judged it, what it found,
+-- and the events on the channel that it went to
 pub record IsJudgedRow (i : Interface) (earlier : List Item) (r : Item) (row : JudgedRow) (events : List Event) : Type 0 where
   pub number : row.number ≡ r.number
   pub side : row.side ≡ r.side
@@ -46,6 +48,10 @@ pub record IsJudgedRow (i : Interface) (earlier : List Item) (r : Item) (row : J
   pub judge : IsJudge i (routed (x25 i) (observer i earlier).line r) (observer i earlier) (observer i (earlier ++ r ∷ [])) row.judge
   pub finding : (report_of i (earlier ++ r ∷ [])).findings ≡ (report_of i earlier).findings ++ option_to_list row.finding
   pub came : (k : ℕ) → routed (x25 i) (observer i earlier).line r ≡ Some k → events ≡ row_events i (observer i earlier).epoch k ((observer i earlier).states k) r
+
+-- a row of which this came, as it was judged
+abbrev pub judged_row : Item → RowOutcome → JudgedRow
+judged_row r outcome = record { number = r.number; side = r.side; packet = r.packet; judge = outcome.judge; finding = outcome.finding }
 
 -- the last one of some rows, where there is one
 abbrev pub KnowsLast : Interface → List Item → Option JudgedRow → List Event → Type 0

@@ -1,4 +1,4 @@
-pub mod Lanes
+pub mod OpenChannels
 pub mod Turns
 pub mod AddedPieces
 pub mod JudgedRows

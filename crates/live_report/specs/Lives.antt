@@ -5,46 +5,47 @@ use Rattle.line_model.specs.declared.fault.Fault.{Fault}
 use Rattle.line_model.specs.text.Text.{early, early_rows}
 use Rattle.line_model.specs.declared.interface.Interface.{Interface}
 use Rattle.trace_text.specs.Progress.{Progress}
-use Rattle.trace_text.specs.StandsFor.{StandsFor as IsReaderOf, IsFaultOf, IsTextFault}
+use Rattle.trace_text.specs.Represents.{Represents as IsReaderOf, IsFaultOf, IsTextFault}
 use Rattle.channel_run.specs.declared.run.Channel.{Ghosts as Machine}
 use Rattle.live_report.specs.declared.observer.Observer.{Observer}
 use Rattle.live_report.specs.declared.live.Live.{Live}
-use Rattle.live_report.specs.Observing.{StandsFor as IsObserverOf}
+use Rattle.live_report.specs.Observing.{Represents as IsObserverOf}
 use Rattle.line_model.specs.basics.Records.{ReadRow, Row}
 use Rattle.line_model.specs.packets.Says.{items_of, read_row}
 
--- of rows, where there are any, this is the last one as it was read
+-- the last one of some rows, as it was read, where there are any
 abbrev pub IsLastRow : List Row → ReadRow → Type 0
 IsLastRow rows read = (before : List Row) (row : Row) → rows ≡ before ++ row ∷ [] → read ≡ read_row row
 
--- a reader was fed a text, and an observer of its interface took the rows of the lines that an LF ended
-pub record IsObserving {A C : Type 0} (interface_of : C → Interface) (number_of : C → ℕ) (stands_for : C → GapChannel → Type 0)
+-- a reader was fed a trace text, and an observer of its interface read the rows of the lines that an LF ended
+pub record IsObserving {A C : Type 0} (interface_of : C → Interface) (number_of : C → ℕ) (represents : C → GapChannel → Type 0)
     (i : Interface) (text : List ℕ) (reader : Progress) (o : Observer A C) : Type 0 where
   pub reads : IsReaderOf reader text
   pub header : reader.interface ≡ Some i
-  pub observes : IsObserverOf interface_of number_of stands_for i (items_of i (early_rows text)) o
+  pub observes : IsObserverOf interface_of number_of represents i (items_of i (early_rows text)) o
 
 -- the observer of the rows that were read, where there are any
 abbrev pub IsObserved : {A C : Type 0} → (C → Interface) → (C → ℕ) → (C → GapChannel → Type 0) → List ℕ → Option Interface → Option (Observer A C) → Type 0
-IsObserved interface_of number_of stands_for text head None = early_rows text ≡ []
-IsObserved interface_of number_of stands_for text head (Some o) = (i : Interface) × (head ≡ Some i) × IsObserverOf interface_of number_of stands_for i (items_of i (early_rows text)) o
+IsObserved interface_of number_of represents text head None = early_rows text ≡ []
+IsObserved interface_of number_of represents text head (Some o) = (i : Interface) × (head ≡ Some i) × IsObserverOf interface_of number_of represents i (items_of i (early_rows text)) o
 
 -- it was fed this text, and refused none of it
-pub record StandsFor {A C : Type 0} (interface_of : C → Interface) (number_of : C → ℕ) (stands_for : C → GapChannel → Type 0) (live : Live A C) (text : List ℕ) : Type 0 where
+pub record Represents {A C : Type 0} (interface_of : C → Interface) (number_of : C → ℕ) (represents : C → GapChannel → Type 0) (live : Live A C) (text : List ℕ) : Type 0 where
   pub reads : IsReaderOf live.lines text
   pub running : live.refused ≡ None
-  pub observed : IsObserved interface_of number_of stands_for text live.lines.interface live.observer
+  pub observed : IsObserved interface_of number_of represents text live.lines.interface live.observer
   pub keeps : IfSome live.observer (λ o. o.keeps_rows ≡ live.keeps_rows)
   pub last : live.keeps_rows ≡ true → IsLastRow (early_rows text) live.rows.last
 
 -- it was fed some text, or it refused
-pub record IsFed {A C : Type 0} (interface_of : C → Interface) (number_of : C → ℕ) (stands_for : C → GapChannel → Type 0) (live : Live A C) : Type 0 where
-  pub fed : live.refused ≡ None → (text : List ℕ) × StandsFor interface_of number_of stands_for live text
+pub record IsFed {A C : Type 0} (interface_of : C → Interface) (number_of : C → ℕ) (represents : C → GapChannel → Type 0) (live : Live A C) : Type 0 where
+  pub fed : live.refused ≡ None → (text : List ℕ) × Represents interface_of number_of represents live text
   pub kinds : IfSome live.refused IsTextFault
 
--- by the members of a machine of one channel: a reader was fed a text, and an observer of its interface took its rows
+-- by the members of a machine of one channel: a reader was fed a trace text, and an observer of its interface read its
+-- rows
 abbrev pub Observes : {A C : Type 0} → Machine C A → Interface → List ℕ → Progress → Observer A C → Type 0
-Observes m i text reader o = IsObserving m.interface_of m.number_of m.stands_for i text reader o
+Observes m i text reader o = IsObserving m.interface_of m.number_of m.represents i text reader o
 
 -- the same of some interface and text
 abbrev pub ObservesSome : {A C : Type 0} → Machine C A → Progress → Observer A C → Type 0
@@ -56,9 +57,9 @@ OfObserved m reader o Fact = (i : Interface) (text : List ℕ) → Observes m i 
 
 -- it was fed this text, and refused none of it
 abbrev pub WasFed : {A C : Type 0} → Machine C A → List ℕ → Live A C → Type 0
-WasFed m text live = StandsFor m.interface_of m.number_of m.stands_for live text
+WasFed m text live = Represents m.interface_of m.number_of m.represents live text
 
--- it was fed this text, refused none of it, and keeps the row that it took last
+-- it was fed this text, refused none of it, and keeps the row that it read last
 abbrev pub KeepsRowsOf : {A C : Type 0} → Machine C A → List ℕ → Live A C → Type 0
 KeepsRowsOf m text live = WasFed m text live × (live.keeps_rows ≡ true)
 

@@ -11,13 +11,13 @@ use Rattle.line_model.specs.observer.Report.{report_of}
 use Rattle.line_model.specs.pieces.Plans.{value}
 use Rattle.line_model.specs.text.Text.{last_or}
 use Rattle.channel_run.specs.declared.run.Channel.{Ghosts as Machine}
-use Rattle.restart_epochs.specs.Cutting.{Cutting, IsCutting, StandsFor as IsCutterOf, given_of, items_out}
+use Rattle.restart_epochs.specs.Cutting.{Cutting, IsCutting, Represents as IsCutterOf, given_of, items_out}
 use Rattle.report_merge.specs.Gathered.{gathered}
 use Rattle.live_report.specs.declared.observer.Observer.{Observer}
 use Rattle.live_report.specs.JudgedRows.{KnowsLast}
 use Rattle.live_report.specs.Uncounted.{uncounted_of}
 use Rattle.live_report.specs.declared.uncounted.Uncounted.{Uncounted}
-use Rattle.live_report.specs.Lanes.{LanesFor, OpenEpoch, begun_piece}
+use Rattle.live_report.specs.OpenChannels.{OpenChannelsFor, OpenEpoch, begun_piece}
 
 -- what rows of an interface say, as a trace has them: their numbers rise, and their octets are few
 pub record AreItems (i : Interface) (rs : List Item) : Type 0 where
@@ -37,7 +37,7 @@ epoch_at c = record { interface = c.interface; number = c.epoch; start = c.start
 
 -- an observer holds what a cutter does, with an open channel in place of the rows of each channel of the open epoch, and
 -- what these reports of the pieces give whose epochs have ended
-pub record Holds {A C : Type 0} (interface_of : C → Interface) (number_of : C → ℕ) (stands_for : C → GapChannel → Type 0)
+pub record Holds {A C : Type 0} (interface_of : C → Interface) (number_of : C → ℕ) (represents : C → GapChannel → Type 0)
     (c : Cutting) (reports : List PieceReport) (o : Observer A C) : Type 0 where
   pub interface : o.walk.interface ≡ c.interface
   pub line : o.walk.machine ≡ c.line
@@ -47,12 +47,11 @@ pub record Holds {A C : Type 0} (interface_of : C → Interface) (number_of : C 
   pub gaps : o.walk.gaps ≡ c.gaps
   pub findings : o.walk.findings.items ≡ c.findings
   pub ended : o.ended ≡ gathered reports
-  pub gap : o.lanes.gap ≡ c.gap
-  pub lanes : LanesFor interface_of number_of stands_for (epoch_at c) c.open_rows o.lanes.table
+  pub gap : o.open_channels.gap ≡ c.gap
+  pub open_channels : OpenChannelsFor interface_of number_of represents (epoch_at c) c.open_rows o.open_channels.table
 
--- an observer took these rows of an interface: it holds what a cutter of them does, and the values of the pieces that
--- are known whole
-pub record StandsFor {A C : Type 0} (interface_of : C → Interface) (number_of : C → ℕ) (stands_for : C → GapChannel → Type 0)
+-- an observer has read these rows of an interface: it holds what a cutter of them does, and the results of the complete pieces
+pub record Represents {A C : Type 0} (interface_of : C → Interface) (number_of : C → ℕ) (represents : C → GapChannel → Type 0)
     (i : Interface) (rs : List Item) (o : Observer A C) : Type 0 where
   pub sound : AreItems i rs
   pub cutting : Cutting
@@ -60,16 +59,16 @@ pub record StandsFor {A C : Type 0} (interface_of : C → Interface) (number_of 
   pub bounds : IsCutting cutting
   pub last : cutting.last ≡ last_or 0 (map (λ r. r.number) rs)
   pub octets : cutting.octets ≡ sum_by (λ r. r.length) rs
-  pub holds : Holds interface_of number_of stands_for cutting (map value (given_of i rs)) o
+  pub holds : Holds interface_of number_of represents cutting (map value (given_of i rs)) o
   pub row : o.keeps_rows ≡ true → KnowsLast i rs o.last o.events.items
   pub uncounted : o.uncounted ≡ uncounted_of i rs
 
 -- the same two by the members of a machine of one channel
 abbrev pub IsHolding : {A C : Type 0} → Machine C A → Cutting → List PieceReport → Observer A C → Type 0
-IsHolding m c reports o = Holds m.interface_of m.number_of m.stands_for c reports o
+IsHolding m c reports o = Holds m.interface_of m.number_of m.represents c reports o
 
 abbrev pub HasWalked : {A C : Type 0} → Machine C A → Interface → List Item → Observer A C → Type 0
-HasWalked m i rows o = StandsFor m.interface_of m.number_of m.stands_for i rows o
+HasWalked m i rows o = Represents m.interface_of m.number_of m.represents i rows o
 
 -- it has walked these rows, and keeps the last one
 abbrev pub HasKept : {A C : Type 0} → Machine C A → Interface → List Item → Observer A C → Type 0

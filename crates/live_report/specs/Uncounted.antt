@@ -4,7 +4,7 @@ use Rattle.std.specs.List.{list_any}
 use Rattle.line_model.specs.declared.interface.Interface.{Interface}
 use Rattle.line_model.specs.declared.event.Event.{Event}
 use Rattle.line_model.specs.declared.event.What.{What}
-use Rattle.line_model.specs.declared.event.What.TheVariants.{Data as DataHeard}
+use Rattle.line_model.specs.declared.event.What.TheVariants.{Data as DataAccepted}
 use Rattle.line_model.specs.declared.packet.Packet.{Packet}
 use Rattle.line_model.specs.declared.packet.Packet.TheVariants as packet
 use Rattle.line_model.specs.declared.packet.PacketKind.{PacketKind}
@@ -37,19 +37,19 @@ is_data (packet.Channel k what) = is_data_kind what
 is_data _ = false
 
 -- whether an event is of data that was counted
-abbrev pub tells_data : What → Bool
-tells_data (DataHeard side octets) = true
-tells_data _ = false
+abbrev pub is_data_event : What → Bool
+is_data_event (DataAccepted side octets) = true
+is_data_event _ = false
 
 -- whether data was counted
 abbrev pub counts_data : List Event → Bool
-counts_data es = list_any (λ e. tells_data e.what) es
+counts_data es = list_any (λ e. is_data_event e.what) es
 
 -- whether something was found
 abbrev pub has_finding : List Event → Bool
 has_finding es = list_any (λ e. is_finding e.what) es
 
--- why a channel in a state passes over data with which nothing is wrong; adrift without a call nothing is known of it
+-- why a channel in a state does not count data without a fault; adrift without a call nothing is known of it
 abbrev pub reason_of_state : ChannelState → (adrift owed : Bool) → Reason
 reason_of_state state.Unknown adrift owed = Unknown
 reason_of_state (state.Setup s) adrift owed = if adrift then Unknown else (if owed then Owed else NotInTransfer)
@@ -59,7 +59,7 @@ reason_of_state (state.Transfer s) adrift owed = if owed then Owed else Discarde
 abbrev pub reason_on : GapChannel → List Event → Option Reason
 reason_on g es = if counts_data es then None else (if has_finding es then Some Finding else Some (reason_of_state g.channel.state (is_adrift g.certainty) g.channel.owed))
 
--- why a data packet was not counted: where no channel took it, a restart goes on
+-- why a data packet was not counted: where it went to no channel, a restart goes on
 abbrev pub reason_by : Interface → (taker : Option ℕ) → Observer GapLine GapChannel → Item → Option Reason
 reason_by i None o r = Some Restart
 reason_by i (Some k) o r = reason_on (o.states k) (row_events i o.epoch k (o.states k) r)
@@ -126,7 +126,7 @@ none_left_out = amounts_of []
 abbrev pub uncounted_of : Interface → List Item → Uncounted
 uncounted_of i rs = amounts_of (left_out i (start i) rs)
 
--- what was not counted of a text
+-- what was not counted of a trace text
 abbrev pub trace_uncounted : List ℕ → Uncounted
 trace_uncounted x = elim (head x) [ None ↦ none_left_out | Some i ↦ uncounted_of i (items_of i (rows x)) ]
 
@@ -139,7 +139,7 @@ amount_for Discarded u = u.discarded
 amount_for Unknown u = u.unknown
 amount_for Restart u = u.restart
 
--- an amount after one packet more, as far as numbers of 64 bits can hold it
+-- an amount after one packet more; a sum that 64 bits can't hold stays at the greatest number
 abbrev pub grown : (octets : ℕ) → Amount → Amount
 grown n a = record { packets = min (a.packets + 1) (2 ^ 64 - 1); octets = min (a.octets + n) (2 ^ 64 - 1) }
 
@@ -152,7 +152,7 @@ with_one Discarded n u = record u { discarded = grown n u.discarded }
 with_one Unknown n u = record u { unknown = grown n u.unknown }
 with_one Restart n u = record u { restart = grown n u.restart }
 
--- so few rows that their numbers fit
+-- few enough rows for their counts to fit
 pub record AreFew (rs : List Item) : Type 0 where
   pub rows : length rs < 2 ^ 64
   pub octets : sum_by (λ r. r.length) rs < 2 ^ 64

@@ -5,12 +5,13 @@ ghost use Rattle.std.specs.Bool.{OnFalse, OnTrue};
 ghost use Rattle.data_transfer.specs.Packed.{Packed};
 ghost use Rattle.line_model.specs.basics.Records.{Item};
 ghost use Rattle.line_model.specs.declared.event.Event.{Event};
-ghost use Rattle.live_report.specs.JudgedRows.{taker};
+ghost use Rattle.live_report.specs.JudgedRows.{judged_row, taker};
 ghost use Rattle.live_report.specs.Turns.{with_data};
 ghost use Rattle.live_report.specs.declared.judged_row.Judge.TheVariants.{Channel as OfChannel};
 
 use data_transfer::packed::FlowWord;
 use line_model::finding::Finding;
+use line_model::items::ItemRef;
 use line_model::packet::Packet;
 use line_model::state::{RState, Side};
 
@@ -22,18 +23,18 @@ pub enum Judge {
         before: RState,
         after: RState,
     },
-    /// The logical channel that took the row, by its words, which `channel_run::status_word::view_in` reads.
+    /// The logical channel that the row went to, by its words, which `channel_run::status_word::view_in` reads.
     Channel {
         channel: u16,
         before: FlowWord,
         after: FlowWord,
-        /// How many octets of user data data with Q 0 has that the channel accepted, which is the row's one event.
+        /// The octets of user data of an accepted data packet with Q 0, whose event is the row's only one.
         accepted: Option<u32>,
     },
 }
 
 impl Judge {
-    /// Whether it is a logical channel that accepted the row, which is data with Q 0.
+    /// Returns whether it is a logical channel that accepted a data packet with Q 0.
     #[inline(always)]
     pub(crate) fn is_accepted(&self) -> bool
         ensures accepted { OnTrue result ((k : ℕ) × (before : Packed) × (after : Packed) × (n : ℕ)
@@ -63,8 +64,33 @@ pub struct JudgedRow {
     pub finding: Option<Finding>,
 }
 
+/// What came of a row.
+#[derive(Clone, Copy)]
+pub(crate) struct RowOutcome {
+    /// The machine that judged it.
+    pub(crate) judge: Judge,
+    /// What it found.
+    pub(crate) finding: Option<Finding>,
+}
+
+impl RowOutcome {
+    /// Returns the row of this outcome as it was judged.
+    #[inline(always)]
+    pub(crate) fn row(&self, item: &ItemRef<'_>) -> JudgedRow
+        ensures { result ≡ judged_row item.now self.now }
+    {
+        JudgedRow {
+            number: item.number,
+            side: item.side,
+            packet: item.packet,
+            judge: self.judge,
+            finding: self.finding,
+        }
+    }
+}
+
 impl JudgedRow {
-    /// The logical channel that took it; none where the restart machine judged it.
+    /// Returns the logical channel that it went to; none where the restart machine judged it.
     pub fn channel(&self) -> Option<u16>
         ensures { result ≡ taker self.now.judge }
     {

@@ -1,9 +1,9 @@
-//! What holds of the definitions alone.
+//! Theorems about the definitions alone.
 
 ghost use Rattle.live_report.specs.Laws.{GrowthLaw, ReportLaw};
 
-/// What was found so far stays: it stands first in what is found of each text that goes on, and in the report of each
-/// that has no fault.
+/// The findings of a text come first in those of each text that goes on from it, and in the report of each such text
+/// without a fault.
 pub fn found_first()
     ensures growth { GrowthLaw }
     ensures report { ReportLaw }

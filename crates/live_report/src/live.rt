@@ -5,7 +5,7 @@ ghost use Rattle.std.specs.Option.{option_map};
 ghost use Rattle.line_model.specs.text.Text.{early_rows, ended_lines, fault};
 ghost use Rattle.line_model.specs.traces.Traces.{trace_report};
 ghost use Rattle.trace_text.specs.Progress.{bytes_fed};
-ghost use Rattle.trace_text.specs.StandsFor.{IsFaultOf, IsTextFault};
+ghost use Rattle.trace_text.specs.Represents.{IsFaultOf, IsTextFault};
 ghost use Rattle.trace_text.specs.EndedPart.{ended_part};
 ghost use Rattle.trace_text.specs.RowTexts.{row_text};
 ghost use Rattle.live_report.specs.Found.{HasFound, IsFoundBy, found};
@@ -33,15 +33,15 @@ use restart_epochs::walk::append_finding;
 use std::alloc::Allocator;
 use trace_text::lines::{Lines, TextEnd};
 
-/// A trace that grows, and the observer of its rows so far. No line of a text that it stands for is known to be faulty, so
-/// want of memory hides no faulty line of an earlier chunk.
+/// A trace that grows, and the observer of its rows so far. No line of the trace text that it represents is known to be
+/// faulty, so a refusal of memory hides no faulty line of an earlier chunk.
 #[derive(Drop)]
 pub struct Live<A: Allocator, C: Channel<A>> {
     lines: Lines<A>,
     rows: ReadRows<A>,
-    /// Whether the observer keeps the row that it took last.
+    /// Whether the observer keeps the row that it read last.
     keeps_rows: bool,
-    /// Made once the first row was read.
+    /// The observer, once the first row was read.
     observer: Option<Observer<A, C>>,
     /// What the rows of the last chunk found.
     found: Vec<Finding, A>,
@@ -49,17 +49,17 @@ pub struct Live<A: Allocator, C: Channel<A>> {
 }
 
 impl<A: Allocator + Copy, C: Channel<A>> Live<A, C> {
-    /// A trace of which nothing was fed, whose observer keeps no rows. It takes no memory.
+    /// Returns a trace of which nothing was fed, whose observer keeps no rows. Allocates nothing.
     pub fn new(alloc: A) -> Self
-        ensures fed { IsFed C.interface_of C.number_of C.stands_for result }
+        ensures fed { IsFed C.interface_of C.number_of C.represents result }
         ensures stands { WasFed C.Channel [] result }
     {
         Live::begun(alloc, false)
     }
 
-    /// A trace of which nothing was fed, whose observer keeps the row that it took last. It takes no memory.
+    /// Returns a trace of which nothing was fed, whose observer keeps the row that it read last. Allocates nothing.
     pub fn with_rows(alloc: A) -> Self
-        ensures fed { IsFed C.interface_of C.number_of C.stands_for result }
+        ensures fed { IsFed C.interface_of C.number_of C.represents result }
         ensures stands { KeepsRowsOf C.Channel [] result }
     {
         Live::begun(alloc, true)
@@ -67,7 +67,7 @@ impl<A: Allocator + Copy, C: Channel<A>> Live<A, C> {
 
     /// A trace of which nothing was fed.
     fn begun(alloc: A, keeps_rows: bool) -> Self
-        ensures fed { IsFed C.interface_of C.number_of C.stands_for result }
+        ensures fed { IsFed C.interface_of C.number_of C.represents result }
         ensures stands { WasFed C.Channel [] result }
         ensures keeps { result.keeps_rows ≡ keeps_rows }
     {
@@ -81,14 +81,15 @@ impl<A: Allocator + Copy, C: Channel<A>> Live<A, C> {
         }
     }
 
-    /// The interface of the header, once an LF has ended it.
+    /// Returns the interface of the header, once an LF has ended it.
     pub fn interface(&self) -> Option<Interface>
         ensures { result ≡ self.now.lines.interface }
     {
         self.lines.interface()
     }
 
-    /// The last row of what was fed, as it was read, where rows are kept; what it holds where there is none is not said.
+    /// Returns the last row of what was fed, as it was read, where rows are kept. Where there is none, its contents are
+    /// unspecified.
     pub fn row(&self) -> &ReadRow<A>
         ensures last { (text : List ℕ) → KeepsRowsOf C.Channel text self.now
             → IsLastRow (early_rows text) result.now }
@@ -96,21 +97,21 @@ impl<A: Allocator + Copy, C: Channel<A>> Live<A, C> {
         &self.rows.last
     }
 
-    /// The observer of the rows so far, once there is one.
+    /// Returns the observer of the rows so far, once there is one.
     pub fn observer(&self) -> Option<&Observer<A, C>>
         ensures { option_map (λ o. o.now) result ≡ self.now.observer }
     {
         self.observer.as_ref()
     }
 
-    /// What the rows of the last chunk found, in their order.
+    /// Returns what the rows of the last chunk found, in their order.
     pub fn found(&self) -> &[Finding]
         ensures { result.now ≡ self.now.found.items }
     {
         self.found.as_slice()
     }
 
-    /// Takes the rows of a chunk, and appends what they find.
+    /// Reads the rows of a chunk, and appends what they find.
     #[inline(always)]
     fn feed_rows(&mut self, chunk: &[u8]) -> Result<(), Fault>
         requires { (text : List ℕ) × WasFed C.Channel text self.old }
@@ -138,7 +139,7 @@ impl<A: Allocator + Copy, C: Channel<A>> Live<A, C> {
         self.begin(chunk)
     }
 
-    /// Takes the rows of a chunk before which there was none, and appends what they find.
+    /// Reads the rows of a chunk before which there was none, and appends what they find.
     #[inline(never)]
     fn begin(&mut self, chunk: &[u8]) -> Result<(), Fault>
         requires fed { (text : List ℕ) × WasFed C.Channel text self.old }
@@ -178,16 +179,17 @@ impl<A: Allocator + Copy, C: Channel<A>> Live<A, C> {
         Ok(())
     }
 
-    /// Takes the next chunk of the text, of any size. It refuses by the first line that is faulty however the text goes
-    /// on, and for want of memory; from then on it answers the same.
+    /// Reads the next chunk of the trace text, of any size. Fails with the first line that is faulty however the text
+    /// goes on, and when memory is refused; from then on it fails with the same.
     #[inline(always)]
     pub fn feed(&mut self, chunk: &[u8]) -> Result<(), Fault>
-        requires fed { IsFed C.interface_of C.number_of C.stands_for self.old }
-        ensures fed { IsFed C.interface_of C.number_of C.stands_for self.new }
-        // Of any text that it was fed: it was fed that text with the chunk.
+        requires fed { IsFed C.interface_of C.number_of C.represents self.old }
+        ensures fed { IsFed C.interface_of C.number_of C.represents self.new }
+        // Of any trace text that it was fed: it was fed that text with the chunk.
         ensures stands { IsFedOn C.Channel self.old chunk.now self.new result }
         ensures refused { RefusesEarly C.Channel self.old chunk.now result }
-        // What the rows of the chunk found stands behind what all rows before it did; for want of memory some first of it.
+        // What the rows of the chunk found comes after what all rows before it did; where memory is refused some first
+        // part of it.
         ensures found { OfFed C.Channel self.old (λ text.
             IsFoundBy result [] self.new.found.items (found text) (found (text ++ chunk.now))) }
         ensures few { self.old.refused ≡ None → length self.new.found.items ≤ length chunk.now }
@@ -209,7 +211,7 @@ impl<A: Allocator + Copy, C: Channel<A>> Live<A, C> {
         answer
     }
 
-    /// Takes a packet after the first row, and appends what it finds. `false`: the line that writes it has to be fed.
+    /// Reads a packet after the first row, and appends what it finds. `false`: the line that writes it has to be fed.
     #[inline(always)]
     fn take_packet(&mut self, number: u32, side: Side, octets: &[u8]) -> Result<bool, Fault>
         requires { (text : List ℕ) × WasFed C.Channel text self.old }
@@ -220,6 +222,7 @@ impl<A: Allocator + Copy, C: Channel<A>> Live<A, C> {
         ensures found { OfFed C.Channel self.old (λ text. result ≡ Ok true
             → HasFound self.old.found.items self.new.found.items (found text)
             (found (text ++ row_text (record { number = number; side = side; octets = octets.now; gap = None })))) }
+        ensures keeps { self.new.keeps_rows ≡ self.old.keeps_rows }
         ensures kinds { IfErr result IsTextFault }
     {
         let Some(observer) = &mut self.observer else {
@@ -241,14 +244,14 @@ impl<A: Allocator + Copy, C: Channel<A>> Live<A, C> {
         Ok(true)
     }
 
-    /// Reads a packet as the line that writes it, but without that line: its number, its side and its octets. `false`:
-    /// nothing was read, and the line has to be fed, as that of the first row, of a packet without octets, and of one
-    /// whose line is faulty here. Fails only when memory is refused, or `feed` has refused; then it answers the same.
+    /// Reads a packet by its number, its side and its octets, as `feed` reads the line that writes it. Returns `false`
+    /// where it has read nothing and the line has to be fed: for the first row, a packet without octets, and one whose
+    /// line is faulty. Fails only when memory is refused, and once `feed` has failed, with the same.
     #[inline(always)]
     pub fn packet(&mut self, number: u32, side: Side, octets: &[u8]) -> Result<bool, Fault>
-        requires fed { IsFed C.interface_of C.number_of C.stands_for self.old }
-        ensures fed { IsFed C.interface_of C.number_of C.stands_for self.new }
-        // Of any text that it was fed: it was fed that text with the line, or still that text.
+        requires fed { IsFed C.interface_of C.number_of C.represents self.old }
+        ensures fed { IsFed C.interface_of C.number_of C.represents self.new }
+        // Of any trace text that it was fed: it was fed that text with the line, or no more than that text.
         ensures taken { OfFed C.Channel self.old (λ text. result ≡ Ok true → WasFed C.Channel
             (text ++ row_text (record { number = number; side = side; octets = octets.now; gap = None })) self.new) }
         ensures passed { OfFed C.Channel self.old (λ text. result ≡ Ok false
@@ -256,6 +259,7 @@ impl<A: Allocator + Copy, C: Channel<A>> Live<A, C> {
         ensures found { OfFed C.Channel self.old (λ text. result ≡ Ok true
             → HasFound [] self.new.found.items (found text)
             (found (text ++ row_text (record { number = number; side = side; octets = octets.now; gap = None })))) }
+        ensures keeps { self.new.keeps_rows ≡ self.old.keeps_rows }
         ensures kinds { IfErr result IsTextFault }
         ensures refuses { IfErr result (λ fault. self.new.refused ≡ Some fault) }
         ensures again { (fault : Fault) → self.old.refused ≡ Some fault
@@ -272,8 +276,8 @@ impl<A: Allocator + Copy, C: Channel<A>> Live<A, C> {
 
     /// The report of the text up to its last LF.
     fn report_so_far(&self) -> Result<Report<A>, Fault>
-        requires fed { IsFed C.interface_of C.number_of C.stands_for self.now }
-        ensures told { OfFed C.Channel self.now (λ text.
+        requires fed { IsFed C.interface_of C.number_of C.represents self.now }
+        ensures report_is { OfFed C.Channel self.now (λ text.
             IfOk result (IsReportOf (ended_part text))) }
         ensures refused { OfFed C.Channel self.now (λ text.
             IfErr result (IsFaultOf (fault (ended_part text)))) }
@@ -296,12 +300,12 @@ impl<A: Allocator + Copy, C: Channel<A>> Live<A, C> {
         }
     }
 
-    /// Writes the report of the text up to its last LF, and answers its last line as numbers; the text goes on. Where no
-    /// header was read it answers `HeaderMissing` at the line behind those. It refuses for want of memory, and where the
-    /// sink fails; that leaves all as it was. Once `feed` has refused, it answers the same.
+    /// Writes the report of the text up to its last LF, and returns its last line as numbers; the text goes on. Fails
+    /// with `HeaderMissing` at the next line where no header was read, when memory is refused, and where the sink
+    /// fails. Once `feed` has failed, it fails with the same.
     pub fn report<K: Sink>(&self, sink: &mut K) -> Result<Summary, Fault>
-        requires fed { IsFed C.interface_of C.number_of C.stands_for self.now }
-        // The sink took exactly the report.
+        requires fed { IsFed C.interface_of C.number_of C.represents self.now }
+        // The sink received exactly the report.
         ensures reported { OfFed C.Channel self.now (λ text.
             IfOk result (IsReported (ended_part text) (K.taken sink.old) (K.taken sink.new))) }
         ensures refused { OfFed C.Channel self.now (λ text.
@@ -323,10 +327,11 @@ impl<A: Allocator + Copy, C: Channel<A>> Live<A, C> {
         Ok(report.summary)
     }
 
-    /// The report of the whole text, and the data that was not counted.
+    /// Returns the report of the whole text, and the data that was not counted. Fails with the first faulty line, or
+    /// when memory is refused.
     pub fn whole(self, uncounted: &mut Uncounted) -> Result<Report<A>, Fault>
-        requires fed { IsFed C.interface_of C.number_of C.stands_for self }
-        ensures told { OfFed C.Channel self (λ text. IfOk result (IsReportOf text)) }
+        requires fed { IsFed C.interface_of C.number_of C.represents self }
+        ensures report_is { OfFed C.Channel self (λ text. IfOk result (IsReportOf text)) }
         ensures uncounted { OfFed C.Channel self (λ text.
             OnOk result (uncounted.new ≡ trace_uncounted text)) }
         ensures refused { OfFed C.Channel self (λ text. IfErr result (IsFaultOf (fault text))) }
@@ -357,11 +362,11 @@ impl<A: Allocator + Copy, C: Channel<A>> Live<A, C> {
         }
     }
 
-    /// The text has ended, and its last line may lack its LF: writes its report, and answers its last line as numbers,
-    /// and the data that was not counted. It refuses by the first faulty line, for want of memory, and where the sink
+    /// Writes the report of the text, which has ended and may lack its last LF, and returns its last line as numbers,
+    /// and the data that was not counted. Fails with the first faulty line, when memory is refused, and where the sink
     /// fails.
     pub fn end<K: Sink>(self, sink: &mut K, uncounted: &mut Uncounted) -> Result<Summary, Fault>
-        requires fed { IsFed C.interface_of C.number_of C.stands_for self }
+        requires fed { IsFed C.interface_of C.number_of C.represents self }
         ensures reported { OfFed C.Channel self (λ text.
             IfOk result (IsReported text (K.taken sink.old) (K.taken sink.new))) }
         ensures uncounted { OfFed C.Channel self (λ text.

@@ -1,8 +1,8 @@
-//! A live trace that keeps the row that it took last, as any observer of a trace.
+//! A live trace that keeps the row that it read last, as any observer of a trace.
 
 ghost use Rattle.std.specs.Prelude.{◌≡◌, true};
 ghost use Rattle.trace_text.specs.Progress.{bytes_fed};
-ghost use Rattle.live_report.specs.Lives.{StandsFor};
+ghost use Rattle.live_report.specs.Lives.{Represents};
 ghost use Rattle.trace_text.specs.FedBytes.{fed_length};
 
 use crate::live::Live;
@@ -15,7 +15,7 @@ use std::alloc::Allocator;
 use trace_text::trace_observer::TraceObserver;
 
 impl<A: Allocator + Copy, C: Channel<A>> TraceObserver<A> for Live<A, C> {
-    ghost stands_for = { λ live text. StandsFor C.interface_of C.number_of C.stands_for live text
+    ghost represents = { λ live text. Represents C.interface_of C.number_of C.represents live text
         × (live.keeps_rows ≡ true) };
 
     ghost last_found = { λ live. live.found.items };

@@ -11,16 +11,16 @@ ghost use Rattle.restart_epochs.specs.Cutting.{Cutting, ended_by, gap_turned, ob
 ghost use Rattle.report_merge.specs.Gathered.{gathered};
 ghost use Rattle.channel_run.specs.Live.{channel_so_far};
 ghost use Rattle.channel_run.specs.Views.{IsViewOf};
-ghost use Rattle.live_report.specs.Lanes.{LanesStandFor};
-ghost use Rattle.live_report.specs.JudgedRows.{IsJudgedRow};
+ghost use Rattle.live_report.specs.OpenChannels.{ChannelsRepresent};
+ghost use Rattle.live_report.specs.JudgedRows.{IsJudgedRow, judged_row};
 ghost use Rattle.live_report.specs.Uncounted.{uncounted_of};
 ghost use Rattle.live_report.specs.declared.judged_row.Judge.TheVariants.{Restart};
 ghost use Rattle.live_report.specs.Turns.{FindsBy, HasEvents, JudgesBy, MayTurn, OfOpen, StandsAt, epoch_of, with_data};
 ghost use Rattle.live_report.specs.Observing.{open_piece, HasKept, HasWalked, IsHolding, IsObserver, MayWalk, ReturnsFinding, ReturnsReport, WalksOn};
 
 use crate::ending::end_channels;
-use crate::judged_row::{Judge, JudgedRow};
-use crate::lanes::OpenChannels;
+use crate::judged_row::{Judge, JudgedRow, RowOutcome};
+use crate::open_channels::OpenChannels;
 use crate::reporting::report_channels;
 use crate::row_ref::RowRef;
 use crate::uncounted::Uncounted;
@@ -36,41 +36,35 @@ use line_model::state::RState;
 use report_merge::parts::Parts;
 use report_merge::row_counts::RowCounts;
 use restart_epochs::parts::end_at;
-use restart_epochs::walk::{EpochWalk, Step, Turn};
+use restart_epochs::walk::{ChannelEffect, EpochWalk, Step};
 use std::alloc::Allocator;
 
 /// An observer of an interface, and what it found so far.
 #[derive(Drop)]
 pub struct Observer<A: Allocator, C: Channel<A>> {
     walk: EpochWalk<A>,
-    /// What the pieces give whose epochs have ended.
+    /// The results of the pieces whose epochs have ended.
     ended: Parts<A>,
     /// The channels that have rows in the epoch that has not ended.
-    lanes: OpenChannels<A, C>,
+    open_channels: OpenChannels<A, C>,
     /// Whether it keeps each row as it was judged, with its events.
     pub(crate) keeps_rows: bool,
-    /// The row that was taken last, as it was judged, where rows are kept.
+    /// The row that was read last, as it was judged, where rows are kept.
     last: Option<JudgedRow>,
-    /// The events of the last row that a channel took; where no rows are kept, without that of accepted data with Q 0.
+    /// The events of the last row of a channel; where no rows are kept, without that of accepted data with Q 0.
     events: Vec<Event, A>,
     /// The data of the rows that was not counted.
     uncounted: Uncounted,
 }
 
-/// A row of a packet that no channel takes, which the restart machine judged in a state.
-fn judged_on_line(item: &ItemRef<'_>, before: RState, step: &Step) -> JudgedRow
+/// What came of a row that goes to no channel, which the restart machine judged in a state.
+fn judged_on_line(before: RState, step: &Step) -> RowOutcome
     ensures { result ≡ record {
-      number = item.now.number;
-      side = item.now.side;
-      packet = item.now.packet;
       judge = Restart before step.now.machine.line.state;
       finding = step.now.finding;
     } }
 {
-    JudgedRow {
-        number: item.number,
-        side: item.side,
-        packet: item.packet,
+    RowOutcome {
         judge: Judge::Restart {
             before,
             after: step.machine.state(),
@@ -79,7 +73,7 @@ fn judged_on_line(item: &ItemRef<'_>, before: RState, step: &Step) -> JudgedRow
     }
 }
 
-/// What the rows of a walk count for.
+/// Returns the counts of a walk's rows.
 fn row_counts<A: Allocator>(walk: &EpochWalk<A>) -> RowCounts
     requires { walk.now.gaps ≤ walk.now.packets }
     ensures packets { result.packets ≡ walk.now.packets - walk.now.gaps }
@@ -96,7 +90,7 @@ fn row_counts<A: Allocator>(walk: &EpochWalk<A>) -> RowCounts
 }
 
 impl<A: Allocator + Copy, C: Channel<A>> Observer<A, C> {
-    /// An observer before the first row, which keeps the row that it took last, or none. It takes no memory.
+    /// Returns an observer before the first row, which keeps the row that it read last, or none. Allocates nothing.
     pub fn new(alloc: A, interface: &Interface, keeps_rows: bool) -> Self
         ensures walked { HasWalked C.Channel interface.now [] result }
         ensures keeps { result.keeps_rows ≡ keeps_rows }
@@ -104,7 +98,7 @@ impl<A: Allocator + Copy, C: Channel<A>> Observer<A, C> {
         Observer {
             walk: EpochWalk::new(alloc, interface),
             ended: Parts::new(alloc),
-            lanes: OpenChannels::new(alloc),
+            open_channels: OpenChannels::new(alloc),
             keeps_rows,
             last: None,
             events: Vec::new(alloc),
@@ -112,66 +106,69 @@ impl<A: Allocator + Copy, C: Channel<A>> Observer<A, C> {
         }
     }
 
-    /// Steps the channel that a row goes to, or ends the channels that it ends, and returns the row as it was judged. Fails only
+    /// Steps the channel that a row goes to, or ends the channels that it ends, and returns what came of it. Fails only
     /// when memory is refused.
     #[inline(always)]
-    fn turn(&mut self, step: &Step, item: &ItemRef<'_>) -> Result<JudgedRow, Fault>
+    fn turn(&mut self, step: &Step, item: &ItemRef<'_>) -> Result<RowOutcome, Fault>
         requires room { (rows : OpenRows) × (reports : List records.PieceReport)
-            × StandsAt C.Channel self.old.walk rows self.old.lanes × (self.old.ended ≡ gathered reports)
-            × MayTurn step.now.turn self.old.walk.interface self.old.lanes.gap item.now rows }
-        requires pieces { self.old.ended.pieces + length self.old.lanes.table.channels < 2 ^ 32 }
+            × StandsAt C.Channel self.old.walk rows self.old.open_channels × (self.old.ended ≡ gathered reports)
+            × MayTurn step.now.turn self.old.walk.interface self.old.open_channels.gap item.now rows }
+        requires pieces { self.old.ended.pieces + length self.old.open_channels.table.channels < 2 ^ 32 }
         ensures walk { self.new.walk ≡ self.old.walk }
         ensures uncounted { self.new.uncounted ≡ self.old.uncounted }
         ensures keeps { self.new.keeps_rows ≡ self.old.keeps_rows }
-        ensures gap { OnOk result (self.new.lanes.gap ≡ gap_turned step.now.turn item.now self.old.lanes.gap) }
-        ensures lanes { OfOpen C.Channel self.old.walk self.old.lanes (λ rows. (after : OpenRows)
-            → MayTurn step.now.turn self.old.walk.interface self.old.lanes.gap item.now rows
-            → HasTurned step.now.turn item.now self.old.lanes.gap rows after
-            → OnOk result (LanesStandFor C.Channel (epoch_of self.old.walk) after self.new.lanes)) }
-        ensures ended { OfOpen C.Channel self.old.walk self.old.lanes (λ rows. (reports : List records.PieceReport)
+        ensures gap { OnOk result (self.new.open_channels.gap ≡ gap_turned step.now.turn item.now self.old.open_channels.gap) }
+        ensures open_channels { OfOpen C.Channel self.old.walk self.old.open_channels (λ rows. (after : OpenRows)
+            → MayTurn step.now.turn self.old.walk.interface self.old.open_channels.gap item.now rows
+            → HasTurned step.now.turn item.now self.old.open_channels.gap rows after
+            → OnOk result (ChannelsRepresent C.Channel (epoch_of self.old.walk) after self.new.open_channels)) }
+        ensures ended { OfOpen C.Channel self.old.walk self.old.open_channels (λ rows. (reports : List records.PieceReport)
             → self.old.ended ≡ gathered reports
             → OnOk result (self.new.ended ≡ gathered (reports ++ map value (ended_by step.now.turn
             self.old.walk.interface self.old.walk.epoch self.old.walk.start (end_at item.now) (length reports)
-            self.old.lanes.gap rows)))) }
-        ensures number { IfOk result (λ row. row.number ≡ item.now.number) }
-        ensures side { IfOk result (λ row. row.side ≡ item.now.side) }
-        ensures packet { IfOk result (λ row. row.packet ≡ item.now.packet) }
-        ensures judge { OfOpen C.Channel self.old.walk self.old.lanes (λ rows. (after : OpenRows)
-            → MayTurn step.now.turn self.old.walk.interface self.old.lanes.gap item.now rows
-            → HasTurned step.now.turn item.now self.old.lanes.gap rows after
-            → IfOk result (λ row. JudgesBy step.now.turn self.old.walk self.old.lanes.gap step.now.machine rows after row.judge)) }
-        ensures finding { OfOpen C.Channel self.old.walk self.old.lanes (λ rows.
-            IfOk result (λ row. FindsBy step.now self.old.walk self.old.lanes.gap rows item.now row.finding)) }
-        ensures events { OfOpen C.Channel self.old.walk self.old.lanes (λ rows.
-            IfOk result (λ row. HasEvents step.now.turn self.old.walk self.old.lanes.gap rows item.now
+            self.old.open_channels.gap rows)))) }
+        ensures judge { OfOpen C.Channel self.old.walk self.old.open_channels (λ rows. (after : OpenRows)
+            → MayTurn step.now.turn self.old.walk.interface self.old.open_channels.gap item.now rows
+            → HasTurned step.now.turn item.now self.old.open_channels.gap rows after
+            → IfOk result (λ row. JudgesBy step.now.turn self.old.walk self.old.open_channels.gap step.now.machine rows after row.judge)) }
+        ensures finding { OfOpen C.Channel self.old.walk self.old.open_channels (λ rows.
+            IfOk result (λ row. FindsBy step.now self.old.walk self.old.open_channels.gap rows item.now row.finding)) }
+        ensures events { OfOpen C.Channel self.old.walk self.old.open_channels (λ rows.
+            IfOk result (λ row. HasEvents step.now.turn self.old.walk self.old.open_channels.gap rows item.now
             (with_data self.old.walk.epoch row.judge item.now self.new.events.items))) }
         ensures memory { IfErr result (λ fault. fault ≡ Memory) }
     {
         match step.turn {
-            Turn::ToChannel(channel) => {
-                self.lanes.step(&self.walk, channel, item, &mut self.events)
+            ChannelEffect::ToChannel(channel) => {
+                self.open_channels
+                    .step(&self.walk, channel, item, &mut self.events)
             }
-            Turn::ToAll => {
-                self.lanes.gap = item.number;
-                Ok(judged_on_line(item, self.walk.machine.state(), step))
+            ChannelEffect::ToAll => {
+                self.open_channels.gap = item.number;
+                Ok(judged_on_line(self.walk.machine.state(), step))
             }
-            Turn::Ends => {
+            ChannelEffect::Ends => {
                 let alloc = *self.events.allocator();
-                end_channels(alloc, Some(end_at(item)), &mut self.lanes, &mut self.ended)?;
-                Ok(judged_on_line(item, self.walk.machine.state(), step))
+                end_channels(
+                    alloc,
+                    Some(end_at(item)),
+                    &mut self.open_channels,
+                    &mut self.ended,
+                )?;
+                Ok(judged_on_line(self.walk.machine.state(), step))
             }
-            Turn::Stays => Ok(judged_on_line(item, self.walk.machine.state(), step)),
+            ChannelEffect::Stays => Ok(judged_on_line(self.walk.machine.state(), step)),
         }
     }
 
-    /// The state of the restart machine.
+    /// Returns the state of the restart machine.
     pub fn restart_state(&self) -> RState
         ensures { result ≡ self.now.walk.machine.line.state }
     {
         self.walk.machine.state()
     }
 
-    /// Which stretch between restarts goes on, counted from 1.
+    /// Returns the number of the current epoch, counted from 1.
     pub fn epoch(&self) -> u32
         ensures kept { result ≡ self.now.walk.epoch }
         ensures walked { (i : AnyInterface) (rows : List records.Item)
@@ -180,7 +177,7 @@ impl<A: Allocator + Copy, C: Channel<A>> Observer<A, C> {
         self.walk.epoch
     }
 
-    /// How many rows were taken; a gap is one of them.
+    /// Returns how many rows were read; a gap is one of them.
     pub fn packets(&self) -> u32
         ensures kept { result ≡ self.now.walk.packets }
         ensures walked { (i : AnyInterface) (rows : List records.Item)
@@ -189,7 +186,7 @@ impl<A: Allocator + Copy, C: Channel<A>> Observer<A, C> {
         self.walk.packets
     }
 
-    /// The row that was taken last, as it was judged; none before the first row, and where no rows are kept.
+    /// Returns the row that was read last, as it was judged; none before the first row, and where no rows are kept.
     pub fn last_row(&self) -> Option<&JudgedRow>
         ensures { (i : AnyInterface) (before : List records.Item) (row : records.Item)
             → HasKept C.Channel i (before ++ row ∷ []) self.now
@@ -198,14 +195,14 @@ impl<A: Allocator + Copy, C: Channel<A>> Observer<A, C> {
         self.last.as_ref()
     }
 
-    /// The events of the last row that a channel took, where rows are kept.
+    /// Returns the events of the last row that went to a channel, where rows are kept.
     pub fn events(&self) -> &[Event]
         ensures { result.now ≡ self.now.events.items }
     {
         self.events.as_slice()
     }
 
-    /// The data of the rows that was not counted, and why.
+    /// Returns the data of the rows that was not counted, and why.
     pub fn uncounted(&self) -> Uncounted
         ensures kept { result ≡ self.now.uncounted }
         ensures walked { (i : AnyInterface) (rows : List records.Item)
@@ -214,8 +211,8 @@ impl<A: Allocator + Copy, C: Channel<A>> Observer<A, C> {
         self.uncounted
     }
 
-    /// What is known of a logical channel in the epoch that goes on, if it has rows there, and no gap of all channels came
-    /// after the last of them.
+    /// Returns what is known of a logical channel in the current epoch, if it has rows there, and no gap of all
+    /// channels came after the last of them.
     pub fn view(&self, channel: u16) -> Option<View>
         ensures held { (c : Cutting) (reports : List records.PieceReport)
             → IsHolding C.Channel c reports self.now
@@ -224,13 +221,13 @@ impl<A: Allocator + Copy, C: Channel<A>> Observer<A, C> {
             → HasWalked C.Channel i rows self.now
             → IfSome result (IsViewOf i ((observer i rows).states channel)) }
     {
-        self.lanes.view(channel)
+        self.open_channels.view(channel)
     }
 
-    /// Takes the next row, and returns what it finds. Fails only when memory is refused; drop the observer then.
+    /// Reads the next row, and returns what it finds. Fails only when memory is refused; drop the observer then.
     pub fn take(&mut self, row: &ReadRow<A>) -> Result<Option<Finding>, Fault>
         requires room { MayWalk C.Channel self.old (λ i. item_read i row.now ∷ []) }
-        // Of any rows that it took: it stands for them and this one.
+        // Of any rows that it read: it represents them and this one.
         ensures stands { WalksOn C.Channel self.old (λ i. item_read i row.now) self.new result }
         // What was found comes after all that was found before.
         ensures finding { ReturnsFinding C.Channel self.old (λ i. item_read i row.now) result }
@@ -246,7 +243,7 @@ impl<A: Allocator + Copy, C: Channel<A>> Observer<A, C> {
         })
     }
 
-    /// Takes the next row where its octets lie, as `take` does.
+    /// Reads the next row by a reference to its octets, as `take` does.
     pub(crate) fn take_row(&mut self, row: RowRef<'_>) -> Result<Option<Finding>, Fault>
         requires room { MayWalk C.Channel self.old (λ i. item_read i row ∷ []) }
         ensures stands { WalksOn C.Channel self.old (λ i. item_read i row.entry) self.new result }
@@ -264,7 +261,7 @@ impl<A: Allocator + Copy, C: Channel<A>> Observer<A, C> {
         })
     }
 
-    /// Takes the next row by what it says, as `take` does.
+    /// Reads the next row by what it says, as `take` does.
     fn take_item(&mut self, item: &ItemRef<'_>) -> Result<Option<Finding>, Fault>
         requires room { MayWalk C.Channel self.old (λ _. item.now ∷ []) }
         ensures stands { WalksOn C.Channel self.old (λ _. item.now) self.new result }
@@ -273,28 +270,22 @@ impl<A: Allocator + Copy, C: Channel<A>> Observer<A, C> {
         ensures memory { IfErr result (λ fault. fault ≡ Memory) }
     {
         let step = self.walk.step(item)?;
-        let judged = self.turn(&step, item)?;
-        let finding = judged.finding;
-        self.uncounted.take(
-            &self.walk.interface,
-            item.length,
-            &judged,
-            self.events.as_slice(),
-        );
-        self.keep(judged, item)?;
+        let outcome = self.turn(&step, item)?;
+        self.uncounted.take(&self.walk.interface, item, &outcome, self.events.as_slice());
+        self.keep(&outcome, item)?;
         self.walk.advance(step);
-        Ok(finding)
+        Ok(outcome.finding)
     }
 
     /// Where rows are kept, keeps a row as it was judged, and lists the event of accepted data with Q 0. Fails only when
     /// memory is refused.
     #[inline(always)]
-    fn keep(&mut self, row: JudgedRow, item: &ItemRef<'_>) -> Result<(), Fault>
+    fn keep(&mut self, outcome: &RowOutcome, item: &ItemRef<'_>) -> Result<(), Fault>
         ensures rest { OnOk result (self.new
             ≡ record self.old { last = self.new.last; events = self.new.events }) }
-        ensures last { self.old.keeps_rows ≡ true → OnOk result (self.new.last ≡ Some row) }
+        ensures last { self.old.keeps_rows ≡ true → OnOk result (self.new.last ≡ Some (judged_row item.now outcome.now)) }
         ensures events { self.old.keeps_rows ≡ true → OnOk result (self.new.events.items
-            ≡ with_data self.old.walk.epoch row.judge item.now self.old.events.items) }
+            ≡ with_data self.old.walk.epoch outcome.now.judge item.now self.old.events.items) }
         ensures keeps { self.new.keeps_rows ≡ self.old.keeps_rows }
         ensures memory { IfErr result (λ fault. fault ≡ Memory) }
     {
@@ -305,7 +296,7 @@ impl<A: Allocator + Copy, C: Channel<A>> Observer<A, C> {
             channel,
             accepted: Some(octets),
             ..
-        } = row.judge
+        } = outcome.judge
         {
             self.events.push(Event {
                 epoch: self.walk.epoch,
@@ -317,12 +308,13 @@ impl<A: Allocator + Copy, C: Channel<A>> Observer<A, C> {
                 },
             })?;
         }
+        let row = outcome.row(item);
         self.last = Some(row);
         Ok(())
     }
 
-    /// The report of the rows that were taken so far, by copies: the observer goes on. It costs what is reported, not
-    /// what was read. It refuses for want of memory alone.
+    /// Returns the report of the rows that were read so far, by copies: the observer goes on. Fails only when memory is
+    /// refused.
     pub fn report(&self) -> Result<Report<A>, Fault>
         requires room { IsObserver C.Channel self.now }
         ensures report { ReturnsReport C.Channel self.now result }
@@ -330,12 +322,12 @@ impl<A: Allocator + Copy, C: Channel<A>> Observer<A, C> {
     {
         let alloc = *self.walk.findings.allocator();
         let mut parts = self.ended.copy()?;
-        report_channels(alloc, &self.lanes, &mut parts)?;
+        report_channels(alloc, &self.open_channels, &mut parts)?;
         let findings = Vec::from_slice(alloc, self.walk.findings.as_slice())?;
         parts.finish(findings, row_counts(&self.walk))
     }
 
-    /// The report of the rows that were taken. It refuses for want of memory alone.
+    /// Returns the report of the rows that were read. Fails only when memory is refused.
     pub fn end(self) -> Result<Report<A>, Fault>
         requires room { IsObserver C.Channel self }
         ensures report { ReturnsReport C.Channel self result }
@@ -344,11 +336,11 @@ impl<A: Allocator + Copy, C: Channel<A>> Observer<A, C> {
         let Observer {
             walk,
             mut ended,
-            mut lanes,
+            mut open_channels,
             ..
         } = self;
         let alloc = *walk.findings.allocator();
-        end_channels(alloc, None, &mut lanes, &mut ended)?;
+        end_channels(alloc, None, &mut open_channels, &mut ended)?;
         let rows = row_counts(&walk);
         ended.finish(walk.findings, rows)
     }

@@ -4,7 +4,7 @@ ghost use Rattle.std.specs.Prelude.{◌≡◌, ◌+◌, ◌≤◌, ◌^◌, ◌+
 ghost use Rattle.line_model.specs.text.Text.{early, early_rows};
 ghost use Rattle.line_model.specs.declared.fault.Fault.TheVariants.{Memory};
 ghost use Rattle.trace_text.specs.Progress.{bytes_fed};
-ghost use Rattle.trace_text.specs.StandsFor.{IsFaultOf, IsTextFault};
+ghost use Rattle.trace_text.specs.Represents.{IsFaultOf, IsTextFault};
 ghost use Rattle.live_report.specs.Found.{IsFoundBy, found_at};
 ghost use Rattle.live_report.specs.Lives.{IsLastRow, ObservesSome, OfObserved, Observes};
 ghost use Rattle.line_model.specs.packets.Says.{item_read};
@@ -22,7 +22,8 @@ use restart_epochs::walk::append_finding;
 use std::alloc::Allocator;
 use trace_text::lines::Lines;
 
-/// Has an observer take the rows of a chunk, and appends what they find.
+/// Has an observer read the rows of a chunk, and appends what they find. Fails with the first line that is faulty
+/// however the text goes on, or when memory is refused.
 #[inline(always)]
 pub fn observe_chunk<A: Allocator + Copy, C: Channel<A>>(
     chunk: &[u8],
@@ -60,8 +61,8 @@ pub fn observe_chunk<A: Allocator + Copy, C: Channel<A>>(
     Ok(())
 }
 
-/// The report of an observer, which first takes the row of a last line that no LF ended, if there is one; and the data
-/// that was not counted.
+/// Returns the report of an observer, which first reads the row of a last line that no LF ended, if there is one; and
+/// the data that was not counted.
 pub fn finish_observing<A: Allocator + Copy, C: Channel<A>>(
     observer: Observer<A, C>,
     has_row: bool,

@@ -8,7 +8,7 @@ use line_model::state::Side;
 use std::alloc::{AllocError, Allocator};
 use std::mem::swap;
 
-/// A row with no octets, to put others in. It takes no memory.
+/// A row without octets, for others to be read into. Allocates nothing.
 fn blank_row<A: Allocator>(alloc: A) -> ReadRow<A> {
     ReadRow {
         number: 0,
@@ -29,7 +29,7 @@ fn read_octets(octets: &[u8]) -> &[u8]
     octets
 }
 
-/// Two rows that change places where rows are kept, so the last one stays as it was while the next one is read.
+/// Two rows that are swapped where rows are kept, so that the last one stays while the next one is read.
 #[derive(Drop)]
 pub(crate) struct ReadRows<A: Allocator> {
     /// The row that was read last, where rows are kept.
@@ -39,7 +39,7 @@ pub(crate) struct ReadRows<A: Allocator> {
 }
 
 impl<A: Allocator + Copy> ReadRows<A> {
-    /// No row was read. It takes no memory.
+    /// Returns a value in which no row was read. Allocates nothing.
     pub(crate) fn new(alloc: A) -> Self {
         ReadRows {
             last: blank_row(alloc),
@@ -72,7 +72,7 @@ impl<A: Allocator> ReadRows<A> {
         self.last.octets.extend_from_slice(read_octets(octets))
     }
 
-    /// The next row was read whole: where rows are kept, it is the last one now.
+    /// Makes the next row, which was read whole, the last one, where rows are kept.
     #[inline(always)]
     pub(crate) fn keep_next(&mut self, keeps_rows: bool)
         ensures { keeps_rows ≡ true → self.new.last ≡ self.old.next }

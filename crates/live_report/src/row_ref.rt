@@ -1,4 +1,4 @@
-//! A row as it is read, where its octets lie.
+//! A row as it is read, by a reference to its octets.
 
 ghost use Rattle.std.specs.Prelude.{◌≡◌};
 ghost use Rattle.line_model.specs.packets.Classes.{packet_of};
@@ -10,7 +10,7 @@ use line_model::state::Side;
 use packet_decode::decode::decode;
 use std::marker::Model;
 
-/// A row as it is read, where its octets lie.
+/// A row as it is read, by a reference to its octets.
 #[derive(Drop)]
 pub(crate) struct RowRef<'a> {
     /// The packet number.
@@ -34,7 +34,7 @@ impl<'a> Model for RowRef<'a> {
 }
 
 impl RowRef<'_> {
-    /// The packet that the octets are, or the gap that the row is.
+    /// Returns the packet that the octets are, or the gap that the row is.
     #[inline(always)]
     pub(crate) fn packet(&self, interface: &Interface) -> Packet
         ensures { result ≡ packet_or_gap self.now.gap (packet_of interface.now self.now.octets) }
@@ -46,7 +46,7 @@ impl RowRef<'_> {
     }
 }
 
-/// What stands in the place of the packet in a gap of a channel, or of all.
+/// Returns the packet that represents a gap of a channel, or of all.
 #[inline(always)]
 fn gap_packet(gap: Option<u16>) -> Packet
     ensures { result ≡ gap_packet gap }

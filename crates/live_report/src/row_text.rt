@@ -32,7 +32,8 @@ fn append_octets<A: Allocator + Copy>(
     line.extend_from_slice(digits.as_bytes())
 }
 
-/// Puts the line that writes the row of a packet in the place of another, with its line feed. Fails only when memory is refused.
+/// Writes the line of a packet's row, with its line feed, in place of what `line` has. Fails only when memory is
+/// refused.
 pub fn put_row<A: Allocator + Copy>(
     line: &mut Vec<u8, A>,
     number: u32,

@@ -7,15 +7,16 @@ ghost use Rattle.line_model.specs.declared.interface.Interface.{Interface as Any
 ghost use Rattle.restart_epochs.specs.Cutting.{observer};
 ghost use Rattle.channel_run.specs.StatusWord.{view_in};
 ghost use Rattle.channel_run.specs.Views.{IsViewOf};
-ghost use Rattle.live_report.specs.JudgedRows.{IsJudgedRow};
+ghost use Rattle.live_report.specs.JudgedRows.{IsJudgedRow, judged_row};
 ghost use Rattle.live_report.specs.Turns.{with_data};
 ghost use Rattle.live_report.specs.Uncounted.{AreFew, amount_for, counts_data, grown, has_finding, is_data, none_left_out, reason_at, reason_of_state, reason_on, uncounted_of, user_octets, with_one};
 
-use crate::judged_row::{Judge, JudgedRow};
+use crate::judged_row::{Judge, JudgedRow, RowOutcome};
 use channel_run::status_word::view_in;
 use data_transfer::packed::FlowWord;
 use line_model::event::{Event, What};
 use line_model::interface::Interface;
+use line_model::items::ItemRef;
 use line_model::packet::{Packet, PacketKind};
 use line_model::state::ChannelState;
 use packet_decode::decode::header_length;
@@ -48,7 +49,7 @@ pub const REASONS: [Reason; 6] = [
 ];
 
 impl Reason {
-    /// Why a channel in a state passed over data with which nothing is wrong.
+    /// Why a channel in a state did not count data without a fault.
     fn of_state(state: ChannelState, adrift: bool, owed: bool) -> Reason
         ensures { result ≡ reason_of_state state adrift owed }
     {
@@ -70,7 +71,7 @@ impl Reason {
     }
 }
 
-/// Whether a packet is a data packet.
+/// Returns whether a packet is a data packet.
 pub fn is_data(packet: &Packet) -> bool
     ensures { result ≡ is_data packet.now }
 {
@@ -80,7 +81,7 @@ pub fn is_data(packet: &Packet) -> bool
     }
 }
 
-/// Whether data was counted.
+/// Returns whether data was counted.
 pub fn counts_data(events: &[Event]) -> bool
     ensures { result ≡ counts_data events.now }
 {
@@ -92,7 +93,7 @@ pub fn counts_data(events: &[Event]) -> bool
     false
 }
 
-/// Whether something was found.
+/// Returns whether something was found.
 pub fn has_finding(events: &[Event]) -> bool
     ensures { result ≡ has_finding events.now }
 {
@@ -119,7 +120,7 @@ fn reason_on(word: &FlowWord, events: &[Event]) -> Option<Reason>
     Some(Reason::of_state(view.state, view.adrift, view.owed))
 }
 
-/// Returns why the data of a row was not counted; none where it has no data, or where it was counted.
+/// Returns why the data of a row was not counted; none where the row has no data, or it was counted.
 #[inline(always)]
 pub fn reason_of(row: &JudgedRow, events: &[Event]) -> Option<Reason>
     ensures { (i : AnyInterface) (earlier : List Item) (r : Item)
@@ -158,7 +159,7 @@ const NONE: Amount = Amount {
 };
 
 impl Amount {
-    /// One packet more. What is more than a number can hold stays at the greatest.
+    /// Adds a packet. A sum that does not fit stays at the greatest number.
     fn add(&mut self, octets: u64)
         ensures { self.new ≡ grown octets self.old }
     {
@@ -185,7 +186,7 @@ pub struct Uncounted {
 }
 
 impl Uncounted {
-    /// All data was counted.
+    /// Returns a value in which all data was counted.
     pub fn none() -> Self
         ensures { result ≡ none_left_out }
     {
@@ -199,7 +200,7 @@ impl Uncounted {
         }
     }
 
-    /// What was not counted for a reason.
+    /// Returns what was not counted for a reason.
     pub fn amount(&self, reason: Reason) -> Amount
         ensures { result ≡ amount_for reason self.now }
     {
@@ -213,7 +214,7 @@ impl Uncounted {
         }
     }
 
-    /// One packet more, which was not counted for a reason.
+    /// Adds a packet which was not counted for a reason.
     fn add(&mut self, reason: Reason, octets: u64)
         ensures { self.new ≡ with_one reason octets self.old }
     {
@@ -227,26 +228,27 @@ impl Uncounted {
         }
     }
 
-    /// Takes the octets of a row as it was judged, with its events, except that of accepted data with Q 0.
+    /// Adds the octets of a row by what came of it and its events, except that of accepted data with Q 0.
     #[inline(always)]
     pub(crate) fn take(
         &mut self,
         interface: &Interface,
-        length: usize,
-        row: &JudgedRow,
+        item: &ItemRef<'_>,
+        outcome: &RowOutcome,
         events: &[Event],
     )
-        ensures { (i : AnyInterface) (epoch : ℕ) (earlier : List Item) (r : Item)
-            → IsJudgedRow i earlier r row.now (with_data epoch row.now.judge r events.now)
-            → interface.now ≡ i → length ≡ r.length → AreFew (earlier ++ r ∷ [])
+        ensures { (i : AnyInterface) (epoch : ℕ) (earlier : List Item)
+            → IsJudgedRow i earlier item.now (judged_row item.now outcome.now)
+            (with_data epoch outcome.now.judge item.now events.now)
+            → interface.now ≡ i → AreFew (earlier ++ item.now ∷ [])
             → self.old ≡ uncounted_of i earlier
-            → self.new ≡ uncounted_of i (earlier ++ r ∷ []) }
+            → self.new ≡ uncounted_of i (earlier ++ item.now ∷ []) }
     {
-        if row.judge.is_accepted() {
+        if outcome.judge.is_accepted() {
             return;
         }
-        if let Some(reason) = reason_of(row, events) {
-            self.add(reason, user_octets(interface, length));
+        if let Some(reason) = reason_of(&outcome.row(item), events) {
+            self.add(reason, user_octets(interface, item.length));
         }
     }
 }

@@ -1,7 +1,7 @@
 -- What facilities ask, from one to the next.
 use Rattle.std.proofs.Common.{◌≡◌, ◌≤◌, ℕ, suc, Bool, true, false, cond, refl, arith, sym, ◌∙◌, ap, subst, inl, inr, List, [], ◌∷◌, ◌++◌, length, drop, take, reverse, Option, Some, None, nat_lt}
-use Rattle.std.specs.Prelude.{option_map, not, ◌==◌, ◌||◌, ◌&&◌, nat_le, find, is_none}
-use Rattle.std.specs.Option.{option_or, option_map_or}
+use Rattle.std.specs.Prelude.{option_map, not, ◌==◌, ◌||◌, ◌&&◌, nat_le, find}
+use Rattle.std.specs.Option.{option_or}
 use Rattle.std.specs.List.{list_any}
 use Rattle.std.proofs.lemmas.List.{length-drop, reverse-append}
 use Rattle.std.proofs.lemmas.List.Sums.{take_while-cons}
@@ -278,11 +278,3 @@ walked_step i total left rest more n m m' a a' h l rest_is n_is fits more_is m_i
     h ∙ ap (option_map (together m a)) (asked_step i left rest more n l rest_is n_is fits more_is)
     ∙ walked_option i (octet 1 left) rest m (octet 1 left == 0) a (asked_in i more) refl
     ∙ rw (a_is, m_is) refl
-
-through : (test : ℕ → Bool) (o : Option (List ℕ)) → option_map_or (λ ps. test (octet 1 ps)) o false ≡ option_map_or test (option_map (octet 1) o) false
-through test None = refl
-through test (Some ps) = refl
-
-none_at : {A B : Type 0} (o : Option A) (h : A → B) → None ≡ option_map h o → is_none o ≡ true
-none_at None h e = refl
-none_at (Some x) h e = cc

@@ -1,4 +1,4 @@
--- What facilities ask, told together.
+-- What facilities ask, all together.
 use Rattle.std.specs.Prelude.{ℕ, Bool, true, false, not, ◌==◌, ◌||◌, nat_lt, nat_le, ◌≡◌, ◌≤◌, ◌<◌, List, length, take_while, Option, Some, None, option_map, IfSome}
 use Rattle.std.specs.List.{list_any}
 use Rattle.line_model.specs.declared.interface.Interface.{Interface}
@@ -27,7 +27,7 @@ asked_of i fs = record {
 abbrev pub before_marker : List Facility → List Facility
 before_marker fs = take_while (λ f. not (f.code == 0)) fs
 
--- what the facilities that octets hold ask, none where one is cut
+-- what the facilities in some octets ask, none where one is cut
 abbrev pub asked_in : Interface → List ℕ → Option Asked
 asked_in i xs = option_map (λ fs. asked_of i (before_marker fs)) (facilities_of (length xs) xs)
 
@@ -39,7 +39,7 @@ is_bad_size n = nat_lt n 4 || nat_lt 12 n
 abbrev pub is_bad_window : Interface → ℕ → Bool
 is_bad_window i n = n == 0 || nat_le i.modulus n
 
--- what is asked with one facility more, of a code and with octets after it, which takes the place of an earlier one of its code
+-- what is asked with one facility more, of a code and with octets after it, which replaces an earlier one of its code
 abbrev pub with_facility : Interface → (code : ℕ) → (rest : List ℕ) → Asked → Asked
 with_facility i code rest a = elim (code == 1) [
   | true ↦ record a { charging = Some (octet 1 rest) }

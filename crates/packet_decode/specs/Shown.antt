@@ -1,4 +1,4 @@
--- The fields of a call packet, as the definitions tell them.
+-- The fields of a call packet, as the definitions have them.
 use Rattle.std.specs.Prelude.{ℕ, ◌≤◌, ◌<◌, ◌==◌, IfSome, IsTrue}
 use Rattle.std.specs.List.{list_any}
 use Rattle.line_model.specs.declared.interface.Interface.{Interface}

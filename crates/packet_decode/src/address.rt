@@ -1,4 +1,4 @@
-//! The addresses of a call packet, a half octet for each digit (X.25 clause 5.2.1).
+//! The addresses of a call packet, half an octet for each digit (X.25 clause 5.2.1).
 
 ghost use Rattle.std.specs.Prelude.{◌≡◌, ◌≤◌, ◌+◌, ◌*◌, length, nat_lt, true, false, IfSome, IfNone};
 ghost use Rattle.std.specs.List.{list_any};
@@ -7,7 +7,7 @@ ghost use Rattle.line_model.specs.packets.Facilities.{ascii_digits};
 
 use line_model::address::Address;
 
-/// A half octet, the higher bits first.
+/// Returns half octet `k`, the higher bits of an octet first.
 fn half_octet(octets: &[u8], k: usize) -> u8
     requires { k + 1 ≤ 2 * length octets.now }
     ensures { result ≡ half_octet k octets.now }
@@ -19,7 +19,7 @@ fn half_octet(octets: &[u8], k: usize) -> u8
     }
 }
 
-/// The address that some half octets write, `None` where a digit is over 9.
+/// Returns the address of `count` half octets from `from` on, `None` where a digit is over 9.
 #[tactic(auto, using(crate::proofs::OctetLemmas::half_octets_until))]
 pub(crate) fn address(octets: &[u8], from: usize, count: usize) -> Option<Address>
     requires within { from + count ≤ 2 * length octets.now }

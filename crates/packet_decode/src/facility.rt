@@ -11,7 +11,7 @@ use line_model::interface::Interface;
 /// The code of the facility marker (X.25 clause 7.1).
 const MARKER: u8 = 0;
 
-/// What the facilities of a call packet ask; where a code stands twice the last counts.
+/// What the facilities of a call packet ask. Of two with one code the last counts (profile).
 #[derive(Clone, Copy)]
 pub(crate) struct Asked {
     /// The parameter octet of reverse charging and fast select.
@@ -24,7 +24,7 @@ pub(crate) struct Asked {
     pub(crate) out_of_range: bool,
 }
 
-/// How many octets a facility has after its code.
+/// Returns how many octets a facility has after its code.
 fn octets_after(code: u8, rest: &[u8]) -> usize
     ensures { result ≡ octets_after code rest.now }
 {
@@ -48,7 +48,7 @@ fn is_bad_window(interface: &Interface, window: u8) -> bool
     window == 0 || window >= interface.modulus
 }
 
-/// What the facilities that octets hold ask, `None` where one is cut. Those behind a marker are walked over and not read.
+/// Returns what the facilities in some octets ask, `None` where one is cut. Those after a marker are skipped.
 fn read(interface: &Interface, octets: &[u8]) -> Option<Asked>
     ensures asked { result ≡ asked_in interface.now octets.now }
     ensures in_range { IfSome result (λ a. IsInRange interface.now a) }
@@ -70,7 +70,7 @@ fn read(interface: &Interface, octets: &[u8]) -> Option<Asked>
     Some(asked)
 }
 
-/// What the facilities ask, `None` where one is cut.
+/// Returns what the facilities ask, `None` where one is cut.
 pub(crate) fn facilities(interface: &Interface, octets: &[u8]) -> Option<Asked>
     ensures reads { MatchOption result (is_none (facilities_of (length octets.now) octets.now)
         ≡ true) (λ a. ReadsAs interface.now octets.now a) }
@@ -82,7 +82,7 @@ pub(crate) fn facilities(interface: &Interface, octets: &[u8]) -> Option<Asked>
 impl Asked {
     ghost use Rattle.packet_decode.specs.Reading.{charges_fast, charges_reverse};
 
-    /// What nothing asks.
+    /// Returns what no facilities ask.
     fn nothing() -> Asked
         ensures value { result ≡ nothing_asked }
         ensures in_range { (i : Interface) → IsInRange i result }
@@ -95,7 +95,7 @@ impl Asked {
         }
     }
 
-    /// What is asked with one facility more, which takes the place of an earlier one of its code.
+    /// Returns what is asked with one facility more, which replaces an earlier one of its code.
     fn with(self, interface: &Interface, code: u8, rest: &[u8]) -> Asked
         requires whole { octets_after code rest.now ≤ length rest.now }
         requires in_range { IsInRange interface.now self }
@@ -123,14 +123,14 @@ impl Asked {
         }
     }
 
-    /// Whether fast select is asked.
+    /// Returns whether fast select is asked.
     pub(crate) fn fast(&self) -> bool
         ensures { result ≡ charges_fast self.now }
     {
         self.charging.map_or(false, |octet| octet / 128 == 1)
     }
 
-    /// Whether reverse charging is asked.
+    /// Returns whether reverse charging is asked.
     pub(crate) fn reverse(&self) -> bool
         ensures { result ≡ charges_reverse self.now }
     {

@@ -45,7 +45,8 @@ struct Tail<'a> {
     user_data: &'a [u8],
 }
 
-/// The facilities and the user data, `None` where the facility length is over 109 or past the packet.
+/// Returns the facilities and the user data, `None` where the facility length is over 109 or passes the end of the
+/// packet.
 fn split_tail(octets: &[u8]) -> Option<(&[u8], &[u8])>
     ensures { MatchOption result (is_field_cut octets.now ≡ true) (λ p.
         (is_field_cut octets.now ≡ false) × (p.0.now ≡ facility_field octets.now)
@@ -63,7 +64,7 @@ fn split_tail(octets: &[u8]) -> Option<(&[u8], &[u8])>
     }
 }
 
-/// What follows the addresses, or its first fault.
+/// Returns what follows the addresses, or its first fault.
 fn read_tail<'a>(interface: &Interface, octets: &'a [u8], fast_before: bool) -> Result<Tail<'a>, u8>
     ensures reads { IfOk result (λ t. ReadsAs interface.now (facility_field octets.now) t.asked) }
     ensures in_range { IfOk result (λ t. IsInRange interface.now t.asked) }
@@ -88,7 +89,7 @@ fn read_tail<'a>(interface: &Interface, octets: &'a [u8], fast_before: bool) -> 
     Ok(Tail { asked, user_data })
 }
 
-/// How much user data a call packet may have.
+/// Returns how many octets of user data a call packet may have.
 fn user_data_limit(fast: bool) -> usize
     ensures { result ≡ user_data_limit fast }
 {
@@ -123,7 +124,7 @@ struct Addresses<'a> {
     after: &'a [u8],
 }
 
-/// The addresses, or their first fault.
+/// Returns the addresses, or their first fault.
 fn read_addresses(octets: &[u8]) -> Result<Addresses<'_>, u8>
     requires { 4 ≤ length octets.now }
     ensures addresses { IfOk result (λ a. AreAddresses a octets.now) }
@@ -180,7 +181,7 @@ fn block_fields<'a>(
     })
 }
 
-/// The sizes that are asked.
+/// Returns the packet sizes that are asked, in octets.
 fn sizes(interface: &Interface, asked: &Asked) -> Option<(u16, u16)>
     requires in_range { IsInRange interface.now asked.now }
     requires usable { asked.now.out_of_range ≡ false }
@@ -228,18 +229,18 @@ fn accepting_fields<'a>(
     block_fields(interface, octets, fast_before)
 }
 
-/// The octets of the address block, by the octet of its lengths.
+/// Returns how many octets the addresses have, by the octet with their lengths.
 fn address_octets(lengths: u8) -> usize
     ensures { result ≡ (lengths / 16 + lengths % 16 + 1) / 2 }
 {
     usize::from(lengths / 16 + lengths % 16).div_ceil(2)
 }
 
-/// The fields of a call packet, or the diagnostic code of its first fault, in the order 38 (address block cut), 67 and
-/// 68 (a called, a calling digit over 9), 69 (facilities cut or too long), 66 (a size or window out of range), 39 (user
-/// data too long); the codes and their order are profile. `fast_before` says whether the packet that opened the call
-/// asked fast select; it is read for call accepted and connected alone. With the A bit there are no fields and no fault
-/// (profile).
+/// Returns the fields of a call packet, or the code of its first fault, in the order 38 (address block cut), 67 and 68
+/// (a called, a calling digit over 9), 69 (facilities cut or too long), 66 (a size or window out of range), 39 (user
+/// data too long); the codes and their order are profile. `fast_before` is whether the packet that opened the call
+/// asked for fast select; it is used only for call accepted and connected. With the A bit there are no fields and no
+/// fault (profile).
 #[tactic(auto, using(crate::proofs::CallTypes::call_types))]
 pub fn call_fields<'a>(
     interface: &Interface,
@@ -259,7 +260,7 @@ pub fn call_fields<'a>(
     }
 }
 
-/// The fields of a call packet without any.
+/// Returns the fields of a call packet that has none.
 fn no_fields() -> CallFields<'static>
     ensures { shown result ≡ no_fields }
 {

@@ -11,8 +11,8 @@ use rayon::prelude::*;
 use std::alloc::{AllocError, Allocator};
 use std::thread::Threads;
 
-/// The packets that the octets of rows are, in order. The threads of all processors share 2,048 rows or more; fewer are
-/// decoded in this one. Refuses for want of memory alone.
+/// Returns the packets of rows, in order. The threads of all processors share 2,048 rows or more; fewer are decoded by
+/// the caller's thread. Fails only when memory is refused.
 pub fn decode_all<A: Allocator + Copy + Send + Sync>(
     rt: &(impl Threads + Sync),
     alloc: A,

@@ -11,21 +11,21 @@ use Rattle.line_model.specs.declared.event.What.{What}
 use Rattle.line_model.specs.declared.event.What.TheVariants.{Setting, Initial}
 use Rattle.line_model.specs.declared.event.Entry.{Entry}
 use Rattle.line_model.specs.declared.event.Entry.TheVariants.{Unknown, Asked, Said, Refused}
-use Rattle.line_model.specs.channels.Channels.{Told, other}
+use Rattle.line_model.specs.channels.Channels.{PadMessage, other}
 use Rattle.line_model.specs.channels.FlowControl.{is_side}
 use Rattle.line_model.specs.basics.Octets.{bits}
-use Rattle.line_model.specs.channels.Pad.{Pair, form_fault, was_asked, is_request, is_indication, is_set, message_fault, settings_after, settings_of, set_told, indicated, indicated_by, asked, is_refusable, is_parameter, standard_pairs}
+use Rattle.line_model.specs.channels.Pad.{Pair, form_fault, was_asked, is_request, is_indication, is_set, message_fault, settings_after, settings_of, events_of_set, indicated, indicated_by, asked, is_refusable, is_parameter, standard_pairs}
 use Rattle.pad.specs.Pairs.{pairs_before}
 use Rattle.pad.specs.Effects.{said, entry_at, events_of, events_back, all_indicated, own_fault}
-use Rattle.pad.specs.Told.{set_fault, set_events, set_events_by}
-use Rattle.pad.specs.Stands.{StandsFor, Tells as TellsAll}
+use Rattle.pad.specs.MessageEvents.{set_fault, set_events, set_events_by}
+use Rattle.pad.specs.Stands.{Represents, HasEntries}
 use Rattle.pad.specs.declared.settings.Settings.{Settings}
 use Rattle.pad.specs.declared.message.MessageCode.{MessageCode}
 use Rattle.pad.specs.declared.message.MessageCode.TheVariants.{Indication, InvitationToClear, Set, Break, Read, Error, SetAndRead, Reselection, ReselectionWithAddress}
 use Rattle.pad.specs.Codes.{octets_of}
 use Rattle.pad.specs.Concerns.{concern_of}
 use Rattle.pad.specs.declared.concern.Concern.{Concern}
-use Rattle.pad.specs.declared.concern.Concern.TheVariants.{Tells, Sets, Reads, Nothing}
+use Rattle.pad.specs.declared.concern.Concern.TheVariants.{Indicates, Sets, Reads, Nothing}
 
 -- the sides
 pub side_is : (p x : Side) → is_side p x ≡ true → x ≡ p
@@ -35,17 +35,17 @@ side_is T N h = cc
 side_is N T h = cc
 
 -- the events of one message more
-pub events_more : (ts : List Told) (t : Told) →
+pub events_more : (ts : List PadMessage) (t : PadMessage) →
     events_of (ts ++ t ∷ []) ≡ events_of ts ++ settings_after (message_fault t.from ts t.message) t.from t.message
 events_more ts t =
     ap (λ l. events_back l) (reverse-append ts (t ∷ []))
     ∙ ap (λ l. events_of ts ++ settings_after (message_fault t.from l t.message) t.from t.message) (reverse-reverse ts)
 
 -- whether a message asks a PAD anything
-abbrev asks : Side → Told → Bool
+abbrev asks : Side → PadMessage → Bool
 asks pad t = is_side (other pad) t.from && is_request t.message && is_none (form_fault t.message)
 
-asked_more : (pad : Side) (ts : List Told) (t : Told) → was_asked pad (ts ++ t ∷ []) ≡ (was_asked pad ts || asks pad t)
+asked_more : (pad : Side) (ts : List PadMessage) (t : PadMessage) → was_asked pad (ts ++ t ∷ []) ≡ (was_asked pad ts || asks pad t)
 asked_more pad [] t = last (asks pad t)
   where
     last : (b : Bool) → (b || false) ≡ b
@@ -58,12 +58,12 @@ asked_more pad (u ∷ ts) t = ap (λ b. asks pad u || b) (asked_more pad ts t) �
     grouped false b c = refl
 
 -- settings with one message more
-pub stands_more : (s new : Settings) (ts : List Told) (t : Told) → StandsFor s ts → new.pad ≡ s.pad → new.asked ≡ (s.asked || asks s.pad t) →
-    ((ws : List What) → TellsAll s ws → TellsAll new (ws ++ settings_after (message_fault t.from ts t.message) t.from t.message)) →
-    StandsFor new (ts ++ t ∷ [])
-stands_more s new ts t stands pad_is asked_is tells = record {
+pub stands_more : (s new : Settings) (ts : List PadMessage) (t : PadMessage) → Represents s ts → new.pad ≡ s.pad → new.asked ≡ (s.asked || asks s.pad t) →
+    ((ws : List What) → HasEntries s ws → HasEntries new (ws ++ settings_after (message_fault t.from ts t.message) t.from t.message)) →
+    Represents new (ts ++ t ∷ [])
+stands_more s new ts t stands pad_is asked_is has_entries = record {
   asked = asked_is ∙ ap (λ b. b || asks s.pad t) stands.asked ∙ sym (asked_more s.pad ts t) ∙ ap (λ p. was_asked p (ts ++ t ∷ [])) (sym pad_is);
-  entries = λ k below. tells (events_of ts) stands.entries k below ∙ ap (λ l. entry_at new.pad (k + 1) l) (sym (events_more ts t));
+  entries = λ k below. has_entries (events_of ts) stands.entries k below ∙ ap (λ l. entry_at new.pad (k + 1) l) (sym (events_more ts t));
 }
 
 -- contents that speak of one PAD alone
@@ -108,8 +108,8 @@ entry_apart p q n ws (w ∷ vs) apart on =
     ap (λ l. entry_at q n l) (sym (append_assoc ws (w ∷ []) vs)) ∙ entry_apart p q n (ws ++ w ∷ []) vs apart on.1
     ∙ entry_unsaid q n ws w (on.0 q n apart)
 
-tells_apart : (s : Settings) (p : Side) (ws vs : List What) → is_side p s.pad ≡ false → AllOn p vs → TellsAll s ws → TellsAll s (ws ++ vs)
-tells_apart s p ws vs apart on tells = λ k below. tells k below ∙ sym (entry_apart p s.pad (k + 1) ws vs apart on)
+entries_apart : (s : Settings) (p : Side) (ws vs : List What) → is_side p s.pad ≡ false → AllOn p vs → HasEntries s ws → HasEntries s (ws ++ vs)
+entries_apart s p ws vs apart on has_entries = λ k below. has_entries k below ∙ sym (entry_apart p s.pad (k + 1) ws vs apart on)
 
 -- what settings there are after a fault
 after_on : (f : Option Xcode) (p x : Side) (m : List ℕ) → AllOn p (settings_of x m) → AllOn p (settings_after f x m)
@@ -120,7 +120,7 @@ after_on (Some X3) p x m on = on
 after_on (Some X4) p x m on = tt
 after_on (Some XL) p x m on = tt
 
-sets_on : (b : Bool) (x : Side) (m : List ℕ) → AllOn (other x) (set_told b x m)
+sets_on : (b : Bool) (x : Side) (m : List ℕ) → AllOn (other x) (events_of_set b x m)
 sets_on true x m = (on_initial (other x), tt)
 sets_on false x m = set_on (other x) (standard_pairs m)
 
@@ -149,26 +149,26 @@ or_false true c h = refl
 or_false false c h = sym h
 
 -- a message that is nothing to a PAD
-abbrev IsKept : Settings → List Told → Side → MessageCode → List ℕ → Type 0
-IsKept s ts x c ps = StandsFor s (ts ++ record { from = x; message = octets_of c ps } ∷ [])
+abbrev IsKept : Settings → List PadMessage → Side → MessageCode → List ℕ → Type 0
+IsKept s ts x c ps = Represents s (ts ++ record { from = x; message = octets_of c ps } ∷ [])
 
-unasking : (s : Settings) (ts : List Told) (x : Side) (c : MessageCode) (ps : List ℕ) (p : Side) → StandsFor s ts → is_request (octets_of c ps) ≡ false →
+unasking : (s : Settings) (ts : List PadMessage) (x : Side) (c : MessageCode) (ps : List ℕ) (p : Side) → Represents s ts → is_request (octets_of c ps) ≡ false →
     is_side p s.pad ≡ false → AllOn p (settings_of x (octets_of c ps)) → IsKept s ts x c ps
 unasking s ts x c ps p stands none apart on =
-    let t : Told = record { from = x; message = octets_of c ps } in
+    let t : PadMessage = record { from = x; message = octets_of c ps } in
     stands_more s s ts t stands refl
     (or_false s.asked (asks s.pad t) (ap (λ b. is_side (other s.pad) x && b && is_none (form_fault (octets_of c ps))) none ∙ not_asked (is_side (other s.pad) x) (is_none (form_fault (octets_of c ps)))))
-    (λ ws. tells_apart s p ws (settings_after (message_fault x ts (octets_of c ps)) x (octets_of c ps)) apart (after_on (message_fault x ts (octets_of c ps)) p x (octets_of c ps) on))
+    (λ ws. entries_apart s p ws (settings_after (message_fault x ts (octets_of c ps)) x (octets_of c ps)) apart (after_on (message_fault x ts (octets_of c ps)) p x (octets_of c ps) on))
 
-own_request : (s : Settings) (ts : List Told) (x : Side) (c : MessageCode) (ps : List ℕ) → StandsFor s ts → is_side s.pad x ≡ true →
+own_request : (s : Settings) (ts : List PadMessage) (x : Side) (c : MessageCode) (ps : List ℕ) → Represents s ts → is_side s.pad x ≡ true →
     AllOn (other x) (settings_of x (octets_of c ps)) → IsKept s ts x c ps
 own_request s ts x c ps stands own on =
-    let t : Told = record { from = x; message = octets_of c ps } in
+    let t : PadMessage = record { from = x; message = octets_of c ps } in
     stands_more s s ts t stands refl
     (or_false s.asked (asks s.pad t) (ap (λ b. b && is_request (octets_of c ps) && is_none (form_fault (octets_of c ps))) (other_swap s.pad x own).1))
-    (λ ws. tells_apart s (other x) ws (settings_after (message_fault x ts (octets_of c ps)) x (octets_of c ps)) (other_swap s.pad x own).0 (after_on (message_fault x ts (octets_of c ps)) (other x) x (octets_of c ps) on))
+    (λ ws. entries_apart s (other x) ws (settings_after (message_fault x ts (octets_of c ps)) x (octets_of c ps)) (other_swap s.pad x own).0 (after_on (message_fault x ts (octets_of c ps)) (other x) x (octets_of c ps) on))
 
-pub nothing : (s : Settings) (ts : List Told) (x : Side) (c : MessageCode) (ps : List ℕ) → StandsFor s ts → concern_of (is_side s.pad x) c ≡ Nothing →
+pub nothing : (s : Settings) (ts : List PadMessage) (x : Side) (c : MessageCode) (ps : List ℕ) → Represents s ts → concern_of (is_side s.pad x) c ≡ Nothing →
     IsKept s ts x c ps
 nothing s ts x c ps stands h = by (is_side s.pad x) refl c h
   where
@@ -188,7 +188,7 @@ nothing s ts x c ps stands h = by (is_side s.pad x) refl c h
     by b e ReselectionWithAddress h = unasking s ts x ReselectionWithAddress ps (other s.pad) stands refl (apart_other s.pad) tt
 
 -- the fault of a well formed indication, and of a set
-indication_fault : (x : Side) (ts : List Told) (ps : List ℕ) (a : Bool) → form_fault (0 ∷ ps) ≡ None → was_asked x ts ≡ a →
+indication_fault : (x : Side) (ts : List PadMessage) (ps : List ℕ) (a : Bool) → form_fault (0 ∷ ps) ≡ None → was_asked x ts ≡ a →
     message_fault x ts (0 ∷ ps) ≡ cond a None (Some X4)
 indication_fault x ts ps a wf asked =
     ap (λ o. elim o [ Some f ↦ Some f | None ↦ elim (not (was_asked x ts)) [ true ↦ Some X4 | false ↦ None ] ]) wf
@@ -198,7 +198,7 @@ indication_fault x ts ps a wf asked =
     by true = refl
     by false = refl
 
-set_message_fault : (x : Side) (ts : List Told) (c : MessageCode) (ps : List ℕ) → is_set (octets_of c ps) ≡ true → is_indication (octets_of c ps) ≡ false →
+set_message_fault : (x : Side) (ts : List PadMessage) (c : MessageCode) (ps : List ℕ) → is_set (octets_of c ps) ≡ true → is_indication (octets_of c ps) ≡ false →
     form_fault (octets_of c ps) ≡ None → message_fault x ts (octets_of c ps) ≡ set_fault ps
 set_message_fault x ts c ps set not_indication wf =
     let m : List ℕ = octets_of c ps in
@@ -239,30 +239,30 @@ other_is T N h = (refl, refl)
 other_is N T h = (refl, refl)
 
 -- contents at the end, changed to equal ones
-along : (s new : Settings) (us vs : List What) → us ≡ vs → ((ws : List What) → TellsAll s ws → TellsAll new (ws ++ us)) →
-    (ws : List What) → TellsAll s ws → TellsAll new (ws ++ vs)
-along s new us vs e tells = λ ws h k below. tells ws h k below ∙ ap (λ l. entry_at new.pad (k + 1) (ws ++ l)) e
+along : (s new : Settings) (us vs : List What) → us ≡ vs → ((ws : List What) → HasEntries s ws → HasEntries new (ws ++ us)) →
+    (ws : List What) → HasEntries s ws → HasEntries new (ws ++ vs)
+along s new us vs e has_entries = λ ws h k below. has_entries ws h k below ∙ ap (λ l. entry_at new.pad (k + 1) (ws ++ l)) e
 
 -- which messages they are
-tells_is : (b : Bool) (c : MessageCode) → concern_of b c ≡ Tells → (b ≡ true) × (c ≡ Indication)
-tells_is true Indication h = (refl, refl)
-tells_is true InvitationToClear h = cc
-tells_is true Set h = cc
-tells_is true Break h = cc
-tells_is true Read h = cc
-tells_is true Error h = cc
-tells_is true SetAndRead h = cc
-tells_is true Reselection h = cc
-tells_is true ReselectionWithAddress h = cc
-tells_is false Indication h = cc
-tells_is false InvitationToClear h = cc
-tells_is false Set h = cc
-tells_is false Break h = cc
-tells_is false Read h = cc
-tells_is false Error h = cc
-tells_is false SetAndRead h = cc
-tells_is false Reselection h = cc
-tells_is false ReselectionWithAddress h = cc
+indicates_is : (b : Bool) (c : MessageCode) → concern_of b c ≡ Indicates → (b ≡ true) × (c ≡ Indication)
+indicates_is true Indication h = (refl, refl)
+indicates_is true InvitationToClear h = cc
+indicates_is true Set h = cc
+indicates_is true Break h = cc
+indicates_is true Read h = cc
+indicates_is true Error h = cc
+indicates_is true SetAndRead h = cc
+indicates_is true Reselection h = cc
+indicates_is true ReselectionWithAddress h = cc
+indicates_is false Indication h = cc
+indicates_is false InvitationToClear h = cc
+indicates_is false Set h = cc
+indicates_is false Break h = cc
+indicates_is false Read h = cc
+indicates_is false Error h = cc
+indicates_is false SetAndRead h = cc
+indicates_is false Reselection h = cc
+indicates_is false ReselectionWithAddress h = cc
 
 sets_is : (b : Bool) (c : MessageCode) → concern_of b c ≡ Sets → (b ≡ false) × ((c ≡ Set) ⊎ (c ≡ SetAndRead))
 sets_is true Indication h = cc
@@ -305,14 +305,14 @@ reads_is false Reselection h = cc
 reads_is false ReselectionWithAddress h = cc
 
 -- a message of the PAD itself
-pub telling : (s new : Settings) (ts : List Told) (x : Side) (c : MessageCode) (ps : List ℕ) → StandsFor s ts → form_fault (octets_of c ps) ≡ None →
-    concern_of (is_side s.pad x) c ≡ Tells → s.asked ≡ true → new.pad ≡ s.pad → new.asked ≡ s.asked →
-    ((ws : List What) → TellsAll s ws → TellsAll new (ws ++ all_indicated s.pad ps)) → StandsFor new (ts ++ record { from = x; message = octets_of c ps } ∷ [])
-telling s new ts x c ps stands wf h asked pad_is asked_is tells =
-    let k = tells_is (is_side s.pad x) c h in
-    subst (λ d. form_fault (octets_of d ps) ≡ None → StandsFor new (ts ++ record { from = x; message = octets_of d ps } ∷ [])) (sym k.1) (at k.0) wf
+pub indicating : (s new : Settings) (ts : List PadMessage) (x : Side) (c : MessageCode) (ps : List ℕ) → Represents s ts → form_fault (octets_of c ps) ≡ None →
+    concern_of (is_side s.pad x) c ≡ Indicates → s.asked ≡ true → new.pad ≡ s.pad → new.asked ≡ s.asked →
+    ((ws : List What) → HasEntries s ws → HasEntries new (ws ++ all_indicated s.pad ps)) → Represents new (ts ++ record { from = x; message = octets_of c ps } ∷ [])
+indicating s new ts x c ps stands wf h asked pad_is asked_is has_entries =
+    let k = indicates_is (is_side s.pad x) c h in
+    subst (λ d. form_fault (octets_of d ps) ≡ None → Represents new (ts ++ record { from = x; message = octets_of d ps } ∷ [])) (sym k.1) (at k.0) wf
   where
-    at : is_side s.pad x ≡ true → form_fault (0 ∷ ps) ≡ None → StandsFor new (ts ++ record { from = x; message = 0 ∷ ps } ∷ [])
+    at : is_side s.pad x ≡ true → form_fault (0 ∷ ps) ≡ None → Represents new (ts ++ record { from = x; message = 0 ∷ ps } ∷ [])
     at e wf =
         let x_is : x ≡ s.pad = side_is s.pad x e in
         let fault : message_fault x ts (0 ∷ ps) ≡ None =
@@ -320,12 +320,12 @@ telling s new ts x c ps stands wf h asked pad_is asked_is tells =
         stands_more s new ts (record { from = x; message = 0 ∷ ps }) stands pad_is
         (asked_is ∙ or_false s.asked (is_side (other s.pad) x && false && is_none (form_fault (0 ∷ ps))) (not_asked (is_side (other s.pad) x) (is_none (form_fault (0 ∷ ps)))))
         (along s new (all_indicated s.pad ps) (settings_after (message_fault x ts (0 ∷ ps)) x (0 ∷ ps))
-        (ap (λ p. all_indicated p ps) (sym x_is) ∙ ap (λ f. settings_after f x (0 ∷ ps)) (sym fault)) tells)
+        (ap (λ p. all_indicated p ps) (sym x_is) ∙ ap (λ f. settings_after f x (0 ∷ ps)) (sym fault)) has_entries)
 
-pub unasked : (s : Settings) (ts : List Told) (x : Side) (c : MessageCode) (ps : List ℕ) → StandsFor s ts → form_fault (octets_of c ps) ≡ None →
-    concern_of (is_side s.pad x) c ≡ Tells → s.asked ≡ false → IsKept s ts x c ps
+pub unasked : (s : Settings) (ts : List PadMessage) (x : Side) (c : MessageCode) (ps : List ℕ) → Represents s ts → form_fault (octets_of c ps) ≡ None →
+    concern_of (is_side s.pad x) c ≡ Indicates → s.asked ≡ false → IsKept s ts x c ps
 unasked s ts x c ps stands wf h asked =
-    let k = tells_is (is_side s.pad x) c h in
+    let k = indicates_is (is_side s.pad x) c h in
     subst (λ d. form_fault (octets_of d ps) ≡ None → IsKept s ts x d ps) (sym k.1) (at k.0) wf
   where
     at : is_side s.pad x ≡ true → form_fault (0 ∷ ps) ≡ None → IsKept s ts x Indication ps
@@ -340,7 +340,7 @@ unasked s ts x c ps stands wf h asked =
 
 -- a message whose fault the settings of a PAD do not decide
 abbrev pub is_free : Concern → Bool
-is_free Tells = false
+is_free Indicates = false
 is_free Sets = false
 is_free Reads = true
 is_free Nothing = true
@@ -372,7 +372,7 @@ no_concern false SetAndRead ps h = cc
 no_concern false Reselection ps h = refl
 no_concern false ReselectionWithAddress ps h = refl
 
-pub free_fault : (s : Settings) (ts : List Told) (x : Side) (c : MessageCode) (ps : List ℕ) → is_free (concern_of (is_side s.pad x) c) ≡ true →
+pub free_fault : (s : Settings) (ts : List PadMessage) (x : Side) (c : MessageCode) (ps : List ℕ) → is_free (concern_of (is_side s.pad x) c) ≡ true →
     None ≡ own_fault s.pad ts (record { from = x; message = octets_of c ps })
 free_fault s ts x c ps h =
     let m : List ℕ = octets_of c ps in
@@ -380,10 +380,10 @@ free_fault s ts x c ps h =
     ∙ ap (λ b. elim b [ true ↦ message_fault x ts m | false ↦ None ]) (no_concern (is_side s.pad x) c ps h))
 
 -- the fault of an indication of the PAD
-pub telling_fault : (s : Settings) (ts : List Told) (x : Side) (c : MessageCode) (ps : List ℕ) (asked : Bool) → StandsFor s ts → form_fault (octets_of c ps) ≡ None →
-    concern_of (is_side s.pad x) c ≡ Tells → s.asked ≡ asked → cond asked None (Some X4) ≡ own_fault s.pad ts (record { from = x; message = octets_of c ps })
-telling_fault s ts x c ps asked stands wf h is_asked =
-    let k = tells_is (is_side s.pad x) c h in
+pub indicating_fault : (s : Settings) (ts : List PadMessage) (x : Side) (c : MessageCode) (ps : List ℕ) (asked : Bool) → Represents s ts → form_fault (octets_of c ps) ≡ None →
+    concern_of (is_side s.pad x) c ≡ Indicates → s.asked ≡ asked → cond asked None (Some X4) ≡ own_fault s.pad ts (record { from = x; message = octets_of c ps })
+indicating_fault s ts x c ps asked stands wf h is_asked =
+    let k = indicates_is (is_side s.pad x) c h in
     subst (λ d. form_fault (octets_of d ps) ≡ None → cond asked None (Some X4) ≡ own_fault s.pad ts (record { from = x; message = octets_of d ps })) (sym k.1) (at k.0) wf
   where
     at : is_side s.pad x ≡ true → form_fault (0 ∷ ps) ≡ None → cond asked None (Some X4) ≡ own_fault s.pad ts (record { from = x; message = 0 ∷ ps })
@@ -392,11 +392,11 @@ telling_fault s ts x c ps asked stands wf h is_asked =
         ∙ indication_fault x ts ps asked wf (ap (λ y. was_asked y ts) (side_is s.pad x e) ∙ sym stands.asked ∙ is_asked))
 
 -- a set for the PAD
-set_for : (s new : Settings) (ts : List Told) (x : Side) (c : MessageCode) (ps : List ℕ) → StandsFor s ts → form_fault (octets_of c ps) ≡ None →
+set_for : (s new : Settings) (ts : List PadMessage) (x : Side) (c : MessageCode) (ps : List ℕ) → Represents s ts → form_fault (octets_of c ps) ≡ None →
     is_side s.pad x ≡ false → is_set (octets_of c ps) ≡ true → is_indication (octets_of c ps) ≡ false → is_request (octets_of c ps) ≡ true →
     settings_of x (octets_of c ps) ≡ set_events (other x) ps → new.pad ≡ s.pad → new.asked ≡ true →
-    ((ws : List What) → TellsAll s ws → TellsAll new (ws ++ set_events s.pad ps)) → StandsFor new (ts ++ record { from = x; message = octets_of c ps } ∷ [])
-set_for s new ts x c ps stands wf apart set not_indication request events pad_is asked_is tells =
+    ((ws : List What) → HasEntries s ws → HasEntries new (ws ++ set_events s.pad ps)) → Represents new (ts ++ record { from = x; message = octets_of c ps } ∷ [])
+set_for s new ts x c ps stands wf apart set not_indication request events pad_is asked_is has_entries =
     let m : List ℕ = octets_of c ps in
     let asking : asks s.pad (record { from = x; message = m }) ≡ true =
     ap (λ b. b && is_request m && is_none (form_fault m)) (other_is s.pad x apart).1 ∙ ap (λ b. b && is_none (form_fault m)) request ∙ ap (λ o. is_none o) wf in
@@ -404,31 +404,31 @@ set_for s new ts x c ps stands wf apart set not_indication request events pad_is
     (asked_is ∙ sym (ap (λ b. s.asked || b) asking ∙ or_true s.asked))
     (along s new (set_events s.pad ps) (settings_after (message_fault x ts m) x m)
     (ap (λ p. set_events p ps) (sym (other_is s.pad x apart).0) ∙ sym events ∙ sym (after_set_fault (list_any is_refusable (pairs_before false ps)) x m)
-    ∙ ap (λ f. settings_after f x m) (sym (set_message_fault x ts c ps set not_indication wf))) tells)
+    ∙ ap (λ f. settings_after f x m) (sym (set_message_fault x ts c ps set not_indication wf))) has_entries)
   where
     or_true : (b : Bool) → (b || true) ≡ true
     or_true true = refl
     or_true false = refl
 
-pub setting : (s new : Settings) (ts : List Told) (x : Side) (c : MessageCode) (ps : List ℕ) → StandsFor s ts → form_fault (octets_of c ps) ≡ None →
+pub setting : (s new : Settings) (ts : List PadMessage) (x : Side) (c : MessageCode) (ps : List ℕ) → Represents s ts → form_fault (octets_of c ps) ≡ None →
     concern_of (is_side s.pad x) c ≡ Sets → new.pad ≡ s.pad → new.asked ≡ true →
-    ((ws : List What) → TellsAll s ws → TellsAll new (ws ++ set_events s.pad ps)) → StandsFor new (ts ++ record { from = x; message = octets_of c ps } ∷ [])
-setting s new ts x c ps stands wf h pad_is asked_is tells =
+    ((ws : List What) → HasEntries s ws → HasEntries new (ws ++ set_events s.pad ps)) → Represents new (ts ++ record { from = x; message = octets_of c ps } ∷ [])
+setting s new ts x c ps stands wf h pad_is asked_is has_entries =
     let k = sets_is (is_side s.pad x) c h in
-    let P : MessageCode → Type 0 = λ d. form_fault (octets_of d ps) ≡ None → StandsFor new (ts ++ record { from = x; message = octets_of d ps } ∷ []) in
+    let P : MessageCode → Type 0 = λ d. form_fault (octets_of d ps) ≡ None → Represents new (ts ++ record { from = x; message = octets_of d ps } ∷ []) in
     elim k.1 [
-      | inl e ↦ subst P (sym e) (λ w. set_for s new ts x Set ps stands w k.0 refl refl refl (events Set refl (length (2 ∷ ps) == 1) (one_octet 2 ps)) pad_is asked_is tells) wf
-      | inr e ↦ subst P (sym e) (λ w. set_for s new ts x SetAndRead ps stands w k.0 refl refl refl (events SetAndRead refl (length (6 ∷ ps) == 1) (one_octet 6 ps)) pad_is asked_is tells) wf
+      | inl e ↦ subst P (sym e) (λ w. set_for s new ts x Set ps stands w k.0 refl refl refl (events Set refl (length (2 ∷ ps) == 1) (one_octet 2 ps)) pad_is asked_is has_entries) wf
+      | inr e ↦ subst P (sym e) (λ w. set_for s new ts x SetAndRead ps stands w k.0 refl refl refl (events SetAndRead refl (length (6 ∷ ps) == 1) (one_octet 6 ps)) pad_is asked_is has_entries) wf
     ]
   where
     events : (c : MessageCode) → is_indication (octets_of c ps) ≡ false → (b : Bool) → b ≡ (length ps == 0) →
-        set_told b x (octets_of c ps) ≡ set_events (other x) ps
+        events_of_set b x (octets_of c ps) ≡ set_events (other x) ps
     events c f true e = ap (λ b. set_events_by b (other x) ps) e
     events c f false e =
         ap (λ b. map (asked (other x)) (filter (λ q. is_parameter q.reference) (pairs_before b ps))) f
         ∙ ap (λ b. set_events_by b (other x) ps) e
 
-pub set_faulted : (s : Settings) (ts : List Told) (x : Side) (c : MessageCode) (ps : List ℕ) → form_fault (octets_of c ps) ≡ None →
+pub set_faulted : (s : Settings) (ts : List PadMessage) (x : Side) (c : MessageCode) (ps : List ℕ) → form_fault (octets_of c ps) ≡ None →
     concern_of (is_side s.pad x) c ≡ Sets → set_fault ps ≡ own_fault s.pad ts (record { from = x; message = octets_of c ps })
 set_faulted s ts x c ps wf h =
     let k = sets_is (is_side s.pad x) c h in
@@ -445,29 +445,29 @@ set_faulted s ts x c ps wf h =
         ∙ set_message_fault x ts c ps set not_indication wf)
 
 -- a read for the PAD
-pub reading : (s new : Settings) (ts : List Told) (x : Side) (c : MessageCode) (ps : List ℕ) → StandsFor s ts → form_fault (octets_of c ps) ≡ None →
-    concern_of (is_side s.pad x) c ≡ Reads → new.pad ≡ s.pad → new.asked ≡ true → ((ws : List What) → TellsAll s ws → TellsAll new ws) →
-    StandsFor new (ts ++ record { from = x; message = octets_of c ps } ∷ [])
-reading s new ts x c ps stands wf h pad_is asked_is tells =
+pub reading : (s new : Settings) (ts : List PadMessage) (x : Side) (c : MessageCode) (ps : List ℕ) → Represents s ts → form_fault (octets_of c ps) ≡ None →
+    concern_of (is_side s.pad x) c ≡ Reads → new.pad ≡ s.pad → new.asked ≡ true → ((ws : List What) → HasEntries s ws → HasEntries new ws) →
+    Represents new (ts ++ record { from = x; message = octets_of c ps } ∷ [])
+reading s new ts x c ps stands wf h pad_is asked_is has_entries =
     let k = reads_is (is_side s.pad x) c h in
-    subst (λ d. form_fault (octets_of d ps) ≡ None → StandsFor new (ts ++ record { from = x; message = octets_of d ps } ∷ [])) (sym k.1) (at k.0) wf
+    subst (λ d. form_fault (octets_of d ps) ≡ None → Represents new (ts ++ record { from = x; message = octets_of d ps } ∷ [])) (sym k.1) (at k.0) wf
   where
     or_true : (b : Bool) → (b || true) ≡ true
     or_true true = refl
     or_true false = refl
 
-    at : is_side s.pad x ≡ false → form_fault (4 ∷ ps) ≡ None → StandsFor new (ts ++ record { from = x; message = 4 ∷ ps } ∷ [])
+    at : is_side s.pad x ≡ false → form_fault (4 ∷ ps) ≡ None → Represents new (ts ++ record { from = x; message = 4 ∷ ps } ∷ [])
     at e wf =
         let asking : asks s.pad (record { from = x; message = 4 ∷ ps }) ≡ true =
         ap (λ b. b && true && is_none (form_fault (4 ∷ ps))) (other_is s.pad x e).1 ∙ ap (λ o. is_none o) wf in
         stands_more s new ts (record { from = x; message = 4 ∷ ps }) stands pad_is
         (asked_is ∙ sym (ap (λ b. s.asked || b) asking ∙ or_true s.asked))
         (along s new [] (settings_after (message_fault x ts (4 ∷ ps)) x (4 ∷ ps)) (sym (after_none (message_fault x ts (4 ∷ ps)) x (4 ∷ ps) refl))
-        (λ ws h k below. tells ws h k below ∙ ap (λ l. entry_at new.pad (k + 1) l) (sym (append-nil ws))))
+        (λ ws h k below. has_entries ws h k below ∙ ap (λ l. entry_at new.pad (k + 1) l) (sym (append-nil ws))))
 
 -- a message with a fault of its own is nothing to a PAD
-pub faulty : (s : Settings) (ts : List Told) (x : Side) (m : List ℕ) → StandsFor s ts → is_none (form_fault m) ≡ false →
-    settings_after (message_fault x ts m) x m ≡ [] → StandsFor s (ts ++ record { from = x; message = m } ∷ [])
+pub faulty : (s : Settings) (ts : List PadMessage) (x : Side) (m : List ℕ) → Represents s ts → is_none (form_fault m) ≡ false →
+    settings_after (message_fault x ts m) x m ≡ [] → Represents s (ts ++ record { from = x; message = m } ∷ [])
 faulty s ts x m stands faulted none =
     stands_more s s ts (record { from = x; message = m }) stands refl
     (or_false s.asked (is_side (other s.pad) x && is_request m && is_none (form_fault m))

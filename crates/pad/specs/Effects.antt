@@ -7,7 +7,7 @@ use Rattle.line_model.specs.declared.event.Entry.TheVariants.{Unknown}
 use Rattle.line_model.specs.declared.event.What.{What}
 use Rattle.line_model.specs.declared.event.What.TheVariants.{Setting, Initial}
 use Rattle.line_model.specs.basics.Octets.{bits}
-use Rattle.line_model.specs.channels.Channels.{Told, other}
+use Rattle.line_model.specs.channels.Channels.{PadMessage, other}
 use Rattle.line_model.specs.channels.FlowControl.{is_side}
 use Rattle.line_model.specs.channels.Pad.{message_fault, settings_after, is_indication, is_set, is_parameter, indicated, asked, Pair}
 use Rattle.pad.specs.Pairs.{pairs_before}
@@ -20,26 +20,26 @@ said pad n w = elim w [
   | _ ↦ None
 ]
 
--- the entry of a parameter: what the last content says that speaks of it (X.3)
+-- the entry of a parameter: what the last content about it says (X.3)
 abbrev pub entry_at : Side → ℕ → List What → Entry
 entry_at pad n ws = unwrap_or (slice_get (filter_map (said pad n) (reverse ws)) 0) Unknown
 
 -- what messages do, the latest of them first (X.29 clause 4.4)
-abbrev pub events_back : List Told → List What
+abbrev pub events_back : List PadMessage → List What
 events_back [] = []
 events_back (t ∷ earlier) =
     events_back earlier ++ settings_after (message_fault t.from (reverse earlier) t.message) t.from t.message
 
 -- what messages do, in order (X.29 clause 4.4)
-abbrev pub events_of : List Told → List What
+abbrev pub events_of : List PadMessage → List What
 events_of ts = events_back (reverse ts)
 
 -- whether a message is an indication of a PAD, or sets its parameters (X.29 clause 4.4)
-abbrev pub concerns : Side → Told → Bool
+abbrev pub concerns : Side → PadMessage → Bool
 concerns pad t = (is_side pad t.from && is_indication t.message) || (is_side (other pad) t.from && is_set t.message)
 
 -- the fault of a well formed message that the settings of a PAD decide: X4 or X3 (profile)
-abbrev pub own_fault : Side → List Told → Told → Option Xcode
+abbrev pub own_fault : Side → List PadMessage → PadMessage → Option Xcode
 own_fault pad ts t = elim (concerns pad t) [ true ↦ message_fault t.from ts t.message | false ↦ None ]
 
 -- what a pair of an indication says, if anything (X.29 clause 4.4.6)

@@ -2,5 +2,5 @@ pub mod Codes
 pub mod Pairs
 pub mod Effects
 pub mod Stands
-pub mod Told
+pub mod MessageEvents
 pub mod Concerns

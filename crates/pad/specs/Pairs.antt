@@ -3,7 +3,7 @@ use Rattle.std.specs.Prelude.{ℕ, Bool, not, List, take_while}
 use Rattle.line_model.specs.channels.Pad as pad
 use Rattle.pad.specs.declared.pairs.Pair.{Pair}
 
--- a pair, as the definitions tell it
+-- a pair, as the definitions have it
 abbrev pub shown : Pair → pad.Pair
 shown p = record { reference = p.reference; value = p.value }
 

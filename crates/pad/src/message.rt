@@ -33,7 +33,7 @@ pub enum MessageCode {
 /// A message without a fault of its own: its code, and the octets after it.
 #[derive(Clone, Copy)]
 pub struct Message<'a> {
-    /// What it is for.
+    /// What the message is for.
     pub code: MessageCode,
     /// The octets after the code.
     pub pairs: &'a [u8],
@@ -44,7 +44,7 @@ impl MessageCode {
     ghost use Rattle.std.specs.Prelude.{ℕ, List};
     ghost use Rattle.line_model.specs.channels.Pad.{is_indication};
 
-    /// Whether it is that of a parameter indication.
+    /// Returns whether it is that of a parameter indication.
     fn is_indication(self) -> bool
         ensures { (pairs : List ℕ) → result ≡ is_indication (octets_of self pairs) }
     {
@@ -55,7 +55,7 @@ impl MessageCode {
 impl<'a> Message<'a> {
     ghost use Rattle.line_model.specs.channels.Pad.{standard_pairs};
 
-    /// The standard pairs of the message, those before the separator.
+    /// Returns the standard pairs of the message, those before the separator.
     pub fn standard_pairs(&self) -> Pairs<'a>
         ensures { result ≡ standard_pairs (octets_of self.now.code self.now.pairs.now) }
     {
@@ -63,7 +63,7 @@ impl<'a> Message<'a> {
     }
 }
 
-/// The message that the octets of a complete sequence with Q 1 are, or its fault, the first of X1 (no octets, bits 8
+/// Returns the message of a complete sequence with Q 1, or its fault, the first of X1 (no octets, bits 8
 /// to 5 not 0, or a code over 8), XL (more than 1,024 octets) and X2 (pairs cut, or a break with anything but no pair
 /// or the pair (8, 1)). The codes, the length and the order are profile.
 pub fn read_message(octets: &[u8]) -> Result<Message<'_>, Xcode>
@@ -86,7 +86,7 @@ pub fn read_message(octets: &[u8]) -> Result<Message<'_>, Xcode>
     Ok(Message { code, pairs })
 }
 
-/// The code of a first octet, `None` where its bits 8 to 5 are not 0, or the code is over 8.
+/// Returns the code of a first octet, `None` where its bits 8 to 5 are not 0, or the code is over 8.
 fn code_of(octet: u8) -> Option<MessageCode>
     ensures { result ≡ code_of octet }
 {
@@ -104,7 +104,7 @@ fn code_of(octet: u8) -> Option<MessageCode>
     }
 }
 
-/// Whether the pairs of a message are cut, or a break carries anything else than its pair.
+/// Returns whether the pairs of a message are cut, or a break carries anything but its pair.
 fn is_badly_formed(code: MessageCode, pairs: &[u8]) -> bool
     ensures { result ≡ is_badly_formed (octets_of code pairs.now) }
 {

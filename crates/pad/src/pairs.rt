@@ -34,7 +34,7 @@ impl<'a> Model for Pairs<'a> {
 }
 
 impl<'a> Pairs<'a> {
-    /// The standard pairs in the octets after the code of a message.
+    /// Returns the standard pairs in the octets after the code of a message.
     pub fn new(indication: bool, octets: &'a [u8]) -> Self
         ensures { result ≡ pairs_before indication octets.entry.now }
     {
@@ -67,7 +67,7 @@ impl Iterator for Pairs<'_> {
     }
 }
 
-/// Whether a pair parts the standard parameters from the national ones.
+/// Returns whether a pair is the separator between the standard and the national parameters.
 fn is_separator(indication: bool, pair: Pair) -> bool
     ensures { result ≡ is_separator indication (shown pair) }
 {

@@ -2,7 +2,7 @@
 
 ghost use Rattle.std.specs.Prelude.{◌≡◌, ◌≤◌, ◌<◌, ◌-◌, ◌+◌, ◌∷◌, ◌++◌, List, [], ℕ, Some, false, flat_map};
 ghost use Rattle.std.specs.List.{list_any};
-ghost use Rattle.line_model.specs.channels.Channels.{Told};
+ghost use Rattle.line_model.specs.channels.Channels.{PadMessage};
 ghost use Rattle.line_model.specs.declared.event.What.{What};
 ghost use Rattle.line_model.specs.channels.Pad.{is_refusable, is_parameter};
 ghost use Rattle.pad.specs.Pairs.{shown};
@@ -16,8 +16,8 @@ use line_model::event::Entry;
 use line_model::finding::Xcode;
 use line_model::state::Side;
 
-/// What is known of parameters 1 to 22 of the PAD of a side, and whether it was asked anything. A contract speaks of
-/// the list of messages that were applied, which nothing stores.
+/// What is known of parameters 1 to 22 of the PAD of a side, and whether it was asked anything. Contracts are about the
+/// list of messages that were applied, which is not stored.
 #[derive(Drop)]
 pub struct Settings {
     pad: Side,
@@ -26,14 +26,14 @@ pub struct Settings {
 }
 
 impl Settings {
-    ghost use Rattle.pad.specs.Stands.{StandsFor, Tells};
-    ghost use Rattle.pad.specs.Told.{told, set_fault, set_events};
+    ghost use Rattle.pad.specs.Stands.{Represents, HasEntries};
+    ghost use Rattle.pad.specs.MessageEvents.{pad_message, set_fault, set_events};
     ghost use Rattle.line_model.specs.channels.FlowControl.{is_side};
 
-    /// Nothing is known of the PAD of a side.
+    /// Returns the settings of the PAD of a side, of which nothing is known.
     pub fn new(pad: Side) -> Settings
         ensures pad { result.pad ≡ pad }
-        ensures stands { StandsFor result [] }
+        ensures stands { Represents result [] }
     {
         Settings {
             pad,
@@ -42,29 +42,30 @@ impl Settings {
         }
     }
 
-    /// What is known of a parameter: what the last message says that speaks of it.
+    /// Returns what is known of a parameter, 1 to 22: what the last message about it says.
     pub fn get(&self, parameter: u8) -> Entry
         requires { (1 ≤ parameter) × (parameter ≤ 22) }
-        ensures { (ts : List Told) → StandsFor self.now ts
+        ensures { (ts : List PadMessage) → Represents self.now ts
             → result ≡ entry_at self.now.pad parameter (events_of ts) }
     {
         let place = usize::from(parameter) - 1;
         self.entries[place]
     }
 
-    /// Takes a message of the call that came from a side. X4 is an indication of a PAD that was asked nothing before,
-    /// and changes nothing; X3 a set, or set and read, with a parameter or value that can't be set, and is applied all
-    /// the same. A message that is neither for this PAD nor an indication from it changes nothing and has no fault.
+    /// Applies a message of the call from a side, and returns its fault after the messages before it (X.29 clause 4;
+    /// the codes are profile). X4 is an indication from a PAD that was asked nothing before, and changes nothing. X3 is
+    /// a set, or set and read, with a parameter or value that can't be set; it is applied all the same. A message that
+    /// is neither for this PAD nor an indication from it has no fault.
     pub fn apply(&mut self, message: &Message<'_>, from: Side) -> Option<Xcode>
         ensures pad { self.new.pad ≡ self.old.pad }
-        ensures fault { (ts : List Told) → StandsFor self.old ts
-            → result ≡ own_fault self.old.pad ts (told from message.now) }
-        ensures stands { (ts : List Told) → StandsFor self.old ts
-            → StandsFor self.new (ts ++ told from message.now ∷ []) }
+        ensures fault { (ts : List PadMessage) → Represents self.old ts
+            → result ≡ own_fault self.old.pad ts (pad_message from message.now) }
+        ensures stands { (ts : List PadMessage) → Represents self.old ts
+            → Represents self.new (ts ++ pad_message from message.now ∷ []) }
         ensures unchanged { result ≡ Some Xcode.X4 → self.new ≡ self.old }
     {
         match concern_of(self.is_own(from), message.code) {
-            Concern::Tells => {
+            Concern::Indicates => {
                 if !self.asked {
                     return Some(Xcode::X4);
                 }
@@ -83,19 +84,19 @@ impl Settings {
         }
     }
 
-    /// Whether a side is that of the PAD.
+    /// Returns whether a side is that of the PAD.
     fn is_own(&self, side: Side) -> bool
         ensures { result ≡ is_side self.now.pad side }
     {
         self.pad == side
     }
 
-    /// Takes the octets after the code of a set; without any, nothing is known any more.
+    /// Applies the octets after the code of a set. Without octets, forgets what is known.
     fn set(&mut self, octets: &[u8]) -> Option<Xcode>
         ensures pad { self.new.pad ≡ self.old.pad }
         ensures asked { self.new.asked ≡ self.old.asked }
-        ensures tells { (ws : List What) → Tells self.old ws
-            → Tells self.new (ws ++ set_events self.old.pad octets.now) }
+        ensures has_entries { (ws : List What) → HasEntries self.old ws
+            → HasEntries self.new (ws ++ set_events self.old.pad octets.now) }
         ensures fault { result ≡ set_fault octets.now }
     {
         if octets.is_empty() {
@@ -114,53 +115,53 @@ impl Settings {
     fn forget(&mut self)
         ensures pad { self.new.pad ≡ self.old.pad }
         ensures asked { self.new.asked ≡ self.old.asked }
-        ensures tells { (ws : List What) → Tells self.new (ws ++ What.Initial self.old.pad ∷ []) }
+        ensures has_entries { (ws : List What) → HasEntries self.new (ws ++ What.Initial self.old.pad ∷ []) }
     {
         self.entries = [Entry::Unknown; 22];
     }
 
-    /// Takes the pairs of a set.
+    /// Applies the pairs of a set.
     fn ask(&mut self, pairs: Pairs<'_>)
         ensures pad { self.new.pad ≡ self.old.pad }
         ensures asked { self.new.asked ≡ self.old.asked }
-        ensures tells { (ws : List What) → Tells self.old ws
-            → Tells self.new (ws ++ flat_map (asked_one self.old.pad) pairs.entry) }
+        ensures has_entries { (ws : List What) → HasEntries self.old ws
+            → HasEntries self.new (ws ++ flat_map (asked_one self.old.pad) pairs.entry) }
     {
         for pair in pairs {
             self.ask_one(pair);
         }
     }
 
-    /// Takes a pair of a set.
+    /// Applies a pair of a set.
     fn ask_one(&mut self, pair: Pair)
         ensures pad { self.new.pad ≡ self.old.pad }
         ensures asked { self.new.asked ≡ self.old.asked }
-        ensures tells { (ws : List What) → Tells self.old ws
-            → Tells self.new (ws ++ asked_one self.old.pad (shown pair)) }
+        ensures has_entries { (ws : List What) → HasEntries self.old ws
+            → HasEntries self.new (ws ++ asked_one self.old.pad (shown pair)) }
     {
         if is_parameter(pair.reference) {
             self.enter(pair.reference, Entry::Asked(pair.value));
         }
     }
 
-    /// Takes the pairs of an indication.
+    /// Applies the pairs of an indication.
     fn indicate(&mut self, pairs: Pairs<'_>)
         ensures pad { self.new.pad ≡ self.old.pad }
         ensures asked { self.new.asked ≡ self.old.asked }
-        ensures tells { (ws : List What) → Tells self.old ws
-            → Tells self.new (ws ++ flat_map (indicated_one self.old.pad) pairs.entry) }
+        ensures has_entries { (ws : List What) → HasEntries self.old ws
+            → HasEntries self.new (ws ++ flat_map (indicated_one self.old.pad) pairs.entry) }
     {
         for pair in pairs {
             self.indicate_one(pair);
         }
     }
 
-    /// Takes a pair of an indication, whose reference has the error mark or not.
+    /// Applies a pair of an indication, whose reference has the error mark or not.
     fn indicate_one(&mut self, pair: Pair)
         ensures pad { self.new.pad ≡ self.old.pad }
         ensures asked { self.new.asked ≡ self.old.asked }
-        ensures tells { (ws : List What) → Tells self.old ws
-            → Tells self.new (ws ++ indicated_one self.old.pad (shown pair)) }
+        ensures has_entries { (ws : List What) → HasEntries self.old ws
+            → HasEntries self.new (ws ++ indicated_one self.old.pad (shown pair)) }
     {
         let parameter = pair.reference % 128;
         if is_parameter(parameter) {
@@ -173,13 +174,13 @@ impl Settings {
         }
     }
 
-    /// Takes what a pair tells of a parameter.
+    /// Records what a pair says of a parameter.
     fn enter(&mut self, parameter: u8, entry: Entry)
         requires { (1 ≤ parameter) × (parameter ≤ 22) }
         ensures pad { self.new.pad ≡ self.old.pad }
         ensures asked { self.new.asked ≡ self.old.asked }
-        ensures tells { (ws : List What) → Tells self.old ws
-            → Tells self.new (ws ++ What.Setting self.old.pad parameter entry ∷ []) }
+        ensures has_entries { (ws : List What) → HasEntries self.old ws
+            → HasEntries self.new (ws ++ What.Setting self.old.pad parameter entry ∷ []) }
     {
         self.entries[usize::from(parameter) - 1] = entry;
     }

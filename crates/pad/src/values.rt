@@ -7,14 +7,14 @@ ghost use Rattle.pad.specs.Pairs.{shown};
 
 use crate::pairs::{Pair, Pairs};
 
-/// Whether a reference is one of the parameters 1 to 22.
+/// Returns whether a reference is one of the parameters 1 to 22.
 pub(crate) fn is_parameter(reference: u8) -> bool
     ensures { result ≡ is_parameter reference }
 {
     (1..=22).contains(&reference)
 }
 
-/// Whether a parameter can't be set, or not to a value.
+/// Returns whether a parameter can't be set, or not to a value.
 fn is_refusable(pair: Pair) -> bool
     ensures { result ≡ is_refusable (shown pair) }
 {
@@ -26,7 +26,7 @@ fn is_refusable(pair: Pair) -> bool
     }
 }
 
-/// Whether a set has a pair that can't be set.
+/// Returns whether a set has a pair that can't be set.
 pub(crate) fn is_refused(pairs: Pairs<'_>) -> bool
     ensures { result ≡ list_any is_refusable pairs.entry }
 {

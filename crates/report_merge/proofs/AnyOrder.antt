@@ -16,7 +16,7 @@ use Rattle.line_model.specs.work.Book.{times, ids_of}
 use Rattle.line_model.proofs.Counting.{bit, times-cons, times-append}
 use Rattle.line_model.proofs.BookTotals.{numbers_law}
 use Rattle.report_merge.specs.declared.row_counts.RowCounts.{RowCounts}
-use Rattle.report_merge.specs.Refusal.{stranger, IsFirstDouble, IsRefusal}
+use Rattle.report_merge.specs.Refusal.{unknown_id, IsFirstDouble, IsRefusal}
 use Rattle.report_merge.specs.Merged.{IsOfWalk}
 
 -- ---- the ids of pieces that are numbered
@@ -64,13 +64,13 @@ once_between n x (p ∷ ps) h le lt = dite (ℕ_discrete n x)
 
 -- ---- what is refused, by how often each id stands
 
-stranger_none : (n : ℕ) (is : List ℕ) → ((x : ℕ) → n ≤ x → times x is ≡ 0) → stranger n is ≡ None
-stranger_none n [] h = refl
-stranger_none n (i ∷ is) h = dite (ℕ_discrete (bit (nat_lt i n)) 1)
+unknown_id_none : (n : ℕ) (is : List ℕ) → ((x : ℕ) → n ≤ x → times x is ≡ 0) → unknown_id n is ≡ None
+unknown_id_none n [] h = refl
+unknown_id_none n (i ∷ is) h = dite (ℕ_discrete (bit (nat_lt i n)) 1)
     (λ e.
     let below : i < n = grind (arith, nat_tests, e) in
     let test : nat_lt i n ≡ true = grind (arith, nat_tests) in
-    ap (λ b. cond (not b) (Some i) (stranger n is)) test ∙ stranger_none n is (λ x le. omega (arith, times-cons x i is, h x le)))
+    ap (λ b. cond (not b) (Some i) (unknown_id n is)) test ∙ unknown_id_none n is (λ x le. omega (arith, times-cons x i is, h x le)))
     (λ ne.
     let above : n ≤ i = grind (arith, nat_tests, ne) in
     let here : bit (eqb i i) ≡ 1 = ap bit (eq-eqb i i refl) in
@@ -96,8 +96,8 @@ memory_alone i rs reports line counts pieces f w refused = at f refused
     count : (x : ℕ) → times x (ids_of reports) ≡ times x (ids (plan i rs))
     count = stands i rs reports w.values
 
-    known : stranger pieces (ids_of reports) ≡ None
-    known = stranger_none pieces (ids_of reports) (λ x le. count x ∙ none_behind 0 x (plan i rs) (numbered i rs) (omega (arith, w.pieces_are)))
+    known : unknown_id pieces (ids_of reports) ≡ None
+    known = unknown_id_none pieces (ids_of reports) (λ x le. count x ∙ none_behind 0 x (plan i rs) (numbered i rs) (omega (arith, w.pieces_are)))
 
     most : (x : ℕ) → times x (ids_of reports) ≤ 1
     most x = dite (ℕ_discrete (bit (nat_lt x (length (plan i rs)))) 1)

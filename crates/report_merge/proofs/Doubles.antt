@@ -8,10 +8,7 @@ use Rattle.line_model.specs.declared.fault.Fault.TheVariants.{Memory, Trace, Rea
 use Rattle.line_model.specs.work.Book.{times}
 use Rattle.line_model.proofs.Counting.{bit, times-cons, times-append}
 use Rattle.report_merge.specs.Seen.{is_among, double_with, double, IsRefused}
-use Rattle.report_merge.specs.Refusal.{stranger, IsDistinct, IsFirstDouble, IsRefusal, IsWhole}
-
-here : (x : ℕ) → bit (eqb x x) ≡ 1
-here x = ap bit (eq-eqb x x refl)
+use Rattle.report_merge.specs.Refusal.{unknown_id, IsDistinct, IsFirstDouble, IsRefusal, IsWhole}
 
 pub some_times : (x : ℕ) (ids : List ℕ) → is_among x ids ≡ true → 0 < times x ids
 some_times x [] h = absurd (true_is_not_false (sym h))
@@ -79,7 +76,7 @@ double_is ids = doubles [] ids (λ k. false) (λ k. refl) (λ x. omega arith)
 pub distinct_from : (ids : List ℕ) → double ids ≡ None → IsDistinct ids
 distinct_from ids e = subst (λ o. MatchOption o (IsDistinct ids) (λ i. IsFirstDouble i ids)) e (double_is ids)
 
-pub refused_from : (f : Fault) (n : ℕ) (ids : List ℕ) → stranger n ids ≡ None → IsRefused f (double ids) → IsRefusal f n ids
+pub refused_from : (f : Fault) (n : ℕ) (ids : List ℕ) → unknown_id n ids ≡ None → IsRefused f (double ids) → IsRefusal f n ids
 refused_from Memory n ids known h = known
 refused_from (Double i) n ids known h = (known, subst (λ o. MatchOption o (IsDistinct ids) (λ i. IsFirstDouble i ids)) h (double_is ids))
 refused_from (Stranger i) n ids known h = absurd h
@@ -89,12 +86,12 @@ refused_from Read n ids known h = absurd h
 refused_from Write n ids known h = absurd h
 refused_from Start n ids known h = absurd h
 
-pub whole_from : (n : ℕ) (ids : List ℕ) → stranger n ids ≡ None → double ids ≡ None → ((k : ℕ) → k < n → is_among k ids ≡ true) → IsWhole n ids
+pub whole_from : (n : ℕ) (ids : List ℕ) → unknown_id n ids ≡ None → double ids ≡ None → ((k : ℕ) → k < n → is_among k ids ≡ true) → IsWhole n ids
 whole_from n ids known once all = record {
   known = known;
   once = λ k lt. omega (arith, distinct_from ids once k, some_times k ids (all k lt));
 }
 
-pub missing_from : (i n : ℕ) (ids : List ℕ) → stranger n ids ≡ None → double ids ≡ None → i < n → is_among i ids ≡ false → ((k : ℕ) → k < i → is_among k ids ≡ true) → IsRefusal (Missing i) n ids
+pub missing_from : (i n : ℕ) (ids : List ℕ) → unknown_id n ids ≡ None → double ids ≡ None → i < n → is_among i ids ≡ false → ((k : ℕ) → k < i → is_among k ids ≡ true) → IsRefusal (Missing i) n ids
 missing_from i n ids known once below absent least =
     (known, distinct_from ids once, record { below = below; absent = no_times i ids absent; least = λ k lt. some_times k ids (least k lt) })

@@ -7,5 +7,5 @@ pub mod OfWalk
 pub mod Posted
 pub mod GatheredLemmas
 pub mod EmptyStructs
-pub mod Strangers
+pub mod UnknownIds
 pub mod Taken

@@ -34,23 +34,23 @@ use Rattle.line_model.proofs.Peaks.{peak_unique}
 
 -- ---- data packets are of channels alone
 
-abbrev tells_data : What → Bool
-tells_data (Data x n) = true
-tells_data w = false
+abbrev is_data_event : What → Bool
+is_data_event (Data x n) = true
+is_data_event w = false
 
-line_tells_none : (r : Item) (v : Route) → how_many tells_data (route_found r v) ≡ 0
-line_tells_none r (ErrorFound s n) = refl
-line_tells_none r (Leave (Some n)) = refl
-line_tells_none r v = refl
+line_is_no_data : (r : Item) (v : Route) → how_many is_data_event (route_found r v) ≡ 0
+line_is_no_data r (ErrorFound s n) = refl
+line_is_no_data r (Leave (Some n)) = refl
+line_is_no_data r v = refl
 
-lengths_apart : (vs : List (RowEvent Item What)) → filter (λ v. tells_data v.what) (filter is_line vs) ≡ []
+lengths_apart : (vs : List (RowEvent Item What)) → filter (λ v. is_data_event v.what) (filter is_line vs) ≡ []
     → all_lengths (map event_of vs) ≡ all_lengths (map event_of (filter (λ v. not (is_line v)) vs))
 lengths_apart [] h = refl
 lengths_apart (v ∷ vs) h = at v.channel v.what h (lengths_apart vs)
   where
     at : (c : Option ℕ) (w : What)
-        → filter (λ v. tells_data v.what) (filter is_line (record { epoch = v.epoch; channel = c; row = v.row; what = w } ∷ vs)) ≡ []
-        → (filter (λ v. tells_data v.what) (filter is_line vs) ≡ [] → all_lengths (map event_of vs) ≡ all_lengths (map event_of (filter (λ v. not (is_line v)) vs)))
+        → filter (λ v. is_data_event v.what) (filter is_line (record { epoch = v.epoch; channel = c; row = v.row; what = w } ∷ vs)) ≡ []
+        → (filter (λ v. is_data_event v.what) (filter is_line vs) ≡ [] → all_lengths (map event_of vs) ≡ all_lengths (map event_of (filter (λ v. not (is_line v)) vs)))
         → all_lengths (map event_of (record { epoch = v.epoch; channel = c; row = v.row; what = w } ∷ vs))
         ≡ all_lengths (map event_of (filter (λ v. not (is_line v)) (record { epoch = v.epoch; channel = c; row = v.row; what = w } ∷ vs)))
     at None (Data x n) h later = absurd (cc)
@@ -60,7 +60,7 @@ lengths_apart (v ∷ vs) h = at v.channel v.what h (lengths_apart vs)
 
 lengths_of_channels : (i : Interface) (rs : List Item) → all_lengths (events i rs) ≡ all_lengths (channel_events_of i rs)
 lengths_of_channels i rs =
-    lengths_apart (walk_events (x25 i) (start i) rs) (line_none (x25 i) tells_data (λ e l x. line_tells_none x (routing l x).route) (start i) rs)
+    lengths_apart (walk_events (x25 i) (start i) rs) (line_none (x25 i) is_data_event (λ e l x. line_is_no_data x (routing l x).route) (start i) rs)
 
 -- ---- the parts of the report
 

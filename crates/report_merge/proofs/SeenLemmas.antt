@@ -3,7 +3,7 @@ use Rattle.std.proofs.Common.{◌≡◌, ℕ, zero, suc, ◌+◌, ◌<◌, ◌==
 use Rattle.std.proofs.lemmas.Bool.Decides.{nat_tests}
 use Rattle.std.proofs.lemmas.List.Sums.{sum_by-cons}
 use Rattle.report_merge.specs.Seen.{double_with, is_among}
-use Rattle.report_merge.specs.Refusal.{stranger}
+use Rattle.report_merge.specs.Refusal.{unknown_id}
 
 later_apart : (k : ℕ) → (suc k == 0) ≡ false
 later_apart k = grind (arith, nat_tests)
@@ -36,10 +36,10 @@ count-marked (b ∷ s) (suc i) lt off =
     let later = count-marked s i (omega arith) off in
     omega (arith, sum_by-cons (λ (b : Bool). cond b 1 0) b s, sum_by-cons (λ (b : Bool). cond b 1 0) b (set s i true))
 
-pub stranger-more : (n i : ℕ) (is : List ℕ) → stranger n (i ∷ is) ≡ None → (i < n) × (stranger n is ≡ None)
-stranger-more n i is h = at (nat_lt i n) refl h
+pub unknown_id-more : (n i : ℕ) (is : List ℕ) → unknown_id n (i ∷ is) ≡ None → (i < n) × (unknown_id n is ≡ None)
+unknown_id-more n i is h = at (nat_lt i n) refl h
   where
-    at : (b : Bool) → nat_lt i n ≡ b → cond (not b) (Some i) (stranger n is) ≡ None → (i < n) × (stranger n is ≡ None)
+    at : (b : Bool) → nat_lt i n ≡ b → cond (not b) (Some i) (unknown_id n is) ≡ None → (i < n) × (unknown_id n is ≡ None)
     at true e k = (grind (arith, nat_tests), k)
     at false e k = absurd (cc)
 
@@ -49,20 +49,20 @@ among-more true false a b h = h
 among-more false true a b h = h
 among-more false false a b h = h
 
-pub known_next : (ids : List ℕ) (i p : ℕ) (pieces : ℕ) → drop i ids ≡ p ∷ drop (i + 1) ids → stranger pieces (drop i ids) ≡ None
-    → (p < pieces) × (stranger pieces (drop (i + 1) ids) ≡ None)
-known_next ids i p pieces is known = stranger-more pieces p (drop (i + 1) ids) (subst (λ l. stranger pieces l ≡ None) is known)
+pub known_next : (ids : List ℕ) (i p : ℕ) (pieces : ℕ) → drop i ids ≡ p ∷ drop (i + 1) ids → unknown_id pieces (drop i ids) ≡ None
+    → (p < pieces) × (unknown_id pieces (drop (i + 1) ids) ≡ None)
+known_next ids i p pieces is known = unknown_id-more pieces p (drop (i + 1) ids) (subst (λ l. unknown_id pieces l ≡ None) is known)
 
 -- one more id that was not seen
 pub record IsMarked (ids : List ℕ) (i p : ℕ) (seen : List Bool) (pieces : ℕ) : Type 0 where
   pub at : drop i ids ≡ p ∷ drop (i + 1) ids
   pub len : length seen ≡ pieces
   pub off : get_or seen p false ≡ false
-  pub known : stranger pieces (drop i ids) ≡ None
+  pub known : unknown_id pieces (drop i ids) ≡ None
 
-pub marked_known : (ids : List ℕ) (i p : ℕ) (seen : List Bool) (pieces : ℕ) → IsMarked ids i p seen pieces → (p < pieces) × (stranger pieces (drop (i + 1) ids) ≡ None)
+pub marked_known : (ids : List ℕ) (i p : ℕ) (seen : List Bool) (pieces : ℕ) → IsMarked ids i p seen pieces → (p < pieces) × (unknown_id pieces (drop (i + 1) ids) ≡ None)
 marked_known ids i p seen pieces h =
-    stranger-more pieces p (drop (i + 1) ids) (subst (λ l. stranger pieces l ≡ None) h.at h.known)
+    unknown_id-more pieces p (drop (i + 1) ids) (subst (λ l. unknown_id pieces l ≡ None) h.at h.known)
 
 pub marked_seen : (ids : List ℕ) (i p : ℕ) (seen : List Bool) (pieces : ℕ) → IsMarked ids i p seen pieces
     → ((k : ℕ) → (get_or seen k false || is_among k (drop i ids)) ≡ is_among k ids)

@@ -1,5 +1,5 @@
 -- A list of lists from one of which an element is taken.
-use Rattle.std.proofs.Common.{◌≡◌, ◌∙◌, ℕ, zero, suc, ◌<◌, List, [], ◌∷◌, ◌++◌, length, append-nil, get_or, set, sym, ap, subst, arith, Option, Some, None, IfSome, IfNone, flat_map}
+use Rattle.std.proofs.Common.{◌≡◌, ◌∙◌, ℕ, zero, suc, ◌<◌, List, [], ◌∷◌, ◌++◌, length, get_or, set, sym, ap, subst, arith, Option, Some, None, IfSome, IfNone, flat_map}
 use Rattle.std.specs.Option.{option_to_list}
 use Rattle.std.specs.List.Sorted.{IsPermutation}
 use Rattle.std.proofs.lemmas.List.{flat_map_more}
@@ -28,13 +28,6 @@ none_taken f ls i l m (Some x) lt is e = tt
 pub some_taken : {T X : Type 0} → (f : T → List X) (ls : List T) (i : ℕ) (l m : T) (o : Option X) → i < length ls → l ≡ get_or ls i l → f l ≡ option_to_list o ++ f m → IfSome o (λ x. IsPermutation (flat_map f ls) (x ∷ flat_map f (set ls i m)))
 some_taken f ls i l m None lt is e = tt
 some_taken f ls i l m (Some x) lt is e = first_taken f ls i l m x lt is e
-
--- the last of some lists, where it is the only one
-pub only : {X : Type 0} → (lists rest : List (List X)) (last : List X) → lists ≡ rest ++ last ∷ [] → rest ≡ [] → IsPermutation (flat_map (λ l. l) lists) last
-only lists rest last is none =
-    let one : lists ≡ last ∷ [] = is ∙ ap (λ ls. ls ++ last ∷ []) none in
-    subst (λ ls. IsPermutation (flat_map (λ l. l) ls) last) (sym one)
-    (subst (λ l. IsPermutation l last) (sym (append-nil last)) (IsPermutation-refl last))
 
 -- calls with those of some lists after them, in any order
 pub merged_after : {X : Type 0} → (calls : List X) (lists : List (List X)) (list all : List X) → IsPermutation (flat_map (λ l. l) lists) list → all ≡ calls ++ list → IsPermutation (calls ++ flat_map (λ l. l) lists) all

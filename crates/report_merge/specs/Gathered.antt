@@ -1,4 +1,4 @@
--- What the reports of pieces give, put together.
+-- The results of pieces, put together.
 use Rattle.std.specs.Prelude.{◌≡◌, ℕ, ◌≤◌, ◌+◌, ◌*◌, ◌^◌, ◌++◌, List, length, sum_by, All}
 use Rattle.std.specs.List.{flat_map}
 use Rattle.std.specs.List.Sorted.{IsPermutation, IsNonDecreasingBy}
@@ -23,7 +23,7 @@ calls_in lists = flat_map (λ l. l.items) lists
 abbrev pub calls_of_lists : List (List CallRecord) → List CallRecord
 calls_of_lists lists = flat_map (λ l. l) lists
 
--- so many pieces, their findings and calls, and their octets and segments
+-- a count of pieces, their findings and calls, and their octets and segments
 pub record Gathered : Type 0 where
   pub pieces : ℕ
   pub findings : List Finding
@@ -41,11 +41,11 @@ gathered ps = record {
   segments = sum_by (λ p. p.segments) ps;
 }
 
--- what they count for
+-- their totals
 abbrev pub counted : Gathered → Totals
 counted g = record { posts = g.pieces; findings = length g.findings; octets = g.octets; segments = g.segments }
 
--- what the second gives, after the first
+-- the results of two, one after the other
 abbrev pub joined : Gathered → Gathered → Gathered
 joined g h = record {
   pieces = g.pieces + h.pieces;
@@ -55,7 +55,7 @@ joined g h = record {
   segments = g.segments + h.segments;
 }
 
--- what these reports give, with each list in any order
+-- the results of these reports, with each list in any order
 pub record AreGathered (ps : List PieceReport) (g : Gathered) : Type 0 where
   pub number : g.pieces ≡ length ps
   pub same_findings : IsPermutation (piece_findings ps) g.findings
@@ -81,19 +81,19 @@ pub record AreSorted (g h : Gathered) : Type 0 where
   pub same_octets : h.octets ≡ g.octets
   pub same_segments : h.segments ≡ g.segments
 
--- no number that a report counts for is great
+-- the numbers of a report are at most 2^31
 pub record IsSmall (r : PieceReport) : Type 0 where
   pub findings : length r.findings ≤ 2 ^ 31
   pub octets : r.octets ≤ 2 ^ 31
   pub segments : r.segments ≤ 2 ^ 31
 
--- the ids of some reports, and what they give
+-- the ids of some reports, and their results
 pub record IsBundle (ps : List PieceReport) (ids : List ℕ) (g : Gathered) : Type 0 where
   pub ids_are : ids ≡ ids_of ps
   pub gathered : AreGathered ps g
   pub small : All IsSmall ps
 
--- no more octets and segments than so many pieces may have, and calls of no more segments than those
+-- at most the octets and segments that this many pieces may have, and calls with at most these segments
 pub record AreFew (pieces : ℕ) (calls : List CallRecord) (octets segments : ℕ) : Type 0 where
   pub few_octets : octets ≤ 2 ^ 31 * pieces
   pub few_segments : segments ≤ 2 ^ 31 * pieces

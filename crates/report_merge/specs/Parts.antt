@@ -9,7 +9,7 @@ use Rattle.line_model.specs.declared.finding.Finding.{Finding}
 abbrev pub findings_text : List Finding → List ℕ
 findings_text findings = flat_map finding_line findings
 
--- the lines of a report behind its findings
+-- the lines of a report after its findings
 abbrev pub rest_text : Report → List ℕ
 rest_text r =
     flat_map call_line (enumerate_from 1 r.calls)

@@ -1,4 +1,4 @@
-//! A list of calls that knows whether it is in order.
+//! A list of calls, and whether it is known to be in order.
 
 ghost use Rattle.std.specs.Prelude.{◌≡◌, ◌≤◌, ◌<◌, ◌-◌, ◌++◌, ◌∷◌, [], length, slice_index_or, vec_len, IfOk, IfErr, OnErr, OnOk};
 ghost use Rattle.std.specs.Bool.{OnTrue};
@@ -43,7 +43,7 @@ fn comes_next<A: Allocator>(calls: &[CallRecord<A>], call: &CallRecord<A>) -> bo
 }
 
 impl<A: Allocator> CallList<A> {
-    /// These calls, in any order.
+    /// Returns a list of these calls, in any order.
     pub(crate) fn of(calls: Vec<CallRecord<A>, A>) -> Self
         ensures { result ≡ calls.items }
     {
@@ -53,7 +53,7 @@ impl<A: Allocator> CallList<A> {
         }
     }
 
-    /// No calls, with room for so many.
+    /// Returns an empty list with room for `capacity` calls.
     pub(crate) fn with_capacity(alloc: A, capacity: usize) -> Result<Self, AllocError>
         ensures { IfOk result (λ list. list ≡ []) }
     {
@@ -86,7 +86,7 @@ impl<A: Allocator> CallList<A> {
         }
     }
 
-    /// Appends a call. Where memory is refused nothing changes.
+    /// Appends a call. Fails only when memory is refused; nothing has changed then.
     pub(crate) fn push(&mut self, call: CallRecord<A>) -> Result<(), AllocError>
         ensures { OnOk result (self.new ≡ self.old ++ call ∷ []) }
     {
@@ -96,8 +96,8 @@ impl<A: Allocator> CallList<A> {
         Ok(())
     }
 
-    /// Appends calls. They become the list where it is empty, and are not moved then. Where memory is refused the calls of
-    /// the list stay.
+    /// Appends calls. They become the list where it is empty, and are not moved then. Fails only when memory is
+    /// refused; the calls of this list are kept then.
     pub(crate) fn append(&mut self, other: Self) -> Result<(), AllocError>
         ensures ok { OnOk result (self.new ≡ self.old ++ other) }
         ensures refused { OnErr result (self.new ≡ self.old) }
@@ -119,21 +119,21 @@ impl<A: Allocator> CallList<A> {
         Ok(())
     }
 
-    /// The packets that opened the first of the calls and the last, where there are calls.
+    /// Returns the packets that opened the first call and the last, where there are calls.
     pub(crate) fn first_and_last(&self) -> Option<(u32, u32)> {
         let first = self.calls.first()?;
         let last = self.calls.last()?;
         Some((first.opened, last.opened))
     }
 
-    /// The calls.
+    /// Returns the calls.
     pub(crate) fn as_slice(&self) -> &[CallRecord<A>]
         ensures { result.now ≡ self.now }
     {
         self.calls.as_slice()
     }
 
-    /// The calls as a list.
+    /// Returns the calls as a list.
     pub(crate) fn into_calls(self) -> Vec<CallRecord<A>, A>
         ensures { result.items ≡ self }
     {
@@ -143,8 +143,8 @@ impl<A: Allocator> CallList<A> {
 }
 
 impl<A: Allocator + Clone> CallList<A> {
-    /// Puts the calls in order, unless they are known to be. Fails only where memory is refused, and leaves them as they
-    /// were then.
+    /// Sorts the calls, unless they are known to be in order. Fails only where memory is refused, and leaves them as
+    /// they were then.
     pub(crate) fn sort(&mut self) -> Result<(), AllocError>
         ensures permutation { IsPermutation self.old self.new }
         ensures sorted { OnOk result (IsNonDecreasingBy (λ (c : records.CallRecord). c.opened) self.new) }
@@ -156,7 +156,7 @@ impl<A: Allocator + Clone> CallList<A> {
         Ok(())
     }
 
-    /// The same once more. It refuses for want of memory alone.
+    /// Returns a copy. Fails only when memory is refused.
     pub(crate) fn copy(&self) -> Result<Self, Fault>
         ensures same { IfOk result (λ list. list ≡ self.now) }
         ensures memory { IfErr result (λ fault. fault ≡ Memory) }

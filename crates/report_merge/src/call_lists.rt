@@ -9,13 +9,14 @@ use crate::merged_calls::merged_calls;
 use std::alloc::{AllocError, Allocator};
 use std::marker::Model;
 
-/// Calls whose lists come by and by. Lists stay apart until one begins after all of them: then they are merged, and
-/// appended to what was merged before. So a list that stands by itself is appended as it is. Contracts see all calls.
+/// Calls whose lists are added one by one. Lists stay apart until one begins after all of them; then they are merged,
+/// and appended to what was merged before. So a list that overlaps no other is appended as it is. Contracts see all
+/// calls.
 #[derive(Drop)]
 pub(crate) struct CallLists<A: Allocator> {
     merged: CallList<A>,
     lists: Vec<CallList<A>, A>,
-    /// No call of the lists was opened by a later packet.
+    /// The last packet that opened a call of the lists.
     last: u32,
 }
 
@@ -29,7 +30,7 @@ impl<A: Allocator> Model for CallLists<A> {
     ghost view = { λ l. l.merged ++ calls_of_lists l.lists.items };
 }
 
-/// The calls of some lists, in one. Fails only where memory is refused.
+/// Returns the calls of some lists in one. Fails only when memory is refused.
 fn in_one<A: Allocator + Clone>(
     alloc: A,
     lists: Vec<CallList<A>, A>,
@@ -47,7 +48,7 @@ fn in_one<A: Allocator + Clone>(
     merged_calls(alloc, lists)
 }
 
-/// Calls with those of some lists after them.
+/// Returns calls with those of some lists after them.
 fn with_lists<A: Allocator + Clone>(
     calls: CallList<A>,
     lists: Vec<CallList<A>, A>,
@@ -61,7 +62,7 @@ fn with_lists<A: Allocator + Clone>(
 }
 
 impl<A: Allocator + Clone> CallLists<A> {
-    /// No lists, with the allocators of the calls and of the lists.
+    /// Returns no lists, with the allocators of the calls and of the lists.
     pub(crate) fn new(of_calls: A, of_lists: A) -> Self
         ensures { result ≡ [] }
     {
@@ -72,7 +73,7 @@ impl<A: Allocator + Clone> CallLists<A> {
         }
     }
 
-    /// The same before a list is added: the lists are merged if it begins after them.
+    /// Merges the lists if this list begins after all of them.
     fn before(self, list: &CallList<A>) -> Result<Self, AllocError>
         ensures { IfOk result (λ same. IsPermutation self same) }
     {
@@ -100,7 +101,7 @@ impl<A: Allocator + Clone> CallLists<A> {
         })
     }
 
-    /// The same with one more list. Fails only where memory is refused.
+    /// Adds a list, and returns all of them. Fails only when memory is refused.
     pub(crate) fn with(self, list: CallList<A>) -> Result<Self, AllocError>
         ensures { IfOk result (λ all. IsPermutation (self ++ list) all) }
     {
@@ -117,8 +118,8 @@ impl<A: Allocator + Clone> CallLists<A> {
         })
     }
 
-    /// All calls in one list. They are in the order of the packets that opened them where those of each list are. Fails
-    /// only where memory is refused.
+    /// Returns all calls in one list, in the order of the packets that opened them where each list is in order. Fails
+    /// only when memory is refused.
     pub(crate) fn into_one(self) -> Result<CallList<A>, AllocError>
         ensures { IfOk result (λ list. IsPermutation self list) }
     {

@@ -2,14 +2,14 @@
 
 ghost use Rattle.std.specs.Prelude.{◌≡◌, ℕ, ◌<◌, ◌≤◌, length, IfOk, IfErr, OnOk, None, MatchOption, slice_index_or, true, false, vec_len};
 ghost use Rattle.report_merge.specs.Seen.{double, is_among, IsRefused};
-ghost use Rattle.report_merge.specs.Refusal.{stranger, IsRefusal, IsWhole};
+ghost use Rattle.report_merge.specs.Refusal.{unknown_id, IsRefusal, IsWhole};
 
 use line_model::fault::Fault;
 use std::alloc::Allocator;
 
-/// The first id that is not of the plan.
-pub fn first_stranger(ids: &[u32], pieces: u32) -> Option<u32>
-    ensures { result ≡ stranger pieces ids.now }
+/// Returns the first id that is not of the plan.
+pub fn first_unknown_id(ids: &[u32], pieces: u32) -> Option<u32>
+    ensures { result ≡ unknown_id pieces ids.now }
 {
     for id in ids {
         if *id >= pieces {
@@ -19,9 +19,9 @@ pub fn first_stranger(ids: &[u32], pieces: u32) -> Option<u32>
     None
 }
 
-/// Which ids there are, where none stands twice.
+/// Returns a flag for each id, set where it occurs. Fails when an id occurs twice, or when memory is refused.
 fn seen_ids<A: Allocator>(alloc: A, ids: &[u32], pieces: u32) -> Result<Vec<bool, A>, Fault>
-    requires known { stranger pieces ids.now ≡ None }
+    requires known { unknown_id pieces ids.now ≡ None }
     ensures seen { IfOk result (λ v. (k : ℕ) → slice_index_or v.items k false
         ≡ is_among k ids.now) }
     ensures len { IfOk result (λ v. vec_len v ≡ pieces) }
@@ -39,7 +39,7 @@ fn seen_ids<A: Allocator>(alloc: A, ids: &[u32], pieces: u32) -> Result<Vec<bool
     Ok(seen)
 }
 
-/// The least place that is not marked.
+/// Returns the least id whose flag is not set.
 fn first_unmarked(seen: &[bool]) -> Option<usize>
     ensures { MatchOption result
         ((k : ℕ) → k < length seen.now → slice_index_or seen.now k false ≡ true)
@@ -54,9 +54,10 @@ fn first_unmarked(seen: &[bool]) -> Option<usize>
     None
 }
 
-/// Refuses ids of a plan that don't stand once each.
+/// Checks that each id below `pieces` occurs once. Fails with the first that occurs twice, otherwise with the least
+/// absent one, or when memory is refused.
 pub fn judge<A: Allocator>(alloc: A, ids: &[u32], pieces: u32) -> Result<(), Fault>
-    requires known { stranger pieces ids.now ≡ None }
+    requires known { unknown_id pieces ids.now ≡ None }
     ensures whole { OnOk result (IsWhole pieces ids.now) }
     ensures refused { IfErr result (λ f. IsRefusal f pieces ids.now) }
 {

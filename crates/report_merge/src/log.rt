@@ -1,11 +1,11 @@
-//! A list of values that contracts alone see. It takes no room, and its functions do nothing when they run.
+//! A list of values that only contracts see. It has no bytes, and its functions do nothing when they run.
 
 ghost use Rattle.std.specs.Prelude.{◌≡◌, List, [], ◌∷◌, ◌++◌};
 ghost use Rattle.std.specs.Borrow.{ftrue};
 
 use std::marker::{Model, PhantomData};
 
-/// The values that were seen so far.
+/// The values so far.
 #[derive(Drop)]
 pub(crate) struct Log<T> {
     of: PhantomData<T>,
@@ -16,18 +16,18 @@ impl<T> Model for Log<T> {
     ghost also_owns = { λ _. ftrue };
 }
 
-// It owns nothing.
+// A log has no value of `T`.
 unsafe impl<T: Send> Send for Log<T> {}
 
 impl<T> Log<T> {
-    /// No values yet.
+    /// Returns the log without values.
     pub(crate) fn new() -> Log<T>
         ensures { result.items ≡ [] }
     {
         Log { of: PhantomData }
     }
 
-    /// The values before, and one more.
+    /// Returns the log with one more value.
     pub(crate) fn and(&self, item: &T) -> Log<T>
         ensures { result.items ≡ self.now.items ++ item.now ∷ [] }
     {

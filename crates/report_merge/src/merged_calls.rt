@@ -9,15 +9,15 @@ use line_model::call::CallRecord;
 use std::alloc::{AllocError, Allocator};
 use std::collections::VecDeque;
 
-/// The packet that opened a call, and the list that the call is to come from.
+/// The packet that opened a call, and the list that has the call.
 #[derive(Drop)]
-struct Turn {
+struct ListTurn {
     packet: u32,
     list: u32,
 }
 
-/// The turns of the calls of some lists: each names the list that its call is to come from.
-fn turns_of<A: Allocator>(alloc: A, lists: &[CallList<A>]) -> Result<Vec<Turn, A>, AllocError>
+/// Returns the turns of the calls of some lists, each with the list that has its call.
+fn turns_of<A: Allocator>(alloc: A, lists: &[CallList<A>]) -> Result<Vec<ListTurn, A>, AllocError>
     ensures { IfOk result (λ turns. All (λ turn. turn.list < length lists.now) turns.items) }
 {
     let mut turns = Vec::new(alloc);
@@ -26,7 +26,7 @@ fn turns_of<A: Allocator>(alloc: A, lists: &[CallList<A>]) -> Result<Vec<Turn, A
             return Err(AllocError);
         };
         for call in calls.as_slice() {
-            turns.push(Turn {
+            turns.push(ListTurn {
                 packet: call.opened,
                 list,
             })?;
@@ -35,7 +35,7 @@ fn turns_of<A: Allocator>(alloc: A, lists: &[CallList<A>]) -> Result<Vec<Turn, A
     Ok(turns)
 }
 
-/// The same lists, from whose front calls can be taken.
+/// Returns the lists as queues, so that calls can be removed from the front.
 fn queues<A: Allocator>(
     alloc: A,
     lists: Vec<CallList<A>, A>,
@@ -50,7 +50,7 @@ fn queues<A: Allocator>(
     Ok(queues)
 }
 
-/// Takes the first call out of one of the lists, if it has any.
+/// Removes and returns the first call of one of the lists, if it has any.
 fn take_first<A: Allocator>(
     lists: &mut Vec<VecDeque<CallRecord<A>, A>, A>,
     place: usize,
@@ -64,10 +64,10 @@ fn take_first<A: Allocator>(
     lists[place].pop_front()
 }
 
-/// Moves calls by turns, each from the front of the list that its turn names.
+/// Moves calls in the order of turns, each from the front of the list of its turn.
 fn take_turns<A: Allocator>(
     lists: &mut Vec<VecDeque<CallRecord<A>, A>, A>,
-    turns: &[Turn],
+    turns: &[ListTurn],
     merged: &mut CallList<A>,
 ) -> Result<(), AllocError>
     requires { All (λ turn. turn.list < vec_len lists.old) turns.now }
@@ -82,7 +82,7 @@ fn take_turns<A: Allocator>(
     Ok(())
 }
 
-/// Appends what is left in some lists.
+/// Appends the rest of some lists.
 fn append_rest<A: Allocator>(
     merged: CallList<A>,
     lists: Vec<VecDeque<CallRecord<A>, A>, A>,
@@ -96,7 +96,7 @@ fn append_rest<A: Allocator>(
     Ok(all)
 }
 
-/// The calls of some lists in one. They are in the order of the packets that opened them where those of each list are.
+/// Returns the calls of some lists in one, in the order of the packets that opened them where each list is in order.
 /// Fails where memory is refused, or where there are more than 2^32 lists.
 pub(crate) fn merged_calls<A: Allocator + Clone>(
     alloc: A,

@@ -3,11 +3,11 @@
 ghost use Rattle.std.specs.Prelude.{◌≡◌, IfOk, IfErr};
 ghost use Rattle.std.specs.List.{flat_map};
 ghost use Rattle.line_model.specs.work.Book.{ids_of};
-ghost use Rattle.report_merge.specs.Refusal.{stranger, IsRefusal, IsWhole};
+ghost use Rattle.report_merge.specs.Refusal.{unknown_id, IsRefusal, IsWhole};
 ghost use Rattle.report_merge.specs.Gathered.{AreGathered};
 ghost use Rattle.report_merge.specs.Merged.{IsMemoryOfWalk, IsMerged, IsReportOfWalk};
 
-use crate::judge::{first_stranger, judge};
+use crate::judge::{first_unknown_id, judge};
 use crate::part_lists::PartLists;
 use crate::parts::Parts;
 use crate::reports::Reports;
@@ -17,19 +17,19 @@ use line_model::finding::Finding;
 use line_model::report::Report;
 use std::alloc::{AllocError, Allocator};
 
-/// The first id that is not of the plan.
-fn stranger_of<A: Allocator, T: Reports<A>>(reports: &[T], pieces: u32) -> Option<u32>
-    ensures { result ≡ stranger pieces (ids_of (flat_map T.reports reports.now)) }
+/// Returns the first id that is not of the plan.
+fn unknown_id_of<A: Allocator, T: Reports<A>>(reports: &[T], pieces: u32) -> Option<u32>
+    ensures { result ≡ unknown_id pieces (ids_of (flat_map T.reports reports.now)) }
 {
     for some in reports {
-        if let Some(id) = first_stranger(some.ids(), pieces) {
+        if let Some(id) = first_unknown_id(some.ids(), pieces) {
             return Some(id);
         }
     }
     None
 }
 
-/// The ids of all pieces.
+/// Returns the ids of all pieces.
 fn all_ids<A: Allocator, T: Reports<A>>(alloc: A, reports: &[T]) -> Result<Vec<u32, A>, AllocError>
     ensures { IfOk result (λ ids. ids.items ≡ ids_of (flat_map T.reports reports.now)) }
 {
@@ -40,8 +40,8 @@ fn all_ids<A: Allocator, T: Reports<A>>(alloc: A, reports: &[T]) -> Result<Vec<u
     Ok(ids)
 }
 
-/// Puts what pieces give together, those with the first ids first. The calls are in the order of the packets that opened
-/// them where those of each report are.
+/// Puts the results of pieces together, those with the first ids first. The calls are in the order of the packets that
+/// opened them where those of each report are.
 fn gather<A: Allocator + Clone, T: Reports<A> + Drop>(
     alloc: A,
     mut reports: Vec<T, A>,
@@ -49,7 +49,7 @@ fn gather<A: Allocator + Clone, T: Reports<A> + Drop>(
     ensures { IfOk result (AreGathered (flat_map T.reports reports.items)) }
 {
     reports.sort_unstable_by_key(|some| some.ids().first().copied());
-    let mut lists = PartLists::new(alloc.clone()?, alloc.clone()?, alloc);
+    let mut lists = PartLists::new(alloc)?;
     for some in reports {
         lists = lists.with(some.into_parts())?;
     }
@@ -57,9 +57,9 @@ fn gather<A: Allocator + Clone, T: Reports<A> + Drop>(
 }
 
 /// Merges the reports of pieces, or of bundles of pieces, in any order, with the findings of the restart machine, for a
-/// trace of these rows and of so many pieces. `Stranger` is the first report whose id is not below the number of pieces; else
-/// `Double` the first whose id stands before it; else `Missing` the least id that is absent; and `Memory`. The order of a
-/// report is profile.
+/// trace of these rows and `pieces` pieces. Fails with `Stranger`, the first report whose id is not below `pieces`;
+/// else with `Double`, the first whose id came before it; else with `Missing`, the least absent id; or with `Memory`.
+/// The order of a report is profile.
 pub fn merge<A: Allocator + Clone, T: Reports<A> + Drop>(
     alloc: A,
     reports: Vec<T, A>,
@@ -73,7 +73,7 @@ pub fn merge<A: Allocator + Clone, T: Reports<A> + Drop>(
     ensures refused { IfErr result (λ f. IsRefusal f pieces (ids_of (flat_map T.reports reports.items))) }
     ensures plan { IfErr result (IsMemoryOfWalk (flat_map T.reports reports.items) line.items rows pieces) }
 {
-    if let Some(id) = stranger_of(&reports, pieces) {
+    if let Some(id) = unknown_id_of(&reports, pieces) {
         return Err(Fault::Stranger(id));
     }
     let ids = all_ids(alloc.clone()?, &reports)?;

@@ -1,6 +1,6 @@
-//! What pieces give, as their reports come.
+//! The results of pieces, merged as their reports come.
 
-ghost use Rattle.std.specs.Prelude.{◌≡◌, ◌+◌, ◌<◌, ◌^◌, ◌++◌, ◌∷◌, [], List, length, IfOk, IfErr, OnErr, OnOk};
+ghost use Rattle.std.specs.Prelude.{◌≡◌, ◌+◌, ◌<◌, ◌≤◌, ◌^◌, ◌++◌, ◌∷◌, [], List, length, sum_by, IfOk, IfErr, OnErr, OnOk};
 ghost use Rattle.line_model.specs.basics.Records as records;
 ghost use Rattle.line_model.specs.declared.interface.Interface.{Interface};
 ghost use Rattle.line_model.specs.observer.Report.{report_of};
@@ -19,10 +19,11 @@ use line_model::report::Report;
 use line_model::totals::{Summary, Totals};
 use std::alloc::{AllocError, Allocator};
 use std::marker::Model;
+use std::mem::replace;
 
 /// Appends records to a list. They become the list where it is empty, and are not copied then. Where memory is refused
 /// nothing changes.
-pub(crate) fn append_to<T: Drop, A: Allocator>(
+fn append_to<T: Drop, A: Allocator>(
     list: &mut Vec<T, A>,
     records: Vec<T, A>,
 ) -> Result<(), AllocError>
@@ -37,7 +38,7 @@ pub(crate) fn append_to<T: Drop, A: Allocator>(
     list.append(&mut records)
 }
 
-/// What some pieces give, put together.
+/// The results of some pieces, put together.
 #[derive(Drop)]
 pub struct Parts<A: Allocator> {
     pub(crate) pieces: u32,
@@ -64,7 +65,7 @@ impl<A: Allocator> Model for Parts<A> {
 }
 
 impl<A: Allocator> Parts<A> {
-    /// What one piece gives.
+    /// Returns the results of one piece.
     pub fn of(report: PieceReport<A>) -> Self
         ensures { result ≡ gathered (report ∷ []) }
     {
@@ -84,14 +85,27 @@ impl<A: Allocator> Parts<A> {
         }
     }
 
-    /// How many pieces there are.
+    /// Returns the results of no pieces, with the allocators of its lists. Needs no memory.
+    pub(crate) fn none(of_findings: A, of_calls: A) -> Self
+        ensures { result ≡ gathered [] }
+    {
+        Parts {
+            pieces: 0,
+            findings: Vec::new(of_findings),
+            calls: CallList::of(Vec::new(of_calls)),
+            octets: 0,
+            segments: 0,
+        }
+    }
+
+    /// Returns the number of pieces.
     pub fn pieces(&self) -> u32
         ensures { result ≡ self.now.pieces }
     {
         self.pieces
     }
 
-    /// What the pieces count for.
+    /// Returns the totals of the pieces.
     pub fn totals(&self) -> Totals
         ensures { result ≡ counted self.now }
     {
@@ -105,23 +119,17 @@ impl<A: Allocator> Parts<A> {
 }
 
 impl<A: Allocator + Copy> Parts<A> {
-    /// What no pieces give. It takes no memory.
+    /// Returns the results of no pieces. Needs no memory.
     pub fn new(alloc: A) -> Self
         ensures { result ≡ gathered [] }
     {
-        Parts {
-            pieces: 0,
-            findings: Vec::new(alloc),
-            calls: CallList::of(Vec::new(alloc)),
-            octets: 0,
-            segments: 0,
-        }
+        Parts::none(alloc, alloc)
     }
 }
 
 impl<A: Allocator + Clone> Parts<A> {
-    /// Adds what other pieces give, after what there is. Fails where memory is refused, or where there would be more than
-    /// 2^32 - 1 pieces; a part may have been added then.
+    /// Appends the results of other pieces. Fails when memory is refused, or when there would be more than 2^32 - 1
+    /// pieces; a part may have been added then.
     pub fn append(&mut self, other: Self) -> Result<(), AllocError>
         ensures { OnOk result (self.new ≡ joined self.old other) }
     {
@@ -142,7 +150,19 @@ impl<A: Allocator + Clone> Parts<A> {
         self.calls.append(calls)
     }
 
-    /// Adds what a piece gives. Where memory is refused a part of it may have been added.
+    /// Returns the results without their calls, and the calls. Fails only when memory is refused.
+    pub(crate) fn without_calls(self) -> Result<(Self, CallList<A>), AllocError>
+        ensures apart { IfOk result (λ both. both.0 ≡ record self { calls = [] }) }
+        ensures calls { IfOk result (λ both. both.1 ≡ self.calls) }
+        ensures within { IfOk result (λ both. sum_by (λ c. c.segments) both.1 ≤ both.0.segments) }
+    {
+        let mut rest = self;
+        let none = CallList::of(Vec::new(rest.findings.allocator().clone()?));
+        let calls = replace(&mut rest.calls, none);
+        Ok((rest, calls))
+    }
+
+    /// Adds the results of a piece. Where memory is refused a part of them may have been added.
     pub fn add(&mut self, report: PieceReport<A>) -> Result<(), AllocError>
         requires room { self.old.pieces + 1 < 2 ^ 32 }
         ensures added { (ps : List records.PieceReport) → self.old ≡ gathered ps
@@ -152,8 +172,8 @@ impl<A: Allocator + Clone> Parts<A> {
         self.append(Parts::of(report))
     }
 
-    /// Puts the findings in the order of their packets, and the calls in the order of the packets that opened them. Fails
-    /// only where memory is refused, and leaves the calls as they were then.
+    /// Puts the findings in the order of their packets, and the calls in the order of the packets that opened them.
+    /// Fails only where memory is refused, and leaves the calls as they were then.
     pub fn sort(&mut self) -> Result<(), AllocError>
         ensures { OnOk result (AreSorted self.old self.new) }
     {
@@ -161,7 +181,7 @@ impl<A: Allocator + Clone> Parts<A> {
         self.calls.sort()
     }
 
-    /// The same once more. It refuses for want of memory alone.
+    /// Returns a copy. Fails only when memory is refused.
     pub fn copy(&self) -> Result<Self, Fault>
         ensures same { IfOk result (λ parts. parts ≡ self.now) }
         ensures memory { IfErr result (λ fault. fault ≡ Fault.Memory) }
@@ -176,8 +196,8 @@ impl<A: Allocator + Clone> Parts<A> {
         })
     }
 
-    /// The report of a trace of these rows, of which these are all pieces, with the findings of its restart machine. It
-    /// fails only when memory is refused. The order of a report is profile.
+    /// Returns the report of a trace of these rows, of which these are all pieces, with the findings of its restart
+    /// machine. Fails only when memory is refused. The order of a report is profile.
     pub fn finish(self, line: Vec<Finding, A>, rows: RowCounts) -> Result<Report<A>, Fault>
         ensures merged { (ps : List records.PieceReport) → AreGathered ps self
             → IfOk result (λ report. IsMerged report ps line.items rows) }

@@ -21,16 +21,16 @@ pub trait Reports<A: Allocator> {
     /// The reports, one for each piece.
     ghost reports: { Self → List records.PieceReport };
 
-    /// The ids of the pieces.
+    /// Returns the ids of the pieces.
     fn ids(&self) -> &[u32]
         ensures ids { result.now ≡ ids_of (reports self.now) }
         ensures small { All IsSmall (reports self.now) };
 
-    /// What the reports count for.
+    /// Returns the totals of the reports.
     fn totals(&self) -> Totals
         ensures { result ≡ totals_of (reports self.now) };
 
-    /// What the pieces give.
+    /// Returns the results of the pieces.
     fn into_parts(self) -> Parts<A>
         ensures { AreGathered (reports self) result };
 }
@@ -58,7 +58,7 @@ impl<A: Allocator> Reports<A> for PieceReport<A> {
     }
 }
 
-/// The reports of a bundle of pieces, put together. Contracts see the reports.
+/// The reports of a bundle of pieces, merged. Contracts see the reports.
 #[derive(Drop)]
 pub struct BundleReport<A: Allocator = Global> {
     ids: Vec<u32, A>,
@@ -79,7 +79,7 @@ impl<A: Allocator> Model for BundleReport<A> {
 }
 
 impl<A: Allocator + Copy> BundleReport<A> {
-    /// The report of no pieces. It takes no memory.
+    /// Returns the report of no pieces. Needs no memory.
     pub fn new(alloc: A) -> Self
         ensures { result ≡ [] }
     {
@@ -90,7 +90,7 @@ impl<A: Allocator + Copy> BundleReport<A> {
         }
     }
 
-    /// The same with one more report. Fails where memory is refused, or where there would be more than 2^32 - 1 reports.
+    /// Appends a report. Fails when memory is refused, or when there would be more than 2^32 - 1 reports.
     pub fn with(self, report: PieceReport<A>) -> Result<Self, AllocError>
         ensures { IfOk result (λ bundle. bundle ≡ self ++ report ∷ []) }
     {
@@ -109,8 +109,8 @@ impl<A: Allocator + Copy> BundleReport<A> {
         })
     }
 
-    /// The same with its findings and calls in the order of their packets, so that a merge moves few of them. Fails only
-    /// where memory is refused.
+    /// Sorts the findings and calls in the order of their packets, so that a merge moves few of them. Fails only when
+    /// memory is refused.
     pub fn sorted(self) -> Result<Self, AllocError>
         ensures { IfOk result (λ bundle. bundle ≡ self) }
     {

@@ -1,4 +1,4 @@
-//! What the rows of a trace count for.
+//! The counts of a trace's rows.
 
 /// How many rows of a trace are packets, and how many are gaps.
 #[derive(Clone, Copy, Debug, PartialEq, Eq)]

@@ -95,8 +95,8 @@ fn put_report<W: Sink, A: Allocator>(out: &mut WriteBuffer, sink: &mut W, report
     put_rest(out, sink, report);
 }
 
-/// Writes the text of a report to a sink (the text is profile). It takes no memory. `Write` is answered only where the sink
-/// failed; a first part of the text was taken then.
+/// Writes the text of a report to a sink (the text is profile). Needs no memory. Returns `Write` only where the sink
+/// failed; it accepted a first part of the text then.
 pub fn write_report<W: Sink, A: Allocator>(report: &Report<A>, sink: &mut W) -> Result<(), Fault>
     ensures ok { OnOk result (TakesAll W.Sink sink.old sink.new (text_of report.now)) }
     ensures part { OnErr result (TakesFront W.Sink sink.old sink.new (text_of report.now)) }
@@ -121,7 +121,7 @@ pub fn write_findings<W: Sink>(findings: &[Finding], sink: &mut W) -> Result<(),
     out.end(sink)
 }
 
-/// Writes to a sink what stands in the text of a report after the lines of its findings.
+/// Writes to a sink the lines of a report after its findings, as `write_report` does.
 pub fn write_rest<W: Sink, A: Allocator>(report: &Report<A>, sink: &mut W) -> Result<(), Fault>
     ensures ok { OnOk result (TakesAll W.Sink sink.old sink.new (rest_text report.now)) }
     ensures part { OnErr result (TakesFront W.Sink sink.old sink.new (rest_text report.now)) }

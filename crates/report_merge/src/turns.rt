@@ -1,4 +1,4 @@
-//! Findings and calls in the order of their packets. The large records of calls are moved seldom.
+//! Sorts findings and calls in the order of their packets. The large records of calls are moved seldom.
 
 ghost use Rattle.std.specs.Prelude.{◌≡◌, ◌<◌, IfOk, OnOk, length, vec_len, All};
 ghost use Rattle.std.specs.List.Sorted.{IsNonDecreasingBy, IsPermutation};
@@ -7,21 +7,21 @@ use line_model::call::CallRecord;
 use line_model::finding::Finding;
 use std::alloc::{AllocError, Allocator};
 
-/// The opening packet of a call, and the place that its record is to come from.
+/// The opening packet of a call, and the place of its record.
 #[derive(Drop)]
-struct Turn {
+struct CallTurn {
     packet: u32,
     place: usize,
 }
 
 /// The turns of calls, in the order of the calls.
-fn turns<A: Allocator>(alloc: A, calls: &[CallRecord<A>]) -> Result<Vec<Turn, A>, AllocError>
+fn turns<A: Allocator>(alloc: A, calls: &[CallRecord<A>]) -> Result<Vec<CallTurn, A>, AllocError>
     ensures len { IfOk result (λ turns. vec_len turns ≡ length calls.now) }
     ensures places { IfOk result (λ turns. All (λ turn. turn.place < length calls.now) turns.items) }
 {
     let mut turns = Vec::with_capacity(alloc, calls.len())?;
     for (place, call) in calls.iter().enumerate() {
-        turns.push(Turn {
+        turns.push(CallTurn {
             packet: call.opened,
             place,
         })?;
@@ -29,9 +29,9 @@ fn turns<A: Allocator>(alloc: A, calls: &[CallRecord<A>]) -> Result<Vec<Turn, A>
     Ok(turns)
 }
 
-/// Brings the record of a turn to its place, the record of the turn of that place to the place that it leaves, and so
-/// on, until a record comes from a place that is done. A place is done where its turn names the place itself.
-fn go_round<A: Allocator>(calls: &mut [CallRecord<A>], turns: &mut [Turn], first: usize)
+/// Moves the record of a turn to its place, then the record that belongs into the place that it left, and so on, to the
+/// end of the cycle. A place is done where its turn names the place itself.
+fn go_round<A: Allocator>(calls: &mut [CallRecord<A>], turns: &mut [CallTurn], first: usize)
     requires len { length turns.old ≡ length calls.old }
     requires places { All (λ turn. turn.place < length calls.old) turns.old }
     requires first { first < length calls.old }
@@ -54,8 +54,8 @@ fn go_round<A: Allocator>(calls: &mut [CallRecord<A>], turns: &mut [Turn], first
     turns[place].place = place;
 }
 
-/// Brings each record to the place of its turn.
-fn take_turns<A: Allocator>(calls: &mut [CallRecord<A>], turns: &mut [Turn])
+/// Moves each record to the place of its turn.
+fn take_turns<A: Allocator>(calls: &mut [CallRecord<A>], turns: &mut [CallTurn])
     requires len { length turns.old ≡ length calls.old }
     requires places { All (λ turn. turn.place < length calls.old) turns.old }
     ensures { IsPermutation calls.old calls.new }
@@ -65,8 +65,8 @@ fn take_turns<A: Allocator>(calls: &mut [CallRecord<A>], turns: &mut [Turn])
     }
 }
 
-/// Moves each record to the place that the order of the opening packets gives it. Fails only where memory is refused, and
-/// leaves the calls as they were then.
+/// Moves each record to the place that the order of the opening packets gives it. Fails only where memory is refused,
+/// and leaves the calls as they were then.
 fn move_in_turn<A: Allocator>(alloc: A, calls: &mut Vec<CallRecord<A>, A>) -> Result<(), AllocError>
     ensures { IsPermutation calls.old.items calls.new.items }
 {
@@ -76,8 +76,7 @@ fn move_in_turn<A: Allocator>(alloc: A, calls: &mut Vec<CallRecord<A>, A>) -> Re
     Ok(())
 }
 
-/// Puts calls in the order of the packets that opened them. Fails only where memory is refused, and leaves them as they
-/// were then.
+/// Sorts calls by the packets that opened them. Fails only where memory is refused, and leaves them as they were then.
 pub(crate) fn sort_calls<A: Allocator + Clone>(
     calls: &mut Vec<CallRecord<A>, A>,
 ) -> Result<(), AllocError>
@@ -89,7 +88,7 @@ pub(crate) fn sort_calls<A: Allocator + Clone>(
     Ok(())
 }
 
-/// Puts findings in the order of their packets.
+/// Sorts findings by their packets.
 pub(crate) fn sort_findings<A: Allocator>(findings: &mut Vec<Finding, A>)
     ensures permutation { IsPermutation findings.old.items findings.new.items }
     ensures sorted { IsNonDecreasingBy (λ f. f.packet) findings.new.items }

@@ -7,7 +7,7 @@ use line_model::event::How;
 use line_model::finding::Xcode;
 use line_model::state::{Side, StateName};
 
-/// The word of a side.
+/// Returns the word of a side.
 pub fn side_word(side: Side) -> &'static [u8]
     ensures { result.now ≡ side_word side }
 {
@@ -17,7 +17,7 @@ pub fn side_word(side: Side) -> &'static [u8]
     }
 }
 
-/// The word of a state.
+/// Returns the word of a state.
 pub fn state_word(state: StateName) -> &'static [u8]
     ensures { result.now ≡ state_word state }
 {
@@ -39,7 +39,7 @@ pub fn state_word(state: StateName) -> &'static [u8]
     }
 }
 
-/// The word of a code of a PAD message.
+/// Returns the word of a code of a PAD message.
 pub fn pad_word(code: Xcode) -> &'static [u8]
     ensures { result.now ≡ pad_word code }
 {
@@ -52,14 +52,14 @@ pub fn pad_word(code: Xcode) -> &'static [u8]
     }
 }
 
-/// The word of a call's direction.
+/// Returns the word of a call's direction.
 pub fn direction_word(out: bool) -> &'static [u8]
     ensures { result.now ≡ direction_word out }
 {
     if out { b"out" } else { b"in" }
 }
 
-/// The word of how a call ended.
+/// Returns the word of how a call ended.
 pub fn how_word(how: Option<How>) -> &'static [u8]
     ensures { result.now ≡ how_word how }
 {

@@ -14,7 +14,7 @@ use Rattle.line_model.specs.pieces.Pieces.{piece_rows, StandsOnce}
 use Rattle.line_model.specs.pieces.Plan.{has_some}
 use Rattle.line_model.proofs.Handed.{handed_in_range}
 use Rattle.restart_epochs.specs.OpenRows.{OpenRows, rows_of, with_channel, with_gap, with_part, HasNoOthers}
-use Rattle.restart_epochs.specs.Cutting.{Cutting, IsCutting, IsLane, IsUnchanged, StandsFor, observer, places, rows_if, channels_if}
+use Rattle.restart_epochs.specs.Cutting.{Cutting, IsCutting, IsChannelRows, IsUnchanged, Represents, observer, places, rows_if, channels_if}
 use Rattle.restart_epochs.specs.BlockCuts.{AreAdded, ChannelRows, HasAll, listed, parts_of, rows_on, with_rows}
 use Rattle.restart_epochs.proofs.Cuts.{filter_each}
 use Rattle.restart_epochs.proofs.Epochs.{some_taken}
@@ -79,7 +79,7 @@ pub added_rows : (gap : ℕ) (ps : List ChannelRows) (before after : OpenRows) �
 added_rows gap [] before after h once k = h.rows k ∙ sym (part_none gap (rows_of before k))
 added_rows gap (p ∷ ps) before after h once k = added_rows gap ps h.0 after h.2 once.1 k ∙ added_at gap p ps before h.0 h.1 once.0 k (eqb p.channel k) refl
 
--- a part with rows has one of so many channels
+-- a part with rows has a channel of 1 to `n`
 abbrev pub AreWithin : ℕ → List ChannelRows → Type 0
 AreWithin n [] = Unit {0}
 AreWithin n (p ∷ ps) = (has_some p.items ≡ true → (1 ≤ p.channel) × (p.channel ≤ n)) × AreWithin n ps
@@ -173,13 +173,13 @@ others_added gap (p ∷ ps) before after h none = others_added gap ps h.0 after 
 pub listed_more : (n k : ℕ) (item : Item) (rows : List Item) (before after : OpenRows) → 1 ≤ k → k ≤ n → rows_of after k ≡ rows ++ item ∷ [] → ((j : ℕ) → j ≢ k → rows_of after j ≡ rows_of before j) → before.channels ≡ listed n (rows_of before)
     → listed n (rows_of after) ≡ with_channel (rows_of before k) k before.channels
 listed_more n k item rows before after lo hi row others was =
-    let next : OpenRows = record { lanes = after.lanes; channels = with_channel (rows_of before k) k before.channels } in
+    let next : OpenRows = record { open_channels = after.open_channels; channels = with_channel (rows_of before k) k before.channels } in
     let some : has_some (rows_of after k) ≡ has_some (rows_of before k ++ item ∷ []) = ap has_some row ∙ some_behind rows (item ∷ []) refl ∙ sym (some_behind (rows_of before k) (item ∷ []) refl) in
     sym (part_listed n (record { channel = k; items = item ∷ [] }) before next (record { some = some; others = others; channels = refl }) (λ h. (lo, hi)) was)
 
--- ---- of a cutter that stands for some rows
+-- ---- of a cutter that represents some rows
 
-listed_in : (i : Interface) (rs : List Item) (c : Cutting) → StandsFor i rs c → is_ready (observer i rs).line ≡ true → c.open_rows.channels ≡ listed i.svc (rows_of c.open_rows)
+listed_in : (i : Interface) (rs : List Item) (c : Cutting) → Represents i rs c → is_ready (observer i rs).line ≡ true → c.open_rows.channels ≡ listed i.svc (rows_of c.open_rows)
 listed_in i rs c s ready =
     let n = (observer i rs).epoch in
     s.channels ∙ ap (λ b. channels_if b i (places i rs) n) ready
@@ -187,7 +187,7 @@ listed_in i rs c s ready =
     (λ k. sym (ap has_some (s.rows k ∙ ap (λ b. rows_if b i (places i rs) n k) ready) ∙ some_taken i rs n k)) (range_with_len 1 i.svc)
 
 -- it lists the channels that have rows
-pub lists : (i : Interface) (rs : List Item) (c : Cutting) → StandsFor i rs c → c.open_rows.channels ≡ listed i.svc (rows_of c.open_rows)
+pub lists : (i : Interface) (rs : List Item) (c : Cutting) → Represents i rs c → c.open_rows.channels ≡ listed i.svc (rows_of c.open_rows)
 lists i rs c s = at (is_ready (observer i rs).line) refl
   where
     at : (b : Bool) → is_ready (observer i rs).line ≡ b → c.open_rows.channels ≡ listed i.svc (rows_of c.open_rows)
@@ -201,7 +201,7 @@ once_within k a (suc n) (inl w) = let here = w.0 in (omega (arith, here), omega 
 once_within k a (suc n) (inr w) = let rest = once_within k (a + 1) n w.1 in (omega (arith, rest.0), omega (arith, rest.1))
 
 -- its rows are on channels of the interface
-pub within_open : (i : Interface) (rs : List Item) (c : Cutting) → StandsFor i rs c → (k : ℕ) → has_some (rows_of c.open_rows k) ≡ true → (1 ≤ k) × (k ≤ i.svc)
+pub within_open : (i : Interface) (rs : List Item) (c : Cutting) → Represents i rs c → (k : ℕ) → has_some (rows_of c.open_rows k) ≡ true → (1 ≤ k) × (k ≤ i.svc)
 within_open i rs c s k some = at (is_ready (observer i rs).line) refl
   where
     n : ℕ
@@ -214,7 +214,7 @@ within_open i rs c s k some = at (is_ready (observer i rs).line) refl
         (w.0, omega (arith, w.1))
     at false e = absurd (true≢false (sym some ∙ ap has_some (s.rows k ∙ ap (λ b. rows_if b i (places i rs) n k) e)))
 
--- the line is in r1, and the channels are the interface's
+-- the interface is in r1, and the channels are the interface's
 pub channel_within : (i : Interface) (l : GapLine) (item : Item) → (routing l item).route ≡ ToChannel → IsSaid i item → (1 ≤ packet_channel item.packet) × (packet_channel item.packet ≤ i.svc)
 channel_within i l item to said =
     let h = ap is_to_channel to in
@@ -222,13 +222,13 @@ channel_within i l item to said =
 
 -- ---- the same cutter
 
-lane_same : (c c' : Cutting) (k : ℕ) → c.interface ≡ c'.interface → c.packets ≡ c'.packets → c.octets ≡ c'.octets → c.last ≡ c'.last → rows_of c.open_rows k ≡ rows_of c'.open_rows k
-    → IsLane c.interface k c.packets c.octets c.last (rows_of c.open_rows k) → IsLane c'.interface k c'.packets c'.octets c'.last (rows_of c'.open_rows k)
-lane_same c c' k interface packets octets last rows h =
-    subst (λ (i : Interface). IsLane i k c'.packets c'.octets c'.last (rows_of c'.open_rows k)) interface
-    (subst (λ n. IsLane c.interface k n c'.octets c'.last (rows_of c'.open_rows k)) packets
-    (subst (λ n. IsLane c.interface k c.packets n c'.last (rows_of c'.open_rows k)) octets
-    (subst (λ n. IsLane c.interface k c.packets c.octets n (rows_of c'.open_rows k)) last (subst (IsLane c.interface k c.packets c.octets c.last) rows h))))
+open_channel_same : (c c' : Cutting) (k : ℕ) → c.interface ≡ c'.interface → c.packets ≡ c'.packets → c.octets ≡ c'.octets → c.last ≡ c'.last → rows_of c.open_rows k ≡ rows_of c'.open_rows k
+    → IsChannelRows c.interface k c.packets c.octets c.last (rows_of c.open_rows k) → IsChannelRows c'.interface k c'.packets c'.octets c'.last (rows_of c'.open_rows k)
+open_channel_same c c' k interface packets octets last rows h =
+    subst (λ (i : Interface). IsChannelRows i k c'.packets c'.octets c'.last (rows_of c'.open_rows k)) interface
+    (subst (λ n. IsChannelRows c.interface k n c'.octets c'.last (rows_of c'.open_rows k)) packets
+    (subst (λ n. IsChannelRows c.interface k c.packets n c'.last (rows_of c'.open_rows k)) octets
+    (subst (λ n. IsChannelRows c.interface k c.packets c.octets n (rows_of c'.open_rows k)) last (subst (IsChannelRows c.interface k c.packets c.octets c.last) rows h))))
 
 -- of one that has the same rows
 pub same_bounds : (c after : Cutting) → IsUnchanged c after → IsCutting c → IsCutting after
@@ -248,14 +248,14 @@ same_bounds c after u h =
       gaps = let gaps = h.gaps in omega (arith, gaps, u.gaps, u.packets);
       gap = let gap = h.gap in omega (arith, gap, u.gap, u.last);
       recorded = same_recorded h.recorded;
-      lanes = λ k. lane_same c after k (sym u.interface) (sym u.packets) (sym u.octets) (sym u.last) (sym (u.open_rows.rows k)) (h.lanes k);
+      open_channels = λ k. open_channel_same c after k (sym u.interface) (sym u.packets) (sym u.octets) (sym u.last) (sym (u.open_rows.rows k)) (h.open_channels k);
     }
   where
     same_recorded : (c.gap ≡ 0) ⊎ (c.interface.gaps ≡ true) → (after.gap ≡ 0) ⊎ (after.interface.gaps ≡ true)
     same_recorded (inl none) = inl (u.gap ∙ none)
     same_recorded (inr are) = inr (ap (λ (i : Interface). i.gaps) u.interface ∙ are)
 
-pub same_stands : (i : Interface) (rs : List Item) (c after : Cutting) → IsUnchanged c after → StandsFor i rs c → StandsFor i rs after
+pub same_stands : (i : Interface) (rs : List Item) (c after : Cutting) → IsUnchanged c after → Represents i rs c → Represents i rs after
 same_stands i rs c after u s = record {
   said = s.said;
   interface = u.interface ∙ s.interface;

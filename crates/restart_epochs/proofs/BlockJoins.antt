@@ -1,4 +1,4 @@
--- A cutter with the rows of a block stands for one row more, once the block's cutter took it.
+-- A cutter with the rows of a block represents one row more, once the block's cutter read it.
 use Rattle.std.proofs.Common.{◌≡◌, ◌≢◌, ◌∙◌, sym, ap, subst, refl, ℕ, zero, suc, ◌+◌, ◌<◌, ◌≤◌, ◌==◌, ◌⊎◌, inl, inr, Bool, true, false, cond, eqb, List, [], ◌∷◌, ◌++◌, length, arith, append-nil, append_assoc, length-append, Option, Some, option_to_list}
 use Rattle.std.specs.List.{range_with_len}
 use Rattle.std.proofs.lemmas.Bool.{eq-eqb, eqb-false, eqb-true, ne_eqb}
@@ -17,19 +17,19 @@ use Rattle.line_model.specs.channels.GapRestart.{GapLine, is_gap_of_all, routing
 use Rattle.line_model.specs.packets.Says.{packet_channel}
 use Rattle.line_model.specs.pieces.Plan.{has_some}
 use Rattle.line_model.specs.text.Text.{last_or}
-use Rattle.restart_epochs.specs.BlockCuts.{AreAllOut, AreFit, BlockRows, Comes, EpochRows, FitsEpoch, HasCut, IsBehind, IsCutApart, IsJoined, both, epoch_ended, gap_joined, gap_left, items_ended, joined, lanes_both, listed, parts_of, pieces_at, pieces_ended, pieces_of, rows_after, rows_on, with_parts}
-use Rattle.restart_epochs.specs.Cutting.{Cutting, HasTurned, IsCutting, IsTakenBy, IsUnchanged, StandsFor, ended_by, gap_turned, given_after, given_of, items_out, pieces_out}
-use Rattle.restart_epochs.specs.OpenLanes.{lane_at}
+use Rattle.restart_epochs.specs.BlockCuts.{AreAllOut, AreFit, BlockRows, Comes, EpochRows, FitsEpoch, HasCut, IsBehind, IsCutApart, IsJoined, both, epoch_ended, gap_joined, gap_left, items_ended, joined, open_channels_both, listed, parts_of, pieces_at, pieces_ended, pieces_of, rows_after, rows_on, with_parts}
+use Rattle.restart_epochs.specs.Cutting.{Cutting, HasTurned, IsCutting, IsTakenBy, IsUnchanged, Represents, ended_by, gap_turned, given_after, given_of, items_out, pieces_out}
+use Rattle.restart_epochs.specs.ChannelTables.{open_channel_at}
 use Rattle.restart_epochs.specs.OpenRows.{OpenRows, last_number, no_rows, rows_in, rows_of, with_gap, with_part, HasMore, IsSame}
 use Rattle.restart_epochs.specs.Walks.{IsStep, epoch_after, passed, start_after, start_joined, turn_of}
 use Rattle.restart_epochs.specs.declared.walk.Step.{Step}
-use Rattle.restart_epochs.specs.declared.walk.Turn.{Turn}
-use Rattle.restart_epochs.specs.declared.walk.Turn as turns
+use Rattle.restart_epochs.specs.declared.walk.ChannelEffect.{ChannelEffect}
+use Rattle.restart_epochs.specs.declared.walk.ChannelEffect as turns
 use Rattle.restart_epochs.proofs.Added.{channel_within, listed_more, lists, same_bounds, same_stands, some_behind, within_open}
-use Rattle.restart_epochs.proofs.Bounds.{lane_piece}
+use Rattle.restart_epochs.proofs.Bounds.{channel_piece}
 use Rattle.restart_epochs.proofs.Comings.{come_behind, come_first, come_up, numbers}
 use Rattle.restart_epochs.proofs.GapRows.{joined_later, last_pushed, part_more, part_none, part_some}
-use Rattle.restart_epochs.proofs.LaneSteps.{start_anew, start_stays}
+use Rattle.restart_epochs.proofs.OpenChannelSteps.{start_anew, start_stays}
 use Rattle.restart_epochs.proofs.Listed.{none_listed}
 use Rattle.restart_epochs.proofs.Pushes.{Pushed, out-length}
 use Rattle.restart_epochs.proofs.Routes.{is_to_channel, not_for_all}
@@ -37,15 +37,15 @@ use Rattle.restart_epochs.proofs.Taken.{taken_bounds, takes}
 
 -- ---- rows of both tables
 
-lanes_rows : (gap : ℕ) (ls ms : List (Option (List Item))) (k : ℕ) → rows_in (lane_at (lanes_both gap ls ms) k) ≡ with_part gap (rows_in (lane_at ls k)) (rows_in (lane_at ms k))
-lanes_rows gap ls [] k = sym (part_none gap (rows_in (lane_at ls k)))
-lanes_rows gap [] (b ∷ ms) zero = refl
-lanes_rows gap [] (b ∷ ms) (suc k) = lanes_rows gap [] ms k
-lanes_rows gap (a ∷ ls) (b ∷ ms) zero = refl
-lanes_rows gap (a ∷ ls) (b ∷ ms) (suc k) = lanes_rows gap ls ms k
+open_channels_rows : (gap : ℕ) (ls ms : List (Option (List Item))) (k : ℕ) → rows_in (open_channel_at (open_channels_both gap ls ms) k) ≡ with_part gap (rows_in (open_channel_at ls k)) (rows_in (open_channel_at ms k))
+open_channels_rows gap ls [] k = sym (part_none gap (rows_in (open_channel_at ls k)))
+open_channels_rows gap [] (b ∷ ms) zero = refl
+open_channels_rows gap [] (b ∷ ms) (suc k) = open_channels_rows gap [] ms k
+open_channels_rows gap (a ∷ ls) (b ∷ ms) zero = refl
+open_channels_rows gap (a ∷ ls) (b ∷ ms) (suc k) = open_channels_rows gap ls ms k
 
 pub both_rows : (n gap : ℕ) (a b : OpenRows) (k : ℕ) → rows_of (both n gap a b) k ≡ with_part gap (rows_of a k) (rows_of b k)
-both_rows n gap a b k = lanes_rows gap a.lanes b.lanes k
+both_rows n gap a b k = open_channels_rows gap a.open_channels b.open_channels k
 
 -- ---- the pieces of one epoch more
 
@@ -83,13 +83,13 @@ fit_more i epoch gap o (x ∷ es) e all fits = (all.0, fit_more i epoch 0 no_row
 
 -- what is left of the cutter came before the block
 kept_up : (c : Cutting) → IsCutting c → (es : List EpochRows) (k : ℕ) → (last_number (rows_of (rows_after c.open_rows es) k) ≤ c.last) × (gap_left c.gap es ≤ c.last)
-kept_up c bounds [] k = ((bounds.lanes k).up_to, bounds.gap)
+kept_up c bounds [] k = ((bounds.open_channels k).up_to, bounds.gap)
 kept_up c bounds (e ∷ es) k = (omega arith, omega arith)
 
 -- ---- what a row does to both
 
--- the row turned the cutter that was joined as it did the block's
-record TurnedBoth (turn : Turn) (item : Item) (c : Cutting) (b b' : BlockRows) : Type 0 where
+-- the row changed the cutter that was joined as it did the block's
+record TurnedBoth (turn : ChannelEffect) (item : Item) (c : Cutting) (b b' : BlockRows) : Type 0 where
   rows : HasTurned turn item (joined c b).gap (joined c b).open_rows (joined c b').open_rows
   gap : (joined c b').gap ≡ gap_turned turn item (joined c b).gap
   pieces : pieces_ended c b' ≡ pieces_ended c b ++ ended_by turn c.interface (c.epoch + b.epoch) (joined c b).start (end_at item) (joined c b).given (joined c b).gap (joined c b).open_rows
@@ -214,7 +214,7 @@ ended_items c b item parts k =
     let o = rows_after c.open_rows b.ended in
     ap (with_gap (joined c b).gap) (ap (with_part g (rows_of o k)) (parts k) ∙ sym (both_rows c.interface.svc g o b.rows k))
 
-ended_fits : (i : Interface) (rows : List Item) (c : Cutting) (b : BlockRows) (item : Item) → StandsFor i rows (joined c b) → IsCutting (joined c b) → b.rows.channels ≡ listed c.interface.svc (rows_of b.rows)
+ended_fits : (i : Interface) (rows : List Item) (c : Cutting) (b : BlockRows) (item : Item) → Represents i rows (joined c b) → IsCutting (joined c b) → b.rows.channels ≡ listed c.interface.svc (rows_of b.rows)
     → ((k : ℕ) → rows_on k (ended_rows b item).parts ≡ rows_of b.rows k) → FitsEpoch c.interface c.epoch (gap_left c.gap b.ended) (rows_after c.open_rows b.ended) (ended_rows b item)
 ended_fits i rows c b item stands bounds was parts =
     let g = gap_left c.gap b.ended in
@@ -226,13 +226,13 @@ ended_fits i rows c b item stands bounds was parts =
     let fun : rows_of b.rows ≡ (λ k. rows_on k (ended_rows b item).parts) = λ j k. sym (parts k) j in
     record {
       epochs = omega (arith, packets, last, epochs);
-      pieces = λ k. subst (IsPiece c.interface k) (sym (ended_items c b item parts k)) (lane_piece (joined c b) k bounds);
+      pieces = λ k. subst (IsPiece c.interface k) (sym (ended_items c b item parts k)) (channel_piece (joined c b) k bounds);
       channels = λ k some. subst (λ (j : Interface). (1 ≤ k) × (k ≤ j.svc)) (sym stands.interface)
           (within_open i rows (joined c b) stands k (ap has_some (each k) ∙ part_some g (rows_of o k) (rows_on k (ended_rows b item).parts) ∙ some_behind (rows_of o k) (rows_on k (ended_rows b item).parts) some));
       parts = ap (parts_of (rows_of b.rows)) was ∙ ap (λ f. parts_of f (listed c.interface.svc f)) fun;
     }
 
-turned_ends : (i : Interface) (rows : List Item) (c : Cutting) (b b' : BlockRows) (item : Item) → StandsFor i rows (joined c b) → IsCutting (joined c b) → IsBefore c b
+turned_ends : (i : Interface) (rows : List Item) (c : Cutting) (b b' : BlockRows) (item : Item) → Represents i rows (joined c b) → IsCutting (joined c b) → IsBefore c b
     → b'.gap ≡ 0 → b'.ended ≡ b.ended ++ ended_rows b item ∷ [] → AreAllOut b.rows b'.rows → TurnedBoth turns.TheVariants.Ends item c b b'
 turned_ends i rows c b b' item stands bounds was at one out =
     let n = c.interface.svc in
@@ -369,7 +369,7 @@ more_joined i rs items c b b' item step bounds is t come h =
     let pushed : Pushed i (rs ++ items) item (ended_by step.turn c1.interface c1.epoch c1.start (end_at item) c1.given c1.gap c1.open_rows) c2 = takes i (rs ++ items) c1 c2 item step1 h.stands h.bounds rising next.2 is1 took in
     let few : c1.octets + item.length ≤ 2147483648 = let all = next.3 in omega (arith, all, h.octets) in
     record {
-      stands = subst (λ l. StandsFor i l c2) (append_assoc rs items (item ∷ [])) pushed.stands;
+      stands = subst (λ l. Represents i l c2) (append_assoc rs items (item ∷ [])) pushed.stands;
       bounds = taken_bounds c1 c2 item step1 h.bounds next.2 rising next.1 few is1 took;
       given = ap (given_of i) (sym (append_assoc rs items (item ∷ []))) ∙ pushed.given ∙ ap (λ l. l ++ ended_by step.turn c1.interface c1.epoch c1.start (end_at item) c1.given c1.gap c1.open_rows) h.given
           ∙ append_assoc (given_of i rs) (pieces_ended c b) (ended_by step.turn c1.interface c1.epoch c1.start (end_at item) c1.given c1.gap c1.open_rows) ∙ ap (λ l. given_of i rs ++ l) (sym turned.pieces);
@@ -386,7 +386,7 @@ cut_more l items b b' item step is t apart i rs c stands bounds line come =
 
 -- ---- before the first row
 
--- no row of a block was taken
+-- no row of a block was read
 pub record IsBlockBegun (l : GapLine) (b : BlockRows) : Type 0 where
   pub line : b.line ≡ l
   pub epoch : b.epoch ≡ 0
@@ -402,7 +402,7 @@ pub record IsBlockBegun (l : GapLine) (b : BlockRows) : Type 0 where
 begun_last : (n last other : ℕ) → n ≡ 0 → cond (n == 0) last other ≡ last
 begun_last n last other h = ap (λ b. cond b last other) (eq-eqb n 0 h)
 
-begun_joined : (i : Interface) (rs : List Item) (c : Cutting) (b : BlockRows) → StandsFor i rs c → IsBlockBegun c.line b → IsUnchanged c (joined c b)
+begun_joined : (i : Interface) (rs : List Item) (c : Cutting) (b : BlockRows) → Represents i rs c → IsBlockBegun c.line b → IsUnchanged c (joined c b)
 begun_joined i rs c b s h =
     let n = c.interface.svc in
     let rows : (k : ℕ) → rows_of (joined c b).open_rows k ≡ rows_of c.open_rows k = λ k.
@@ -428,7 +428,7 @@ cut_begun l b h i rs c s bounds line come =
     let same = begun_joined i rs c b s (subst (λ m. IsBlockBegun m b) (sym line) h) in
     let all : rs ++ [] ≡ rs = append-nil rs in
     record {
-      stands = subst (λ rows. StandsFor i rows (joined c b)) (sym all) (same_stands i rs c (joined c b) same s);
+      stands = subst (λ rows. Represents i rows (joined c b)) (sym all) (same_stands i rs c (joined c b) same s);
       bounds = same_bounds c (joined c b) same bounds;
       given = ap (given_of i) all ∙ sym (append-nil (given_of i rs)) ∙ ap (λ es. given_of i rs ++ pieces_of c.interface c.epoch c.start c.given c.gap c.open_rows es) (sym h.ended);
       last = same.last;

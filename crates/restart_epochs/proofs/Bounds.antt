@@ -15,11 +15,11 @@ use Rattle.line_model.specs.observer.Report.{gaps_of}
 use Rattle.line_model.specs.packets.Says.{gap_of}
 use Rattle.line_model.specs.basics.Bounds.{IsItem, IsPiece}
 use Rattle.restart_epochs.specs.OpenRows.{rows_of, with_channel, with_gap}
-use Rattle.restart_epochs.specs.Cutting.{Cutting, items_out, IsCutting, IsLane, IsCounted, IsKeptOn, IsStepped, IsLeft}
+use Rattle.restart_epochs.specs.Cutting.{Cutting, items_out, IsCutting, IsChannelRows, IsCounted, IsKeptOn, IsStepped, IsLeft}
 use Rattle.restart_epochs.proofs.GapRows.{all_more, gap_items_of, gap_length, gap_octets, last_pushed}
 
--- a lane within larger bounds
-wider : (i : Interface) (k n m a b u v : ℕ) (items : List Item) → IsLane i k n a u items → n ≤ m → a ≤ b → u ≤ v → IsLane i k m b v items
+-- an open channel within larger bounds
+wider : (i : Interface) (k n m a b u v : ℕ) (items : List Item) → IsChannelRows i k n a u items → n ≤ m → a ≤ b → u ≤ v → IsChannelRows i k m b v items
 wider i k n m a b u v items h le le' le'' =
     let rows = h.few_rows in
     let octets = h.few_octets in
@@ -39,9 +39,9 @@ one_channel : (items : List Item) (k : ℕ) (channels : List ℕ) → length (wi
 one_channel [] k channels = inserted channels k
 one_channel (item ∷ items) k channels = omega arith
 
--- a lane with the last gap of all channels and one more row
-lane_more : (i : Interface) (k n a u gap : ℕ) (items : List Item) (item : Item) → IsLane i k n a u items → (gap ≡ 0) ⊎ (i.gaps ≡ true) → IsItem i k item → IsLane i k (n + 1) (a + item.length) item.number (with_gap gap items ++ item ∷ [])
-lane_more i k n a u gap items item h recorded is =
+-- an open channel with the last gap of all channels and one more row
+open_channel_more : (i : Interface) (k n a u gap : ℕ) (items : List Item) (item : Item) → IsChannelRows i k n a u items → (gap ≡ 0) ⊎ (i.gaps ≡ true) → IsItem i k item → IsChannelRows i k (n + 1) (a + item.length) item.number (with_gap gap items ++ item ∷ [])
+open_channel_more i k n a u gap items item h recorded is =
     let all = with_gap gap items in
     record {
       few_rows = let rows = h.few_rows in omega (arith, rows, length-append all (item ∷ []), gap_length gap items);
@@ -50,22 +50,22 @@ lane_more i k n a u gap items item h recorded is =
       packets_of = all_more (IsItem i k) all item (gap_items_of i k gap items recorded h.packets_of) is;
     }
 
-kept_lane : (c c' : Cutting) (k : ℕ) (item : Item) → IsCutting c → IsKeptOn k item c c' → IsItem c.interface k item → c.last < item.number → (j : ℕ) (b : Bool) → eqb j k ≡ b
-    → IsLane c.interface j (c.packets + 1) (c.octets + item.length) item.number (rows_of c'.open_rows j)
-kept_lane c c' k item h kept is rising j true e =
+kept_open_channel : (c c' : Cutting) (k : ℕ) (item : Item) → IsCutting c → IsKeptOn k item c c' → IsItem c.interface k item → c.last < item.number → (j : ℕ) (b : Bool) → eqb j k ≡ b
+    → IsChannelRows c.interface j (c.packets + 1) (c.octets + item.length) item.number (rows_of c'.open_rows j)
+kept_open_channel c c' k item h kept is rising j true e =
     let same = eqb-true j k e in
-    subst (λ m. IsLane c.interface m (c.packets + 1) (c.octets + item.length) item.number (rows_of c'.open_rows m)) (sym same)
-    (subst (IsLane c.interface k (c.packets + 1) (c.octets + item.length) item.number) (sym kept.open_rows.row) (lane_more c.interface k c.packets c.octets c.last c.gap (rows_of c.open_rows k) item (h.lanes k) h.recorded is))
-kept_lane c c' k item h kept is rising j false e =
-    subst (IsLane c.interface j (c.packets + 1) (c.octets + item.length) item.number) (sym (kept.open_rows.others j (eqb-false j k e)))
-    (wider c.interface j c.packets (c.packets + 1) c.octets (c.octets + item.length) c.last item.number (rows_of c.open_rows j) (h.lanes j) (omega arith) (omega arith) (omega (arith, rising)))
+    subst (λ m. IsChannelRows c.interface m (c.packets + 1) (c.octets + item.length) item.number (rows_of c'.open_rows m)) (sym same)
+    (subst (IsChannelRows c.interface k (c.packets + 1) (c.octets + item.length) item.number) (sym kept.open_rows.row) (open_channel_more c.interface k c.packets c.octets c.last c.gap (rows_of c.open_rows k) item (h.open_channels k) h.recorded is))
+kept_open_channel c c' k item h kept is rising j false e =
+    subst (IsChannelRows c.interface j (c.packets + 1) (c.octets + item.length) item.number) (sym (kept.open_rows.others j (eqb-false j k e)))
+    (wider c.interface j c.packets (c.packets + 1) c.octets (c.octets + item.length) c.last item.number (rows_of c.open_rows j) (h.open_channels j) (omega arith) (omega arith) (omega (arith, rising)))
 
-lane_at_new : (c c' : Cutting) (r : Item) → IsCounted r c c' → (j : ℕ) (items : List Item) → IsLane c.interface j (c.packets + 1) (c.octets + r.length) r.number items → IsLane c'.interface j c'.packets c'.octets c'.last items
-lane_at_new c c' r counted j items h = coe_lane (sym counted.interface) (sym counted.packets) (sym counted.octets) (sym counted.last) h
+open_channel_at_new : (c c' : Cutting) (r : Item) → IsCounted r c c' → (j : ℕ) (items : List Item) → IsChannelRows c.interface j (c.packets + 1) (c.octets + r.length) r.number items → IsChannelRows c'.interface j c'.packets c'.octets c'.last items
+open_channel_at_new c c' r counted j items h = coe_open_channel (sym counted.interface) (sym counted.packets) (sym counted.octets) (sym counted.last) h
   where
-    coe_lane : {i i' : Interface} {n n' a a' u u' : ℕ} → i ≡ i' → n ≡ n' → a ≡ a' → u ≡ u' → IsLane i j n a u items → IsLane i' j n' a' u' items
-    coe_lane {i} {i'} {n} {n'} {a} {a'} {u} {u'} p q s t x =
-        subst (λ (v : Interface). IsLane v j n' a' u' items) p (subst (λ m. IsLane i j m a' u' items) q (subst (λ m. IsLane i j n m u' items) s (subst (λ m. IsLane i j n a m items) t x)))
+    coe_open_channel : {i i' : Interface} {n n' a a' u u' : ℕ} → i ≡ i' → n ≡ n' → a ≡ a' → u ≡ u' → IsChannelRows i j n a u items → IsChannelRows i' j n' a' u' items
+    coe_open_channel {i} {i'} {n} {n'} {a} {a'} {u} {u'} p q s t x =
+        subst (λ (v : Interface). IsChannelRows v j n' a' u' items) p (subst (λ m. IsChannelRows i j m a' u' items) q (subst (λ m. IsChannelRows i j n m u' items) s (subst (λ m. IsChannelRows i j n a m items) t x)))
 
 one_at_most : (r : Item) → gaps_of (r ∷ []) ≤ 1
 one_at_most r = at (is_some (gap_of r.packet))
@@ -98,7 +98,7 @@ kept_bounds c c' k item h kept is rising number octets =
       gaps = counted_gaps c c' item kept.counted h.gaps;
       gap = let up = h.gap in omega (arith, up, rising, kept.gap, kept.counted.last);
       recorded = recorded_at c c' c.gap kept.gap kept.counted.interface h.recorded;
-      lanes = λ j. lane_at_new c c' item kept.counted j (rows_of c'.open_rows j) (kept_lane c c' k item h kept is rising j (eqb j k) refl);
+      open_channels = λ j. open_channel_at_new c c' item kept.counted j (rows_of c'.open_rows j) (kept_open_channel c c' k item h kept is rising j (eqb j k) refl);
     }
 
 counted_octets : (c c' : Cutting) (r : Item) → IsCounted r c c' → c.octets + r.length ≤ 2147483648 → c'.octets ≤ 2147483648
@@ -119,17 +119,17 @@ stepped_bounds c c' r machine epoch gap found h step le recorded next rising num
       gaps = counted_gaps c c' r step.counted h.gaps;
       gap = omega (arith, le, step.gap, step.counted.last);
       recorded = recorded_at c c' gap step.gap step.counted.interface recorded;
-      lanes = λ j. lane_at_new c c' r step.counted j (rows_of c'.open_rows j)
-          (subst (IsLane c.interface j (c.packets + 1) (c.octets + r.length) r.number) (sym (step.open_rows.rows j))
-          (wider c.interface j c.packets (c.packets + 1) c.octets (c.octets + r.length) c.last r.number (rows_of c.open_rows j) (h.lanes j) (omega arith) (omega arith) (omega (arith, rising))));
+      open_channels = λ j. open_channel_at_new c c' r step.counted j (rows_of c'.open_rows j)
+          (subst (IsChannelRows c.interface j (c.packets + 1) (c.octets + r.length) r.number) (sym (step.open_rows.rows j))
+          (wider c.interface j c.packets (c.packets + 1) c.octets (c.octets + r.length) c.last r.number (rows_of c.open_rows j) (h.open_channels j) (omega arith) (omega arith) (omega (arith, rising))));
     }
 
-pub no_items : (i : Interface) (k n a u : ℕ) → IsLane i k n a u []
+pub no_items : (i : Interface) (k n a u : ℕ) → IsChannelRows i k n a u []
 no_items i k n a u = record { few_rows = omega arith; few_octets = omega arith; up_to = omega arith; packets_of = λ m d lt. absurd (omega (arith, lt)) }
 
-left_lane : (i : Interface) (k n a u : ℕ) (items was : List Item) (P : Type 0) → IsLane i k n a u was → (items ≡ []) ⊎ ((items ≡ was) × P) → IsLane i k n a u items
-left_lane i k n a u items was P h (inl none) = subst (IsLane i k n a u) (sym none) (no_items i k n a u)
-left_lane i k n a u items was P h (inr same) = subst (IsLane i k n a u) (sym same.0) h
+left_open_channel : (i : Interface) (k n a u : ℕ) (items was : List Item) (P : Type 0) → IsChannelRows i k n a u was → (items ≡ []) ⊎ ((items ≡ was) × P) → IsChannelRows i k n a u items
+left_open_channel i k n a u items was P h (inl none) = subst (IsChannelRows i k n a u) (sym none) (no_items i k n a u)
+left_open_channel i k n a u items was P h (inr same) = subst (IsChannelRows i k n a u) (sym same.0) h
 
 pub left_bounds : (c c' : Cutting) (r : Item) (machine : GapLine) (epoch : ℕ) (found : List Finding) → IsCutting c → IsLeft r machine epoch found c c' → epoch ≤ c.epoch + 1 → c.last < r.number → r.number ≤ 999999999 → c.octets + r.length ≤ 2147483648 → IsCutting c'
 left_bounds c c' r machine epoch found h left next rising number octets =
@@ -146,23 +146,23 @@ left_bounds c c' r machine epoch found h left next rising number octets =
       gaps = counted_gaps c c' r left.counted h.gaps;
       gap = omega (arith, left.gap);
       recorded = inl left.gap;
-      lanes = λ j. lane_at_new c c' r left.counted j (rows_of c'.open_rows j)
-          (left_lane c.interface j (c.packets + 1) (c.octets + r.length) r.number (rows_of c'.open_rows j) (rows_of c.open_rows j) _
-          (wider c.interface j c.packets (c.packets + 1) c.octets (c.octets + r.length) c.last r.number (rows_of c.open_rows j) (h.lanes j) (omega arith) (omega arith) (omega (arith, rising)))
+      open_channels = λ j. open_channel_at_new c c' r left.counted j (rows_of c'.open_rows j)
+          (left_open_channel c.interface j (c.packets + 1) (c.octets + r.length) r.number (rows_of c'.open_rows j) (rows_of c.open_rows j) _
+          (wider c.interface j c.packets (c.packets + 1) c.octets (c.octets + r.length) c.last r.number (rows_of c.open_rows j) (h.open_channels j) (omega arith) (omega arith) (omega (arith, rising)))
           (left.emptied j));
     }
 
--- the rows of a lane can be a piece
-pub lane_piece : (c : Cutting) (k : ℕ) → IsCutting c → IsPiece c.interface k (items_out c.gap c.open_rows k)
-lane_piece c k h =
-    let lane = h.lanes k in
-    let rows = lane.few_rows in
-    let octets = lane.few_octets in
+-- the rows of an open channel can be a piece
+pub channel_piece : (c : Cutting) (k : ℕ) → IsCutting c → IsPiece c.interface k (items_out c.gap c.open_rows k)
+channel_piece c k h =
+    let open_channel = h.open_channels k in
+    let rows = open_channel.few_rows in
+    let octets = open_channel.few_octets in
     let packets = h.rows in
     let last = h.last in
     let all = h.octets in
     record {
       few_rows = omega (arith, rows, packets, last, gap_length c.gap (rows_of c.open_rows k));
       few_octets = omega (arith, octets, all, gap_octets c.gap (rows_of c.open_rows k));
-      packets = gap_items_of c.interface k c.gap (rows_of c.open_rows k) h.recorded lane.packets_of;
+      packets = gap_items_of c.interface k c.gap (rows_of c.open_rows k) h.recorded open_channel.packets_of;
     }

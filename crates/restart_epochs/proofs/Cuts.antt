@@ -139,10 +139,7 @@ pieces_to_same i ps qs (suc n) s =
     ∙ ap (λ l. pieces_to i ps n ++ l) (pieces_in_same i ps qs (n + 1) (length (keys_to i ps n)) (s (n + 1) (omega arith)))
     ∙ sym (pieces_more i ps n)
 
--- ---- the pieces that are known whole
-
-ended : Piece → Bool
-ended p = is_some p.end
+-- ---- the pieces that are complete
 
 has_number : (o : Option Item) → is_some (option_map end_at o) ≡ is_some o
 has_number None = refl

@@ -119,7 +119,7 @@ start_kept e (q ∷ ps) p h = at (start_kept e ps p) (eqb q.epoch e) refl
         let left : is_some (piece_end e ps) ≡ true = sym (ap (λ b. is_some (let s : Option Item = cond b (Some q.row) (piece_end e ps) in s)) (and_right q.leaves (eqb q.epoch e) is)) ∙ h in
         ap (λ s. cond (eqb q.epoch e) q.start s) (more left)
 
--- the next row is one of the epoch, and was placed by this line part
+-- the next row is one of the epoch, and was placed by this interface level
 pub start_next : (e : ℕ) (l : GapLine) (ps : List (Placed Item)) (p : Placed Item) → eqb p.epoch e ≡ true → p.start ≡ start_by l → piece_start e (ps ++ p ∷ []) ≡ epoch_start e l ps
 start_next e l [] p h s = ap (λ b. cond b p.start (piece_start {X = Item} e [])) h ∙ s
 start_next e l (q ∷ ps) p h s = ap (λ t. cond (eqb q.epoch e) q.start t) (start_next e l ps p h s)
@@ -203,7 +203,7 @@ taken_own i e k (q ∷ ps) own = at (taken_own i e k ps own.1) (is_gap_of_all q.
         ap (λ b. has_some (taken_rows (map (λ (p : Placed Item). p.row) (cond (steps_by k q b && eqb q.epoch e) (q ∷ kept) kept)))) row
         ∙ with_row (is_channel k q.channel && eqb q.epoch e) row more
 
--- a channel has rows that are taken where it has rows of its own
+-- a channel has rows that are read where it has rows of its own
 pub some_taken : (i : Interface) (rs : List Item) (e k : ℕ) → has_some (taken_rows (step_rows (x25 i) e k (places i rs))) ≡ has_some (piece_rows e k (places i rs))
 some_taken i rs e k = taken_own i e k (places i rs) (places_own i (start i) rs)
 

@@ -189,7 +189,7 @@ taken_gap (x ∷ rs) r gap = λ j. kept (is_gap_of_all x && not (next rs j)) x (
 pub taken_first : (x : Item) (rs : List Item) → is_gap_of_all x ≡ false → has_some (taken_rows (x ∷ rs)) ≡ true
 taken_first x rs own = ap (λ b. has_some (kept (b && not (begins_with_row rs)) x (taken_rows rs))) own
 
--- a gap of all channels makes no difference to whether rows are taken
+-- a gap of all channels makes no difference to whether rows are read
 pub taken_some : (x : Item) (rs : List Item) → is_gap_of_all x ≡ true → has_some (taken_rows (x ∷ rs)) ≡ has_some (taken_rows rs)
 taken_some x [] gap = ap (λ b. has_some (kept (b && true) x [])) gap
 taken_some x (y ∷ rs) gap = ap (λ b. has_some (kept (b && not (not (is_gap_of_all y))) x (taken_rows (y ∷ rs)))) gap ∙ at (is_gap_of_all y)

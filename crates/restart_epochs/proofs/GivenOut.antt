@@ -1,5 +1,5 @@
 -- The pieces of an epoch are given out one by one.
-use Rattle.std.proofs.Common.{◌≡◌, ◌≢◌, ◌∙◌, sym, ap, subst, refl, ℕ, ◌+◌, ◌⊎◌, inl, inr, Bool, true, false, eqb, List, [], ◌∷◌, ◌++◌, Option, append_assoc, append-nil}
+use Rattle.std.proofs.Common.{◌≡◌, ◌≢◌, ◌∙◌, sym, ap, subst, refl, ℕ, ◌+◌, ◌⊎◌, inl, inr, Bool, true, false, eqb, List, [], ◌∷◌, ◌++◌, Option, append_assoc}
 use Rattle.std.specs.List.{AllByRecursion}
 use Rattle.std.proofs.lemmas.Bool.{eqb-true, eqb-false}
 use Rattle.line_model.specs.declared.interface.Interface.{Interface}
@@ -8,7 +8,7 @@ use Rattle.line_model.specs.declared.gap.EpochStart.{EpochStart}
 use Rattle.line_model.specs.declared.piece.PieceEnd.{PieceEnd}
 use Rattle.line_model.proofs.Rising.{all_append}
 use Rattle.restart_epochs.specs.OpenRows.{OpenRows, rows_of, with_gap, IsTakenOut}
-use Rattle.restart_epochs.specs.Cutting.{items_out, piece_out, pieces_out, IsEmptied}
+use Rattle.restart_epochs.specs.Cutting.{items_out, piece_out, pieces_out}
 
 -- some first channels were given out, and the rows of the others are untouched
 pub record Giving (i : Interface) (e : ℕ) (start : EpochStart) (end : Option PieceEnd) (gap first : ℕ) (before : OpenRows) (out : List Piece) (id : ℕ) (now : OpenRows) (out' : List Piece) : Type 0 where
@@ -54,17 +54,6 @@ giving_more i e start end gap first before out id now after out' channel items g
     at k false other (inr kept) =
         let ne = eqb-false k channel other in
         inr (t.others k ne ∙ kept.0, all_append (λ j. j ≢ k) g.done (channel ∷ []) kept.1 ((λ e'. ne (sym e')), tt))
-
-pub giving_all : (i : Interface) (e : ℕ) (start : EpochStart) (end : Option PieceEnd) (gap first : ℕ) (before : OpenRows) (out : List Piece) (id : ℕ) (now : OpenRows) (out' : List Piece)
-    → Giving i e start end gap first before out id now out' → now.channels ≡ [] → (out' ≡ out ++ pieces_out i e start end (items_out gap before) first before.channels) × IsEmptied before now
-giving_all i e start end gap first before out id now out' g none = (
-  sym (append-nil out') ∙ ap (λ ks. out' ++ pieces_out i e start end (items_out gap before) id ks) (sym none) ∙ g.pieces,
-  λ k. at k (g.emptied k),
-)
-  where
-    at : (k : ℕ) → (rows_of now k ≡ []) ⊎ ((rows_of now k ≡ rows_of before k) × AllByRecursion (λ j. j ≢ k) g.done) → (rows_of now k ≡ []) ⊎ ((rows_of now k ≡ rows_of before k) × AllByRecursion (λ j. j ≢ k) before.channels)
-    at k (inl e') = inl e'
-    at k (inr kept) = inr (kept.0, subst (AllByRecursion (λ j. j ≢ k)) (sym (append-nil g.done) ∙ ap (λ l. g.done ++ l) (sym none) ∙ sym g.channels) kept.1)
 
 -- the rows of the first channel that is left
 pub first_rows : (i : Interface) (e : ℕ) (start : EpochStart) (end : Option PieceEnd) (gap first : ℕ) (before : OpenRows) (out : List Piece) (id : ℕ) (now after : OpenRows) (out' : List Piece) (channel : ℕ) (items : List Item)

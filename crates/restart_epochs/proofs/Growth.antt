@@ -1,4 +1,4 @@
--- What one more row does to the pieces that are known whole, and to the rows of the open epoch.
+-- What one more row does to the pieces that are complete, and to the rows of the open epoch.
 use Rattle.std.proofs.Common.{◌≡◌, ◌≢◌, ◌∙◌, sym, ap, subst, refl, ℕ, zero, suc, ◌+◌, ◌-◌, ◌<◌, ◌≤◌, Bool, true, false, true≢false, ◌&&◌, eqb, List, [], ◌∷◌, ◌++◌, length, None, arith}
 use Rattle.std.specs.Prelude.{is_some}
 use Rattle.std.specs.List.{AllByRecursion, filter}
@@ -96,7 +96,7 @@ ends_by ps p epoch Renew true false fit to h at leaves = absurd (true≢false (s
 ends_by ps p epoch Renew false a fit to h at leaves = absurd (true≢false (sym fit))
 ends_by ps p epoch ToChannel b a fit to h at leaves = absurd (true≢false to)
 
--- how many epochs are known whole
+-- how many epochs are complete
 abbrev pub whole_epochs : (epoch : ℕ) (ready : Bool) → ℕ
 whole_epochs epoch true = epoch - 1
 whole_epochs epoch false = epoch

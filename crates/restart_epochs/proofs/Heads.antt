@@ -1,4 +1,4 @@
--- The pieces that are known whole stand first in the plan of the rows that come, whatever they are.
+-- The pieces that are complete stand first in the plan of the rows that come, whatever they are.
 use Rattle.std.proofs.Common.{◌≡◌, ◌∙◌, sym, ap, subst, refl, ℕ, zero, suc, ◌+◌, ◌-◌, ◌<◌, ◌≤◌, ◌⊎◌, inl, inr, Bool, true, false, true≢false, eqb, List, [], ◌∷◌, ◌++◌, length, arith, append-nil, append_assoc}
 use Rattle.std.proofs.lemmas.Bool.{eqb-true, eqb-false}
 use Rattle.line_model.specs.declared.interface.Interface.{Interface}

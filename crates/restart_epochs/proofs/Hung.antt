@@ -1,11 +1,11 @@
--- A cutter that took the rows of a block.
+-- A cutter that read the rows of a block.
 use Rattle.std.proofs.Common.{◌≡◌, ◌∙◌, sym, ap, subst, refl, ℕ, ◌+◌, ◌<◌, ◌≤◌, ◌==◌, cond, true, List, ◌++◌, arith}
 use Rattle.line_model.specs.declared.interface.Interface.{Interface}
 use Rattle.line_model.specs.basics.Records.{Item, Piece}
 use Rattle.line_model.specs.pieces.Plan.{has_some}
 use Rattle.restart_epochs.specs.BlockCuts.{AreAdded, HasTakenAll, HaveEnded, IsJoined, MayCome, MayEndAll, gap_joined, gap_left, joined, listed, parts_of, pieces_ended, rows_after, rows_on}
 use Rattle.restart_epochs.specs.BlockStates.{IsBlockCut, block_rows}
-use Rattle.restart_epochs.specs.Cutting.{Cutting, IsCutting, IsUnchanged, StandsFor}
+use Rattle.restart_epochs.specs.Cutting.{Cutting, IsCutting, IsUnchanged, Represents}
 use Rattle.restart_epochs.specs.OpenRows.{OpenRows, rows_of, with_part}
 use Rattle.restart_epochs.specs.Walks.{start_joined}
 use Rattle.restart_epochs.specs.declared.block_cut.BlockCut.{BlockCut}
@@ -35,17 +35,17 @@ pub record IsHung {A : Type 0} (c : Cutting) (b : BlockCut A) (c' : Cutting) (ou
 pub hung_at : {A : Type 0} (d c c' : Cutting) (b : BlockCut A) (out out' : List Piece) → d ≡ c → IsHung d b c' out out' → IsHung c b c' out out'
 hung_at d c c' b out out' same h = subst (λ e. IsHung e b c' out out') same h
 
--- what a cutter is given
+-- what a cutter receives
 pub record MayHang {A : Type 0} (c : Cutting) (b : BlockCut A) : Type 0 where
   pub interface : Interface
   pub rows : List Item
   pub items : List Item
-  pub stands : StandsFor interface rows c
+  pub stands : Represents interface rows c
   pub bounds : IsCutting c
   pub cut : IsBlockCut c.line items b
   pub joins : IsJoined interface rows c items (block_rows b cut.rows)
 
-abbrev pub may_hang : {A : Type 0} (i : Interface) (rows items : List Item) (c : Cutting) (b : BlockCut A) → StandsFor i rows c → IsCutting c → IsBlockCut c.line items b → MayCome c items → MayHang c b
+abbrev pub may_hang : {A : Type 0} (i : Interface) (rows items : List Item) (c : Cutting) (b : BlockCut A) → Represents i rows c → IsCutting c → IsBlockCut c.line items b → MayCome c items → MayHang c b
 may_hang i rows items c b stands bounds cut come = record { interface = i; rows = rows; items = items; stands = stands; bounds = bounds; cut = cut; joins = cut.cut i rows c stands bounds refl (all_come c items come) }
 
 pub may_end : {A : Type 0} (c : Cutting) (b : BlockCut A) → MayHang c b → MayEndAll c.interface c.epoch c.start c.given c.gap c.open_rows b.ended.items
@@ -107,9 +107,9 @@ hung_same c c' b out out' m h =
 pub hung_bounds : {A : Type 0} (c c' : Cutting) (b : BlockCut A) (out out' : List Piece) → MayHang c b → IsHung c b c' out out' → IsCutting c'
 hung_bounds c c' b out out' m h = same_bounds (joined c (block_rows b m.cut.rows)) c' (hung_same c c' b out out' m h) m.joins.bounds
 
-pub hung_taken : {A : Type 0} (i : Interface) (rows items : List Item) (c c' : Cutting) (b : BlockCut A) (out out' : List Piece) → StandsFor i rows c → IsCutting c → IsBlockCut c.line items b → MayCome c items → IsHung c b c' out out' → HasTakenAll items c c' out out'
+pub hung_taken : {A : Type 0} (i : Interface) (rows items : List Item) (c c' : Cutting) (b : BlockCut A) (out out' : List Piece) → Represents i rows c → IsCutting c → IsBlockCut c.line items b → MayCome c items → IsHung c b c' out out' → HasTakenAll items c c' out out'
 hung_taken i rows items c c' b out out' stands bounds cut come h =
-    let may : (j : Interface) (rs : List Item) → StandsFor j rs c → MayHang c b = λ j rs s. may_hang j rs items c b s bounds cut come in
+    let may : (j : Interface) (rs : List Item) → Represents j rs c → MayHang c b = λ j rs s. may_hang j rs items c b s bounds cut come in
     let m = may i rows stands in
     record {
       interface = h.interface;

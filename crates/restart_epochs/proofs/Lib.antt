@@ -6,7 +6,7 @@ pub mod Steps
 pub mod Cuts
 pub mod Growth
 pub mod LineFindings
-pub mod LaneSteps
+pub mod OpenChannelSteps
 pub mod Listed
 pub mod Pushes
 pub mod GivenOut
@@ -15,7 +15,7 @@ pub mod Taken
 pub mod Whole
 pub mod Decoded
 pub mod Heads
-pub mod OpenLaneLemmas
+pub mod ChannelRowsLemmas
 pub mod Listings
 pub mod States
 pub mod Peeks

@@ -55,7 +55,7 @@ ended_none : (i : Interface) (o : Observer GapLine GapChannel) (r : Item) (v : B
 ended_none i o r true = closed_dropped (x25 i) o r true false
 ended_none i o r false = closed_dropped (x25 i) o r (is_ready o.line) (is_ready (routing o.line r).after)
 
--- what the line part tells of a row, whether it steps each channel, or none
+-- what the interface level finds on a row, whether it steps each channel, or none
 of_line : (i : Interface) (o : Observer GapLine GapChannel) (r : Item) (v : Bool) → findings_of (map event_of (filter is_line (row_events_by (x25 i) o r v None))) ≡ route_finding r (routing o.line r).route
 of_line i o r true =
     ap (λ l. findings_of (map event_of l)) (line_kept o.epoch r (route_found r (routing o.line r).route)) ∙ found_here o.epoch r (routing o.line r).route

@@ -7,9 +7,9 @@ use Rattle.line_model.specs.pieces.Plan.{has_some}
 use Rattle.line_model.specs.observer.Observer.{x25}
 use Rattle.line_model.specs.pieces.Pieces.{piece_rows, step_rows}
 use Rattle.line_model.specs.channels.GapRestart.{is_ready}
-use Rattle.restart_epochs.specs.OpenLanes.{lane_at}
+use Rattle.restart_epochs.specs.ChannelTables.{open_channel_at}
 use Rattle.restart_epochs.specs.OpenRows.{OpenRows, rows_in, rows_of, with_channel, with_gap, HasMore, IsListing}
-use Rattle.restart_epochs.specs.Cutting.{Cutting, StandsFor, IsCutting, observer, places, rows_if, channels_if, no_cutting, taken_rows}
+use Rattle.restart_epochs.specs.Cutting.{Cutting, Represents, IsCutting, observer, places, rows_if, channels_if, no_cutting, taken_rows}
 use Rattle.restart_epochs.proofs.Epochs.{some_taken}
 use Rattle.restart_epochs.proofs.Pushes.{none_taken, stands_nothing}
 use Rattle.restart_epochs.proofs.Bounds.{no_items}
@@ -29,7 +29,7 @@ all_some i rs e o rows [] all = tt
 all_some i rs e o rows (k ∷ ks) all = (ap has_some (rows k) ∙ some_taken i rs e k ∙ all.0, all_some i rs e o rows ks all.1)
 
 -- a cutter lists the channels that have rows
-pub listing : (i : Interface) (rs : List Item) (c : Cutting) → StandsFor i rs c → IsListing c.open_rows
+pub listing : (i : Interface) (rs : List Item) (c : Cutting) → Represents i rs c → IsListing c.open_rows
 listing i rs c s = at (is_ready (observer i rs).line) refl
   where
     at : (b : Bool) → is_ready (observer i rs).line ≡ b → IsListing c.open_rows
@@ -48,43 +48,43 @@ listing i rs c s = at (is_ready (observer i rs).line) refl
     }
 
 -- outside r1 no channel has rows
-pub bare : (i : Interface) (rs : List Item) (c : Cutting) → StandsFor i rs c → is_ready c.line ≡ false → (k : ℕ) → rows_of c.open_rows k ≡ []
+pub bare : (i : Interface) (rs : List Item) (c : Cutting) → Represents i rs c → is_ready c.line ≡ false → (k : ℕ) → rows_of c.open_rows k ≡ []
 bare i rs c s h k = s.rows k ∙ ap (λ b. rows_if b i (places i rs) (observer i rs).epoch k) (ap is_ready (sym s.line) ∙ h)
 
--- lanes of which one has these rows
-abbrev pub lanes_with : List (Option (List Item)) → ℕ → List Item → List (Option (List Item))
-lanes_with [] zero rows = Some rows ∷ []
-lanes_with [] (suc k) rows = None ∷ lanes_with [] k rows
-lanes_with (lane ∷ lanes) zero rows = Some rows ∷ lanes
-lanes_with (lane ∷ lanes) (suc k) rows = lane ∷ lanes_with lanes k rows
+-- open channels of which one has these rows
+abbrev pub open_channels_with : List (Option (List Item)) → ℕ → List Item → List (Option (List Item))
+open_channels_with [] zero rows = Some rows ∷ []
+open_channels_with [] (suc k) rows = None ∷ open_channels_with [] k rows
+open_channels_with (open_channel ∷ open_channels) zero rows = Some rows ∷ open_channels
+open_channels_with (open_channel ∷ open_channels) (suc k) rows = open_channel ∷ open_channels_with open_channels k rows
 
-with_here : (lanes : List (Option (List Item))) (k : ℕ) (rows : List Item) → rows_in (lane_at (lanes_with lanes k rows) k) ≡ rows
+with_here : (open_channels : List (Option (List Item))) (k : ℕ) (rows : List Item) → rows_in (open_channel_at (open_channels_with open_channels k rows) k) ≡ rows
 with_here [] zero rows = refl
 with_here [] (suc k) rows = with_here [] k rows
-with_here (lane ∷ lanes) zero rows = refl
-with_here (lane ∷ lanes) (suc k) rows = with_here lanes k rows
+with_here (open_channel ∷ open_channels) zero rows = refl
+with_here (open_channel ∷ open_channels) (suc k) rows = with_here open_channels k rows
 
-with_other : (lanes : List (Option (List Item))) (k : ℕ) (rows : List Item) (j : ℕ) → j ≢ k → lane_at (lanes_with lanes k rows) j ≡ lane_at lanes j
+with_other : (open_channels : List (Option (List Item))) (k : ℕ) (rows : List Item) (j : ℕ) → j ≢ k → open_channel_at (open_channels_with open_channels k rows) j ≡ open_channel_at open_channels j
 with_other [] zero rows zero ne = absurd (ne refl)
 with_other [] zero rows (suc j) ne = refl
 with_other [] (suc k) rows zero ne = refl
 with_other [] (suc k) rows (suc j) ne = with_other [] k rows j (λ e. ne (ap suc e))
-with_other (lane ∷ lanes) zero rows zero ne = absurd (ne refl)
-with_other (lane ∷ lanes) zero rows (suc j) ne = refl
-with_other (lane ∷ lanes) (suc k) rows zero ne = refl
-with_other (lane ∷ lanes) (suc k) rows (suc j) ne = with_other lanes k rows j (λ e. ne (ap suc e))
+with_other (open_channel ∷ open_channels) zero rows zero ne = absurd (ne refl)
+with_other (open_channel ∷ open_channels) zero rows (suc j) ne = refl
+with_other (open_channel ∷ open_channels) (suc k) rows zero ne = refl
+with_other (open_channel ∷ open_channels) (suc k) rows (suc j) ne = with_other open_channels k rows j (λ e. ne (ap suc e))
 
 -- the rows with one more, behind the last gap of all channels
 abbrev pub rows_with : OpenRows → (gap channel : ℕ) → Item → OpenRows
-rows_with o gap k item = record { lanes = lanes_with o.lanes k (with_gap gap (rows_of o k) ++ item ∷ []); channels = with_channel (rows_of o k) k o.channels }
+rows_with o gap k item = record { open_channels = open_channels_with o.open_channels k (with_gap gap (rows_of o k) ++ item ∷ []); channels = with_channel (rows_of o k) k o.channels }
 
 pub has_one_more : (o : OpenRows) (gap k : ℕ) (item : Item) → HasMore gap k item o (rows_with o gap k item)
 has_one_more o gap k item =
     let rows = with_gap gap (rows_of o k) ++ item ∷ [] in
-    record { row = with_here o.lanes k rows; others = λ j ne. ap rows_in (with_other o.lanes k rows j ne); channels = refl }
+    record { row = with_here o.open_channels k rows; others = λ j ne. ap rows_in (with_other o.open_channels k rows j ne); channels = refl }
 
 -- before the first row
-pub nothing_cut : (i : Interface) → StandsFor i [] (no_cutting i)
+pub nothing_cut : (i : Interface) → Represents i [] (no_cutting i)
 nothing_cut i = stands_nothing i (no_cutting i) refl refl refl refl refl refl refl refl refl (λ k. refl) refl
 
 pub nothing_bound : (i : Interface) → IsCutting (no_cutting i)
@@ -97,5 +97,5 @@ nothing_bound i = record {
   gaps = omega arith;
   gap = omega arith;
   recorded = inl refl;
-  lanes = λ k. no_items i k 0 0 0;
+  open_channels = λ k. no_items i k 0 0 0;
 }

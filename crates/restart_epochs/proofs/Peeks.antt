@@ -6,12 +6,12 @@ use Rattle.line_model.specs.declared.fault.Fault.{Fault}
 use Rattle.line_model.specs.basics.Bounds.{IsPiece}
 use Rattle.line_model.specs.basics.Records.{Item, Piece}
 use Rattle.line_model.specs.pieces.Plans.{plan}
-use Rattle.restart_epochs.specs.Cutting.{Cutting, StandsFor, given_of, items_out, open_pieces, pieces_out}
+use Rattle.restart_epochs.specs.Cutting.{Cutting, Represents, given_of, items_out, open_pieces, pieces_out}
 use Rattle.restart_epochs.specs.OpenRows.{OpenRows}
 use Rattle.restart_epochs.specs.declared.ended_epoch.EndedEpoch.{EndedEpoch}
 use Rattle.restart_epochs.proofs.Pushes.{rest_open}
 
-pub all_peeked : {V : Type 0} → (items : V → List Piece) (i : Interface) (rows : List Item) (c : Cutting) → StandsFor i rows c → (answer : Result V Fault)
+pub all_peeked : {V : Type 0} → (items : V → List Piece) (i : Interface) (rows : List Item) (c : Cutting) → Represents i rows c → (answer : Result V Fault)
     → IfOk answer (λ v. items v ≡ open_pieces c None) → IfOk answer (λ v. given_of i rows ++ items v ≡ plan i rows)
 all_peeked items i rows c s (Ok v) h = ap (λ l. given_of i rows ++ l) h ∙ rest_open i rows c s
 all_peeked items i rows c s (Err f) h = tt

@@ -1,4 +1,4 @@
--- A cutter that stands for some rows stands for one more after it took it.
+-- A cutter that represents some rows represents one more after it read it.
 use Rattle.std.proofs.Common.{◌≡◌, ◌≢◌, ◌∙◌, sym, ap, subst, refl, ℕ, zero, suc, ◌+◌, ◌-◌, ◌<◌, ◌≤◌, ◌⊎◌, inl, inr, Bool, true, false, true≢false, ◌&&◌, cond, eqb, List, [], ◌∷◌, ◌++◌, map, length, Option, Some, None, arith, append-nil, length-append}
 use Rattle.std.specs.Prelude.{is_some, option_map}
 use Rattle.std.specs.List.{filter, range_with_len, enumerate_from, AllByRecursion}
@@ -25,12 +25,12 @@ use Rattle.line_model.specs.observer.Observer.{x25, start, is_renewal}
 use Rattle.line_model.specs.declared.route.Route.{Route}
 use Rattle.line_model.specs.declared.route.Route.TheVariants.{Enter, Found, Leave, Pass, Renew, ToChannel}
 use Rattle.restart_epochs.specs.OpenRows.{OpenRows, rows_of, with_channel, with_gap}
-use Rattle.restart_epochs.specs.Cutting.{Cutting, observer, places, given_of, EndsOf, channels_in, epoch_start, rows_if, items_if, items_out, channels_if, taken_rows, IsCutting, StandsFor, open_pieces, piece_out, pieces_out, IsKeptOn, IsStepped, IsLeft}
+use Rattle.restart_epochs.specs.Cutting.{Cutting, observer, places, given_of, EndsOf, channels_in, epoch_start, rows_if, items_if, items_out, channels_if, taken_rows, IsCutting, Represents, open_pieces, piece_out, pieces_out, IsKeptOn, IsStepped, IsLeft}
 use Rattle.restart_epochs.specs.Walks.{epoch_after, route_finding, start_after}
 use Rattle.restart_epochs.proofs.Routes.{fits, is_leaving, is_quiet, is_to_channel, leaves_at, leaving_line, leaving_own, quiet_line, quiet_stays}
 use Rattle.restart_epochs.proofs.Epochs.{place_of, places_more, rows_same, rows_on_more, end_new, begun_or_bare, later_rows, later_steps, some_taken, start_next}
 use Rattle.restart_epochs.proofs.GapRows.{said_gap}
-use Rattle.restart_epochs.proofs.LaneSteps.{Keeps, gaps_counted, keeps_all, keeps_now, keeps_on, line_items, line_rows, start_more, start_stays}
+use Rattle.restart_epochs.proofs.OpenChannelSteps.{Keeps, gaps_counted, keeps_all, keeps_now, keeps_on, line_items, line_rows, start_more, start_stays}
 use Rattle.restart_epochs.proofs.Steps.{OnChannel, gap_steps_all, handed_at, on_channel, OnLine, on_line, own_alone, unready_alone}
 use Rattle.restart_epochs.proofs.Cuts.{SameEpoch, filter_each, pieces_to, pieces_in, pieces_more, pieces_to_same, pieces-length, plan_is}
 use Rattle.restart_epochs.proofs.Growth.{ends_nothing, ends_begin, ends_same, ends_leave, whole_epochs, given_pieces, same_below, same_line, leave_pieces}
@@ -64,7 +64,7 @@ no_channels : (i : Interface) → channels_in i [] 1 ≡ []
 no_channels i = none_listed (λ k. has_some {X = Item} (piece_rows 1 k [])) (range_with_len 1 i.svc) (λ k. refl)
 
 pub stands_nothing : (i : Interface) (c : Cutting) → c.interface ≡ i → c.line ≡ (start i).line → c.epoch ≡ 1 → c.start ≡ start_by (start i).line → c.given ≡ 0 → c.packets ≡ 0 → c.gaps ≡ 0 → c.findings ≡ [] → c.gap ≡ 0
-    → ((k : ℕ) → rows_of c.open_rows k ≡ []) → c.open_rows.channels ≡ [] → StandsFor i [] c
+    → ((k : ℕ) → rows_of c.open_rows k ≡ []) → c.open_rows.channels ≡ [] → Represents i [] c
 stands_nothing i c same line epoch start given packets gaps findings gap rows channels = record {
   said = tt;
   interface = same;
@@ -165,29 +165,29 @@ given_at i rs r ready epoch line a h =
     ∙ (λ j. pieces_to i (places_more i rs r j) (whole_epochs (a.is_epoch j) (a.is_ready j)))
 
 -- before the row
-given_before : (i : Interface) (rs : List Item) (c : Cutting) (ready : Bool) → StandsFor i rs c → is_ready (observer i rs).line ≡ ready → given_of i rs ≡ pieces_to i (places i rs) (whole_epochs (observer i rs).epoch ready)
+given_before : (i : Interface) (rs : List Item) (c : Cutting) (ready : Bool) → Represents i rs c → is_ready (observer i rs).line ≡ ready → given_of i rs ≡ pieces_to i (places i rs) (whole_epochs (observer i rs).epoch ready)
 given_before i rs c ready s h = given_pieces i rs ready (subst (EndsOf (places i rs) (observer i rs).epoch) h s.epochs)
 
 -- ---- by its route
 
 pub record Pushed (i : Interface) (rs : List Item) (r : Item) (more : List Piece) (c : Cutting) : Type 0 where
-  pub stands : StandsFor i (rs ++ r ∷ []) c
+  pub stands : Represents i (rs ++ r ∷ []) c
   pub given : given_of i (rs ++ r ∷ []) ≡ given_of i rs ++ more
 
-said_more : (i : Interface) (rs : List Item) (r : Item) → {c : Cutting} → StandsFor i rs c → IsSaid i r → AreSaid i (rs ++ r ∷ [])
+said_more : (i : Interface) (rs : List Item) (r : Item) → {c : Cutting} → Represents i rs c → IsSaid i r → AreSaid i (rs ++ r ∷ [])
 said_more i rs r s said = all_append (IsSaid i) rs (r ∷ []) s.said (said, tt)
 
-to_channel_at : (i : Interface) (rs : List Item) (r : Item) (c : Cutting) → StandsFor i rs c → is_to_channel (routing c.line r).route ≡ true → OnChannel i rs r
+to_channel_at : (i : Interface) (rs : List Item) (r : Item) (c : Cutting) → Represents i rs c → is_to_channel (routing c.line r).route ≡ true → OnChannel i rs r
 to_channel_at i rs r c s h = on_channel i rs r (ap (λ l. is_to_channel (routing l r).route) (sym s.line) ∙ h)
 
 -- how the epoch after the row began
-start_at : (i : Interface) (rs : List Item) (r : Item) (c : Cutting) (start : EpochStart) (next : ℕ) (l' : GapLine) → StandsFor i rs c → (observer i (rs ++ r ∷ [])).epoch ≡ next → (observer i (rs ++ r ∷ [])).line ≡ l'
+start_at : (i : Interface) (rs : List Item) (r : Item) (c : Cutting) (start : EpochStart) (next : ℕ) (l' : GapLine) → Represents i rs c → (observer i (rs ++ r ∷ [])).epoch ≡ next → (observer i (rs ++ r ∷ [])).line ≡ l'
     → (next ≡ (observer i rs).epoch) ⊎ (next ≡ (observer i rs).epoch + 1) → start ≡ start_after c.epoch c.start next l'
     → start ≡ epoch_start (observer i (rs ++ r ∷ [])).epoch (observer i (rs ++ r ∷ [])).line (places i (rs ++ r ∷ []))
 start_at i rs r c start next l' s epoch line which is =
     start_more i rs r start next l' epoch line which s.epochs.within (is ∙ (λ j. start_after (s.epoch j) (s.start j) next l'))
 
-pub pushed_on_channel : (i : Interface) (rs : List Item) (r : Item) (c c' : Cutting) → StandsFor i rs c → IsCutting c → c.last < r.number → IsSaid i r → is_to_channel (routing c.line r).route ≡ true → IsKeptOn (packet_channel r.packet) r c c' → Pushed i rs r [] c'
+pub pushed_on_channel : (i : Interface) (rs : List Item) (r : Item) (c c' : Cutting) → Represents i rs c → IsCutting c → c.last < r.number → IsSaid i r → is_to_channel (routing c.line r).route ≡ true → IsKeptOn (packet_channel r.packet) r c c' → Pushed i rs r [] c'
 pushed_on_channel i rs r c c' s bounds rising said h kept =
     let on = to_channel_at i rs r c s h in
     let o = observer i rs in
@@ -234,21 +234,21 @@ quiet_epoch epoch (Leave c) q = refl
 quiet_epoch epoch Enter q = absurd (true≢false (sym q))
 quiet_epoch epoch Renew q = absurd (true≢false (sym q))
 
--- the findings after a row of the line part
-findings_at : (i : Interface) (rs : List Item) (r : Item) (c : Cutting) (findings : List Finding) → StandsFor i rs c → findings ≡ c.findings ++ route_finding r (routing c.line r).route → findings ≡ line_findings i (rs ++ r ∷ [])
+-- the findings after a row of the interface level
+findings_at : (i : Interface) (rs : List Item) (r : Item) (c : Cutting) (findings : List Finding) → Represents i rs c → findings ≡ c.findings ++ route_finding r (routing c.line r).route → findings ≡ line_findings i (rs ++ r ∷ [])
 findings_at i rs r c findings s h =
     h ∙ ap (λ l. l ++ route_finding r (routing c.line r).route) s.findings
     ∙ ap (λ l. line_findings i rs ++ route_finding r (routing l r).route) s.line
     ∙ sym (line_findings_more i rs r)
 
-line_at : (i : Interface) (rs : List Item) (r : Item) (c : Cutting) → StandsFor i rs c → is_to_channel (routing c.line r).route ≡ false → OnLine i rs r
+line_at : (i : Interface) (rs : List Item) (r : Item) (c : Cutting) → Represents i rs c → is_to_channel (routing c.line r).route ≡ false → OnLine i rs r
 line_at i rs r c s h = on_line i rs r (ap (λ l. is_to_channel (routing l r).route) (sym s.line) ∙ h)
 
 line_channels : (i : Interface) (ps : List (Placed Item)) (p : Placed Item) (e : ℕ) (ready : Bool) → p.channel ≡ None → channels_if ready i (ps ++ p ∷ []) e ≡ channels_if ready i ps e
 line_channels i ps p e true none = filter_each _ _ (λ k. ap has_some (rows_same e k ps p (ap (λ c. is_channel k c && eqb p.epoch e) none))) (range_with_len 1 i.svc)
 line_channels i ps p e false none = refl
 
--- the epochs that are known whole stay as they are with a row that steps no channel, or is one of an open epoch
+-- the epochs that are complete stay as they are with a row that steps no channel, or is one of an open epoch
 line_epochs : (i : Interface) (rs : List Item) (r : Item) (ready : Bool) → EndsOf (places i rs) (observer i rs).epoch ready → (place_of i rs r).channel ≡ None → (place_of i rs r).leaves ≡ false
     → (ready ≡ true) ⊎ ((place_of i rs r).all ≡ false) → (e : ℕ) → e ≤ whole_epochs (observer i rs).epoch ready → SameEpoch i e (places i rs) (places i rs ++ place_of i rs r ∷ [])
 line_epochs i rs r true ends none stays alone e le = same_below i (places i rs) (place_of i rs r) (observer i rs).epoch e refl (let lo = ends.begun in omega (arith, lo, le))
@@ -265,7 +265,7 @@ record KeepsAll (i : Interface) (rs : List Item) (r : Item) (c' : Cutting) (read
   items : (k : ℕ) → with_gap c'.gap (rows_of c'.open_rows k) ≡ items_if ready i (places i rs ++ place_of i rs r ∷ []) (observer i rs).epoch k
 
 -- r1 is neither left nor entered
-quietly_with : (i : Interface) (rs : List Item) (r : Item) (c c' : Cutting) (ready : Bool) (gap : ℕ) → StandsFor i rs c → IsSaid i r → is_quiet (routing c.line r).route ≡ true
+quietly_with : (i : Interface) (rs : List Item) (r : Item) (c c' : Cutting) (ready : Bool) (gap : ℕ) → Represents i rs c → IsSaid i r → is_quiet (routing c.line r).route ≡ true
     → is_ready c.line ≡ ready → is_ready (routing c.line r).after ≡ ready → (ready ≡ true) ⊎ ((place_of i rs r).all ≡ false)
     → IsStepped r (routing c.line r).after c.epoch gap (route_finding r (routing c.line r).route) c c' → KeepsAll i rs r c' ready → Pushed i rs r [] c'
 quietly_with i rs r c c' ready gap s said quiet before after alone step keeps =
@@ -305,7 +305,7 @@ quietly_with i rs r c c' ready gap s said quiet before after alone step keeps =
     }
 
 -- a row that steps no channel
-pub pushed_quietly : (i : Interface) (rs : List Item) (r : Item) (c c' : Cutting) (ready : Bool) → StandsFor i rs c → IsSaid i r → is_quiet (routing c.line r).route ≡ true
+pub pushed_quietly : (i : Interface) (rs : List Item) (r : Item) (c c' : Cutting) (ready : Bool) → Represents i rs c → IsSaid i r → is_quiet (routing c.line r).route ≡ true
     → is_ready c.line ≡ ready → is_ready (routing c.line r).after ≡ ready → (ready ≡ false) ⊎ (is_gap_of_all r ≡ false)
     → IsStepped r (routing c.line r).after c.epoch c.gap (route_finding r (routing c.line r).route) c c' → Pushed i rs r [] c'
 pushed_quietly i rs r c c' ready s said quiet before after which step =
@@ -324,7 +324,7 @@ pushed_quietly i rs r c c' ready s said quiet before after which step =
     by was (inr own) = own_alone i (observer i rs).line r own
 
 -- a gap of all channels in r1
-pub pushed_gap : (i : Interface) (rs : List Item) (r : Item) (c c' : Cutting) → StandsFor i rs c → IsCutting c → c.last < r.number → IsSaid i r → is_quiet (routing c.line r).route ≡ true
+pub pushed_gap : (i : Interface) (rs : List Item) (r : Item) (c c' : Cutting) → Represents i rs c → IsCutting c → c.last < r.number → IsSaid i r → is_quiet (routing c.line r).route ≡ true
     → is_ready c.line ≡ true → is_ready (routing c.line r).after ≡ true → is_gap_of_all r ≡ true
     → IsStepped r (routing c.line r).after c.epoch r.number (route_finding r (routing c.line r).route) c c' → Pushed i rs r [] c'
 pushed_gap i rs r c c' s bounds rising said quiet before after gap step =
@@ -332,7 +332,7 @@ pushed_gap i rs r c c' s bounds rising said quiet before after gap step =
     let p = place_of i rs r in
     let ready : is_ready o.line ≡ true = ap is_ready (sym s.line) ∙ before in
     let keeps : (k : ℕ) → Keeps (step_rows (x25 i) o.epoch k (places i rs ++ p ∷ [])) r.number (rows_of c.open_rows k) = λ k.
-    let up = (bounds.lanes k).up_to in
+    let up = (bounds.open_channels k).up_to in
     keeps_all i (places i rs) p o.epoch c.gap k gap (said_gap i r said gap).1 refl (gap_steps_all i o.line r gap ready) (rows_of c.open_rows k) (omega (arith, up, rising)) (keeps_now i rs c s ready k) in
     quietly_with i rs r c c' true r.number s said quiet before after (inl refl) step (record {
       rows = λ k. step.open_rows.rows k ∙ (keeps k).0;
@@ -340,7 +340,7 @@ pushed_gap i rs r c c' s bounds rising said quiet before after gap step =
     })
 
 -- r1 is entered
-pub pushed_entering : (i : Interface) (rs : List Item) (r : Item) (c c' : Cutting) → StandsFor i rs c → IsSaid i r → (routing c.line r).route ≡ Enter
+pub pushed_entering : (i : Interface) (rs : List Item) (r : Item) (c c' : Cutting) → Represents i rs c → IsSaid i r → (routing c.line r).route ≡ Enter
     → is_ready c.line ≡ false → is_ready (routing c.line r).after ≡ true
     → IsStepped r (routing c.line r).after (c.epoch + 1) c.gap (route_finding r (routing c.line r).route) c c' → Pushed i rs r [] c'
 pushed_entering i rs r c c' s said enter before after step =
@@ -474,7 +474,7 @@ next_channels : (i : Interface) (ps : List (Placed Item)) (e : ℕ) (v : Bool) �
 next_channels i ps e true h = none_listed (λ k. has_some (piece_rows (e + 1) k ps)) (range_with_len 1 i.svc) (λ k. ap has_some (later_rows e (e + 1) k ps (omega arith) h.within))
 next_channels i ps e false h = refl
 
-pub pushed_leaving : (i : Interface) (rs : List Item) (r : Item) (c c' : Cutting) → StandsFor i rs c → IsSaid i r → is_leaving (routing c.line r).route ≡ true
+pub pushed_leaving : (i : Interface) (rs : List Item) (r : Item) (c c' : Cutting) → Represents i rs c → IsSaid i r → is_leaving (routing c.line r).route ≡ true
     → IsLeft r (routing c.line r).after (epoch_after c.epoch (routing c.line r).route) (route_finding r (routing c.line r).route) c c'
     → Pushed i rs r (open_pieces c (Some (end_at r))) c'
 pushed_leaving i rs r c c' s said leaving step =
@@ -536,7 +536,7 @@ pushed_leaving i rs r c c' s said leaving step =
 
 -- ---- the end of the trace
 
-pub rest_open : (i : Interface) (rs : List Item) (c : Cutting) → StandsFor i rs c → given_of i rs ++ open_pieces c None ≡ plan i rs
+pub rest_open : (i : Interface) (rs : List Item) (c : Cutting) → Represents i rs c → given_of i rs ++ open_pieces c None ≡ plan i rs
 rest_open i rs c s = at (is_ready (observer i rs).line) refl
   where
     at : (b : Bool) → is_ready (observer i rs).line ≡ b → given_of i rs ++ open_pieces c None ≡ plan i rs

@@ -77,7 +77,7 @@ abbrev pub is_to_channel : Route → Bool
 is_to_channel ToChannel = true
 is_to_channel _ = false
 
--- the line part stays as it is where a row goes to its channel
+-- the interface level stays as it is where a row goes to its channel
 abbrev pub line_of : RState → (owed joining : Bool) → LineState
 line_of s w j = record { state = s; owed = w; joining = j }
 
@@ -114,7 +114,7 @@ line_fits l x k n =
     ap (λ r. fits_route (is_ready (calm l)) (is_ready (calm r.after)) r.route) (steps l x k n)
     ∙ one_of_all (λ w j y c. fits_at l.state w j y (restart_fault k n) c) (all_fit l.state (restart_fault k n)) l.owed l.joining x k
 
--- in r1 a row goes to its channel or not whatever else the line part holds
+-- in r1 a row goes to its channel or not whatever else the interface level holds
 abbrev alike_at : (owed joining : Bool) → Side → Option ℕ → Class → Bool
 alike_at w j x f k = eq_bool (is_to_channel (stepped (line_of R1 w j) x f k).route) (is_to_channel (stepped (line_in_r1 false) x f k).route)
 

@@ -95,7 +95,7 @@ states_channel i rs r k h to = subst (StateIs i rs r k) (sym (stepped_on i (obse
         ∙ h on.ready k
         ∙ sym (not_more i rs r k o.line (steps ∙ ap (λ b. b && eqb o.epoch o.epoch) (ne_eqb n k (λ e. ne (sym e)))))
 
--- a row of the line part, after which r1 stands
+-- a row of the interface level, after which r1 stands
 moved : (i : Interface) (rs : List Item) (r : Item) (k : ℕ) (b a : Bool) → let o = observer i rs in StatesAre i rs → is_ready o.line ≡ b → a ≡ true → (steps_by k (place_of i rs r) (is_gap_of_all r) && eqb o.epoch o.epoch) ≡ false
     → StateIs i rs r k (line_moved (x25 i) o (routing o.line r).after b a)
 moved i rs r k true a h was will steps = h was k ∙ sym (not_more i rs r k (routing (observer i rs).line r).after steps)

@@ -79,7 +79,7 @@ on_channel i rs r h =
       leaves = λ j. leaves_by (x25 i) o.line r (in_r1_alone i o.line r h j) (to j);
     }
 
--- ---- a row of the line part
+-- ---- a row of the interface level
 
 moved_line : (i : Interface) (o : Observer GapLine GapChannel) (l : GapLine) (b a : Bool) → (line_moved (x25 i) o l b a).line ≡ l
 moved_line i o l false true = refl
@@ -124,7 +124,7 @@ stepped_by i o r Enter false false was will fit to = absurd (true≢false (sym f
 stepped_by i o r Enter true a was will fit to = absurd (true≢false (sym fit))
 stepped_by i o r ToChannel b a was will fit to = absurd (true≢false to)
 
--- what a row of the line part leaves
+-- what a row of the interface level leaves
 pub record OnLine (i : Interface) (rs : List Item) (r : Item) : Type 0 where
   pub line : (observer i (rs ++ r ∷ [])).line ≡ (routing (observer i rs).line r).after
   pub epoch : (observer i (rs ++ r ∷ [])).epoch ≡ epoch_after (observer i rs).epoch (routing (observer i rs).line r).route

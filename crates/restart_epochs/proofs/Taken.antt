@@ -1,4 +1,4 @@
--- A cutter that took a row by its route.
+-- A cutter that read a row by its route.
 use Rattle.std.proofs.Common.{◌≡◌, ◌∙◌, sym, ap, subst, refl, ℕ, ◌+◌, ◌<◌, ◌≤◌, ◌⊎◌, inl, inr, Bool, true, cond, List, [], ◌∷◌, ◌++◌, false, Some, arith, append-nil, append_assoc, Result, Ok, Err, OnOk, option_to_list}
 use Rattle.line_model.specs.declared.interface.Interface.{Interface}
 use Rattle.line_model.specs.declared.finding.Finding.{Finding}
@@ -15,22 +15,22 @@ use Rattle.restart_epochs.specs.OpenRows.{OpenRows, IsSame}
 use Rattle.restart_epochs.specs.declared.walk.Step.{Step}
 use Rattle.restart_epochs.specs.Walks.{epoch_after, passed, route_finding, start_after, turn_of, IsAdvanced, IsSameWalk, IsStep}
 use Rattle.restart_epochs.specs.declared.walk.EpochWalk.{EpochWalk}
-use Rattle.restart_epochs.specs.Cutting.{Cutting, StandsFor, open_pieces, ended_by, gap_turned, given_after, HasTurned, IsCutting, IsKeptOn, IsStepped, IsLeft, IsTaken, IsTakenBy, IsCounted, given_of}
+use Rattle.restart_epochs.specs.Cutting.{Cutting, Represents, open_pieces, ended_by, gap_turned, given_after, HasTurned, IsCutting, IsKeptOn, IsStepped, IsLeft, IsTaken, IsTakenBy, IsCounted, given_of}
 use Rattle.restart_epochs.proofs.Routes.{is_leaving, is_to_channel, fits, enters_at, found_own, is_quiet, passed_ready, quiet_at}
 use Rattle.restart_epochs.proofs.GapRows.{said_gap}
-use Rattle.restart_epochs.proofs.LaneSteps.{start_stays}
+use Rattle.restart_epochs.proofs.OpenChannelSteps.{start_stays}
 use Rattle.restart_epochs.proofs.KeptLine.{kept_row}
 use Rattle.restart_epochs.proofs.Bounds.{kept_bounds, stepped_bounds, left_bounds}
 use Rattle.restart_epochs.proofs.Pushes.{Pushed, pushed_on_channel, pushed_quietly, pushed_gap, pushed_entering, pushed_leaving}
 
-takes_quietly : (i : Interface) (rs : List Item) (c c' : Cutting) (item : Item) (found : List Finding) → StandsFor i rs c → IsSaid i item → is_quiet (routing c.line item).route ≡ true → found ≡ route_finding item (routing c.line item).route
+takes_quietly : (i : Interface) (rs : List Item) (c c' : Cutting) (item : Item) (found : List Finding) → Represents i rs c → IsSaid i item → is_quiet (routing c.line item).route ≡ true → found ≡ route_finding item (routing c.line item).route
     → is_gap_of_all item ≡ false → IsStepped item (routing c.line item).after c.epoch c.gap found c c' → Pushed i rs item [] c'
 takes_quietly i rs c c' item found s said quiet f own h =
     let step = routing c.line item in
     let same = quiet_at (is_ready c.line) (is_ready step.after) step.route quiet (fits c.line item) in
     pushed_quietly i rs item c c' (is_ready c.line) s said quiet refl same (inr own) (subst (λ l. IsStepped item step.after c.epoch c.gap l c c') f h)
 
-takes_gap : (i : Interface) (rs : List Item) (c c' : Cutting) (item : Item) (found : List Finding) → StandsFor i rs c → IsCutting c → c.last < item.number → IsSaid i item → (routing c.line item).route ≡ Pass → found ≡ route_finding item (routing c.line item).route
+takes_gap : (i : Interface) (rs : List Item) (c c' : Cutting) (item : Item) (found : List Finding) → Represents i rs c → IsCutting c → c.last < item.number → IsSaid i item → (routing c.line item).route ≡ Pass → found ≡ route_finding item (routing c.line item).route
     → is_gap_of_all item ≡ true → IsStepped item (routing c.line item).after c.epoch item.number found c c' → Pushed i rs item [] c'
 takes_gap i rs c c' item found s bounds rising said pass f gap h =
     let step = routing c.line item in
@@ -39,7 +39,7 @@ takes_gap i rs c c' item found s bounds rising said pass f gap h =
     let same = quiet_at (is_ready c.line) (is_ready step.after) step.route quiet (fits c.line item) in
     pushed_gap i rs item c c' s bounds rising said quiet ready (same ∙ ready) gap (subst (λ l. IsStepped item step.after c.epoch item.number l c c') f h)
 
-takes_entering : (i : Interface) (rs : List Item) (c c' : Cutting) (item : Item) (found : List Finding) → StandsFor i rs c → IsSaid i item → (routing c.line item).route ≡ Enter → found ≡ route_finding item (routing c.line item).route
+takes_entering : (i : Interface) (rs : List Item) (c c' : Cutting) (item : Item) (found : List Finding) → Represents i rs c → IsSaid i item → (routing c.line item).route ≡ Enter → found ≡ route_finding item (routing c.line item).route
     → IsStepped item (routing c.line item).after (c.epoch + 1) c.gap found c c' → Pushed i rs item [] c'
 takes_entering i rs c c' item found s said enter f h =
     let step = routing c.line item in
@@ -50,7 +50,7 @@ takes_entering i rs c c' item found s said enter f h =
 pub enters_unready : (l : GapLine) (item : Item) → (routing l item).route ≡ Enter → is_ready l ≡ false
 enters_unready l item enter = (enters_at (is_ready l) (is_ready (routing l item).after) (routing l item).route enter (fits l item)).0
 
-takes_leaving : (i : Interface) (rs : List Item) (c c' : Cutting) (item : Item) (route : Route) → StandsFor i rs c → IsSaid i item → (routing c.line item).route ≡ route → is_leaving route ≡ true
+takes_leaving : (i : Interface) (rs : List Item) (c c' : Cutting) (item : Item) (route : Route) → Represents i rs c → IsSaid i item → (routing c.line item).route ≡ route → is_leaving route ≡ true
     → IsLeft item (routing c.line item).after (epoch_after c.epoch route) (route_finding item route) c c' → Pushed i rs item (open_pieces c (Some (end_at item))) c'
 takes_leaving i rs c c' item route s said is leaving h =
     pushed_leaving i rs item c c' s said (ap is_leaving is ∙ leaving) (subst (λ t. IsLeft item (routing c.line item).after (epoch_after c.epoch t) (route_finding item t) c c') (sym is) h)
@@ -63,8 +63,8 @@ pub on_ok_both : {T E : Type 0} (r : Result T E) (P S Q : Type 0) → OnOk r P �
 on_ok_both (Ok _) P S Q p s f = f p s
 on_ok_both (Err _) P S Q _ _ f = tt
 
--- a row that was pushed was taken
-taken : (item : Item) (c c' : Cutting) (new out out' : List Piece) → ((i : Interface) (rs : List Item) → StandsFor i rs c → Pushed i rs item new c') → out' ≡ out ++ new → IsCounted item c c' → IsTaken item c c' out out'
+-- a row that was pushed was read
+taken : (item : Item) (c c' : Cutting) (new out out' : List Piece) → ((i : Interface) (rs : List Item) → Represents i rs c → Pushed i rs item new c') → out' ≡ out ++ new → IsCounted item c c' → IsTaken item c c' out out'
 taken item c c' new out out' h e counted = record {
   stands = λ i rs s. (h i rs s).stands;
   given = λ i rs ps s was. e ∙ ap (λ l. l ++ new) was ∙ append_assoc ps (given_of i rs) new ∙ ap (λ l. ps ++ l) (sym (h i rs s).given);
@@ -136,8 +136,8 @@ went_by c c' item step is t route e = at route e
       open_rows = passed_same (is_gap_of_all item) item c.gap c.open_rows c'.open_rows turned;
     }
 
--- the cutter stands for one more row, and these pieces came to be known whole
-pub takes : (i : Interface) (rs : List Item) (c c' : Cutting) (item : Item) (step : Step) → StandsFor i rs c → IsCutting c → c.last < item.number → IsSaid c.interface item → IsStep c.line c.epoch item step → IsTakenBy item step c c'
+-- the cutter represents one more row, and these pieces came to be complete
+pub takes : (i : Interface) (rs : List Item) (c c' : Cutting) (item : Item) (step : Step) → Represents i rs c → IsCutting c → c.last < item.number → IsSaid c.interface item → IsStep c.line c.epoch item step → IsTakenBy item step c c'
     → Pushed i rs item (ended_by step.turn c.interface c.epoch c.start (end_at item) c.given c.gap c.open_rows) c'
 takes i rs c c' item step s bounds rising known is t = at (routing c.line item).route refl (went_by c c' item step is t (routing c.line item).route refl)
   where

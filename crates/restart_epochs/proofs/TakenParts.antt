@@ -1,4 +1,4 @@
--- The rows of each channel are taken out of a table, as parts.
+-- The rows of each channel are removed from a table, as parts.
 use Rattle.std.proofs.Common.{◌≡◌, ◌≢◌, ◌∙◌, sym, ap, subst, refl, ℕ, ◌==◌, Bool, true, false, cond, List, [], ◌∷◌, ◌++◌, append_assoc, append-nil}
 use Rattle.std.specs.List.{AllByRecursion}
 use Rattle.std.proofs.lemmas.Bool.{eqb-true, eqb-false}
@@ -19,7 +19,7 @@ rows_on-append k (p ∷ ps) qs = at (p.channel == k) (rows_on-append k ps qs)
     at true more = ap (λ l. p.items ++ l) more ∙ sym (append_assoc p.items (rows_on k ps) (rows_on k qs))
     at false more = more
 
--- some channels were taken out, with their rows
+-- some channels were removed, with their rows
 abbrev pub AreTakenOut : OpenRows → OpenRows → List ChannelRows → Type 0
 AreTakenOut before now parts = (k : ℕ) → rows_on k parts ++ rows_of now k ≡ rows_of before k
 

@@ -1,4 +1,4 @@
--- The rows that a cutter has not taken yet.
+-- The rows that a cutter has not read yet.
 use Rattle.std.proofs.Common.{◌≡◌, sym, subst, suc, ◌+◌, ◌≤◌, ◌^◌, List, ◌∷◌, map, length, arith}
 use Rattle.std.specs.Prelude.{All, sum_by}
 use Rattle.std.specs.List.Sorted.{IsStrictlyIncreasing}
@@ -10,7 +10,7 @@ use Rattle.line_model.specs.packets.Says.{item_of}
 use Rattle.line_model.proofs.Rising.{RisesFrom, rises-from_index}
 use Rattle.restart_epochs.specs.Cutting.{Cutting, IsCounted}
 
--- rows that the cutter may take, one after the other
+-- rows that the cutter may read, one after the other
 pub record MayCome (c : Cutting) (rs : List Row) : Type 0 where
   pub lawful : AreRows c.interface rs
   pub rising : RisesFrom c.last (map (λ r. r.number) rs)

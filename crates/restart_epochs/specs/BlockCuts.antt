@@ -12,20 +12,20 @@ use Rattle.line_model.specs.declared.finding.Finding.{Finding}
 use Rattle.line_model.specs.declared.interface.Interface.{Interface}
 use Rattle.line_model.specs.pieces.Plan.{has_some}
 use Rattle.line_model.specs.text.Text.{last_or}
-use Rattle.restart_epochs.specs.Cutting.{Cutting, HasAppended, IsCutting, StandsFor, given_of, piece_out, pieces_out}
+use Rattle.restart_epochs.specs.Cutting.{Cutting, HasAppended, IsCutting, Represents, given_of, piece_out, pieces_out}
 use Rattle.restart_epochs.specs.Walks.{start_joined}
-use Rattle.restart_epochs.specs.OpenLanes.{lane_at}
+use Rattle.restart_epochs.specs.ChannelTables.{open_channel_at}
 use Rattle.restart_epochs.specs.OpenRows.{OpenRows, last_number, no_rows, rows_in, rows_of, with_channel, with_gap, with_part, HasMore, HasNoOthers, IsSame}
-use Rattle.restart_epochs.specs.declared.walk.Turn.{Turn}
-use Rattle.restart_epochs.specs.declared.walk.Turn.TheVariants.{ToChannel, Ends}
+use Rattle.restart_epochs.specs.declared.walk.ChannelEffect.{ChannelEffect}
+use Rattle.restart_epochs.specs.declared.walk.ChannelEffect.TheVariants.{ToChannel, Ends}
 
 -- rows of a channel
 pub record ChannelRows : Type 0 where
   pub channel : ℕ
   pub items : List Item
 
--- the rows of an epoch of a block by channel, the number of the last gap of all channels, or 0, how many epochs began before
--- in the block, how this one began if it did so in the block, and the row that ended it
+-- the rows of an epoch of a block by channel, the number of the last gap of all channels, or 0, how many epochs began before in the block,
+-- how this one began, if it began in the block, and the row that ended it
 pub record EpochRows : Type 0 where
   pub parts : List ChannelRows
   pub gap : ℕ
@@ -72,15 +72,15 @@ pub record BlockRows : Type 0 where
   pub gap : ℕ
   pub rows : OpenRows
 
--- the rows of both lanes, and the last gap of all channels between them
-abbrev pub lanes_both : (gap : ℕ) → List (Option (List Item)) → List (Option (List Item)) → List (Option (List Item))
-lanes_both gap lanes [] = lanes
-lanes_both gap [] (b ∷ others) = Some (with_part gap [] (rows_in b)) ∷ lanes_both gap [] others
-lanes_both gap (a ∷ lanes) (b ∷ others) = Some (with_part gap (rows_in a) (rows_in b)) ∷ lanes_both gap lanes others
+-- the rows of a channel in both tables, and the last gap of all channels between them
+abbrev pub open_channels_both : (gap : ℕ) → List (Option (List Item)) → List (Option (List Item)) → List (Option (List Item))
+open_channels_both gap open_channels [] = open_channels
+open_channels_both gap [] (b ∷ others) = Some (with_part gap [] (rows_in b)) ∷ open_channels_both gap [] others
+open_channels_both gap (a ∷ open_channels) (b ∷ others) = Some (with_part gap (rows_in a) (rows_in b)) ∷ open_channels_both gap open_channels others
 
--- the rows of each channel in both tables, of so many channels
+-- the rows of each channel in both tables, of up to `n` channels
 abbrev pub both : ℕ → (gap : ℕ) → OpenRows → OpenRows → OpenRows
-both n gap a b = record { lanes = lanes_both gap a.lanes b.lanes; channels = listed n (λ k. rows_in (lane_at (lanes_both gap a.lanes b.lanes) k)) }
+both n gap a b = record { open_channels = open_channels_both gap a.open_channels b.open_channels; channels = listed n (λ k. rows_in (open_channel_at (open_channels_both gap a.open_channels b.open_channels) k)) }
 
 -- the rows that are open once these epochs have ended
 abbrev pub rows_after : OpenRows → List EpochRows → OpenRows
@@ -107,7 +107,7 @@ pieces_of i epoch start given gap o [] = []
 pieces_of i epoch start given gap o (e ∷ es) =
     pieces_at i epoch start given gap o e ++ pieces_of i epoch start (given + length (listed i.svc (with_parts gap o e.parts))) 0 no_rows es
 
--- the pieces that are known whole with the rows of a block
+-- the pieces that are complete with the rows of a block
 abbrev pub pieces_ended : Cutting → BlockRows → List Piece
 pieces_ended c b = pieces_of c.interface c.epoch c.start c.given c.gap c.open_rows b.ended
 
@@ -128,7 +128,7 @@ joined c b = record {
   open_rows = both c.interface.svc (gap_left c.gap b.ended) (rows_after c.open_rows b.ended) b.rows;
 }
 
--- ---- rows that a cutter may take
+-- ---- rows that a cutter may read
 
 -- one after the other
 pub record MayCome (c : Cutting) (items : List Item) : Type 0 where
@@ -159,10 +159,10 @@ pub record IsBehind (last : ℕ) (b : BlockRows) : Type 0 where
   pub gap : (b.gap ≡ 0) ⊎ (last < b.gap)
   pub rows : (k : ℕ) → (rows_of b.rows k ≡ []) ⊎ (last < last_number (rows_of b.rows k))
 
--- a cutter that was given some rows, with the rows of a block, was given both, and the pieces that are known whole with
+-- a cutter that has read some rows, with the rows of a block, has read both, and the pieces that are complete with
 -- them are those of the block
 pub record IsJoined (i : Interface) (rs : List Item) (c : Cutting) (items : List Item) (b : BlockRows) : Type 0 where
-  pub stands : StandsFor i (rs ++ items) (joined c b)
+  pub stands : Represents i (rs ++ items) (joined c b)
   pub bounds : IsCutting (joined c b)
   pub given : given_of i (rs ++ items) ≡ given_of i rs ++ pieces_ended c b
   pub last : (joined c b).last ≡ last_or c.last (map (λ it. it.number) items)
@@ -171,12 +171,12 @@ pub record IsJoined (i : Interface) (rs : List Item) (c : Cutting) (items : List
   pub fit : AreFit c.interface c.epoch c.gap c.open_rows b.ended
   pub behind : IsBehind c.last b
 
--- rows were cut after a restart machine: wherever they come to a cutter with this machine, the cutter with the rows of
--- the block was given them too
+-- rows were cut after a restart machine: wherever they come after the rows of a cutter with this machine, the cutter with the rows of the
+-- block has read them too
 abbrev pub IsCutApart : GapLine → List Item → BlockRows → Type 0
-IsCutApart l items b = (i : Interface) (rs : List Item) (c : Cutting) → StandsFor i rs c → IsCutting c → c.line ≡ l → Comes c.interface c.last c.octets items → IsJoined i rs c items b
+IsCutApart l items b = (i : Interface) (rs : List Item) (c : Cutting) → Represents i rs c → IsCutting c → c.line ≡ l → Comes c.interface c.last c.octets items → IsJoined i rs c items b
 
--- all rows were taken out, and their parts have each of them
+-- all rows were removed, and their parts have each of them
 pub record AreAllOut (before after : OpenRows) : Type 0 where
   pub parts : (k : ℕ) → rows_on k (parts_of (rows_of before) before.channels) ≡ rows_of before k
   pub none : (k : ℕ) → rows_of after k ≡ []
@@ -187,22 +187,23 @@ abbrev pub epoch_ended : Item → (epoch : ℕ) → EpochStart → (gap : ℕ) �
 epoch_ended item epoch start gap rows = record { parts = parts_of (rows_of rows) rows.channels; gap = gap; epoch = epoch; start = start; end = end_at item }
 
 -- what a row did to the rows of a block, in an epoch that began so with this last gap of all channels
-abbrev pub HasCut : Turn → Item → (epoch : ℕ) → EpochStart → (gap : ℕ) → (ended ended_after : List EpochRows) → (before after : OpenRows) → Type 0
+abbrev pub HasCut : ChannelEffect → Item → (epoch : ℕ) → EpochStart → (gap : ℕ) → (ended ended_after : List EpochRows) → (before after : OpenRows) → Type 0
 HasCut (ToChannel channel) item epoch start gap ended ended_after before after = (ended_after ≡ ended) × HasMore gap channel item before after
 HasCut Ends item epoch start gap ended ended_after before after = (ended_after ≡ ended ++ epoch_ended item epoch start gap before ∷ []) × AreAllOut before after
 HasCut _ item epoch start gap ended ended_after before after = (ended_after ≡ ended) × (after ≡ before)
 
--- ---- what a cutter took
+-- ---- what a cutter read
 
--- a cutter took these rows: of any that it took before, it stands for them and these, and the pieces that are known whole were appended
+-- a cutter read these rows: of any rows that it read before, it represents them and these, and the pieces that are complete were
+-- appended
 pub record HasTakenAll (items : List Item) (before after : Cutting) (out out_after : List Piece) : Type 0 where
   pub interface : after.interface ≡ before.interface
   pub last : after.last ≡ last_or before.last (map (λ it. it.number) items)
   pub octets : after.octets ≡ before.octets + all_octets items
-  pub stands : (i : Interface) (rs : List Item) → StandsFor i rs before → StandsFor i (rs ++ items) after
-  pub appended : (i : Interface) (rs : List Item) → StandsFor i rs before → HasAppended out out_after (given_of i rs) (given_of i (rs ++ items))
+  pub stands : (i : Interface) (rs : List Item) → Represents i rs before → Represents i (rs ++ items) after
+  pub appended : (i : Interface) (rs : List Item) → Represents i rs before → HasAppended out out_after (given_of i rs) (given_of i (rs ++ items))
 
--- a channel that gets rows stands among the channels
+-- a channel that gets rows is among the channels
 abbrev pub with_rows : (added : List Item) → (was : List Item) → ℕ → List ℕ → List ℕ
 with_rows [] was k channels = channels
 with_rows (item ∷ items) was k channels = with_channel was k channels
@@ -213,7 +214,7 @@ pub record HasFirst (channel : ℕ) (items : List Item) (before after : OpenRows
   pub others : (k : ℕ) → k ≢ channel → rows_of after k ≡ rows_of before k
   pub channels : after.channels ≡ with_rows items [] channel before.channels
 
--- a channel has these rows more, behind the last gap of all channels
+-- a channel has these rows more, after the last gap of all channels
 pub record HasAll (gap channel : ℕ) (items : List Item) (before after : OpenRows) : Type 0 where
   pub rows : rows_of after channel ≡ with_part gap (rows_of before channel) items
   pub others : (k : ℕ) → k ≢ channel → rows_of after k ≡ rows_of before k
@@ -230,7 +231,7 @@ part_pieces i e start end gap id [] = []
 part_pieces i e start end gap id (p ∷ ps) =
     piece_out i e start end id p.channel (with_gap gap p.items) ∷ part_pieces i e start end gap (id + 1) ps
 
--- the rows of an epoch may be added to these, and its pieces be given out
+-- the rows of an epoch may be added to these, and its pieces may be given out
 pub record MayEnd (i : Interface) (epoch given gap : ℕ) (o : OpenRows) (e : EpochRows) : Type 0 where
   pub channels : o.channels ≡ listed i.svc (rows_of o)
   pub others : HasNoOthers o

@@ -1,4 +1,4 @@
--- What a block's cutter was given, and what a block has.
+-- What a block's cutter has read, and what a block has.
 use Rattle.std.specs.Prelude.{◌≡◌, ℕ, List}
 use Rattle.line_model.specs.basics.Records.{Item}
 use Rattle.line_model.specs.channels.GapRestart.{GapLine}
@@ -7,9 +7,9 @@ use Rattle.restart_epochs.specs.Cutting.{gap_turned}
 use Rattle.restart_epochs.specs.OpenRows.{OpenRows, rows_of}
 use Rattle.restart_epochs.specs.declared.block_cut.BlockCut.{BlockCut}
 use Rattle.restart_epochs.specs.declared.block_cut.BlockCutter.{BlockCutter}
-use Rattle.restart_epochs.specs.declared.walk.Turn.{Turn}
+use Rattle.restart_epochs.specs.declared.walk.ChannelEffect.{ChannelEffect}
 
--- a block's cutter was given these rows after a restart machine
+-- a block's cutter has read these rows after a restart machine
 abbrev pub IsCutSoFar : {A : Type 0} → GapLine → List Item → BlockCutter A → Type 0
 IsCutSoFar l items s = IsCutApart l items (record {
   line = s.walk.machine;
@@ -25,7 +25,7 @@ IsCutSoFar l items s = IsCutApart l items (record {
   rows = s.rows;
 })
 
--- the rows of a block; those of its open epoch stand in a table
+-- the rows of a block; those of its open epoch are in a table
 abbrev pub block_rows : {A : Type 0} → BlockCut A → OpenRows → BlockRows
 block_rows b rows = record {
   line = b.walk.machine;
@@ -48,8 +48,8 @@ pub record IsBlockCut {A : Type 0} (l : GapLine) (items : List Item) (b : BlockC
   pub tail : (k : ℕ) → rows_on k b.tail.items ≡ rows_of rows k
   pub cut : IsCutApart l items (block_rows b rows)
 
--- what a row did to a block's cutter, but for what it counts
-abbrev pub BlockTurned : {A : Type 0} → Turn → Item → (before after : BlockCutter A) → Type 0
+-- what a row did to a block's cutter, except for what it counts
+abbrev pub BlockTurned : {A : Type 0} → ChannelEffect → Item → (before after : BlockCutter A) → Type 0
 BlockTurned turn item before after =
     (after.walk ≡ before.walk) × (after.gap ≡ gap_turned turn item before.gap)
     × HasCut turn item before.walk.epoch before.walk.start before.gap before.ended.items after.ended.items before.rows after.rows

@@ -1,4 +1,4 @@
--- A trace that falls into pieces, row by row (profile).
+-- A trace that is cut into pieces, row by row (profile).
 use Rattle.std.specs.Prelude.{◌≡◌, ◌≢◌, ◌⊎◌, ℕ, Bool, true, false, ◌&&◌, not, ◌+◌, ◌<◌, ◌≤◌, ◌^◌, ◌==◌, if◌then◌else◌, List, [], ◌∷◌, ◌++◌, length, filter, is_some, All, Option, Some, None, option_to_list}
 use Rattle.line_model.specs.declared.interface.Interface.{Interface}
 use Rattle.line_model.specs.declared.finding.Finding.{Finding}
@@ -18,8 +18,8 @@ use Rattle.line_model.specs.basics.Bounds.{AreSaid, IsItem, all_octets}
 use Rattle.restart_epochs.specs.OpenRows.{OpenRows, begins_with_row, last_number, no_rows, rows_of, with_gap, IsSame, HasMore}
 use Rattle.restart_epochs.specs.Walks.{start_after}
 use Rattle.restart_epochs.specs.declared.walk.Step.{Step}
-use Rattle.restart_epochs.specs.declared.walk.Turn.{Turn}
-use Rattle.restart_epochs.specs.declared.walk.Turn.TheVariants.{ToChannel, ToAll, Ends}
+use Rattle.restart_epochs.specs.declared.walk.ChannelEffect.{ChannelEffect}
+use Rattle.restart_epochs.specs.declared.walk.ChannelEffect.TheVariants.{ToChannel, ToAll, Ends}
 
 -- the observer of an interface after some rows
 abbrev pub observer : Interface → List Item → Observer GapLine GapChannel
@@ -29,7 +29,7 @@ observer i rs = walk (x25 i) (start i) rs
 abbrev pub places : Interface → List Item → List (Placed Item)
 places i rs = placed (x25 i) (start i) rs
 
--- the pieces whose epoch a row has left: they are known whole
+-- the pieces whose epoch a row has left: they are complete
 abbrev pub given_of : Interface → List Item → List Piece
 given_of i rs = filter (λ p. is_some p.end) (plan i rs)
 
@@ -67,8 +67,8 @@ no_cutting i = record {
   open_rows = no_rows;
 }
 
--- rows of a channel that are no more than these, each with a gap of all channels before it, up to the last one
-pub record IsLane (i : Interface) (k packets octets last : ℕ) (items : List Item) : Type 0 where
+-- at most these rows of a channel, each with a gap of all channels before it, up to the last one
+pub record IsChannelRows (i : Interface) (k packets octets last : ℕ) (items : List Item) : Type 0 where
   pub few_rows : length items ≤ packets + packets
   pub few_octets : all_octets items ≤ octets
   pub up_to : last_number items ≤ last
@@ -84,7 +84,7 @@ pub record IsCutting (c : Cutting) : Type 0 where
   pub gaps : c.gaps ≤ c.packets
   pub gap : c.gap ≤ c.last
   pub recorded : (c.gap ≡ 0) ⊎ (c.interface.gaps ≡ true)
-  pub lanes : (k : ℕ) → IsLane c.interface k c.packets c.octets c.last (rows_of c.open_rows k)
+  pub open_channels : (k : ℕ) → IsChannelRows c.interface k c.packets c.octets c.last (rows_of c.open_rows k)
 
 -- the same rows were pushed
 pub record IsUnchanged (before after : Cutting) : Type 0 where
@@ -101,7 +101,7 @@ pub record IsUnchanged (before after : Cutting) : Type 0 where
   pub gap : after.gap ≡ before.gap
   pub open_rows : IsSame before.open_rows after.open_rows
 
--- each epoch before the last was left, the last one where the line is not in r1; no row lies beyond it
+-- each epoch before the last was left, the last one where the interface is not in r1; no row comes after it
 pub record EndsOf (ps : List (Placed Item)) (epoch : ℕ) (ready : Bool) : Type 0 where
   pub begun : 1 ≤ epoch
   pub within : AllByRecursion (λ p. p.epoch ≤ epoch) ps
@@ -118,8 +118,8 @@ abbrev pub epoch_start : (epoch : ℕ) → GapLine → List (Placed Item) → Ep
 epoch_start e l [] = start_by l
 epoch_start e l (p ∷ ps) = if p.epoch == e then p.start else epoch_start e l ps
 
--- the rows that step a channel up to the last that is no gap of all channels; of several gaps with no other row between
--- them the last one
+-- the rows that step a channel up to the last one that is not a gap of all channels; of several gaps with no other row between them the
+-- last one
 abbrev pub taken_rows : List Item → List Item
 taken_rows [] = []
 taken_rows (r ∷ rs) = elim (is_gap_of_all r && not (begins_with_row rs)) [ true ↦ taken_rows rs | false ↦ r ∷ taken_rows rs ]
@@ -139,8 +139,8 @@ abbrev pub channels_if : (ready : Bool) → Interface → List (Placed Item) →
 channels_if true i ps e = channels_in i ps e
 channels_if false i ps e = []
 
--- the cutter was given what rows of an interface say
-pub record StandsFor (i : Interface) (rs : List Item) (c : Cutting) : Type 0 where
+-- the cutter has read what rows of an interface say
+pub record Represents (i : Interface) (rs : List Item) (c : Cutting) : Type 0 where
   pub said : AreSaid i rs
   pub interface : c.interface ≡ i
   pub line : c.line ≡ (observer i rs).line
@@ -155,9 +155,9 @@ pub record StandsFor (i : Interface) (rs : List Item) (c : Cutting) : Type 0 whe
   pub channels : c.open_rows.channels ≡ channels_if (is_ready (observer i rs).line) i (places i rs) (observer i rs).epoch
   pub epochs : EndsOf (places i rs) (observer i rs).epoch (is_ready (observer i rs).line)
 
--- of any rows of an interface that the cutter was given
+-- of any rows of an interface that the cutter has read
 abbrev pub OfCut : Cutting → (Interface → List Item → Type 0) → Type 0
-OfCut c Fact = (i : Interface) (rs : List Item) → StandsFor i rs c → Fact i rs
+OfCut c Fact = (i : Interface) (rs : List Item) → Represents i rs c → Fact i rs
 
 -- the items of the piece of each channel that has rows: these, and the last gap of all channels
 abbrev pub items_out : (gap : ℕ) → OpenRows → ℕ → List Item
@@ -177,7 +177,7 @@ abbrev pub open_pieces : Cutting → (end : Option PieceEnd) → List Piece
 open_pieces c end = pieces_out c.interface c.epoch c.start end (items_out c.gap c.open_rows) c.given c.open_rows.channels
 
 -- the pieces that a row ends
-abbrev pub ended_by : Turn → Interface → (epoch : ℕ) → EpochStart → PieceEnd → (given gap : ℕ) → OpenRows → List Piece
+abbrev pub ended_by : ChannelEffect → Interface → (epoch : ℕ) → EpochStart → PieceEnd → (given gap : ℕ) → OpenRows → List Piece
 ended_by Ends i e start end given gap rows = pieces_out i e start (Some end) (items_out gap rows) given rows.channels
 ended_by _ i e start end given gap rows = []
 
@@ -211,7 +211,7 @@ pub record IsStepped (r : Item) (machine : GapLine) (next_epoch next_gap : ℕ) 
   pub gap : after.gap ≡ next_gap
   pub open_rows : IsSame before.open_rows after.open_rows
 
--- no row is left of a channel, or it had none of those that were taken out
+-- no row is left of a channel, or it had none of those that were removed
 abbrev pub IsEmptied : OpenRows → OpenRows → Type 0
 IsEmptied before after = (k : ℕ) → (rows_of after k ≡ []) ⊎ ((rows_of after k ≡ rows_of before k) × AllByRecursion (λ j. j ≢ k) before.channels)
 
@@ -228,23 +228,23 @@ pub record IsLeft (r : Item) (machine : GapLine) (next_epoch : ℕ) (found : Lis
   pub emptied : IsEmptied before.open_rows after.open_rows
 
 -- what a row did to the rows of the open epoch, where this was the last gap of all channels
-abbrev pub HasTurned : Turn → Item → (gap : ℕ) → (before after : OpenRows) → Type 0
+abbrev pub HasTurned : ChannelEffect → Item → (gap : ℕ) → (before after : OpenRows) → Type 0
 HasTurned (ToChannel channel) item gap before after = HasMore gap channel item before after
 HasTurned Ends item gap before after = (after.channels ≡ []) × IsEmptied before after
 HasTurned _ item gap before after = IsSame before after
 
 -- the last gap of all channels in the open epoch after a row, or 0
-abbrev pub gap_turned : Turn → Item → (gap : ℕ) → ℕ
+abbrev pub gap_turned : ChannelEffect → Item → (gap : ℕ) → ℕ
 gap_turned ToAll item gap = item.number
 gap_turned Ends item gap = 0
 gap_turned _ item gap = gap
 
 -- how many pieces were given out after a row
-abbrev pub given_after : Turn → (given : ℕ) → OpenRows → ℕ
+abbrev pub given_after : ChannelEffect → (given : ℕ) → OpenRows → ℕ
 given_after Ends given rows = given + length rows.channels
 given_after _ given rows = given
 
--- the row of a step was taken
+-- the row of a step was read
 pub record IsTakenBy (item : Item) (step : Step) (before after : Cutting) : Type 0 where
   pub counted : IsCounted item before after
   pub line : after.line ≡ step.machine
@@ -261,10 +261,10 @@ pub record HasAppended (out out_after known known_after : List Piece) : Type 0 w
   pub out_has : out_after ≡ out ++ more
   pub known_has : known_after ≡ known ++ more
 
--- a row was taken: of any rows that were taken before, the cutter stands for them and this one, and the pieces that are
--- known whole came to stand behind those that were
+-- a row was read: of any rows that were read before, the cutter represents them and this one, and the pieces that are
+-- complete were appended to those that were
 pub record IsTaken (item : Item) (before after : Cutting) (out out_after : List Piece) : Type 0 where
-  pub stands : (i : Interface) (rs : List Item) → StandsFor i rs before → StandsFor i (rs ++ item ∷ []) after
-  pub given : (i : Interface) (rs : List Item) (ps : List Piece) → StandsFor i rs before → out ≡ ps ++ given_of i rs → out_after ≡ ps ++ given_of i (rs ++ item ∷ [])
-  pub appended : (i : Interface) (rs : List Item) → StandsFor i rs before → HasAppended out out_after (given_of i rs) (given_of i (rs ++ item ∷ []))
+  pub stands : (i : Interface) (rs : List Item) → Represents i rs before → Represents i (rs ++ item ∷ []) after
+  pub given : (i : Interface) (rs : List Item) (ps : List Piece) → Represents i rs before → out ≡ ps ++ given_of i rs → out_after ≡ ps ++ given_of i (rs ++ item ∷ [])
+  pub appended : (i : Interface) (rs : List Item) → Represents i rs before → HasAppended out out_after (given_of i rs) (given_of i (rs ++ item ∷ []))
   pub counted : IsCounted item before after

@@ -1,5 +1,5 @@
 pub mod Cutting
-pub mod OpenLanes
+pub mod ChannelTables
 pub mod OpenRows
 pub mod BlockCuts
 pub mod BlockStates

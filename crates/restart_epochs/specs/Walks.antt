@@ -1,4 +1,4 @@
--- The walk over the rows of a trace, but for what stands on the logical channels.
+-- The walk over the rows of a trace, except for what is on the logical channels.
 use Rattle.std.specs.Prelude.{◌≡◌, ℕ, ◌+◌, ◌≤◌, ◌==◌, Bool, true, false, cond, List, [], ◌∷◌, ◌++◌, length, Option, Some, None, is_some, option_to_list}
 use Rattle.line_model.specs.declared.interface.Interface.{Interface}
 use Rattle.line_model.specs.declared.finding.Finding.{Finding}
@@ -16,8 +16,8 @@ use Rattle.line_model.specs.declared.packet.Packet.{Packet}
 use Rattle.std.specs.Vec.{vec_len, vec_capacity}
 use Rattle.restart_epochs.specs.declared.walk.EpochWalk.{EpochWalk}
 use Rattle.restart_epochs.specs.declared.walk.Step.{Step}
-use Rattle.restart_epochs.specs.declared.walk.Turn.{Turn}
-use Rattle.restart_epochs.specs.declared.walk.Turn.TheVariants.{ToChannel, ToAll, Ends, Stays}
+use Rattle.restart_epochs.specs.declared.walk.ChannelEffect.{ChannelEffect}
+use Rattle.restart_epochs.specs.declared.walk.ChannelEffect.TheVariants.{ToChannel, ToAll, Ends, Stays}
 
 -- the finding of the restart machine on a row, by its route
 abbrev pub route_finding : Item → Route → List Finding
@@ -36,20 +36,20 @@ abbrev pub start_after : (epoch : ℕ) → EpochStart → (next_epoch : ℕ) →
 start_after epoch start next_epoch machine = elim (next_epoch == epoch) [ true ↦ start | false ↦ start_by machine ]
 
 -- a row that is passed does nothing to the logical channels, unless it is a gap of them all
-abbrev pub passed : (of_all : Bool) → Turn
+abbrev pub passed : (of_all : Bool) → ChannelEffect
 passed true = ToAll
 passed false = Stays
 
 -- what a row of this packet does to the logical channels, by its route
-abbrev pub turn_of : Packet → Route → Turn
+abbrev pub turn_of : Packet → Route → ChannelEffect
 turn_of packet route.TheVariants.ToChannel = ToChannel (packet_channel packet)
 turn_of packet (Leave code) = Ends
 turn_of packet Renew = Ends
 turn_of packet route.TheVariants.Pass = passed (is_of_all (gap_of packet))
 turn_of packet _ = Stays
 
--- the logical channel that takes a row
-abbrev pub channel_in : Turn → Option ℕ
+-- the logical channel that a row goes to
+abbrev pub channel_in : ChannelEffect → Option ℕ
 channel_in (ToChannel channel) = Some channel
 channel_in _ = None
 
@@ -83,11 +83,11 @@ pub record IsFreshBlock {A : Type 0} (l : GapLine) (w : EpochWalk A) : Type 0 wh
   pub gaps : w.gaps ≡ 0
   pub findings : w.findings.items ≡ []
 
--- how the epoch began that is open after the rows of a block, in which so many began
+-- how the epoch began that is open after the rows of a block, in which `begun` epochs began
 abbrev pub start_joined : (begun : ℕ) → (before later : EpochStart) → EpochStart
 start_joined begun before later = elim (begun == 0) [ true ↦ before | false ↦ later ]
 
--- the rows of a block were taken
+-- the rows of a block were read
 pub record HasJoined {A : Type 0} (block before after : EpochWalk A) : Type 0 where
   pub interface : after.interface ≡ before.interface
   pub machine : after.machine ≡ block.machine
@@ -97,7 +97,7 @@ pub record HasJoined {A : Type 0} (block before after : EpochWalk A) : Type 0 wh
   pub gaps : after.gaps ≡ before.gaps + block.gaps
   pub findings : after.findings.items ≡ before.findings.items ++ block.findings.items
 
--- the same rows were taken
+-- the same rows were read
 pub record IsSameWalk {A : Type 0} (before after : EpochWalk A) : Type 0 where
   pub interface : after.interface ≡ before.interface
   pub machine : after.machine ≡ before.machine
@@ -107,7 +107,7 @@ pub record IsSameWalk {A : Type 0} (before after : EpochWalk A) : Type 0 where
   pub gaps : after.gaps ≡ before.gaps
   pub findings : after.findings.items ≡ before.findings.items
 
--- the row of a step was taken
+-- the row of a step was read
 pub record IsAdvanced {A : Type 0} (step : Step) (before after : EpochWalk A) : Type 0 where
   pub interface : after.interface ≡ before.interface
   pub machine : after.machine ≡ step.machine

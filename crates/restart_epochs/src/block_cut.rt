@@ -8,7 +8,7 @@ ghost use Rattle.restart_epochs.specs.BlockStates.{BlockTurned, IsBlockCut, IsCu
 use crate::parts::{EndedRows, Part, end_at};
 use crate::restart::Restart;
 use crate::rows_by_channel::RowsByChannel;
-use crate::walk::{EpochWalk, Turn};
+use crate::walk::{ChannelEffect, EpochWalk};
 use line_model::interface::Interface;
 use line_model::items::ItemRef;
 use std::alloc::{AllocError, Allocator, Global};
@@ -24,7 +24,7 @@ use std::alloc::{AllocError, Allocator, Global};
 /// ```
 #[derive(Drop)]
 pub struct BlockCut<A: Allocator = Global> {
-    /// Its restart machine began with that of the rows before; its epochs are counted from 0.
+    /// The walk over the block, which began with the restart machine of the rows before; its epochs are counted from 0.
     pub(crate) walk: EpochWalk<A>,
     pub(crate) ended: Vec<EndedRows<A>, A>,
     /// The rows of the epoch that is open after the block.
@@ -37,7 +37,7 @@ pub struct BlockCut<A: Allocator = Global> {
 }
 
 impl<A: Allocator> BlockCut<A> {
-    /// The number of the last row after one of this number and the rows of the block.
+    /// Returns the number of the last row after one of this number and the rows of the block.
     pub(crate) fn last_after(&self, before: u32) -> u32
         ensures { result ≡ cond (self.now.walk.packets == 0) before self.now.last }
     {
@@ -49,7 +49,7 @@ impl<A: Allocator> BlockCut<A> {
     }
 }
 
-/// Cuts rows apart from the rows before them.
+/// Cuts the rows of a block apart from the rows before them.
 #[derive(Drop)]
 pub struct BlockCutter<A: Allocator = Global> {
     walk: EpochWalk<A>,
@@ -63,8 +63,8 @@ pub struct BlockCutter<A: Allocator = Global> {
 }
 
 impl<A: Allocator + Copy> BlockCutter<A> {
-    /// A cutter before the first row of a block, whose restart machine is this. It uses these lists again, and takes no
-    /// memory.
+    /// Returns a cutter before the first row of a block, with the restart machine of the rows before it. It uses these
+    /// lists again, and allocates nothing.
     pub fn new(alloc: A, interface: &Interface, machine: Restart, lists: RowsByChannel<A>) -> Self
         ensures { IsCutSoFar machine [] result }
     {
@@ -78,7 +78,7 @@ impl<A: Allocator + Copy> BlockCutter<A> {
         }
     }
 
-    /// The octets with those of one more row. `None`: a count would pass its type.
+    /// Returns the octets with those of one more row. `None` where a count would overflow its type.
     fn octets_with(&self, item: &ItemRef<'_>) -> Option<u32>
         ensures { IfSome result (λ octets. (octets ≡ self.now.octets + item.now.length)
             × (self.now.walk.epoch + 1 < 2 ^ 32) × (self.now.walk.packets + 1 < 2 ^ 32)
@@ -93,16 +93,16 @@ impl<A: Allocator + Copy> BlockCutter<A> {
     }
 
     /// Keeps a row that goes to a channel, and ends the epoch where a row does.
-    fn turn(&mut self, turn: Turn, item: &ItemRef<'_>) -> Result<(), AllocError>
+    fn turn(&mut self, turn: ChannelEffect, item: &ItemRef<'_>) -> Result<(), AllocError>
         ensures { OnOk result (BlockTurned turn item.now self.old self.new) }
     {
         match turn {
-            Turn::ToChannel(channel) => self.rows.push(self.gap, channel, item),
-            Turn::ToAll => {
+            ChannelEffect::ToChannel(channel) => self.rows.push(self.gap, channel, item),
+            ChannelEffect::ToAll => {
                 self.gap = item.number;
                 Ok(())
             }
-            Turn::Ends => {
+            ChannelEffect::Ends => {
                 let ended = EndedRows {
                     parts: self.rows.take_parts()?,
                     gap: self.gap,
@@ -114,12 +114,11 @@ impl<A: Allocator + Copy> BlockCutter<A> {
                 self.gap = 0;
                 Ok(())
             }
-            Turn::Stays => Ok(()),
+            ChannelEffect::Stays => Ok(()),
         }
     }
 
-    /// Takes the next row. A count that grows past its type is refused as memory is. After a refusal the cutter is of no
-    /// use.
+    /// Reads the next row. Fails when memory is refused, or a count would overflow its type; drop the cutter then.
     pub fn push(&mut self, item: &ItemRef<'_>) -> Result<(), AllocError>
         ensures { (l : GapLine) (items : List records.Item) → IsCutSoFar l items self.old
             → OnOk result (IsCutSoFar l (items ++ item.now ∷ []) self.new) }
@@ -135,7 +134,7 @@ impl<A: Allocator + Copy> BlockCutter<A> {
         Ok(())
     }
 
-    /// The rows as they were cut, and the lists for the next cutter.
+    /// Returns the rows as they were cut, and the lists for the next cutter. Fails only when memory is refused.
     pub fn end(self) -> Result<(BlockCut<A>, RowsByChannel<A>), AllocError>
         ensures { (l : GapLine) (items : List records.Item) → IsCutSoFar l items self
             → IfOk result (λ cut. IsBlockCut l items cut.0) }

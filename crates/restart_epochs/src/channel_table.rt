@@ -2,7 +2,7 @@
 
 ghost use Rattle.std.specs.Prelude.{◌≡◌, ◌<◌, [], MatchOption, OnOk, OnErr, length};
 ghost use Rattle.std.specs.Option.{option_map};
-ghost use Rattle.restart_epochs.specs.OpenLanes.{no_lanes, value_at, IsAlike, HasListed, HasTaken, HasPut, HasPopped};
+ghost use Rattle.restart_epochs.specs.ChannelTables.{no_open_channels, value_at, IsAlike, HasListed, HasTaken, HasPut, HasPopped};
 
 use std::alloc::{AllocError, Allocator};
 use std::boxed::Box;
@@ -10,63 +10,65 @@ use std::collections::BTreeSet;
 use std::marker::Model;
 use std::mem;
 
-/// A lane for each channel up to some one, most of them empty, and the channels that are listed, in ascending order.
+/// A place for each channel up to the highest that was listed, most of them empty, and the channels that are listed, in
+/// ascending order.
 #[derive(Drop)]
 pub struct ChannelTable<T, A: Allocator> {
-    lanes: Vec<Option<Box<T, A>>, A>,
+    open_channels: Vec<Option<Box<T, A>>, A>,
     channels: BTreeSet<u16, A>,
 }
 
 impl<T, A: Allocator> Model for ChannelTable<T, A> {
     ghost use Rattle.std.specs.Prelude.{map};
     ghost use Rattle.std.specs.Option.{option_map};
-    ghost use Rattle.restart_epochs.specs.OpenLanes.{OpenLanes};
+    ghost use Rattle.restart_epochs.specs.ChannelTables.{ChannelTables};
 
-    ghost Value = { OpenLanes T };
+    ghost Value = { ChannelTables T };
 
     ghost view = { λ l. record {
-      lanes = map (λ o. option_map (λ b. b.value) o) l.lanes.items;
+      open_channels = map (λ o. option_map (λ b. b.value) o) l.open_channels.items;
       channels = l.channels.keys;
     } };
 }
 
 impl<T: Drop, A: Allocator + Copy> ChannelTable<T, A> {
-    /// No channel. It takes no memory.
+    /// Returns a table of no channel. Allocates nothing.
     pub fn new(alloc: A) -> Self
-        ensures { result ≡ no_lanes }
+        ensures { result ≡ no_open_channels }
     {
         ChannelTable {
-            lanes: Vec::new(alloc),
+            open_channels: Vec::new(alloc),
             channels: BTreeSet::new(alloc),
         }
     }
 
-    /// How many channels are listed.
+    /// Returns how many channels are listed.
     pub fn len(&self) -> usize
         ensures { result ≡ length self.now.channels }
     {
         self.channels.len()
     }
 
-    /// The channels that are listed, in ascending order.
+    /// Returns the channels that are listed, in ascending order.
     pub fn channels(&self) -> &BTreeSet<u16, A>
         ensures { result.now.keys ≡ self.now.channels }
     {
         &self.channels
     }
 
-    /// Makes a lane for each channel up to this one.
+    /// Makes a place for each channel up to this one.
     fn widen(&mut self, channel: u16) -> Result<(), AllocError>
         ensures alike { IsAlike self.old self.new }
-        ensures wide { OnOk result (channel < length self.new.lanes) }
+        ensures wide { OnOk result (channel < length self.new.open_channels) }
     {
-        while self.lanes.len() <= channel as usize {
-            self.lanes.push(None)?;
+        while self.open_channels.len() <= channel as usize {
+            self.open_channels.push(None)?;
         }
         Ok(())
     }
 
-    /// Lists a channel, and makes a lane for it. Where memory is refused no value has changed, and no channel is listed.
+    /// Lists a channel, and makes a place for it. Fails only when memory is refused; then no value has changed, and the
+    /// same channels are listed.
     pub fn list(&mut self, channel: u16) -> Result<(), AllocError>
         ensures ok { OnOk result (HasListed channel self.old self.new) }
         ensures refused { OnErr result (IsAlike self.old self.new) }
@@ -76,25 +78,25 @@ impl<T: Drop, A: Allocator + Copy> ChannelTable<T, A> {
         Ok(())
     }
 
-    /// Takes the value of a channel out of its lane, if it has one. The channel stays listed.
+    /// Removes and returns the value of a channel, if it has one. The channel stays listed.
     pub fn take(&mut self, channel: u16) -> Option<Box<T, A>>
         ensures { HasTaken channel (option_map (λ b. b.value) result) self.old self.new }
     {
-        if (channel as usize) < self.lanes.len() {
-            return mem::replace(&mut self.lanes[channel as usize], None);
+        if (channel as usize) < self.open_channels.len() {
+            return mem::replace(&mut self.open_channels[channel as usize], None);
         }
         None
     }
 
-    /// Puts a value into the lane of a channel.
+    /// Puts a value into the place of a channel.
     pub fn put(&mut self, channel: u16, value: Box<T, A>)
-        requires { channel < length self.old.lanes }
+        requires { channel < length self.old.open_channels }
         ensures { HasPut channel value.value self.old self.new }
     {
-        self.lanes[channel as usize] = Some(value);
+        self.open_channels[channel as usize] = Some(value);
     }
 
-    /// Takes out the first channel that is listed, with its value.
+    /// Removes the first channel that is listed, and returns it with its value.
     pub fn pop_first(&mut self) -> Option<(u16, Option<Box<T, A>>)>
         ensures { MatchOption result ((self.old.channels ≡ []) × (self.new ≡ self.old))
             (λ first. HasPopped first.0 (option_map (λ b. b.value) first.1) self.old self.new) }
@@ -104,12 +106,12 @@ impl<T: Drop, A: Allocator + Copy> ChannelTable<T, A> {
         Some((channel, value))
     }
 
-    /// The value of a channel, if it has one.
+    /// Returns the value of a channel, if it has one.
     pub fn get(&self, channel: u16) -> Option<&T>
         ensures { option_map (λ r. r.now) result ≡ value_at self.now channel }
     {
-        if (channel as usize) < self.lanes.len() {
-            if let Some(value) = &self.lanes[channel as usize] {
+        if (channel as usize) < self.open_channels.len() {
+            if let Some(value) = &self.open_channels[channel as usize] {
                 return Some(value);
             }
         }

@@ -1,4 +1,4 @@
-//! A whole trace that falls into pieces.
+//! A whole trace that is cut into pieces.
 
 ghost use Rattle.std.specs.Prelude.{◌≡◌, ◌≤◌, ◌-◌, ◌∷◌, ◌^◌, All, IfErr, IfOk, length, map, sum_by};
 ghost use Rattle.std.specs.List.Sorted.{IsStrictlyIncreasing};
@@ -16,8 +16,8 @@ use packet_decode::rows::decode_all;
 use std::alloc::Allocator;
 use std::thread::Threads;
 
-/// Cuts the rows of a trace into pieces by epoch and logical channel (profile). The pieces have what the rows say; the
-/// threads of all processors decode the rows where there are many. Fails only when memory is refused.
+/// Cuts the rows of a trace into pieces by epoch and logical channel (profile). The pieces have what the rows say. The
+/// threads of all processors decode the rows where there are 2,048 or more. Fails only when memory is refused.
 pub fn cut<A: Allocator + Copy + Send + Sync>(
     rt: &(impl Threads + Sync),
     interface: &Interface,

@@ -1,4 +1,4 @@
-//! The cutter: a trace falls into pieces by epoch and logical channel, row by row.
+//! The cutter, which cuts a trace into pieces by epoch and logical channel, row by row.
 
 ghost use Rattle.std.specs.Prelude.{◌≡◌, ◌<◌, ◌≤◌, ◌+◌, ◌-◌, ◌^◌, ◌++◌, ◌∷◌, [], List, length, IfErr, IfOk, OnOk, Some, None, cond};
 ghost use Rattle.line_model.specs.basics.Bounds.{IsSaid};
@@ -79,11 +79,11 @@ impl<A: Allocator + Copy> Cutter<A> {
     ghost use Rattle.line_model.specs.basics.Records as records;
     ghost use Rattle.line_model.specs.declared.interface.Interface.{Interface as AnyInterface};
     ghost use Rattle.line_model.specs.declared.fault.Fault.TheVariants.{Memory};
-    ghost use Rattle.restart_epochs.specs.Cutting.{OfCut, StandsFor, IsCounted, HasAppended, given_of};
+    ghost use Rattle.restart_epochs.specs.Cutting.{OfCut, Represents, IsCounted, HasAppended, given_of};
 
-    /// A cutter before the first row. It takes no memory.
+    /// Returns a cutter before the first row. Allocates nothing.
     pub fn new(alloc: A, interface: &Interface) -> Self
-        ensures stands { StandsFor interface.now [] result }
+        ensures stands { Represents interface.now [] result }
         ensures last { result.last ≡ 0 }
         ensures octets { result.octets ≡ 0 }
     {
@@ -99,21 +99,21 @@ impl<A: Allocator + Copy> Cutter<A> {
         }
     }
 
-    /// Takes the next row, and appends the pieces of the epoch that it ends, if it leaves r1. A refusal
-    /// for memory changes nothing.
+    /// Reads the next row, and appends the pieces of the epoch that it ends, if it leaves r1. Fails only when memory is
+    /// refused, and nothing has changed then.
     pub fn push(&mut self, item: &ItemRef<'_>, out: &mut Vec<Piece<A>, A>) -> Result<(), Fault>
         requires said { IsSaid self.old.interface item.now }
         requires rising { self.old.last < item.now.number }
         requires number { item.now.number ≤ 999999999 }
         requires octets { self.old.octets + item.now.length ≤ 2 ^ 31 }
-        // Of any rows that it was given: it represents them and this one.
+        // Of any rows that it has read: it represents them and this one.
         ensures stands { OfCut self.old (λ i rows.
-            OnOk result (StandsFor i (rows ++ item.now ∷ []) self.new)) }
-        // The pieces that are known whole came to stand behind those that were.
+            OnOk result (Represents i (rows ++ item.now ∷ []) self.new)) }
+        // The pieces that are complete were appended to those that were.
         ensures given { (i : AnyInterface) (rows : List records.Item) (pieces : List records.Piece)
-            → StandsFor i rows self.old → out.old.items ≡ pieces ++ given_of i rows
+            → Represents i rows self.old → out.old.items ≡ pieces ++ given_of i rows
             → OnOk result (out.new.items ≡ pieces ++ given_of i (rows ++ item.now ∷ [])) }
-        // Whatever else was taken out of the list: the pieces that came to be known whole are appended.
+        // Whatever the list had: the pieces that are complete now are appended.
         ensures appended { OfCut self.old (λ i rows.
             OnOk result (HasAppended out.old.items out.new.items
             (given_of i rows) (given_of i (rows ++ item.now ∷ [])))) }
@@ -129,8 +129,8 @@ impl<A: Allocator + Copy> Cutter<A> {
         Ok(())
     }
 
-    /// Copies of the pieces that were not given out yet, which have no end. The cutter stays as it is. It answers
-    /// `Memory` alone.
+    /// Returns copies of the pieces that were not given out yet, which have no end. The cutter stays as it is. Fails
+    /// only when memory is refused.
     pub fn peek(&self) -> Result<Vec<Piece<A>, A>, Fault>
         ensures pieces { OfCut self.now (λ i rows.
             IfOk result (λ pieces. given_of i rows ++ pieces.items ≡ plan i rows)) }
@@ -144,14 +144,14 @@ impl<A: Allocator + Copy> Cutter<A> {
         )
     }
 
-    /// How many pieces were given out: those of the epochs that have ended.
+    /// Returns how many pieces were given out: those of the epochs that have ended.
     pub fn given(&self) -> usize
         ensures { OfCut self.now (λ i rows. result ≡ length (given_of i rows)) }
     {
         self.pieces.given as usize
     }
 
-    /// The findings of the restart machine so far.
+    /// Returns the findings of the restart machine so far.
     pub fn interface_findings(&self) -> &[Finding]
         ensures { OfCut self.now (λ i rows. result.now ≡ line_findings i rows) }
     {
@@ -186,7 +186,8 @@ impl<A: Allocator + Copy> Cutter<A> {
         }
     }
 
-    /// The pieces that were not given out yet, all findings of the restart machine, and how many rows are packets and gaps.
+    /// Returns the pieces that were not given out yet, all findings of the restart machine, and how many rows are
+    /// packets and gaps. Fails only when memory is refused.
     pub fn end(self) -> Result<Cut<A>, Fault>
         ensures pieces { OfCut self (λ i rows.
             IfOk result (λ cut. given_of i rows ++ cut.pieces.items ≡ plan i rows)) }

@@ -8,16 +8,16 @@ ghost use Rattle.restart_epochs.specs.OpenRows.{with_gap};
 ghost use Rattle.restart_epochs.specs.Cutting.{items_out, pieces_out, IsEmptied};
 ghost use Rattle.restart_epochs.specs.BlockCuts.{part_pieces};
 
+use crate::channel_rows::ChannelRows;
 use crate::channel_table::ChannelTable;
 use crate::kept_rows::take_first;
-use crate::open_lane::OpenLane;
 use crate::parts::Part;
 use line_model::gap::EpochStart;
 use line_model::interface::Interface;
 use line_model::piece::{Piece, PieceEnd};
 use std::alloc::{AllocError, Allocator};
 
-/// An epoch that has ended, of which its pieces are.
+/// An epoch that has ended.
 #[derive(Clone, Copy)]
 pub struct EndedEpoch {
     pub interface: Interface,
@@ -34,7 +34,7 @@ pub struct EndedEpoch {
 pub fn append_pieces<A: Allocator + Copy>(
     epoch: EndedEpoch,
     first: u32,
-    epoch_rows: &mut ChannelTable<OpenLane<A>, A>,
+    epoch_rows: &mut ChannelTable<ChannelRows<A>, A>,
     out: &mut Vec<Piece<A>, A>,
 )
     requires room { vec_len out.old + length epoch_rows.old.channels ≤ vec_capacity out.old }
@@ -48,8 +48,8 @@ pub fn append_pieces<A: Allocator + Copy>(
 {
     let alloc = *out.allocator();
     let mut id = first;
-    while let Some((channel, lane)) = take_first(alloc, epoch_rows) {
-        out.push_reserved(lane.into_piece(epoch, id, channel));
+    while let Some((channel, open_channel)) = take_first(alloc, epoch_rows) {
+        out.push_reserved(open_channel.into_piece(epoch, id, channel));
         id += 1;
     }
 }
@@ -70,7 +70,7 @@ pub fn append_parts<A: Allocator + Copy>(
     let mut next = first;
     for part in parts {
         let channel = part.channel;
-        out.push(OpenLane::of(part).into_piece(epoch, next, channel))?;
+        out.push(ChannelRows::of(part).into_piece(epoch, next, channel))?;
         next += 1;
     }
     Ok(())

@@ -4,18 +4,18 @@ ghost use Rattle.std.specs.Prelude.{◌≡◌, [], IfOk, OnOk, OnErr, MatchOptio
 ghost use Rattle.restart_epochs.specs.OpenRows.{rows_of, AreOut, IsSame, HasMore, IsTakenOut};
 ghost use Rattle.restart_epochs.specs.BlockCuts.{AreAdded, HasAll, HasFirst};
 
+use crate::channel_rows::ChannelRows;
 use crate::channel_table::ChannelTable;
-use crate::open_lane::OpenLane;
 use crate::parts::Part;
 use line_model::items::ItemRef;
 use std::alloc::{AllocError, Allocator};
 use std::boxed::Box;
 
-/// Takes the rows of a channel out, if it has some. It stays listed.
+/// Removes and returns the rows of a channel, if it has some. The channel stays listed.
 fn take_rows<A: Allocator + Copy>(
     channel: u16,
-    table: &mut ChannelTable<OpenLane<A>, A>,
-) -> Option<Box<OpenLane<A>, A>>
+    table: &mut ChannelTable<ChannelRows<A>, A>,
+) -> Option<Box<ChannelRows<A>, A>>
     ensures { MatchOption result ((rows_of table.old channel ≡ []) × IsSame table.old table.new)
         (λ rows. AreOut channel rows.value table.old table.new) }
 {
@@ -26,12 +26,13 @@ fn take_rows<A: Allocator + Copy>(
     Some(rows)
 }
 
-/// Keeps the first rows of a channel. Without rows it is not listed. Where memory is refused nothing changes.
+/// Lists a channel, and keeps its first rows, if there are some. Fails only when memory is refused, and nothing has
+/// changed then.
 fn keep_first<A: Allocator + Copy>(
     alloc: A,
     channel: u16,
-    rows: OpenLane<A>,
-    table: &mut ChannelTable<OpenLane<A>, A>,
+    rows: ChannelRows<A>,
+    table: &mut ChannelTable<ChannelRows<A>, A>,
 ) -> Result<(), AllocError>
     requires none { rows_of table.old channel ≡ [] }
     ensures ok { OnOk result (HasFirst channel rows table.old table.new) }
@@ -46,19 +47,20 @@ fn keep_first<A: Allocator + Copy>(
     Ok(())
 }
 
-/// Appends a row of a channel behind the last gap of all channels. Where memory is refused the rows stay as they were.
+/// Appends a row of a channel after the last gap of all channels. Fails only when memory is refused, and the rows are
+/// as they were then.
 pub fn keep_row<A: Allocator + Copy>(
     alloc: A,
     gap: u32,
     channel: u16,
     item: &ItemRef<'_>,
-    table: &mut ChannelTable<OpenLane<A>, A>,
+    table: &mut ChannelTable<ChannelRows<A>, A>,
 ) -> Result<(), AllocError>
     ensures ok { OnOk result (HasMore gap channel item.now table.old table.new) }
     ensures refused { OnErr result (IsSame table.old table.new) }
 {
     let Some(mut rows) = take_rows(channel, table) else {
-        let mut first = OpenLane::new(alloc);
+        let mut first = ChannelRows::new(alloc);
         first.push(gap, item)?;
         return keep_first(alloc, channel, first, table);
     };
@@ -67,19 +69,19 @@ pub fn keep_row<A: Allocator + Copy>(
     pushed
 }
 
-/// Appends a part of a channel's rows, which are not copied, behind the last gap of all channels. Where memory is refused the
-/// rows of the channel are lost.
+/// Appends a part of a channel's rows, which are not copied, after the last gap of all channels. Fails only when memory
+/// is refused, and the rows of the channel are lost then.
 fn keep_part<A: Allocator + Copy>(
     alloc: A,
     gap: u32,
     part: Part<A>,
-    table: &mut ChannelTable<OpenLane<A>, A>,
+    table: &mut ChannelTable<ChannelRows<A>, A>,
 ) -> Result<(), AllocError>
     ensures { OnOk result (HasAll gap part.channel part.items table.old table.new) }
 {
     let channel = part.channel;
     let Some(mut rows) = take_rows(channel, table) else {
-        let mut first = OpenLane::new(alloc);
+        let mut first = ChannelRows::new(alloc);
         first.add(gap, part)?;
         return keep_first(alloc, channel, first, table);
     };
@@ -88,12 +90,12 @@ fn keep_part<A: Allocator + Copy>(
     Ok(())
 }
 
-/// Appends the rows of parts, one part after the other.
+/// Appends the rows of parts, one part after the other. Fails only when memory is refused; some rows are lost then.
 pub fn keep_parts<A: Allocator + Copy>(
     alloc: A,
     gap: u32,
     parts: Vec<Part<A>, A>,
-    rows: &mut ChannelTable<OpenLane<A>, A>,
+    rows: &mut ChannelTable<ChannelRows<A>, A>,
 ) -> Result<(), AllocError>
     ensures { OnOk result (AreAdded gap parts.items rows.old rows.new) }
 {
@@ -103,30 +105,30 @@ pub fn keep_parts<A: Allocator + Copy>(
     Ok(())
 }
 
-/// Copies of the rows of a channel.
+/// Returns copies of the rows of a channel. Fails only when memory is refused.
 pub fn copy_rows<A: Allocator + Copy>(
     alloc: A,
     channel: u16,
-    rows: &ChannelTable<OpenLane<A>, A>,
-) -> Result<OpenLane<A>, AllocError>
+    rows: &ChannelTable<ChannelRows<A>, A>,
+) -> Result<ChannelRows<A>, AllocError>
     ensures { IfOk result (λ items. items ≡ rows_of rows.now channel) }
 {
     match rows.get(channel) {
         Some(items) => items.copy(),
-        None => Ok(OpenLane::new(alloc)),
+        None => Ok(ChannelRows::new(alloc)),
     }
 }
 
-/// Takes out the first channel that has rows, with them.
+/// Removes the first channel that has rows, and returns it with them.
 pub fn take_first<A: Allocator + Copy>(
     alloc: A,
-    rows: &mut ChannelTable<OpenLane<A>, A>,
-) -> Option<(u16, OpenLane<A>)>
+    rows: &mut ChannelTable<ChannelRows<A>, A>,
+) -> Option<(u16, ChannelRows<A>)>
     ensures { MatchOption result ((rows.old.channels ≡ []) × (rows.new ≡ rows.old))
         (λ taken. IsTakenOut taken.0 taken.1 rows.old rows.new) }
 {
     match rows.pop_first()? {
         (channel, Some(items)) => Some((channel, Box::into_inner(items))),
-        (channel, None) => Some((channel, OpenLane::new(alloc))),
+        (channel, None) => Some((channel, ChannelRows::new(alloc))),
     }
 }

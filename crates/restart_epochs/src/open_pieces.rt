@@ -7,12 +7,12 @@ ghost use Rattle.restart_epochs.specs.OpenRows.{IsSame};
 ghost use Rattle.restart_epochs.specs.Cutting.{ended_by, gap_turned, given_after, items_out, pieces_out, HasTurned, IsEmptied};
 ghost use Rattle.restart_epochs.specs.BlockCuts.{HasEnded, HaveEnded, MayEnd, MayEndAll};
 
+use crate::channel_rows::ChannelRows;
 use crate::channel_table::ChannelTable;
 use crate::ended_epoch::{EndedEpoch, append_parts, append_pieces};
 use crate::kept_rows::{keep_parts, keep_row};
-use crate::open_lane::OpenLane;
 use crate::parts::{EndedRows, end_at, gap_joined};
-use crate::walk::{EpochWalk, Turn, start_joined};
+use crate::walk::{ChannelEffect, EpochWalk, start_joined};
 use line_model::items::ItemRef;
 use line_model::piece::Piece;
 use std::alloc::{AllocError, Allocator};
@@ -25,16 +25,16 @@ pub struct OpenPieces<A: Allocator> {
     /// The number of the last gap of all channels in the open epoch, or 0.
     pub gap: u32,
     /// The rows of each channel.
-    pub rows: ChannelTable<OpenLane<A>, A>,
+    pub rows: ChannelTable<ChannelRows<A>, A>,
 }
 
 impl<A: Allocator + Copy> OpenPieces<A> {
-    /// Keeps a row that goes to a channel, and gives out the pieces that a row ends. Of a gap of all channels its number is kept
-    /// alone. Where memory is refused nothing has changed.
+    /// Keeps a row that goes to a channel, and appends the pieces that a row ends. Of a gap of all channels only the
+    /// number is kept. Fails only when memory is refused, and nothing has changed then.
     pub fn turn(
         &mut self,
         walk: &EpochWalk<A>,
-        turn: Turn,
+        turn: ChannelEffect,
         item: &ItemRef<'_>,
         out: &mut Vec<Piece<A>, A>,
     ) -> Result<(), AllocError>
@@ -49,18 +49,18 @@ impl<A: Allocator + Copy> OpenPieces<A> {
             × IsSame self.old.rows self.new.rows × (out.new.items ≡ out.old.items)) }
     {
         match turn {
-            Turn::ToChannel(channel) => keep_row(
+            ChannelEffect::ToChannel(channel) => keep_row(
                 *walk.findings.allocator(),
                 self.gap,
                 channel,
                 item,
                 &mut self.rows,
             ),
-            Turn::ToAll => {
+            ChannelEffect::ToAll => {
                 self.gap = item.number;
                 Ok(())
             }
-            Turn::Ends => {
+            ChannelEffect::Ends => {
                 let epoch = EndedEpoch {
                     interface: walk.interface,
                     number: walk.epoch,
@@ -70,7 +70,7 @@ impl<A: Allocator + Copy> OpenPieces<A> {
                 };
                 self.give_out(epoch, out)
             }
-            Turn::Stays => Ok(()),
+            ChannelEffect::Stays => Ok(()),
         }
     }
 

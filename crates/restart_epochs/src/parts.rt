@@ -1,4 +1,4 @@
-//! Rows that lie by logical channel.
+//! Rows by logical channel.
 
 ghost use Rattle.std.specs.Prelude.{◌≡◌};
 ghost use Rattle.line_model.specs.channels.GapRestart.{is_of_all};
@@ -38,7 +38,7 @@ impl<A: Allocator> Model for Part<A> {
 }
 
 impl<A: Allocator> Part<A> {
-    /// Whether it begins with a row that is no gap of all channels.
+    /// Returns whether it begins with a row other than a gap of all channels.
     pub(crate) fn begins_with_row(&self) -> bool
         ensures { result ≡ begins_with_row self.now.items }
     {
@@ -49,15 +49,15 @@ impl<A: Allocator> Part<A> {
     }
 }
 
-/// The rows of an epoch up to the row that ended it, as far as they are rows of a block.
+/// The rows of an epoch that ended in a block, from the beginning of the block or of the epoch.
 #[derive(Drop)]
 pub struct EndedRows<A: Allocator = Global> {
     pub(crate) parts: Vec<Part<A>, A>,
     /// The number of the last gap of all channels, or 0.
     pub(crate) gap: u32,
-    /// How many epochs began before in the block.
+    /// How many epochs of the block began before.
     pub(crate) epoch: u32,
-    /// How it began, if it did so in the block.
+    /// How it began, if it began in the block.
     pub(crate) start: EpochStart,
     pub(crate) end: PieceEnd,
 }
@@ -70,21 +70,21 @@ impl<A: Allocator> Model for EndedRows<A> {
     ghost view = { λ e. record { parts = e.parts.items; gap = e.gap; epoch = e.epoch; start = e.start; end = e.end } };
 }
 
-/// Whether a gap is one of all channels.
+/// Whether a gap is of all channels.
 fn is_gap_of_all(packet: &Packet) -> bool
     ensures { result ≡ is_of_all (gap_of packet.now) }
 {
     matches!(packet, Packet::GapOfAll)
 }
 
-/// The last gap of all channels by its number, or 0, if it came after a row of this number.
+/// Returns the last gap of all channels, by its number or 0, where it came after a row of this number.
 pub fn gap_after(gap: u32, number: u32) -> Option<u32>
     ensures { result ≡ gap_after gap number }
 {
     if number < gap { Some(gap) } else { None }
 }
 
-/// The last gap of all channels by its number, or 0, of those in some rows and in later ones.
+/// Returns the last gap of all channels, by its number or 0, in some rows and in later ones.
 pub fn gap_joined(gap: u32, later: u32) -> u32
     ensures { result ≡ gap_joined gap later }
 {
@@ -98,7 +98,7 @@ fn is_confirm(class: Class) -> bool
     matches!(class, Class::RestartConfirm)
 }
 
-/// The end of the epoch that a row ends.
+/// Returns the end of the epoch that a row ends.
 pub fn end_at(item: &ItemRef<'_>) -> PieceEnd
     ensures { result ≡ end_at item.now }
 {

@@ -24,11 +24,11 @@ use std::marker::Model;
 pub struct Restart {
     state: RState,
     owed: bool,
-    /// The trace began in the middle, and r1 was not left yet.
+    /// Whether the trace began in the middle, and r1 was not left yet.
     joining: bool,
-    /// After a gap of all channels, in r1: a restart may have been missed.
+    /// Whether it is in r1 after a gap of all channels: a restart may have been missed.
     adrift: bool,
-    /// The restart indication was owed as the interface came adrift.
+    /// Whether the restart indication was owed as the interface came adrift.
     owed_before: bool,
 }
 
@@ -64,7 +64,7 @@ fn fault(class: Class, length: usize) -> Option<u8>
     }
 }
 
-/// The logical channel of a packet, 0 where it is on none that is assigned.
+/// Returns the logical channel of a packet, 0 where the channel is not assigned.
 pub fn packet_channel(packet: &Packet) -> u16
     ensures { result ≡ packet_channel packet.now }
 {
@@ -74,7 +74,7 @@ pub fn packet_channel(packet: &Packet) -> u16
     }
 }
 
-/// Whether a packet restarts the interface, or confirms that.
+/// Whether a packet is a restart or confirms one.
 fn is_of_restart(class: Class) -> bool
     ensures { result ≡ is_of_restart class }
 {
@@ -82,7 +82,7 @@ fn is_of_restart(class: Class) -> bool
 }
 
 impl Restart {
-    /// The machine before the first row.
+    /// Returns the machine before the first row.
     pub fn first(interface: &Interface) -> Self
         ensures { result ≡ (start interface.now).line }
     {
@@ -95,7 +95,7 @@ impl Restart {
         }
     }
 
-    /// The machine as it enters r1.
+    /// Returns the machine as it enters r1.
     fn in_r1(adrift: bool, owed_before: bool) -> Self
         ensures { result ≡ line_in_r1_with adrift owed_before }
     {
@@ -108,7 +108,7 @@ impl Restart {
         }
     }
 
-    /// Whether this is the other machine.
+    /// Returns `true` only where both machines are the same.
     pub fn is_same(&self, other: &Restart) -> bool
         ensures { OnTrue result (self.now ≡ other.now) }
     {
@@ -119,14 +119,14 @@ impl Restart {
             && self.owed_before == other.owed_before
     }
 
-    /// The state of the machine.
+    /// Returns the state of the machine.
     pub fn state(&self) -> RState
         ensures { result ≡ self.now.line.state }
     {
         self.state
     }
 
-    /// How an epoch begins with this machine.
+    /// Returns how an epoch begins with this machine.
     pub fn start(&self) -> EpochStart
         ensures { result ≡ start_by self.now }
     {
@@ -137,7 +137,7 @@ impl Restart {
         }
     }
 
-    /// Fast path: the logical channel of a packet in r1, where each that is on one goes to it (X.25 clause 3).
+    /// Fast path: in r1 a packet on a logical channel goes to that channel (X.25 clause 3).
     #[inline(always)]
     pub(crate) fn hands_on(&self, packet: &Packet) -> Option<u16>
         ensures channel { IfSome result (λ channel. channel ≡ packet_channel packet.now) }
@@ -151,7 +151,7 @@ impl Restart {
         }
     }
 
-    /// Goes past one row, and returns where it goes.
+    /// Steps by one row, and returns where it goes.
     pub fn step(&mut self, packet: &Packet, length: usize, side: Side) -> Route
         ensures { record { route = result; after = self.new }
             ≡ routing_by (gap_of packet.now) self.old side (packet_class packet.now) length }
@@ -166,7 +166,7 @@ impl Restart {
         }
     }
 
-    /// A gap of all channels: outside r1 the other packet of the restart may be in it.
+    /// Steps by a gap of all channels. Outside r1 the other packet of the restart may be missing in it.
     fn pass_gap(&mut self) -> Route
         ensures { record { route = result; after = self.new } ≡ gap_in self.old.line.state self.old }
     {
@@ -181,7 +181,7 @@ impl Restart {
         Route::Enter
     }
 
-    /// A gap of a channel, which is handed to it in r1.
+    /// Returns where a gap of a channel goes: to the channel in r1.
     fn hand_on_gap(&self) -> Route
         ensures { record { route = result; after = self.now } ≡ gap_on self.now.line.state self.now }
     {
@@ -191,7 +191,7 @@ impl Restart {
         }
     }
 
-    /// Goes past one packet of a class, and returns where it goes.
+    /// Steps by a packet of a class, and returns where it goes.
     fn step_by_class(&mut self, class: Class, length: usize, side: Side) -> Route
         ensures { record { route = result; after = self.new }
             ≡ gap_line_step self.old side class length }
@@ -203,7 +203,8 @@ impl Restart {
         }
     }
 
-    /// A packet of a restart while the interface is adrift: none is a finding, and each shows that an epoch ended.
+    /// Steps by a packet of a restart while the interface is adrift: none is a finding, and each shows that an epoch
+    /// ended.
     fn restart_adrift(&mut self, class: Class, length: usize, side: Side) -> Route
         ensures { record { route = result; after = self.new }
             ≡ adrift_restart side class (restart_fault class length) self.old }
@@ -218,7 +219,8 @@ impl Restart {
         }
     }
 
-    /// A confirmation while the interface is adrift; one of the DCE may be in place of the indication that was owed.
+    /// Steps by a confirmation while the interface is adrift. One of the DCE may be in place of the indication that was
+    /// owed.
     fn confirm_adrift(&mut self, side: Side) -> Route
         ensures { record { route = result; after = self.new } ≡ adrift_confirmation side self.old }
     {
@@ -230,7 +232,7 @@ impl Restart {
         }
     }
 
-    /// Goes past one packet by the table of the restart machine.
+    /// Steps by a packet, by the table of the restart machine.
     fn step_by_table(&mut self, class: Class, length: usize, side: Side) -> Route
         ensures { record { route = result; after = self.new }
             ≡ line_takes self.old (line_step self.old.line side class length) }
@@ -305,7 +307,7 @@ impl Restart {
         }
     }
 
-    /// An error: the DTE's has the DCE restart.
+    /// Handles an error: one of the DTE has the DCE restart.
     fn fail(&mut self, side: Side, code: u8) -> Route
         ensures { record { route = result; after = self.new }
             ≡ line_takes self.old (restart_error self.old.line side code) }

@@ -6,7 +6,7 @@ ghost use Rattle.std.specs.List.{flat_map};
 ghost use Rattle.restart_epochs.specs.OpenRows.{no_rows, rows_of, HasMore, IsTakenOut};
 ghost use Rattle.restart_epochs.specs.BlockCuts.{parts_of, AreAllOut};
 
-use crate::block_lane::BlockLane;
+use crate::block_channel_rows::BlockChannelRows;
 use crate::channel_table::ChannelTable;
 use crate::parts::Part;
 use line_model::items::shared::SharedItems;
@@ -15,13 +15,13 @@ use std::alloc::{AllocError, Allocator, Global};
 use std::boxed::Box;
 use std::marker::Model;
 
-/// Rows by logical channel. Rows that are taken out are copied into one list; the list of each channel keeps its memory for
-/// the next ones.
+/// Rows by logical channel. Rows that are removed are copied into one list; the list of each channel keeps its memory
+/// for the next ones.
 #[derive(Drop)]
 pub struct RowsByChannel<A: Allocator = Global> {
     alloc: A,
-    table: ChannelTable<BlockLane<A>, A>,
-    /// How many rows there are, but for gaps of all channels.
+    table: ChannelTable<BlockChannelRows<A>, A>,
+    /// How many rows there are, except gaps of all channels.
     count: usize,
     /// How many octets are kept of them.
     octets: usize,
@@ -38,7 +38,7 @@ impl<A: Allocator> Model for RowsByChannel<A> {
 }
 
 impl<A: Allocator + Copy> RowsByChannel<A> {
-    /// No rows. It takes no memory.
+    /// Returns no rows. Allocates nothing.
     pub fn new(alloc: A) -> Self
         ensures { result ≡ no_rows }
     {
@@ -50,14 +50,14 @@ impl<A: Allocator + Copy> RowsByChannel<A> {
         }
     }
 
-    /// Whether no channel has rows.
+    /// Returns `true` only where no channel has rows.
     pub fn is_empty(&self) -> bool
         ensures { OnTrue result ((self.now.channels ≡ []) × ((k : ℕ) → rows_of self.now k ≡ [])) }
     {
         self.table.len() == 0
     }
 
-    /// These lists, or new ones where a channel has rows.
+    /// Returns these lists, or new ones where a channel has rows.
     pub fn emptied(self) -> Self
         ensures channels { result.channels ≡ [] }
         ensures rows { (k : ℕ) → rows_of result k ≡ [] }
@@ -73,7 +73,7 @@ impl<A: Allocator + Copy> RowsByChannel<A> {
         &mut self,
         gap: u32,
         channel: u16,
-        list: Box<BlockLane<A>, A>,
+        list: Box<BlockChannelRows<A>, A>,
         item: &ItemRef<'_>,
     ) -> Result<(), AllocError>
         requires none { rows_of self.old channel ≡ [] }
@@ -87,14 +87,15 @@ impl<A: Allocator + Copy> RowsByChannel<A> {
         Ok(())
     }
 
-    /// Appends a row of a channel behind the last gap of all channels. Where memory is refused the rows of the channel are lost.
+    /// Appends a row of a channel after the last gap of all channels. Fails only when memory is refused, and the rows
+    /// of the channel are lost then.
     pub fn push(&mut self, gap: u32, channel: u16, item: &ItemRef<'_>) -> Result<(), AllocError>
         ensures { OnOk result (HasMore gap channel item.now self.old self.new) }
     {
         self.count = self.count.saturating_add(1);
         self.octets = self.octets.saturating_add(item.octets.len());
         let Some(mut list) = self.table.take(channel) else {
-            let list = Box::new(self.alloc, BlockLane::new(self.alloc))?;
+            let list = Box::new(self.alloc, BlockChannelRows::new(self.alloc))?;
             return self.push_first(gap, channel, list, item);
         };
         if list.is_empty() {
@@ -105,7 +106,7 @@ impl<A: Allocator + Copy> RowsByChannel<A> {
         Ok(())
     }
 
-    /// The rows of all channels in one list, by channel.
+    /// Returns the rows of all channels in one list, by channel.
     fn all_rows(&self) -> Result<Items<A>, AllocError>
         ensures { IfOk result (λ rows. rows ≡ flat_map (rows_of self.now) self.now.channels) }
     {
@@ -118,8 +119,8 @@ impl<A: Allocator + Copy> RowsByChannel<A> {
         Ok(rows)
     }
 
-    /// Takes the rows of the first channel that has some out, as a part of the rows of all channels. Where memory is refused
-    /// they are lost.
+    /// Removes the rows of the first channel that has some, and returns them as a part of the rows of all channels.
+    /// Where memory is refused they are lost.
     fn take_first(&mut self, rows: &mut SharedItems<A>) -> Result<Option<Part<A>>, AllocError>
         requires rows { rows.old ≡ flat_map (rows_of self.old) self.old.channels }
         ensures first { IfOk result (λ first. MatchOption first ((self.old.channels ≡ []) × (self.new ≡ self.old))
@@ -148,8 +149,8 @@ impl<A: Allocator + Copy> RowsByChannel<A> {
         }))
     }
 
-    /// Takes all rows out, those of a channel as one part, in ascending order of the channels. The parts lie in one list.
-    /// Where memory is refused some are lost.
+    /// Removes and returns all rows, those of a channel as one part, in ascending order of the channels. The parts
+    /// share one list. Fails only when memory is refused, and some rows are lost then.
     pub fn take_parts(&mut self) -> Result<Vec<Part<A>, A>, AllocError>
         ensures parts { IfOk result (λ parts. parts.items ≡ parts_of (rows_of self.old) self.old.channels) }
         ensures out { OnOk result (AreAllOut self.old self.new) }

@@ -1,4 +1,4 @@
-//! The walk over the rows of a trace, but for what stands on the logical channels: the restart machine, the epoch, and
+//! The walk over the rows of a trace, except for what is on the logical channels: the restart machine, the epoch, and
 //! what it found.
 
 ghost use Rattle.std.specs.Prelude.{option_to_list, ◌≡◌, ◌<◌, ◌+◌, ◌^◌, ◌++◌, IfOk, OnOk, OnErr, is_some};
@@ -17,12 +17,12 @@ use std::alloc::{AllocError, Allocator, Global};
 
 /// What a row does to the logical channels.
 #[derive(Clone, Copy)]
-pub enum Turn {
+pub enum ChannelEffect {
     /// It goes to one of them.
     ToChannel(u16),
-    /// It is a gap of them all.
+    /// It is a gap of all of them.
     ToAll,
-    /// It ends them all, since it leaves r1 or begins the next epoch in it.
+    /// It ends all of them, since it leaves r1 or begins the next epoch in it.
     Ends,
     /// It does nothing to them.
     Stays,
@@ -40,21 +40,21 @@ pub struct Step {
     /// Whether the row is a gap.
     pub gap: bool,
     /// What it does to the logical channels.
-    pub turn: Turn,
+    pub turn: ChannelEffect,
 }
 
-/// A walk over the rows of a trace, but for what stands on the logical channels.
+/// A walk over the rows of a trace, except for what is on the logical channels.
 #[derive(Drop)]
 pub struct EpochWalk<A: Allocator = Global> {
     /// The interface of the trace.
     pub interface: Interface,
     /// The restart machine after the rows so far.
     pub machine: Restart,
-    /// Which stretch between restarts goes on, counted from 1.
+    /// The number of the current epoch, counted from 1.
     pub epoch: u32,
     /// How it began.
     pub start: EpochStart,
-    /// How many rows were taken.
+    /// How many rows were read.
     pub packets: u32,
     /// How many of them are gaps.
     pub gaps: u32,
@@ -63,7 +63,7 @@ pub struct EpochWalk<A: Allocator = Global> {
 }
 
 impl<A: Allocator> EpochWalk<A> {
-    /// A walk before the first row. It takes no memory.
+    /// Returns a walk before the first row. Allocates nothing.
     pub fn new(alloc: A, interface: &Interface) -> Self
         ensures { IsFresh interface.now result }
     {
@@ -79,8 +79,8 @@ impl<A: Allocator> EpochWalk<A> {
         }
     }
 
-    /// A walk over the rows of a block alone, before the first one: the restart machine is this, and epochs are counted
-    /// from 0. How the first of them began is not known. It takes no memory.
+    /// Returns a walk over the rows of a block alone, before the first one, with this restart machine. Epochs are
+    /// counted from 0, and how the first of them began is not known. Allocates nothing.
     pub fn of_block(alloc: A, interface: &Interface, machine: Restart) -> Self
         ensures { IsFreshBlock machine result }
     {
@@ -95,7 +95,8 @@ impl<A: Allocator> EpochWalk<A> {
         }
     }
 
-    /// Goes past the rows of a block, whose walk began with this walk's restart machine.
+    /// Advances over the rows of a block, whose walk began with this walk's restart machine. Fails only when memory is
+    /// refused; drop the walk then.
     pub fn join(&mut self, block: EpochWalk<A>) -> Result<(), AllocError>
         requires epochs { self.old.epoch + block.epoch < 2 ^ 32 }
         requires packets { self.old.packets + block.packets < 2 ^ 32 }
@@ -127,7 +128,7 @@ impl<A: Allocator> EpochWalk<A> {
                 epoch: self.epoch,
                 finding: None,
                 gap: is_gap(&item.packet),
-                turn: Turn::ToChannel(channel),
+                turn: ChannelEffect::ToChannel(channel),
             });
         }
         self.step_by_machine(item)
@@ -153,7 +154,7 @@ impl<A: Allocator> EpochWalk<A> {
         })
     }
 
-    /// Goes past the row of a step.
+    /// Advances over the row of a step.
     #[inline(always)]
     pub fn advance(&mut self, step: Step)
         requires room { HasRoom self.old step }
@@ -164,29 +165,31 @@ impl<A: Allocator> EpochWalk<A> {
         if let Some(finding) = step.finding {
             self.findings.push_reserved(finding);
         }
-        self.start = self.start_with(&step);
+        self.reach(&step);
         self.machine = step.machine;
-        self.epoch = step.epoch;
         self.packets += 1;
         if step.gap {
             self.gaps += 1;
         }
     }
 
-    /// How the epoch after the row of a step began.
+    /// Goes to the epoch after the row of a step.
     #[inline(always)]
-    fn start_with(&self, step: &Step) -> EpochStart
-        ensures { result ≡ start_after self.now.epoch self.now.start step.now.epoch step.now.machine }
+    fn reach(&mut self, step: &Step)
+        ensures { self.new ≡ record self.old {
+          epoch = step.now.epoch;
+          start = start_after self.old.epoch self.old.start step.now.epoch step.now.machine;
+        } }
     {
         if step.epoch == self.epoch {
-            self.start
-        } else {
-            step.machine.start()
+            return;
         }
+        self.start = step.machine.start();
+        self.epoch = step.epoch;
     }
 }
 
-/// How the epoch began that is open after the rows of a block, in which so many began.
+/// Returns how the epoch that is open after the rows of a block began, where `begun` epochs began in the block.
 pub fn start_joined(begun: u32, before: EpochStart, later: EpochStart) -> EpochStart
     ensures { result ≡ start_joined begun before later }
 {
@@ -219,25 +222,25 @@ fn is_gap(packet: &Packet) -> bool
     )
 }
 
-/// What a row that is passed does to the logical channels.
-fn turn_passed(packet: &Packet) -> Turn
+/// What a row that the restart machine passes does to the logical channels.
+fn turn_passed(packet: &Packet) -> ChannelEffect
     ensures { result ≡ passed (is_of_all (gap_of packet.now)) }
 {
     match packet {
-        Packet::GapOfAll => Turn::ToAll,
-        _ => Turn::Stays,
+        Packet::GapOfAll => ChannelEffect::ToAll,
+        _ => ChannelEffect::Stays,
     }
 }
 
 /// What a row does to the logical channels, by its route.
-fn turn_by(route: Route, packet: &Packet) -> Turn
+fn turn_by(route: Route, packet: &Packet) -> ChannelEffect
     ensures { result ≡ turn_of packet.now route }
 {
     match route {
-        Route::ToChannel => Turn::ToChannel(packet_channel(packet)),
-        Route::Leave(_) | Route::Renew => Turn::Ends,
+        Route::ToChannel => ChannelEffect::ToChannel(packet_channel(packet)),
+        Route::Leave(_) | Route::Renew => ChannelEffect::Ends,
         Route::Pass => turn_passed(packet),
-        Route::Enter | Route::Found(..) => Turn::Stays,
+        Route::Enter | Route::Found(..) => ChannelEffect::Stays,
     }
 }
 
@@ -258,7 +261,7 @@ fn finding_of(route: Route, item: &ItemRef<'_>) -> Option<Finding>
     })
 }
 
-/// Appends a finding, if there is one.
+/// Appends a finding, if there is one. Fails only when memory is refused, and nothing has changed then.
 pub fn append_finding<A: Allocator>(
     findings: &mut Vec<Finding, A>,
     finding: Option<Finding>,

@@ -194,7 +194,7 @@ post_fault rs ps Start h = h
 
 -- ---- who vouches
 
--- who takes in what another knows still vouches for the posts
+-- a witness that learns what another knows still vouches for the posts
 pub vouches_still : (P Q : PieceReport → Type 0) (rs rs' : List PieceReport) → All P rs → ((r : PieceReport) → P r → Q r) → rs' ≡ rs → All Q rs'
 vouches_still P Q rs rs' all still same = subst (All Q) (sym same) (λ k d lt. still _ (all k d lt))
 

@@ -9,12 +9,12 @@ use Rattle.crossbeam_queue.specs.Fifo.{Pushes, Pops, Forks, Merges, Learns}
 use Rattle.crossbeam_queue.proofs.Lists.{set_again}
 use Rattle.line_model.specs.basics.Records.{Piece}
 use Rattle.line_model.specs.work.Book.{KnownPlan, IsPlanned}
-use Rattle.line_model.specs.work.Work.{Entry, numbers_of}
-use Rattle.line_model.specs.work.Work.Entry.{job, finish}
+use Rattle.line_model.specs.work.Work.{WorkEntry, numbers_of}
+use Rattle.line_model.specs.work.Work.WorkEntry.{job, finish}
 use Rattle.shared_work.specs.declared.queue.rule.Record.{Record}
-use Rattle.shared_work.specs.declared.queue.rule.Notes.{Notes}
+use Rattle.shared_work.specs.declared.queue.rule.QueueNotes.{QueueNotes}
 use Rattle.shared_work.specs.queue.Entries.{jobs, line_of, AreFilled, pieces_in}
-use Rattle.shared_work.specs.queue.Rule.{feeder, worker, nobody, after_split, after_join, ArePlanned, IsWorker, AreInQueue, IsAccounted, TookEntry}
+use Rattle.shared_work.specs.queue.Rule.{feeder, worker, nothing_done, after_split, after_join, ArePlanned, IsWorker, AreInQueue, IsAccounted, TookEntry}
 use Rattle.shared_work.specs.queue.Known.{notes, AreNoted, AreBundled, FedBundle, FedEnd, Took, TookAll, with_witness, IsConfirmed}
 use Rattle.shared_work.proofs.Noted.{All-none, noted_begins, noted_piece, noted_end, noted_take, noted_line, noted_split, noted_witness, noted_join, noted_learns, noted_accounts, noted_confirms}
 
@@ -28,28 +28,28 @@ pieces-jobs [] = refl
 pieces-jobs (p ∷ ps) = ap (λ l. p ∷ l) (pieces-jobs ps)
 
 -- the line with one entry more
-line-push : (items : List (List Entry)) (x : List Entry) → line_of (items ++ x ∷ []) ≡ line_of items ++ x
+line-push : (items : List (List WorkEntry)) (x : List WorkEntry) → line_of (items ++ x ∷ []) ≡ line_of items ++ x
 line-push [] x = append-nil x
 line-push (y ∷ ys) x = ap (λ l. y ++ l) (line-push ys x) ∙ sym (append_assoc y (line_of ys) x)
 
 -- a view that is set, and set again
-set_twice : (views : List Notes) (port : ℕ) (u w : Notes) → set (set views port u) port w ≡ set views port w
+set_twice : (views : List QueueNotes) (port : ℕ) (u w : QueueNotes) → set (set views port u) port w ≡ set views port w
 set_twice [] port u w = refl
 set_twice (x ∷ xs) zero u w = refl
 set_twice (x ∷ xs) (suc port) u w = ap (λ l. x ∷ l) (set_twice xs port u w)
 
-set_there : (views : List Notes) (port : ℕ) (v w : Notes) → get_elem? views port ≡ some v → get_elem? (set views port w) port ≡ some w
+set_there : (views : List QueueNotes) (port : ℕ) (v w : QueueNotes) → get_elem? views port ≡ some v → get_elem? (set views port w) port ≡ some w
 set_there [] port v w at = absurd (some-ne-none v (sym at))
 set_there (x ∷ xs) zero v w at = refl
 set_there (x ∷ xs) (suc port) v w at = set_there xs port v w at
 
 -- the feeder fed these pieces
-abbrev FedAll : Notes → List Piece → Notes → Type 0
+abbrev FedAll : QueueNotes → List Piece → QueueNotes → Type 0
 FedAll v ps w = (w.record_of ≡ feeder (v.record_of.fed + length ps) v.record_of.ends v.record_of.pending v.record_of.done v.record_of.taken) × (w.fed ≡ v.fed ++ ps) × (w.known ≡ v.known)
 
 -- what the rule says after a step of this pass
-abbrev Stepped : KnownPlan → List Entry → List Notes → ℕ → (Notes → Type 0) → Type 0
-Stepped plan items views port Is = (w : Notes) × AreNoted plan items (set views port w) × Is w
+abbrev Stepped : KnownPlan → List WorkEntry → List QueueNotes → ℕ → (QueueNotes → Type 0) → Type 0
+Stepped plan items views port Is = (w : QueueNotes) × AreNoted plan items (set views port w) × Is w
 
 next_planned : (plan : KnownPlan) (n : ℕ) (p : Piece) (ps : List Piece) → ArePlanned plan n (p ∷ ps) → IsPlanned plan n p
 next_planned plan n p ps planned = let zero-next : n + 0 ≡ n = omega arith in subst (λ k. IsPlanned plan k p) zero-next (planned 0 p refl)
@@ -64,8 +64,8 @@ abbrev IsFeeder : Record → Type 0
 IsFeeder v = v ≡ feeder v.fed v.ends v.pending v.done v.taken
 
 -- the first of some pieces is fed, and then the others
-feeds_then : (plan : KnownPlan) (port : ℕ) (p : Piece) (ps : List Piece) (items : List Entry) (views : List Notes) (v : Notes) → v.record_of.feeds ≡ true → v.record_of.ends ≡ 0 → ArePlanned plan v.record_of.fed (p ∷ ps) → AreNoted plan items views → get_elem? views port ≡ some v
-    → ((u : Notes) → IsFeeder u.record_of → u.record_of.ends ≡ 0 → ArePlanned plan u.record_of.fed ps → AreNoted plan (items ++ job p ∷ []) (set views port u) → get_elem? (set views port u) port ≡ some u
+feeds_then : (plan : KnownPlan) (port : ℕ) (p : Piece) (ps : List Piece) (items : List WorkEntry) (views : List QueueNotes) (v : QueueNotes) → v.record_of.feeds ≡ true → v.record_of.ends ≡ 0 → ArePlanned plan v.record_of.fed (p ∷ ps) → AreNoted plan items views → get_elem? views port ≡ some v
+    → ((u : QueueNotes) → IsFeeder u.record_of → u.record_of.ends ≡ 0 → ArePlanned plan u.record_of.fed ps → AreNoted plan (items ++ job p ∷ []) (set views port u) → get_elem? (set views port u) port ≡ some u
     → Stepped plan ((items ++ job p ∷ []) ++ jobs ps) (set views port u) port (FedAll u ps))
     → Stepped plan (items ++ jobs (p ∷ ps)) views port (FedAll v (p ∷ ps))
 feeds_then plan port p ps items views v feeds unended planned h at others =
@@ -79,7 +79,7 @@ feeds_then plan port p ps items views v feeds unended planned h at others =
     let all = rest.2 in
     let sums : u.record_of.fed + length ps ≡ v.record_of.fed + suc (length ps) = omega (arith, more) in (
       w,
-      subst (λ (y : List Entry × List Notes). AreNoted plan y.0 y.1) (λ i. (append_assoc items (job p ∷ []) (jobs ps) i, set_twice views port u w i)) rest.1,
+      subst (λ (y : List WorkEntry × List QueueNotes). AreNoted plan y.0 y.1) (λ i. (append_assoc items (job p ∷ []) (jobs ps) i, set_twice views port u w i)) rest.1,
       (
         all.0 ∙ (λ i. feeder (sums i) (fed.0 i).ends (fed.0 i).pending (fed.0 i).done (fed.0 i).taken),
         all.1 ∙ (ap (λ l. l ++ ps) fed.1 ∙ append_assoc v.fed (p ∷ []) ps),
@@ -91,45 +91,45 @@ plus-none : (n : ℕ) → n ≡ n + 0
 plus-none n = omega arith
 
 -- the pieces of a bundle are fed, one after the other
-feeds_all : (plan : KnownPlan) (port : ℕ) (ps : List Piece) (items : List Entry) (views : List Notes) (v : Notes) → IsFeeder v.record_of → v.record_of.ends ≡ 0 → ArePlanned plan v.record_of.fed ps → AreNoted plan items views → get_elem? views port ≡ some v
+feeds_all : (plan : KnownPlan) (port : ℕ) (ps : List Piece) (items : List WorkEntry) (views : List QueueNotes) (v : QueueNotes) → IsFeeder v.record_of → v.record_of.ends ≡ 0 → ArePlanned plan v.record_of.fed ps → AreNoted plan items views → get_elem? views port ≡ some v
     → Stepped plan (items ++ jobs ps) views port (FedAll v ps)
 feeds_all plan port [] items views v form unended planned h at = (
   v,
-  subst (λ (y : List Entry × List Notes). AreNoted plan y.0 y.1) (λ i. (sym (append-nil items) i, sym (set_again views port v at) i)) h,
+  subst (λ (y : List WorkEntry × List QueueNotes). AreNoted plan y.0 y.1) (λ i. (sym (append-nil items) i, sym (set_again views port v at) i)) h,
   (form ∙ ap (λ n. feeder n v.record_of.ends v.record_of.pending v.record_of.done v.record_of.taken) (plus-none v.record_of.fed), sym (append-nil v.fed), refl),
 )
 feeds_all plan port (p ∷ ps) items views v form unended planned h at =
     feeds_then plan port p ps items views v (ap (λ (r : Record). r.feeds) form) unended planned h at (λ u form unended planned h at. feeds_all plan port ps (items ++ job p ∷ []) (set views port u) u form unended planned h at)
 
 -- a bundle of one piece or more is fed
-feeds_some : (plan : KnownPlan) (port : ℕ) (ps : List Piece) (items : List Entry) (views : List Notes) (v : Notes) → v.record_of.feeds ≡ true → v.record_of.ends ≡ 0 → 0 < length ps → ArePlanned plan v.record_of.fed ps → AreNoted plan items views → get_elem? views port ≡ some v
+feeds_some : (plan : KnownPlan) (port : ℕ) (ps : List Piece) (items : List WorkEntry) (views : List QueueNotes) (v : QueueNotes) → v.record_of.feeds ≡ true → v.record_of.ends ≡ 0 → 0 < length ps → ArePlanned plan v.record_of.fed ps → AreNoted plan items views → get_elem? views port ≡ some v
     → Stepped plan (items ++ jobs ps) views port (FedAll v ps)
 feeds_some plan port [] items views v feeds unended least planned h at = absurd (omega arith)
 feeds_some plan port (p ∷ ps) items views v feeds unended least planned h at =
     feeds_then plan port p ps items views v feeds unended planned h at (λ u form unended planned h at. feeds_all plan port ps (items ++ job p ∷ []) (set views port u) u form unended planned h at)
 
 -- the entries of a bundle are its pieces
-fed_jobs : (v w : Notes) (ps : List Piece) → FedAll v ps w → FedBundle v (jobs ps) w
+fed_jobs : (v w : QueueNotes) (ps : List Piece) → FedAll v ps w → FedBundle v (jobs ps) w
 fed_jobs v w ps fed = (
   fed.0 ∙ ap (λ n. feeder (v.record_of.fed + n) v.record_of.ends v.record_of.pending v.record_of.done v.record_of.taken) (sym (length-jobs ps)),
   fed.1 ∙ ap (λ l. v.fed ++ l) (sym (pieces-jobs ps)),
   fed.2,
 )
 
-pub bundle_fed : (v w : Notes) (ps : List Piece) → FedBundle v (jobs ps) w
+pub bundle_fed : (v w : QueueNotes) (ps : List Piece) → FedBundle v (jobs ps) w
     → (w.record_of ≡ feeder (v.record_of.fed + length ps) v.record_of.ends v.record_of.pending v.record_of.done v.record_of.taken) × (w.fed ≡ v.fed ++ ps)
 bundle_fed v w ps fed = (
   fed.0 ∙ ap (λ n. feeder (v.record_of.fed + n) v.record_of.ends v.record_of.pending v.record_of.done v.record_of.taken) (length-jobs ps),
   fed.1 ∙ ap (λ l. v.fed ++ l) (pieces-jobs ps),
 )
 
-filled_rest : (x : List Entry) (items : List (List Entry)) → AreFilled (x ∷ items) → AreFilled items
+filled_rest : (x : List WorkEntry) (items : List (List WorkEntry)) → AreFilled (x ∷ items) → AreFilled items
 filled_rest x items filled k d lt = filled (suc k) d (omega arith)
 
 pub bundles_begin : (plan : KnownPlan) → AreBundled plan [] (notes (feeder 0 0 0 0 []) [] [] ∷ [])
 bundles_begin plan = (noted_begins plan, All-none _)
 
-pub bundle_pushed : (plan : KnownPlan) (n port : ℕ) (v : Notes) (ps : List Piece) → v.record_of.feeds ≡ true → v.record_of.ends ≡ 0 → 0 < length ps → ArePlanned plan v.record_of.fed ps → Pushes (AreBundled plan) n port v (jobs ps) (FedBundle v (jobs ps))
+pub bundle_pushed : (plan : KnownPlan) (n port : ℕ) (v : QueueNotes) (ps : List Piece) → v.record_of.feeds ≡ true → v.record_of.ends ≡ 0 → 0 < length ps → ArePlanned plan v.record_of.fed ps → Pushes (AreBundled plan) n port v (jobs ps) (FedBundle v (jobs ps))
 bundle_pushed plan n port v ps feeds unended least planned items views room h at =
     let s = feeds_some plan port ps (line_of items) views v feeds unended least planned h.0 at in (
       s.0,
@@ -140,7 +140,7 @@ bundle_pushed plan n port v ps feeds unended least planned items views room h at
       fed_jobs v s.0 ps s.2,
     )
 
-pub end_pushed : (plan : KnownPlan) (n port : ℕ) (v : Notes) → v.record_of.feeds ≡ true → Pushes (AreBundled plan) n port v (finish ∷ []) (FedEnd v (finish ∷ []))
+pub end_pushed : (plan : KnownPlan) (n port : ℕ) (v : QueueNotes) → v.record_of.feeds ≡ true → Pushes (AreBundled plan) n port v (finish ∷ []) (FedEnd v (finish ∷ []))
 end_pushed plan n port v feeds items views room h at =
     let s = noted_end plan (suc (length (line_of items))) port v feeds (line_of items) views (omega arith) h.0 at in (
       s.0,
@@ -152,7 +152,7 @@ end_pushed plan n port v feeds items views room h at =
     )
 
 -- whoever took something is a worker
-still_works : (plan : KnownPlan) (v u : Record) (x : Entry) → TookEntry plan v x u → IsWorker u
+still_works : (plan : KnownPlan) (v u : Record) (x : WorkEntry) → TookEntry plan v x u → IsWorker u
 still_works plan v u (job p) took = took.1 ∙ sym (ap (λ (r : Record). worker r.taken r.finished r.fed) took.1)
 still_works plan v u finish took = took.0 ∙ sym (ap (λ (r : Record). worker r.taken r.finished r.fed) took.0)
 
@@ -160,7 +160,7 @@ works : (v : Record) → IsWorker v → v.works ≡ true
 works v is = ap (λ (r : Record). r.works) is
 
 -- what an entry has is taken, one after the other
-takes_all : (plan : KnownPlan) (port : ℕ) (x : List Entry) (items : List Entry) (views : List Notes) (v : Notes) → IsWorker v.record_of → AreNoted plan (x ++ items) views → get_elem? views port ≡ some v
+takes_all : (plan : KnownPlan) (port : ℕ) (x : List WorkEntry) (items : List WorkEntry) (views : List QueueNotes) (v : QueueNotes) → IsWorker v.record_of → AreNoted plan (x ++ items) views → get_elem? views port ≡ some v
     → Stepped plan items views port (TookAll plan v x)
 takes_all plan port [] items views v is h at = (v, subst (AreNoted plan items) (sym (set_again views port v at)) h, refl)
 takes_all plan port (x ∷ xs) items views v is h at =
@@ -169,17 +169,17 @@ takes_all plan port (x ∷ xs) items views v is h at =
     let rest = takes_all plan port xs items (set views port u) u (still_works plan v.record_of u.record_of x one.2.0) one.1 (set_there views port v u at) in
     (rest.0, subst (AreNoted plan items) (set_twice views port u rest.0) rest.1, (u, one.2, rest.2))
 
-pub bundle_popped : (plan : KnownPlan) (port : ℕ) (v : Notes) → IsWorker v.record_of → Pops (AreBundled plan) port v (TookAll plan v)
+pub bundle_popped : (plan : KnownPlan) (port : ℕ) (v : QueueNotes) → IsWorker v.record_of → Pops (AreBundled plan) port v (TookAll plan v)
 bundle_popped plan port v is x items views h at =
     let s = takes_all plan port x (line_of items) views v is h.0 at in
     (s.0, (s.1, filled_rest x items h.1), s.2)
 
-pub took_still : (plan : KnownPlan) (x : List Entry) (v w : Notes) → IsWorker v.record_of → TookAll plan v x w → IsWorker w.record_of
-took_still plan [] v w is took = subst (λ (n : Notes). IsWorker n.record_of) (sym took) is
+pub took_still : (plan : KnownPlan) (x : List WorkEntry) (v w : QueueNotes) → IsWorker v.record_of → TookAll plan v x w → IsWorker w.record_of
+took_still plan [] v w is took = subst (λ (n : QueueNotes). IsWorker n.record_of) (sym took) is
 took_still plan (x ∷ xs) v w is took = took_still plan xs took.0 w (still_works plan v.record_of took.0.record_of x took.1.0) took.2
 
 -- what is known of the pieces of a bundle that was taken
-pub record TookBundle (plan : KnownPlan) (v : Notes) (ps : List Piece) (w : Notes) : Type 0 where
+pub record TookBundle (plan : KnownPlan) (v : QueueNotes) (ps : List Piece) (w : QueueNotes) : Type 0 where
   pub planned : All (λ (p : Piece). IsPlanned plan p.id p) ps
   pub taken : w.record_of ≡ worker (v.record_of.taken ++ numbers_of ps) v.record_of.finished v.record_of.fed
   pub known : w.known ≡ v.known ++ ps
@@ -188,11 +188,11 @@ All-cons : (P : Piece → Type 0) (p : Piece) (ps : List Piece) → P p → All 
 All-cons P p ps is all zero d lt = is
 All-cons P p ps is all (suc k) d lt = all k d (omega arith)
 
-pub took_jobs : (plan : KnownPlan) (ps : List Piece) (v w : Notes) → IsWorker v.record_of → TookAll plan v (jobs ps) w → TookBundle plan v ps w
+pub took_jobs : (plan : KnownPlan) (ps : List Piece) (v w : QueueNotes) → IsWorker v.record_of → TookAll plan v (jobs ps) w → TookBundle plan v ps w
 took_jobs plan [] v w is took = record {
   planned = λ k d lt. absurd (omega arith);
-  taken = ap (λ (n : Notes). n.record_of) took ∙ (is ∙ ap (λ l. worker l v.record_of.finished v.record_of.fed) (sym (append-nil v.record_of.taken)));
-  known = ap (λ (n : Notes). n.known) took ∙ sym (append-nil v.known);
+  taken = ap (λ (n : QueueNotes). n.record_of) took ∙ (is ∙ ap (λ l. worker l v.record_of.finished v.record_of.fed) (sym (append-nil v.record_of.taken)));
+  known = ap (λ (n : QueueNotes). n.known) took ∙ sym (append-nil v.known);
 }
 took_jobs plan (p ∷ ps) v w is took =
     let u = took.0 in
@@ -206,29 +206,29 @@ took_jobs plan (p ∷ ps) v w is took =
     }
 
 -- an end that was taken
-pub took_end : (plan : KnownPlan) (v w : Notes) → TookAll plan v (finish ∷ []) w → Took plan v finish w
+pub took_end : (plan : KnownPlan) (v w : QueueNotes) → TookAll plan v (finish ∷ []) w → Took plan v finish w
 took_end plan v w took = subst (Took plan v finish) (sym took.2) took.1
 
 -- at a full queue the feeder knows what stands in it
-pub bundles_line : (plan : KnownPlan) (port : ℕ) (v : Notes) → v.record_of.feeds ≡ true → Learns (AreBundled plan) port v (AreInQueue plan v.record_of)
+pub bundles_line : (plan : KnownPlan) (port : ℕ) (v : QueueNotes) → v.record_of.feeds ≡ true → Learns (AreBundled plan) port v (AreInQueue plan v.record_of)
 bundles_line plan port v feeds items views h at = (noted_line plan port v feeds (line_of items) views h.0 at, h.1)
 
-pub bundles_split : (plan : KnownPlan) (port : ℕ) (v : Notes) → v.record_of.feeds ≡ true → Forks (AreBundled plan) port v (notes (after_split v.record_of) v.fed v.known) (notes (worker [] false 0) [] [])
+pub bundles_split : (plan : KnownPlan) (port : ℕ) (v : QueueNotes) → v.record_of.feeds ≡ true → Forks (AreBundled plan) port v (notes (after_split v.record_of) v.fed v.known) (notes (worker [] false 0) [] [])
 bundles_split plan port v feeds items views h at = (noted_split plan port v feeds (line_of items) views h.0 at, h.1)
 
-pub bundles_witness : (plan : KnownPlan) (port : ℕ) (v : Notes) → Forks (AreBundled plan) port v v (notes nobody [] v.known)
+pub bundles_witness : (plan : KnownPlan) (port : ℕ) (v : QueueNotes) → Forks (AreBundled plan) port v v (notes nothing_done [] v.known)
 bundles_witness plan port v items views h at = (noted_witness plan port v (line_of items) views h.0 at, h.1)
 
-pub bundles_join : (plan : KnownPlan) (port : ℕ) (v : Notes) (other : ℕ) (u : Notes) → v.record_of.feeds ≡ true → u.record_of.works ≡ true → Merges (AreBundled plan) port v other u (notes (after_join v.record_of u.record_of) v.fed v.known) (notes nobody [] [])
+pub bundles_join : (plan : KnownPlan) (port : ℕ) (v : QueueNotes) (other : ℕ) (u : QueueNotes) → v.record_of.feeds ≡ true → u.record_of.works ≡ true → Merges (AreBundled plan) port v other u (notes (after_join v.record_of u.record_of) v.fed v.known) (notes nothing_done [] [])
 bundles_join plan port v other u feeds works items views h at two at' = (noted_join plan port v other u feeds works (line_of items) views h.0 at two at', h.1)
 
-pub bundles_learn : (plan : KnownPlan) (port : ℕ) (v : Notes) (other : ℕ) (u : Notes) → u.record_of ≡ nobody → Merges (AreBundled plan) port v other u (with_witness v u) (notes nobody [] [])
+pub bundles_learn : (plan : KnownPlan) (port : ℕ) (v : QueueNotes) (other : ℕ) (u : QueueNotes) → u.record_of ≡ nothing_done → Merges (AreBundled plan) port v other u (with_witness v u) (notes nothing_done [] [])
 bundles_learn plan port v other u idle items views h at two at' = (noted_learns plan port v other u idle (line_of items) views h.0 at two at', h.1)
 
-pub bundles_account : (plan : KnownPlan) (port : ℕ) (v : Notes) → v.record_of.feeds ≡ true → Learns (AreBundled plan) port v (λ items. (v.record_of.told ≡ v.record_of.fed) × IsAccounted v.record_of)
+pub bundles_account : (plan : KnownPlan) (port : ℕ) (v : QueueNotes) → v.record_of.feeds ≡ true → Learns (AreBundled plan) port v (λ items. (v.record_of.known_fed ≡ v.record_of.fed) × IsAccounted v.record_of)
 bundles_account plan port v feeds items views h at = noted_accounts plan port v feeds (line_of items) views h.0 at
 
-pub bundles_confirm : (plan : KnownPlan) (port : ℕ) (v : Notes) → v.record_of.feeds ≡ true → Learns (AreBundled plan) port v (λ items. IsConfirmed v)
+pub bundles_confirm : (plan : KnownPlan) (port : ℕ) (v : QueueNotes) → v.record_of.feeds ≡ true → Learns (AreBundled plan) port v (λ items. IsConfirmed v)
 bundles_confirm plan port v feeds items views h at = noted_confirms plan port v feeds (line_of items) views h.0 at
 
 -- what came back is what was given
@@ -249,6 +249,6 @@ one_planned plan n p is zero q e = let zero-next : n ≡ n + 0 = omega arith in 
 one_planned plan n p is (suc k) q e = absurd (cc)
 
 -- a worker's record after a call of `take`
-pub pop_still : (plan : KnownPlan) (o : Option (List Entry)) (v w : Notes) (H : Type 0) → IsWorker v.record_of → MatchOption o ((w ≡ v) × H) (λ x. TookAll plan v x w) → IsWorker w.record_of
-pop_still plan None v w H is rule = subst (λ (n : Notes). IsWorker n.record_of) (sym rule.0) is
+pub pop_still : (plan : KnownPlan) (o : Option (List WorkEntry)) (v w : QueueNotes) (H : Type 0) → IsWorker v.record_of → MatchOption o ((w ≡ v) × H) (λ x. TookAll plan v x w) → IsWorker w.record_of
+pop_still plan None v w H is rule = subst (λ (n : QueueNotes). IsWorker n.record_of) (sym rule.0) is
 pop_still plan (Some x) v w H is rule = took_still plan x v w is rule

@@ -9,12 +9,12 @@ use Rattle.crossbeam_queue.specs.Fifo.{Pushes, Pops, Forks, Merges, Learns, Held
 use Rattle.crossbeam_queue.proofs.Lists.{at_set, at_snoc, at_longer, set_again, set_else}
 use Rattle.line_model.specs.basics.Records.{Piece}
 use Rattle.line_model.specs.work.Book.{KnownPlan, IsPlanned, times, once_below}
-use Rattle.line_model.specs.work.Work.{Entry, IsLine}
-use Rattle.line_model.specs.work.Work.Entry.{job, finish}
+use Rattle.line_model.specs.work.Work.{WorkEntry, IsLine}
+use Rattle.line_model.specs.work.Work.WorkEntry.{job, finish}
 use Rattle.line_model.proofs.Counting.{bit, times-append}
 use Rattle.line_model.proofs.QueueLines.{once_suc, line-le, line-piece, line-end}
 use Rattle.shared_work.specs.declared.queue.rule.Record.{Record}
-use Rattle.shared_work.specs.queue.Rule.{feeder, worker, nobody, after_split, after_join, Fed, EndFed, TookEntry, Count, IsOver, Fits, HasFeeder, pending_of, IsCounted, IsKept, IsInQueue, IsDrained, IsAccounted}
+use Rattle.shared_work.specs.queue.Rule.{feeder, worker, nothing_done, after_split, after_join, Fed, EndFed, TookEntry, Count, IsOver, Fits, HasFeeder, pending_of, IsCounted, IsKept, IsInQueue, IsDrained, IsAccounted}
 
 -- a sum after a change at one place
 sum_set : (f : Record → ℕ) (views : List Record) (port : ℕ) (v w : Record) → get_elem? views port ≡ some v → sum_by f (set views port w) + f v ≡ sum_by f views + f w
@@ -57,7 +57,7 @@ works_only : (c : Count) (n port : ℕ) (v : Record) → Fits c n port v → v.w
 works_only c n port v fits works = by_cases v.feeds (λ b. absurd (true≢false (sym works ∙ (fits.feeds b).4))) (λ b. b)
 
 -- a step of one pass
-step : (plan : KnownPlan) (items items' : List Entry) (views : List Record) (c c' : Count) (port : ℕ) (v w : Record)
+step : (plan : KnownPlan) (items items' : List WorkEntry) (views : List Record) (c c' : Count) (port : ℕ) (v w : Record)
     → IsCounted plan items views c → get_elem? views port ≡ some v → v.works ≡ w.works
     → IsLine plan c'.taken c'.fed c'.waiting items' → c'.waiting ≤ c'.ends
     → HasFeeder c'.feeder c'.fed (set views port w)
@@ -88,7 +88,7 @@ begins plan = (record { feeder = 0; fed = 0; taken = 0; ends = 0; waiting = 0 },
   where
     one : (port : ℕ) (v : Record) → get_elem? (feeder 0 0 0 0 [] ∷ []) port ≡ some v → Fits (record { feeder = 0; fed = 0; taken = 0; ends = 0; waiting = 0 }) 0 port v
     one zero v e = subst (Fits (record { feeder = 0; fed = 0; taken = 0; ends = 0; waiting = 0 }) 0 0) (some-injective _ _ e)
-        (record { feeds = λ _. (refl, refl, refl, refl, refl, λ lt. absurd (omega arith)); finished = λ b. absurd (off b); idle = λ b _. absurd (off (sym b)); told = λ _. refl })
+        (record { feeds = λ _. (refl, refl, refl, refl, refl, λ lt. absurd (omega arith)); finished = λ b. absurd (off b); idle = λ b _. absurd (off (sym b)); known_fed = λ _. refl })
     one (suc port) v e = absurd (some-ne-none v (sym e))
 
 pub feeds_piece : (plan : KnownPlan) (n port : ℕ) (v : Record) (p : Piece) → v.feeds ≡ true → v.ends ≡ 0 → IsPlanned plan v.fed p → Pushes (IsKept plan) n port v (job p) (Fed v (job p))
@@ -107,8 +107,8 @@ feeds_piece plan n port v p feeds none is items views room h at =
             (line-piece plan items c.taken c.fed c.waiting p (let e = k.ends in omega (arith, m.2, none)) (subst (λ x. IsPlanned plan x p) m.1 is) k.line)
             k.ends
             (by_feeder views port c.feeder (suc c.fed) v w at m.0 refl (omega (arith, m.1)))
-            (record { feeds = λ _. (m.0, omega (arith, m.1), m.2, m.3, refl, λ lt. absurd (never (m.5 lt))); finished = λ b. absurd (off b); idle = λ b _. absurd (off (sym b)); told = λ _. omega (arith, m.1) })
-            (λ j u apart o. record { feeds = λ b. absurd (not_feeder c (pending_of views) port j v u mine feeds o apart b); finished = λ b. absurd (never (o.finished b).0); idle = o.idle; told = λ b. absurd (not_feeder c (pending_of views) port j v u mine feeds o apart b) })
+            (record { feeds = λ _. (m.0, omega (arith, m.1), m.2, m.3, refl, λ lt. absurd (never (m.5 lt))); finished = λ b. absurd (off b); idle = λ b _. absurd (off (sym b)); known_fed = λ _. omega (arith, m.1) })
+            (λ j u apart o. record { feeds = λ b. absurd (not_feeder c (pending_of views) port j v u mine feeds o apart b); finished = λ b. absurd (never (o.finished b).0); idle = o.idle; known_fed = λ b. absurd (not_feeder c (pending_of views) port j v u mine feeds o apart b) })
             (λ x. refl),
       ),
       refl,
@@ -130,8 +130,8 @@ feeds_end plan n port v feeds items views room h at =
             (line-end plan items c.taken c.fed c.waiting k.line)
             (let e = k.ends in omega arith)
             (by_feeder views port c.feeder c.fed v w at m.0 refl m.1)
-            (record { feeds = λ _. (m.0, m.1, omega (arith, m.2), m.3, refl, λ lt. still (m.5 lt)); finished = λ b. absurd (off b); idle = λ b _. absurd (off (sym b)); told = λ _. m.1 })
-            (λ j u apart o. record { feeds = λ b. absurd (not_feeder c (pending_of views) port j v u mine feeds o apart b); finished = λ b. (still (o.finished b).0, (o.finished b).1); idle = o.idle; told = o.told })
+            (record { feeds = λ _. (m.0, m.1, omega (arith, m.2), m.3, refl, λ lt. still (m.5 lt)); finished = λ b. absurd (off b); idle = λ b _. absurd (off (sym b)); known_fed = λ _. m.1 })
+            (λ j u apart o. record { feeds = λ b. absurd (not_feeder c (pending_of views) port j v u mine feeds o apart b); finished = λ b. (still (o.finished b).0, (o.finished b).1); idle = o.idle; known_fed = o.known_fed })
             (λ x. refl),
       ),
       refl,
@@ -145,7 +145,7 @@ learns_line plan port v feeds items views h at =
     (h.0.taken, h.0.waiting, subst (λ n. IsLine plan h.0.taken n h.0.waiting items) (sym m.1) k.line, subst (λ n. h.0.waiting ≤ n) (sym m.2) k.ends)
 
 -- where as many were taken as were fed
-drained : (plan : KnownPlan) (v : Record) (items : List Entry) (views : List Record) (h : IsKept plan items views) (port : ℕ) → get_elem? views port ≡ some v → h.0.taken ≡ h.0.fed → IsDrained plan v h.0.fed items
+drained : (plan : KnownPlan) (v : Record) (items : List WorkEntry) (views : List Record) (h : IsKept plan items views) (port : ℕ) → get_elem? views port ≡ some v → h.0.taken ≡ h.0.fed → IsDrained plan v h.0.fed items
 drained plan v items views h port at all = record {
   views = views;
   kept = h;
@@ -173,8 +173,8 @@ takes plan port v works (job p) items views h at =
         c',
         step plan (job p ∷ items) items views c c' port v w k at works k.line.1 k.ends
             (by_worker views port c.feeder c.fed v w at (works_only c (pending_of views) port v (k.fits port v at) works) k.known)
-            (record { feeds = λ b. absurd (off b); finished = λ b. absurd (never ((k.fits port v at).finished b).0); idle = λ _ b. absurd (off (sym b)); told = λ b. absurd (off b) })
-            (λ j u apart o. record { feeds = λ b. let m = o.feeds b in (m.0, m.1, m.2, m.3, m.4, λ lt. absurd (never (m.5 lt))); finished = λ b. absurd (never (o.finished b).0); idle = o.idle; told = o.told })
+            (record { feeds = λ b. absurd (off b); finished = λ b. absurd (never ((k.fits port v at).finished b).0); idle = λ _ b. absurd (off (sym b)); known_fed = λ b. absurd (off b) })
+            (λ j u apart o. record { feeds = λ b. let m = o.feeds b in (m.0, m.1, m.2, m.3, m.4, λ lt. absurd (never (m.5 lt))); finished = λ b. absurd (never (o.finished b).0); idle = o.idle; known_fed = o.known_fed })
             (λ x. let same : times x (p.id ∷ []) ≡ times x (c.taken ∷ []) = ap (λ n. times x (n ∷ [])) is.0 in omega (arith, times-append x v.taken (p.id ∷ []), once_suc x c.taken, same)),
       ),
       (subst (λ n. IsPlanned plan n p) (sym is.0) is, refl),
@@ -191,8 +191,8 @@ takes plan port v works finish items views h at =
         c',
         step plan (finish ∷ items) items views c c' port v w k at works k.line.1.2 (omega arith)
             (by_worker views port c.feeder c.fed v w at (works_only c (pending_of views) port v (k.fits port v at) works) k.known)
-            (record { feeds = λ b. absurd (off b); finished = λ _. ((k.line.0, omega arith), refl); idle = λ _ b. absurd (off (sym b)); told = λ b. absurd (off b) })
-            (λ j u apart o. record { feeds = o.feeds; finished = o.finished; idle = o.idle; told = o.told })
+            (record { feeds = λ b. absurd (off b); finished = λ _. ((k.line.0, omega arith), refl); idle = λ _ b. absurd (off (sym b)); known_fed = λ b. absurd (off b) })
+            (λ j u apart o. record { feeds = o.feeds; finished = o.finished; idle = o.idle; known_fed = o.known_fed })
             (λ x. refl),
       ),
       (refl, (items, drained plan v (finish ∷ items) views h port at k.line.0)),
@@ -212,15 +212,15 @@ splits plan port v feeds items views h at =
     let F : ℕ → Record → Type 0 = λ j u. Fits c (pending_of (vs ++ r ∷ [])) j u in
     let old : (j : ℕ) (u : Record) → get_elem? vs j ≡ some u → F j u =
     set_each F views port l
-    (record { feeds = λ _. (m.0, m.1, m.2, omega (arith, m.3, pending), refl, m.5); finished = λ b. absurd (off b); idle = λ b _. absurd (off (sym b)); told = λ _. m.1 })
-    (λ j u apart e. let o = k.fits j u e in record { feeds = λ b. absurd (not_feeder c (pending_of views) port j v u mine feeds o apart b); finished = o.finished; idle = o.idle; told = o.told }) in (
+    (record { feeds = λ _. (m.0, m.1, m.2, omega (arith, m.3, pending), refl, m.5); finished = λ b. absurd (off b); idle = λ b _. absurd (off (sym b)); known_fed = λ _. m.1 })
+    (λ j u apart e. let o = k.fits j u e in record { feeds = λ b. absurd (not_feeder c (pending_of views) port j v u mine feeds o apart b); finished = o.finished; idle = o.idle; known_fed = o.known_fed }) in (
       c,
       record {
         line = k.line;
         ends = k.ends;
         known = (first.0, at_longer vs (r ∷ []) c.feeder first.0 first.1, first.2, first.3);
         fits = λ j u e. ⊎_elim (λ (x : get_elem? vs j ≡ some u). old j u x)
-            (λ (x : r ≡ u). subst (F j) x (record { feeds = λ b. absurd (off b); finished = λ b. absurd (off b); idle = λ _ b. absurd (off (sym b)); told = λ b. absurd (off b) }))
+            (λ (x : r ≡ u). subst (F j) x (record { feeds = λ b. absurd (off b); finished = λ b. absurd (off b); idle = λ _ b. absurd (off (sym b)); known_fed = λ b. absurd (off b) }))
             (at_snoc vs r u j e);
         once = λ x. omega (arith, sum_by_push (λ u. times x u.taken) vs r, sum_set (λ u. times x u.taken) views port v l at, k.once x);
       },
@@ -230,11 +230,11 @@ over_done : {X : Type 0} (b : Bool) (d : ℕ) → (b ≡ true → X) → (0 < d 
 over_done true d f g lt = f refl
 over_done false d f g lt = g lt
 
-told_now : {n : ℕ} (b : Bool) (theirs own : ℕ) → (b ≡ true → theirs ≡ n) → own ≡ n → (if b then theirs else own) ≡ n
-told_now true theirs own told is = told refl
-told_now false theirs own told is = is
+known_now : {n : ℕ} (b : Bool) (theirs own : ℕ) → (b ≡ true → theirs ≡ n) → own ≡ n → (if b then theirs else own) ≡ n
+known_now true theirs own known_fed is = known_fed refl
+known_now false theirs own known_fed is = is
 
-pub joins : (plan : KnownPlan) (port : ℕ) (v : Record) (other : ℕ) (u : Record) → v.feeds ≡ true → u.works ≡ true → Merges (IsKept plan) port v other u (after_join v u) nobody
+pub joins : (plan : KnownPlan) (port : ℕ) (v : Record) (other : ℕ) (u : Record) → v.feeds ≡ true → u.works ≡ true → Merges (IsKept plan) port v other u (after_join v u) nothing_done
 joins plan port v other u feeds works items views h at two at' =
     let c = h.0 in
     let k = h.1 in
@@ -244,24 +244,24 @@ joins plan port v other u feeds works items views h at two at' =
     let vs = set views port both in
     let was : get_elem? views other ≡ some u = ⊎_elim (λ (x : (other ≡ port) × (both ≡ u)). absurd (two x.0)) (λ (x : (other ≢ port) × (get_elem? views other ≡ some u)). x.1) (at_set views port other both u at') in
     let theirs = k.fits other u was in
-    let ws = set vs other nobody in
+    let ws = set vs other nothing_done in
     let pending : pending_of ws + 1 ≡ pending_of views =
     let e : bit v.works ≡ 0 = ap bit m.4 in
     let f : bit u.works ≡ 1 = ap bit works in
-    omega (arith, pending_set views port v both at, pending_set vs other u nobody at', e, f) in
+    omega (arith, pending_set views port v both at, pending_set vs other u nothing_done at', e, f) in
     let F : ℕ → Record → Type 0 = λ j y. Fits c (pending_of ws) j y in
     let G : ℕ → Record → Type 0 = λ j y. j ≢ other → F j y in
     let first : (j : ℕ) (y : Record) → get_elem? vs j ≡ some y → G j y =
     set_each G views port both
-    (λ _. record { feeds = λ _. (m.0, m.1, m.2, omega (arith, m.3, pending), refl, over_done u.finished v.done (λ b. (theirs.finished b).0) m.5); finished = λ b. absurd (off b); idle = λ b _. absurd (off (sym b)); told = λ _. told_now u.finished u.fed v.fed (λ b. (theirs.finished b).1) m.1 })
-    (λ j y apart e _. let o = k.fits j y e in record { feeds = λ b. absurd (not_feeder c (pending_of views) port j v y mine feeds o apart b); finished = o.finished; idle = o.idle; told = o.told }) in (
+    (λ _. record { feeds = λ _. (m.0, m.1, m.2, omega (arith, m.3, pending), refl, over_done u.finished v.done (λ b. (theirs.finished b).0) m.5); finished = λ b. absurd (off b); idle = λ b _. absurd (off (sym b)); known_fed = λ _. known_now u.finished u.fed v.fed (λ b. (theirs.finished b).1) m.1 })
+    (λ j y apart e _. let o = k.fits j y e in record { feeds = λ b. absurd (not_feeder c (pending_of views) port j v y mine feeds o apart b); finished = o.finished; idle = o.idle; known_fed = o.known_fed }) in (
       c,
       record {
         line = k.line;
         ends = k.ends;
-        known = by_worker vs other c.feeder c.fed u nobody at' (works_only c (pending_of views) other u theirs works) (by_feeder views port c.feeder c.fed v both at m.0 refl m.1);
-        fits = set_each F vs other nobody (record { feeds = λ b. absurd (off b); finished = λ b. absurd (off b); idle = λ _ _. refl; told = λ b. absurd (off b) }) (λ j y apart e. first j y e apart);
-        once = λ x. omega (arith, sum_set (λ y. times x y.taken) views port v both at, sum_set (λ y. times x y.taken) vs other u nobody at', times-append x v.taken u.taken, k.once x);
+        known = by_worker vs other c.feeder c.fed u nothing_done at' (works_only c (pending_of views) other u theirs works) (by_feeder views port c.feeder c.fed v both at m.0 refl m.1);
+        fits = set_each F vs other nothing_done (record { feeds = λ b. absurd (off b); finished = λ b. absurd (off b); idle = λ _ _. refl; known_fed = λ b. absurd (off b) }) (λ j y apart e. first j y e apart);
+        once = λ x. omega (arith, sum_set (λ y. times x y.taken) views port v both at, sum_set (λ y. times x y.taken) vs other u nothing_done at', times-append x v.taken u.taken, k.once x);
       },
     )
 
@@ -296,27 +296,27 @@ all_taken plan port v feeds items views h at none some_done x =
     ap (times x) (by_cases u.feeds (λ b. absurd (not_feeder c (pending_of views) port j v u mine feeds o apart b)) (λ b. o.idle b idle))) in
     sym one ∙ k.once x ∙ ap (once_below x) all
 
-pub accounts : (plan : KnownPlan) (port : ℕ) (v : Record) → v.feeds ≡ true → Learns (IsKept plan) port v (λ items. (v.told ≡ v.fed) × IsAccounted v)
+pub accounts : (plan : KnownPlan) (port : ℕ) (v : Record) → v.feeds ≡ true → Learns (IsKept plan) port v (λ items. (v.known_fed ≡ v.fed) × IsAccounted v)
 accounts plan port v feeds items views h at =
-    let mine = h.1.fits port v at in (mine.told feeds ∙ sym (mine.feeds feeds).1, all_taken plan port v feeds items views h at)
+    let mine = h.1.fits port v at in (mine.known_fed feeds ∙ sym (mine.feeds feeds).1, all_taken plan port v feeds items views h at)
 
 -- a pass that does nothing
-pub adds_nobody : (plan : KnownPlan) (port : ℕ) (v : Record) → Forks (IsKept plan) port v v nobody
-adds_nobody plan port v items views h at =
+pub adds_nothing : (plan : KnownPlan) (port : ℕ) (v : Record) → Forks (IsKept plan) port v v nothing_done
+adds_nothing plan port v items views h at =
     let c = h.0 in
     let k = h.1 in
     let same : set views port v ≡ views = set_again views port v at in
-    let pending : pending_of (views ++ nobody ∷ []) ≡ pending_of views = omega (arith, sum_by_push (λ u. bit u.works) views nobody) in
-    let F : ℕ → Record → Type 0 = λ j u. Fits c (pending_of (views ++ nobody ∷ [])) j u in
-    subst (λ l. IsKept plan items (l ++ nobody ∷ [])) (sym same) (
+    let pending : pending_of (views ++ nothing_done ∷ []) ≡ pending_of views = omega (arith, sum_by_push (λ u. bit u.works) views nothing_done) in
+    let F : ℕ → Record → Type 0 = λ j u. Fits c (pending_of (views ++ nothing_done ∷ [])) j u in
+    subst (λ l. IsKept plan items (l ++ nothing_done ∷ [])) (sym same) (
       c,
       record {
         line = k.line;
         ends = k.ends;
-        known = (k.known.0, at_longer views (nobody ∷ []) c.feeder k.known.0 k.known.1, k.known.2, k.known.3);
+        known = (k.known.0, at_longer views (nothing_done ∷ []) c.feeder k.known.0 k.known.1, k.known.2, k.known.3);
         fits = λ j u e. ⊎_elim (λ (x : get_elem? views j ≡ some u). subst (λ n. Fits c n j u) (sym pending) (k.fits j u x))
-            (λ (x : nobody ≡ u). subst (F j) x (record { feeds = λ b. absurd (off b); finished = λ b. absurd (off b); idle = λ _ _. refl; told = λ b. absurd (off b) }))
-            (at_snoc views nobody u j e);
-        once = λ x. omega (arith, sum_by_push (λ u. times x u.taken) views nobody, k.once x);
+            (λ (x : nothing_done ≡ u). subst (F j) x (record { feeds = λ b. absurd (off b); finished = λ b. absurd (off b); idle = λ _ _. refl; known_fed = λ b. absurd (off b) }))
+            (at_snoc views nothing_done u j e);
+        once = λ x. omega (arith, sum_by_push (λ u. times x u.taken) views nothing_done, k.once x);
       },
     )

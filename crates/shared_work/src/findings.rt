@@ -14,4 +14,4 @@ mod witness;
 pub use book::{Book, LockedPosts};
 pub use ledgers::{Blanks, Ledgers};
 pub use share::Share;
-pub use witness::{AnyReport, Witness};
+pub use witness::{AnyReport, Voucher};

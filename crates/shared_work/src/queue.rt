@@ -6,7 +6,7 @@ mod rule;
 mod witness;
 mod work;
 
-pub use entry::{Bundle, Entry};
-pub use rule::{Notes, Record};
+pub use entry::{Bundle, QueueEntry};
+pub use rule::{QueueNotes, Record};
 pub use witness::Witness;
 pub use work::{FeederPass, Taken, Work, WorkerPass};

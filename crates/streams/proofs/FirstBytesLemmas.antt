@@ -12,7 +12,7 @@ closed given more k is f = record {
   all = λ e. not_both k.is_closed (f.rest ++ more ≡ []) e is;
 }
 
--- what takes more has all
+-- what keeps more has all
 all_kept : (given : List ℕ) (k : FirstBytes) → k.is_closed ≡ false → IsFrontOf given k → given ≡ k.bytes.items
 all_kept given k is f = f.parts ∙ ap (λ xs. k.bytes.items ++ xs) (f.all is) ∙ append-nil k.bytes.items
 

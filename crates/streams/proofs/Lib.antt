@@ -1,3 +1,3 @@
 pub mod FirstBytesLemmas
 pub mod LastBytesLemmas
-pub mod StretchLemmas
+pub mod ByteRunLemmas

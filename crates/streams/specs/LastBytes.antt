@@ -1,7 +1,7 @@
 -- What is kept of the bytes that a reader gave.
 use Rattle.std.specs.Prelude.{◌≡◌, ℕ, ◌^◌, Bool, true, false, List, [], ◌++◌, length, drop}
 
--- the latest stretch and the one before it, where the last read begins in the latest, and whether nothing was let go
+-- the latest run and the one before it, where the last read begins in the latest, and whether no byte was dropped
 pub record Kept : Type 0 where
   pub before : List ℕ
   pub latest : List ℕ
@@ -23,7 +23,7 @@ pub record IsEndOf (given : List ℕ) (kept : Kept) : Type 0 where
   pub all : kept.whole ≡ true → gone ≡ []
   pub many : kept.whole ≡ false → length kept.before ≡ 2 ^ 16
 
--- a read gave more bytes to the latest stretch
+-- a read gave more bytes to the latest run
 pub record HasRead (old new : Kept) : Type 0 where
   pub more : List ℕ
   pub before : new.before ≡ old.before

@@ -15,6 +15,6 @@ fault_of PermissionDenied = Denied
 fault_of IsADirectory = Directory
 fault_of _ = Refused
 
--- its fault is the one of what the system says
+-- its fault is that of the system's reason
 abbrev pub IsByItsReason : OpenRefusal → Type 0
 IsByItsReason refusal = refusal.fault ≡ fault_of (error_kind refusal.reason)

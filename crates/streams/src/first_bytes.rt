@@ -5,11 +5,11 @@ ghost use Rattle.streams.specs.FirstBytes.{IsFrontOf};
 
 use std::alloc::Global;
 
-/// No more bytes are kept once there are so many: the header is among them, where few comments come before it.
+/// Where this many bytes are kept, no more are added; they have the header unless many comments come before it.
 const ENOUGH: usize = 1 << 14;
 
-/// The front of what a source gave: at least its first 16,384 bytes, or all where it gave fewer. Where memory is refused
-/// it stays as it is from then on.
+/// The front of what a source gave: its first 16,384 bytes or more, or all where it gave fewer. Once memory is refused
+/// it stays as it is. Contracts say only that it is a front.
 #[derive(Drop)]
 pub struct FirstBytes {
     bytes: Vec<u8>,
@@ -17,7 +17,7 @@ pub struct FirstBytes {
 }
 
 impl FirstBytes {
-    /// Nothing was given yet.
+    /// Returns a front without bytes.
     pub fn new(alloc: Global) -> Self
         ensures { IsFrontOf [] result }
     {
@@ -27,21 +27,21 @@ impl FirstBytes {
         }
     }
 
-    /// Whether it has all that was given, and takes more.
+    /// Returns whether it has all bytes that were given, and keeps the next ones.
     pub fn is_whole(&self) -> bool
         ensures { result ≡ not self.now.is_closed }
     {
         !self.is_closed
     }
 
-    /// What it has of the bytes that were given, their front.
+    /// Returns its bytes, the front of those that were given.
     pub fn as_slice(&self) -> &[u8]
         ensures { result.now ≡ self.now.bytes.items }
     {
         self.bytes.as_slice()
     }
 
-    /// Keeps bytes that were given, where it does not have enough.
+    /// Keeps bytes that were given, unless it has enough.
     pub fn keep(&mut self, bytes: &[u8])
         ensures { (given : List ℕ) → IsFrontOf given self.old
             → IsFrontOf (given ++ bytes.now) self.new }

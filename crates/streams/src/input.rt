@@ -14,10 +14,10 @@ use thiserror::Error;
 /// Why a trace could not be opened by its name (profile).
 #[derive(Clone, Copy, Debug, Error)]
 pub enum OpenFault {
-    /// Nothing has this name.
+    /// There is no file of this name.
     #[error("no such file")]
     Missing,
-    /// The reader may not read it.
+    /// The program may not read it.
     #[error("permission denied")]
     Denied,
     /// The name is that of a directory.
@@ -33,56 +33,58 @@ pub enum OpenFault {
 pub struct OpenRefusal {
     /// Why.
     pub fault: OpenFault,
-    /// What the system says.
+    /// The system's error.
     pub reason: io::Error,
 }
 
-/// Bytes of a text that was refused, with the faulty line among them: the lines that the source was given back, else the
-/// last bytes that it gave, at least 65,536, or all where it gave fewer.
+/// Bytes of a refused text, with the faulty line among them: the lines that the source was given back, or else the last
+/// bytes that it gave, at least 65,536, or all where it gave fewer.
 #[derive(Drop)]
 pub struct LastText {
     pub text: Vec<u8>,
     pub beginning: Beginning,
 }
 
-/// A source that begins as standard input, and turns to the trace that is opened by its name.
+/// A source that begins as standard input, and becomes the trace that is opened by its name.
 pub trait Input: RoomSource {
-    /// The bytes of the trace of a name, where it tells them.
+    /// The bytes of the trace of a name, where it shows them.
     ghost named: { Self → List ℕ → Option (List ℕ) };
 
-    /// The name of the trace that it turned to; none where it is standard input, or where memory for the name was refused.
+    /// The name of the opened trace; none where it is standard input, or where memory for the name was refused.
     ghost name_of: { Self → Option (List ℕ) };
 
-    /// Turns to the trace of this name, or stays as it was.
+    /// Opens the trace of this name in place of standard input. Fails where the system refuses it, and nothing has
+    /// changed then.
     fn open(&mut self, name: &str) -> Result<(), OpenRefusal>
         ensures opened { OnOk result (Self.left self.new ≡ named self.old name.now) }
         ensures name { OnOk result ((name_of self.new ≡ Some name.now) ⊎ (name_of self.new ≡ None)) }
         ensures calls { Self.calls self.new ≡ Self.calls self.old }
         ensures failures { Self.failures self.new ≡ Self.failures self.old }
         ensures refused { OnErr result (self.new ≡ self.old) }
-        // The fault is the one of what the system says.
+        // The fault is that of the system's reason.
         ensures reason { IfErr result IsByItsReason };
 
-    /// The name of the trace that was opened; none where it is standard input, or where memory for the name was refused.
+    /// Returns the name of the opened trace; none where it is standard input, or where memory for the name was refused.
     fn name(&self) -> Option<&str>
         ensures { option_map (λ name. name.now) result ≡ name_of self.now };
 
-    /// What the system said of the last read that failed; none where it said nothing.
+    /// Returns the system's error of the last read that failed; none where there was none.
     fn failure(&self) -> Option<io::Error>;
 
-    /// The first bytes that it gave, or fewer where memory was refused.
+    /// Returns the first bytes that it gave, or fewer where memory was refused.
     fn begun(&self) -> &FirstBytes;
 
-    /// The lines that it was given back, else the last bytes that it gave.
+    /// Returns the lines that it was given back, or else the last bytes that it gave. Fails only when memory is
+    /// refused.
     fn last_text(&self, alloc: Global) -> Result<LastText, AllocError>;
 
-    /// Chooses when it shows how far the reading is.
+    /// Sets when progress is printed.
     fn show_progress(&mut self, when: ShowProgress)
         ensures left { Self.left self.new ≡ Self.left self.old }
         ensures name { name_of self.new ≡ name_of self.old }
         ensures calls { Self.calls self.new ≡ Self.calls self.old }
         ensures failures { Self.failures self.new ≡ Self.failures self.old };
 
-    /// Whether a terminal shows how far the reading is.
+    /// Returns whether the writer for progress is a terminal.
     fn shows_terminal(&self) -> bool;
 }

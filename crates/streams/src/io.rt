@@ -1,5 +1,5 @@
-//! Readers and writers as sources and sinks. They show the bytes that the readers and writers show: those over memory do,
-//! and those of the system hide theirs.
+//! Readers and writers as sources and sinks. They show the bytes that the readers and writers show: those over memory
+//! do, and those of the system hide theirs.
 
 ghost use Rattle.std.specs.Prelude.{◌≡◌, ◌+◌, ◌≤◌, ◌^◌, IfOk, IsTrue, OnErr, OnOk, length, take};
 ghost use Rattle.line_model.specs.basics.Device.{Gives};
@@ -22,15 +22,15 @@ use std::io::{Read, Write};
 use std::snapshot::Snapshot;
 use std::time::Clock;
 
-/// Lines that were refused after more of their text was read, and the number of the row before them, or 0 where it is not
-/// known.
+/// Lines that were refused after more of their text was read, and the number of the row before them, or 0 where it is
+/// not known.
 #[derive(Drop)]
-struct RefusedLines {
+struct KeptLines {
     lines: Vec<u8>,
     number_before: u32,
 }
 
-impl RefusedLines {
+impl KeptLines {
     /// A copy of them, which begins with a line where the number before it is known.
     fn text(&self, alloc: Global) -> Result<LastText, AllocError> {
         let mut text = Vec::new(alloc);
@@ -43,14 +43,14 @@ impl RefusedLines {
     }
 }
 
-/// Standard input, or the file that was opened in its place, as a source. Each read is one of the reader's, into the room
-/// that keeps its last bytes.
+/// Standard input, or the file that was opened in its place, as a source. Each read is one of the reader's, into the
+/// room that keeps its last bytes.
 #[derive(Drop)]
 pub struct FileInput<'a, R: Opener + Clock, I: Read + Drop, W: Write + Drop> {
     alloc: Global,
     system: &'a R,
     standard: ShownReader<I>,
-    // That standard input is a terminal is still to be printed.
+    // Whether it is still to be printed that standard input is a terminal.
     is_terminal: bool,
     file: Option<ShownReader<R::File>>,
     // The name of the file; none where memory for it was refused.
@@ -59,17 +59,17 @@ pub struct FileInput<'a, R: Opener + Clock, I: Read + Drop, W: Write + Drop> {
     last_bytes: LastBytes,
     // Whether bytes were given that the last bytes do not have: they were read into a room of the caller.
     is_past: bool,
-    refused: Option<RefusedLines>,
+    refused: Option<KeptLines>,
     progress: Progress<W>,
-    // What the system said of the last read that failed.
+    // The system's error of the last read that failed.
     failure: Option<io::Error>,
     calls: Count,
     failures: Count,
 }
 
 impl<'a, R: Opener + Clock, I: Read + Drop, W: Write + Drop> FileInput<'a, R, I, W> {
-    /// Standard input, the system that opens files and has a clock, and the progress that is shown. Where standard input
-    /// is a terminal, that is printed once, before it is read.
+    /// Returns standard input as a source, with the system that opens files and has a clock, and the progress that is
+    /// shown. Where standard input is a terminal, that is printed once, before the first read.
     pub fn new(
         alloc: Global,
         system: &'a R,
@@ -154,7 +154,7 @@ impl<'a, R: Opener + Clock, I: Read + Drop, W: Write + Drop> FileInput<'a, R, I,
         }
     }
 
-    /// The reader has failed.
+    /// Records that the reader has failed.
     fn fail(&mut self, error: io::Error)
         ensures last_bytes { self.new.last_bytes ≡ self.old.last_bytes }
         ensures standard { self.new.standard ≡ self.old.standard }
@@ -216,7 +216,7 @@ impl<R: Opener + Clock, I: Read + Drop, W: Write + Drop> Source for FileInput<'_
     fn keep_refused(&mut self, lines: &[u8], number_before: u32) {
         let mut kept = Vec::new(self.alloc);
         if kept.extend_from_slice(lines).is_ok() {
-            self.refused = Some(RefusedLines {
+            self.refused = Some(KeptLines {
                 lines: kept,
                 number_before,
             });
@@ -304,16 +304,16 @@ impl<R: Opener + Clock, I: Read + Drop, W: Write + Drop> Input for FileInput<'_,
 #[derive(Drop)]
 pub struct WriteSink<W: Write + Drop> {
     writer: W,
-    // The writer as it was when this was made. Contracts alone see it.
+    // The writer as it was when this was made. Only contracts see it.
     first: Snapshot<W>,
-    // What the system said of the last write that failed.
+    // The system's error of the last write that failed.
     failure: Option<io::Error>,
     failures: Count,
     ghost shows: { IsTrue (still_shows (W.contents first.value) (W.contents writer)) },
 }
 
 impl<W: Write + Drop> WriteSink<W> {
-    /// A sink over a writer.
+    /// Returns a sink over a writer.
     pub fn new(writer: W) -> Self
         ensures taken { ⟦<WriteSink<W> as Sink>⟧.taken result ≡ W.contents writer }
         ensures failures { ⟦<WriteSink<W> as Sink>⟧.failures result ≡ 0 }

@@ -4,27 +4,27 @@ ghost use Rattle.std.specs.Prelude.{◌≡◌, ℕ, ◌+◌, ◌<◌, ◌≤◌,
 ghost use Rattle.std.specs.Io.KnownBytes.{Consumes, IsAtEnd, Keeps};
 ghost use Rattle.streams.specs.LastBytes.{HasRead, IsEndOf, bytes_of, last_read};
 
-use crate::stretch::Stretch;
+use crate::byte_run::ByteRun;
 use line_model::device::{Beginning, CHUNK};
 use std::alloc::{AllocError, Global};
 use std::io;
 use std::io::Read;
 use std::marker::Model;
 
-/// The end of what a reader gave: at least its last 65,536 bytes, or all where it gave fewer. Two stretches of 65,536
-/// bytes are filled in turn, so nothing is copied to keep it, and no memory is asked for.
+/// The end of what a reader gave: at least its last 65,536 bytes, or all where it gave fewer. Two runs of 65,536 bytes
+/// are filled in turn, so nothing is copied, and no memory is asked for.
 ///
 /// ```text
 ///  given so far:  X25 1 MOD 8 ..\n1 T 10010B0000\n .. 70 N 1001|
-///                 `-- let go --'`-- the stretch before --'`-- the latest --'
+///                 `-- let go --'`-- the run before ------'`-- the latest --'
 /// ```
 #[derive(Drop)]
 pub struct LastBytes {
-    first: Stretch,
-    second: Stretch,
-    /// Whether the second stretch is the latest.
+    first: ByteRun,
+    second: ByteRun,
+    /// Whether the second run is the latest.
     is_second: bool,
-    /// Where the bytes of the last read begin in the latest stretch.
+    /// Where the bytes of the last read begin in the latest run.
     start: usize,
     whole: bool,
 }
@@ -41,21 +41,21 @@ impl Model for LastBytes {
 }
 
 impl LastBytes {
-    /// Nothing was given yet.
+    /// Returns an end without bytes.
     pub fn new() -> Self
         ensures end { IsEndOf [] result }
         ensures none { last_read result ≡ [] }
     {
         LastBytes {
-            first: Stretch::new(),
-            second: Stretch::new(),
+            first: ByteRun::new(),
+            second: ByteRun::new(),
             is_second: false,
             start: 0,
             whole: true,
         }
     }
 
-    /// Where what it has begins.
+    /// Returns where its bytes begin: with the text, or in the middle of a line.
     pub fn beginning(&self) -> Beginning
         ensures { result ≡ (if self.now.whole then Beginning.Text else Beginning.Midst) }
     {
@@ -66,7 +66,7 @@ impl LastBytes {
         }
     }
 
-    fn latest_stretch(&self) -> &Stretch
+    fn latest_run(&self) -> &ByteRun
         ensures { result.now ≡ self.now.latest }
     {
         if self.is_second {
@@ -76,7 +76,7 @@ impl LastBytes {
         }
     }
 
-    fn before(&self) -> &Stretch
+    fn before(&self) -> &ByteRun
         ensures { result.now ≡ self.now.before }
     {
         if self.is_second {
@@ -86,7 +86,7 @@ impl LastBytes {
         }
     }
 
-    /// Lets go of the stretch before.
+    /// Removes the bytes of the run before the latest.
     fn clear_before(&mut self)
         ensures { self.new ≡ record self.old { before = [] } }
     {
@@ -97,7 +97,7 @@ impl LastBytes {
         }
     }
 
-    /// The stretch before and the latest change places.
+    /// Swaps the run before and the latest.
     fn swap(&mut self)
         ensures { self.new ≡ record self.old { before = self.old.latest; latest = self.old.before; start = 0 } }
     {
@@ -105,7 +105,7 @@ impl LastBytes {
         self.start = 0;
     }
 
-    /// The full stretch becomes the one before, which is let go and filled next.
+    /// Makes the full run the one before; the other one is emptied and filled next.
     fn turn(&mut self)
         requires { length self.old.latest ≡ 2 ^ 16 }
         ensures room { self.new.latest ≡ [] }
@@ -120,18 +120,18 @@ impl LastBytes {
         }
     }
 
-    /// Turns where the latest stretch is full.
+    /// Begins the other run where the latest is full.
     fn make_room(&mut self)
         ensures end { (given : List ℕ) → IsEndOf given self.old → IsEndOf given self.new }
         ensures few { self.old.whole ≡ true → length (bytes_of self.old) ≤ 2 ^ 16 → self.new.whole ≡ true }
         ensures room { length self.new.latest < 2 ^ 16 }
     {
-        if self.latest_stretch().len() == CHUNK {
+        if self.latest_run().len() == CHUNK {
             self.turn();
         }
     }
 
-    /// Reads once into the room of the latest stretch.
+    /// Reads once into the room of the latest run.
     fn fill<R: Read>(&mut self, from: &mut R) -> io::Result<()>
         ensures grown { HasRead self.old self.new }
         ensures given { OnOk result (Consumes (R.remaining from.old) (R.remaining from.new) (last_read self.new)) }
@@ -140,7 +140,7 @@ impl LastBytes {
         ensures kept { OnErr result (Keeps (R.remaining from.old) (R.remaining from.new)) }
         ensures at_most { length self.new.latest ≤ 2 ^ 16 }
     {
-        self.start = self.latest_stretch().len();
+        self.start = self.latest_run().len();
         if self.is_second {
             self.second.fill(from)
         } else {
@@ -148,16 +148,16 @@ impl LastBytes {
         }
     }
 
-    /// Reads once. Where the latest stretch is full, the other is filled from its beginning.
+    /// Reads once. Where the latest run is full, the other is filled from its beginning. Fails where the reader fails.
     pub fn read<R: Read>(&mut self, from: &mut R) -> io::Result<()>
         ensures end { (given : List ℕ) → IsEndOf given self.old
             → IsEndOf (given ++ last_read self.new) self.new }
         ensures given { OnOk result (Consumes (R.remaining from.old) (R.remaining from.new) (last_read self.new)) }
-        // Nothing is read only at the end.
+        // A read gives nothing only at the end.
         ensures ended { last_read self.new ≡ [] → OnOk result (IsAtEnd (R.remaining from.new)) }
         ensures kept { OnErr result (Keeps (R.remaining from.old) (R.remaining from.new)) }
         ensures at_most { length (last_read self.new) ≤ 2 ^ 16 }
-        // While there are few, it has them all.
+        // While it has all bytes and they are few, it keeps all of them.
         ensures few { self.old.whole ≡ true → length (bytes_of self.old) ≤ 2 ^ 16
             → self.new.whole ≡ true }
     {
@@ -165,21 +165,21 @@ impl LastBytes {
         self.fill(from)
     }
 
-    /// The bytes of the last read; none where it failed.
+    /// Returns the bytes of the last read; none where it failed.
     pub fn latest(&self) -> &[u8]
         ensures bytes { result.now ≡ last_read self.now }
     {
-        let latest = self.latest_stretch().as_slice();
+        let latest = self.latest_run().as_slice();
         &latest[self.start..]
     }
 
-    /// What it has of the bytes that were given, their end.
+    /// Returns a copy of what it has, the end of the bytes that were given.
     pub fn text(&self, alloc: Global) -> Result<Vec<u8>, AllocError>
         ensures { IfOk result (λ text. text.items ≡ bytes_of self.now) }
     {
         let mut text = Vec::new(alloc);
         text.extend_from_slice(self.before().as_slice())?;
-        text.extend_from_slice(self.latest_stretch().as_slice())?;
+        text.extend_from_slice(self.latest_run().as_slice())?;
         Ok(text)
     }
 }

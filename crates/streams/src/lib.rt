@@ -2,6 +2,7 @@
 //! report to.
 #![tactic(auto)]
 
+mod byte_run;
 pub mod first_bytes;
 pub mod input;
 pub mod io;
@@ -11,5 +12,4 @@ pub mod output;
 pub mod progress;
 pub mod room_source;
 mod shown_reader;
-mod stretch;
 pub mod system;

@@ -1,4 +1,4 @@
-//! What opens the trace of a name.
+//! The trait that opens the trace of a name.
 
 ghost use Rattle.std.specs.Prelude.{◌≡◌, IfErr, IfOk};
 ghost use Rattle.streams.specs.OpenFaults.{IsByItsReason};
@@ -16,9 +16,9 @@ pub trait Opener {
     /// The bytes of the file of a name, where it shows them.
     ghost named: { Self → List ℕ → Option (List ℕ) };
 
-    /// Opens the file of this name for reading.
+    /// Opens the file of this name for reading. Fails where the system refuses it.
     fn open(&self, name: &str) -> Result<Self::File, OpenRefusal>
         ensures opened { IfOk result (λ file. Self.File.remaining file ≡ named self.now name.now) }
-        // The fault is the one of what the system says.
+        // The fault is that of the system's reason.
         ensures reason { IfErr result IsByItsReason };
 }

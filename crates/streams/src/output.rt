@@ -4,9 +4,9 @@ use line_model::device::Sink;
 use line_model::lending::{Borrowed, Origin};
 use std::io;
 
-/// A sink that says why it failed.
+/// A sink that keeps the reason of its failure.
 pub trait Output: Sink {
-    /// What the system said of the last write that failed; none where it said nothing.
+    /// Returns the system's error of the last write that failed; none where there was none.
     fn failure(&self) -> Option<io::Error>;
 }
 

@@ -1,27 +1,27 @@
-//! How far the reading of a trace is, shown once a second, and that a terminal is read.
+//! Prints the progress of reading, once a second, and that the trace is read from a terminal.
 
 use std::io::Write;
 use std::time::{Clock, Duration, Instant};
 
-/// When it is shown how far the reading is (profile).
+/// When progress is printed (profile).
 #[derive(Clone, Copy, PartialEq, Eq)]
 pub enum ShowProgress {
-    /// Not at all.
+    /// Never.
     Never,
-    /// Each second, where a terminal shows it.
+    /// Each second, if the writer is a terminal.
     OnTerminal,
     /// Each second, and at the end.
     Always,
 }
 
-/// What was read so far, and the writer to which it is printed, a line each time.
+/// Counts of what was read, and the writer to which they are printed, a line each time.
 #[derive(Drop)]
 pub struct Progress<W: Write + Drop> {
     errors: W,
     is_terminal: bool,
     when: ShowProgress,
     began: Option<Instant>,
-    /// The second in which it was shown last.
+    /// The second of the last line printed.
     shown: u64,
     bytes: u64,
     lines: u64,
@@ -32,14 +32,14 @@ fn line_feeds(bytes: &[u8]) -> u64 {
     u64::try_from(count).unwrap_or(u64::MAX)
 }
 
-/// How many there are a second, of so many in some time.
+/// Returns the rate per second of a count over some time.
 fn rate(count: u64, time: Duration) -> u64 {
     let millis = u64::try_from(time.as_millis()).unwrap_or(u64::MAX);
     count.saturating_mul(1000) / millis.max(1)
 }
 
 impl<W: Write + Drop> Progress<W> {
-    /// Nothing was read yet, and nothing is shown until `choose` says when.
+    /// Returns progress with nothing read. Nothing is printed before `choose` sets when.
     pub fn new(errors: W, is_terminal: bool) -> Self {
         Progress {
             errors,
@@ -52,12 +52,12 @@ impl<W: Write + Drop> Progress<W> {
         }
     }
 
-    /// Whether the writer is a terminal.
+    /// Returns whether the writer is a terminal.
     pub fn is_terminal(&self) -> bool {
         self.is_terminal
     }
 
-    /// Chooses when it is shown.
+    /// Sets when progress is printed.
     pub fn choose(&mut self, when: ShowProgress) {
         self.when = when;
     }
@@ -70,7 +70,7 @@ impl<W: Write + Drop> Progress<W> {
         }
     }
 
-    /// The time since the first reading, 0 where there is no clock.
+    /// Returns the time since the first reading, 0 where there is no clock.
     fn time(&mut self, clock: &impl Clock) -> Duration {
         match self.began {
             Some(began) => began.elapsed(clock).unwrap_or(Duration::ZERO),
@@ -99,7 +99,7 @@ impl<W: Write + Drop> Progress<W> {
         );
     }
 
-    /// Bytes were read; none at the end.
+    /// Counts bytes that were read, and prints a line where one is due; an empty slice is the end.
     pub fn read(&mut self, clock: &impl Clock, bytes: &[u8]) {
         if !self.is_shown() {
             return;

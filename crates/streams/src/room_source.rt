@@ -6,10 +6,10 @@ ghost use Rattle.line_model.specs.basics.Device.{Gives};
 
 use line_model::device::{SliceSource, Source};
 
-/// A source that reads where its caller keeps the bytes, so that nobody copies them.
+/// A source that reads where its caller keeps the bytes, so that they are not copied.
 pub trait RoomSource: Source {
-    /// Reads the next bytes into the front of a room of 65,536 bytes, and says how many; none is the end. The bytes behind
-    /// them may change too. Of the bytes that it lends afterwards nothing is said.
+    /// Reads the next bytes into the front of a room of 65,536 bytes, and returns how many; 0 at the end. The bytes
+    /// after them may change too. No clause says which bytes `latest` lends afterwards. Fails where the source fails.
     fn read_into(&mut self, room: &mut [u8]) -> Result<usize, ()>
         requires room { length room.old ≡ 2 ^ 16 }
         ensures few { IfOk result (λ n. n ≤ 2 ^ 16) }

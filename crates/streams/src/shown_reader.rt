@@ -10,11 +10,11 @@ use std::io::Read;
 use std::marker::Model;
 use std::snapshot::Snapshot;
 
-/// A reader. Contracts see the bytes that it has left, where it shows them from the beginning on.
+/// A reader. Contracts see the bytes that it has left, where it has shown them from the beginning on.
 #[derive(Drop)]
 pub(crate) struct ShownReader<R: Read + Drop> {
     reader: R,
-    // The reader as it was when this was made, and before its last read. Contracts alone see them.
+    // The reader as it was when this was made, and before its last read. Only contracts see them.
     first: Snapshot<R>,
     before: Snapshot<R>,
 }
@@ -31,7 +31,7 @@ impl<R: Read + Drop> Model for ShownReader<R> {
 }
 
 impl<R: Read + Drop> ShownReader<R> {
-    /// A reader that was not read yet.
+    /// Returns a reader that was not read yet.
     pub fn new(reader: R) -> Self
         ensures { result.left ≡ R.remaining reader }
     {

@@ -27,14 +27,14 @@ impl<F: Read + Drop> Read for SystemFile<F> {
     }
 }
 
-/// The files of the system, whose bytes no contract says, and its clock.
+/// The files of the system, whose bytes no contract names, and its clock.
 #[derive(Drop)]
 pub struct System<'a, R: Files + Clock> {
     rt: &'a R,
 }
 
 impl<'a, R: Files + Clock> System<'a, R> {
-    /// The files and the clock of a runtime.
+    /// Returns the files and the clock of a runtime.
     pub fn new(rt: &'a R) -> Self {
         System { rt }
     }
@@ -54,7 +54,7 @@ impl<R: Files + Clock> Clock for System<'_, R> {
     }
 }
 
-/// The number by which the system says that a directory is no file.
+/// The system's error number for a directory (EISDIR).
 const IS_A_DIRECTORY: i32 = 21;
 
 /// Why a file could not be opened, by the system's error.
@@ -70,7 +70,7 @@ fn open_refusal(reason: io::Error) -> OpenRefusal
     OpenRefusal { fault, reason }
 }
 
-/// Opens a file for reading, which is no directory.
+/// Opens a file for reading. Refuses a directory.
 fn open_file<R: Files>(files: &R, name: &str) -> Result<R::File, OpenRefusal>
     ensures { IfErr result IsByItsReason }
 {

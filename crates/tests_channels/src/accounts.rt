@@ -1,4 +1,4 @@
-//! Calls, accounts and the peak of recorded interfaces, against reports that were made elsewhere.
+//! Calls, accounts and the peak of recorded interfaces, against reports that another program printed.
 
 ghost use Rattle.std.specs.Prelude.{◌≡◌, [], false};
 
@@ -61,7 +61,7 @@ fn setting(packet: u32, entry: Entry) -> Event
     event(1, packet, what)
 }
 
-/// The calls of two channels whose events come by turns.
+/// The calls of two channels whose events alternate.
 fn by_turns(alloc: Global) -> Result<Vec<CallRecord>, Fault> {
     let events = [
         open(1, 1, 1, true),
@@ -99,7 +99,7 @@ const BY_TURNS: [Call; 3] = [
     },
 ];
 
-/// Two channels whose events come by turns, and the first one again after a restart.
+/// Two channels whose events alternate, and the first one again after a restart.
 #[test]
 fn calls_of_many_channels_stand_by_their_openings(rt: HostRuntime) -> Result<(), Fail> {
     let calls = by_turns(rt.alloc())?;
@@ -107,7 +107,7 @@ fn calls_of_many_channels_stand_by_their_openings(rt: HostRuntime) -> Result<(),
     Ok(())
 }
 
-/// Hears events in their order.
+/// Adds events in their order.
 fn add_all(calls: &mut CallsSoFar<Global>, events: &[Event]) -> Result<(), Fail> {
     for event in events {
         calls.add_event(event, segments_in(event))?;
@@ -115,7 +115,7 @@ fn add_all(calls: &mut CallsSoFar<Global>, events: &[Event]) -> Result<(), Fail>
     Ok(())
 }
 
-/// Hears an outgoing call with a set of the DCE.
+/// Adds an outgoing call with a set of the DCE.
 fn add_opening(calls: &mut CallsSoFar<Global>) -> Result<(), Fail> {
     let events = [
         open(1, 1, 1, true),
@@ -126,7 +126,7 @@ fn add_opening(calls: &mut CallsSoFar<Global>) -> Result<(), Fail> {
     add_all(calls, &events)
 }
 
-/// Hears the clear request of the call, data behind it, and an incoming call.
+/// Adds the clear request of the call, data after it, and an incoming call.
 fn add_end(calls: &mut CallsSoFar<Global>) -> Result<(), Fail> {
     let events = [
         event(1, 4, What::End(How::T)),
@@ -162,7 +162,7 @@ const AT_LAST: [Call; 2] = [
 /// An outgoing call with a set of the DCE, which is asked for while it is open, and its clear request; and a call that
 /// is open at the end.
 #[test]
-fn calls_are_told_as_their_events_come(rt: HostRuntime) -> Result<(), Fail> {
+fn calls_are_counted_as_their_events_come(rt: HostRuntime) -> Result<(), Fail> {
     let mut calls = CallsSoFar::new(rt.alloc());
     add_opening(&mut calls)?;
     assert!(rt; calls_are(&calls.calls(rt.alloc())?, &[SO_FAR]));

@@ -1,10 +1,10 @@
-//! What the lines of calls tell.
+//! What the lines of calls say.
 
 use line_model::call::{CallRecord, SettingRecord};
 use line_model::event::{Entry, How};
 use line_model::state::Side;
 
-/// A call without its addresses, as its line tells it.
+/// A call without its addresses, as its line says.
 #[derive(Clone, Copy, PartialEq, Eq)]
 pub struct Call {
     pub epoch: u32,
@@ -37,8 +37,8 @@ pub const PLAIN_CALL: Call = Call {
     segments: 0,
 };
 
-/// What the line of a call tells.
-fn told(call: &CallRecord) -> Call {
+/// What the line of a call says.
+fn seen(call: &CallRecord) -> Call {
     Call {
         epoch: call.epoch,
         channel: call.channel,
@@ -61,7 +61,7 @@ pub fn calls_are(calls: &[CallRecord], wanted: &[Call]) -> bool {
         && calls
             .iter()
             .zip(wanted)
-            .all(|(call, wanted)| told(call) == *wanted)
+            .all(|(call, wanted)| seen(call) == *wanted)
 }
 
 /// A value that the remote DTE asked for.

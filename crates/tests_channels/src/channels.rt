@@ -1,4 +1,5 @@
-//! The rows of one channel of recorded interfaces: their findings and calls are those of reports that were made elsewhere.
+//! The rows of one channel of recorded interfaces, whose findings and calls are those of reports that another program
+//! printed.
 
 ghost use Rattle.std.specs.Prelude.{◌≡◌, ◌+◌, ◌≤◌, ◌*◌, length, All, IfOk, OnOk};
 ghost use Rattle.line_model.specs.basics.Bounds.{IsItem, all_octets};
@@ -23,24 +24,12 @@ use packet_decode::decode::decode;
 use std::alloc::{Allocator, Global};
 use std::process::Abort;
 use std::test::Fail;
+use tests_devices::interfaces::PLAIN;
 
 mod gaps;
 mod live;
 mod refused;
 mod steps;
-
-/// Four two-way channels with window 2, and the packet size 128.
-const INTERFACE: Interface = Interface {
-    modulus: 8,
-    window: 2,
-    size: 128,
-    pvc: 0,
-    incoming: 0,
-    two_way: 4,
-    svc: 4,
-    join: false,
-    gaps: false,
-};
 
 /// A row: its number, its side, its octets in hex.
 type Line = (u32, Side, &'static str);
@@ -154,7 +143,7 @@ struct Case {
     calls: &'static [Call],
 }
 
-/// The rows of a channel give their findings and calls. Answers their octets and segments.
+/// The rows of a channel give their findings and calls. Returns their octets and segments.
 fn gives(rt: &impl Abort, alloc: Global, case: &Case) -> Result<(u64, u64), Fail> {
     let report = report_of(alloc, case)?;
     let channel = u64::from(case.channel);
@@ -165,7 +154,7 @@ fn gives(rt: &impl Abort, alloc: Global, case: &Case) -> Result<(u64, u64), Fail
 
 /// A PAD call, and messages that are faulty.
 const MESSAGES: Case = Case {
-    interface: INTERFACE,
+    interface: PLAIN,
     channel: 1,
     lines: &[
         (1, Side::T, "10010B000001000000"),

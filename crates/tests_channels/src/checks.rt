@@ -2,7 +2,7 @@
 
 use std::process::Abort;
 
-/// It holds at this number.
+/// Checks that something holds at this number.
 pub(crate) fn holds_at(rt: &impl Abort, holds: bool, number: u64) {
     assert!(rt; holds, "at {number}");
 }

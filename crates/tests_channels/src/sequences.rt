@@ -29,7 +29,7 @@ fn completes(
     }
 }
 
-/// A packet with Q 0 is put by its length, where its side has begun no sequence with Q 1.
+/// Puts a packet with Q 0 by its length, where its side has begun no sequence with Q 1.
 fn put_length(assembler: &mut Assembler<Global>, more: bool, length: usize) -> bool {
     let is_unqualified = assembler.is_alike(Side::T, false);
     if is_unqualified {

@@ -19,7 +19,7 @@ enum Step {
     Reset,
 }
 
-/// Takes a step.
+/// Applies a step.
 fn take(flow: &mut Flow, step: Step) -> Result<(), u8> {
     match step {
         Step::Data(side, send) => flow.data(side, send, 0),
@@ -33,7 +33,7 @@ fn take(flow: &mut Flow, step: Step) -> Result<(), u8> {
     }
 }
 
-/// Takes a step of what is packed.
+/// Applies a step to a word.
 fn take_packed(word: &mut FlowWord, step: Step) -> Result<(), u8> {
     match step {
         Step::Data(side, send) => word.data(side, send, 0),
@@ -47,10 +47,10 @@ fn take_packed(word: &mut FlowWord, step: Step) -> Result<(), u8> {
     }
 }
 
-/// A step, and what is answered to it.
+/// A step, and what it returns.
 type Answered = (Step, Result<(), u8>);
 
-/// Each step is answered so. Answers what comes of the steps.
+/// Checks the result of each step, and returns the flow after them.
 fn after(rt: &impl Abort, flow: Flow, steps: &[Answered]) -> Flow {
     let mut flow = flow;
     let mut number = 0u64;
@@ -61,7 +61,7 @@ fn after(rt: &impl Abort, flow: Flow, steps: &[Answered]) -> Flow {
     flow
 }
 
-/// Each step of what is packed is answered so. Answers what comes of the steps.
+/// Checks the result of each step on a word, and returns the word after them.
 fn after_packed(rt: &impl Abort, word: FlowWord, steps: &[Answered]) -> FlowWord {
     let mut word = word;
     let mut number = 0u64;

@@ -1,9 +1,12 @@
-//! A source and a sink for tests, which cut what they give and take, and fail; and an allocator that refuses.
+//! A source and a sink for tests, which cut what they give and accept, and fail; an allocator that refuses; and what
+//! several crates of tests use: an interface, and totals that are compared.
 #![tactic(auto)]
 
 ghost use Rattle.std.specs.Prelude.{◌≡◌, [], Some};
 
+pub mod interfaces;
 pub mod scarce;
+pub mod totals;
 
 use line_model::device::{CHUNK, Sink, Source};
 use line_model::history::{Count, History};
@@ -23,7 +26,7 @@ pub struct CutSource<'a> {
 }
 
 impl<'a> CutSource<'a> {
-    /// A source of these bytes, which cuts and fails so.
+    /// Returns a source of these bytes, with these cuts.
     pub fn new(bytes: &'a [u8], cuts: Cuts) -> Self
         ensures left { ⟦<CutSource<'a> as Source>⟧.left result ≡ Some bytes.entry.now }
         ensures calls { ⟦<CutSource<'a> as Source>⟧.calls result ≡ 0 }
@@ -77,7 +80,7 @@ impl Source for CutSource<'_> {
 
 impl RoomSource for CutSource<'_> {}
 
-/// Takes bytes into memory, at most `step` a call, and fails at the call after so many good ones.
+/// Keeps the bytes that it accepts, at most `step` a call, and fails at the call after `good_calls` good ones.
 #[derive(Drop)]
 pub struct CutSink {
     pub taken: Vec<u8, Global>,
@@ -87,7 +90,7 @@ pub struct CutSink {
 }
 
 impl CutSink {
-    /// A sink that took nothing yet, which cuts and fails so.
+    /// Returns a sink that has accepted nothing, with these cuts.
     pub fn new(alloc: Global, cuts: Cuts) -> Self
         ensures taken { ⟦<CutSink as Sink>⟧.taken result ≡ Some [] }
         ensures failures { ⟦<CutSink as Sink>⟧.failures result ≡ 0 }
@@ -137,12 +140,12 @@ pub struct Cuts {
 }
 
 impl Cuts {
-    /// Devices that give and take all at once, and do not fail.
+    /// Returns devices that give and accept all at once, and do not fail.
     pub fn none() -> Self {
         Cuts::of_steps(usize::MAX, usize::MAX)
     }
 
-    /// Devices that do not fail.
+    /// Returns devices that give and accept at most these counts of bytes a call, and do not fail.
     pub fn of_steps(read_step: usize, write_step: usize) -> Self {
         Cuts {
             read_step,

@@ -8,7 +8,7 @@ use std::sync::atomic::{AtomicU64, Ordering};
 struct Supply {
     /// The number of the first growth that is refused; the first growth is 0.
     first: AtomicU64,
-    /// The number of the growth behind the last one that is refused.
+    /// The number of the growth after the last one that is refused.
     last: AtomicU64,
     /// The growths that were asked for.
     asked: AtomicU64,
@@ -28,12 +28,13 @@ fn refuses(supply: &Supply) -> bool {
     refused
 }
 
-/// A block comes back.
+/// Counts a block that was given back.
 fn count_back(supply: &Supply) {
     supply.held.fetch_sub(1, Ordering::SeqCst);
 }
 
-/// Passes on to another allocator what it grants. A `&` to it is an allocator that is `Copy`, for threads too.
+/// Passes on to another allocator what it grants. A reference to it is an allocator that is `Copy` and that threads can
+/// share.
 #[derive(Drop)]
 pub struct Scarce<B: Allocator> {
     inner: B,
@@ -41,7 +42,7 @@ pub struct Scarce<B: Allocator> {
 }
 
 impl<B: Allocator> Scarce<B> {
-    /// Grants all.
+    /// Returns an allocator that grants all.
     pub fn new(inner: B) -> Self {
         Scarce {
             inner,
@@ -65,22 +66,22 @@ impl<B: Allocator> Scarce<B> {
         self.refuse(0, 0);
     }
 
-    /// Refuses one growth, after so many from now on that it grants.
+    /// Grants the next `good` growths, refuses one, and grants the others.
     pub fn refuse_one(&self, good: u64) {
         self.refuse(good, good.saturating_add(1));
     }
 
-    /// Refuses all growths after so many from now on that it grants.
+    /// Grants the next `good` growths, and refuses all others.
     pub fn refuse_from(&self, good: u64) {
         self.refuse(good, u64::MAX);
     }
 
-    /// How many growths were asked for since it was told what to refuse.
+    /// Returns how many growths were asked for since the last call that set which ones are refused.
     pub fn asked(&self) -> u64 {
         self.supply.asked.load(Ordering::SeqCst)
     }
 
-    /// How many blocks were not given back.
+    /// Returns how many blocks were not given back.
     pub fn held(&self) -> u64 {
         self.supply.held.load(Ordering::SeqCst)
     }
@@ -100,4 +101,21 @@ unsafe impl<B: Allocator> Allocator for Scarce<B> {
         count_back(&self.supply);
         self.inner.deallocate(ptr, size, align);
     }
+}
+
+/// The most growths that a test looks for.
+const GROWTHS: u64 = 1000;
+
+/// Calls a test with 0, 1, 2 and so on, until it returns false. The test refuses the growth after that many others,
+/// and returns whether there was one. Returns whether there was a growth, and fewer than 1,000 of them. Fails with the
+/// test.
+pub fn refuse_each<E, F: Fn(u64) -> Result<bool, E>>(refuse: F) -> Result<bool, E>
+    requires { F.IsAlwaysCallable refuse }
+{
+    for good in 0..GROWTHS {
+        if !refuse(good)? {
+            return Ok(0 < good);
+        }
+    }
+    Ok(false)
 }

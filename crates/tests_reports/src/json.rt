@@ -11,7 +11,7 @@ use std::marker::Brand;
 use std::process::Abort;
 use tests_devices::{CutSink, Cuts};
 
-/// What was answered, how many calls were good, and the bytes that were taken.
+/// What was returned, how many calls succeeded, and the bytes that were accepted.
 #[derive(Drop)]
 struct Conversion {
     answer: Result<(), Fault>,
@@ -30,7 +30,7 @@ fn write_parts<K: Sink>(sink: &mut K, text: &[u8], size: usize) -> Result<(), Fa
     Ok(())
 }
 
-/// Has a lent sink take the objects of a text that comes in parts.
+/// Has a lent sink accept the objects of a text that comes in parts.
 fn convert<'a, K: Sink, B: Origin>(
     text: &[u8],
     size: usize,
@@ -45,7 +45,7 @@ fn convert<'a, K: Sink, B: Origin>(
     (lent.give_back(), written.and(answer))
 }
 
-/// What becomes of a text that comes in parts of some size.
+/// Converts a text that comes in parts of some size.
 fn converted(alloc: Global, text: &[u8], size: usize, cuts: Cuts) -> Conversion {
     let mut sink = CutSink::new(alloc, cuts);
     let (lent, answer) = convert::<CutSink, Brand>(text, size, &mut sink);
@@ -83,17 +83,17 @@ const OBJECTS: &[u8] =
 {\"line\":\"peak\",\"count\":0,\"packet\":null}\n\
 {\"line\":\"sums\",\"packets\":5,\"findings\":1,\"calls\":1,\"octets\":2,\"segments\":2}\n";
 
-/// Sees that a text was taken whole, and that these objects were written.
-fn agree(rt: &impl Abort, told: &Conversion, objects: &[u8]) {
-    assert!(rt; told.answer.is_ok());
-    assert!(rt; told.bytes.as_slice() == objects);
+/// Checks that a text was accepted whole, and that these objects were written.
+fn agree(rt: &impl Abort, got: &Conversion, objects: &[u8]) {
+    assert!(rt; got.answer.is_ok());
+    assert!(rt; got.bytes.as_slice() == objects);
 }
 
 #[test]
 fn a_sink_that_takes_one_byte_a_call_takes_the_same(rt: HostRuntime) {
-    let told = converted(rt.alloc(), REPORT, 7, Cuts::of_steps(1, 1));
-    agree(&rt, &told, OBJECTS);
-    assert!(rt; told.calls == OBJECTS.len());
+    let got = converted(rt.alloc(), REPORT, 7, Cuts::of_steps(1, 1));
+    agree(&rt, &got, OBJECTS);
+    assert!(rt; got.calls == OBJECTS.len());
 }
 
 #[test]
@@ -104,26 +104,26 @@ fn each_part_is_one_write(rt: HostRuntime) {
     assert!(rt; at_once.calls == 1);
 }
 
-/// Sees that a sink failed after so many good calls, and has a first part of the objects.
-fn agree_on_failure(rt: &impl Abort, told: &Conversion, good_calls: usize) {
-    assert!(rt; told.answer == Err(Fault::Write));
-    assert!(rt; told.calls == good_calls);
-    assert!(rt; OBJECTS.starts_with(told.bytes.as_slice()));
+/// Checks that a sink failed after `good_calls` calls, and has a first part of the objects.
+fn agree_on_failure(rt: &impl Abort, got: &Conversion, good_calls: usize) {
+    assert!(rt; got.answer == Err(Fault::Write));
+    assert!(rt; got.calls == good_calls);
+    assert!(rt; OBJECTS.starts_with(got.bytes.as_slice()));
 }
 
-/// Writes the report in parts of some size to a sink that fails after so many good calls.
+/// Writes the report in parts of some size to a sink that fails after `good_calls` good calls.
 fn check_failure(rt: &impl Abort, alloc: Global, size: usize, good_calls: usize) {
     let cuts = Cuts {
         write_step: 90,
         good_writes: good_calls,
         ..Cuts::none()
     };
-    let told = converted(alloc, REPORT, size, cuts);
-    agree_on_failure(rt, &told, good_calls);
+    let got = converted(alloc, REPORT, size, cuts);
+    agree_on_failure(rt, &got, good_calls);
 }
 
 #[test]
-fn a_sink_that_fails_has_a_first_part_and_is_told(rt: HostRuntime) {
+fn a_sink_that_fails_has_a_first_part_and_is_reported(rt: HostRuntime) {
     for good_calls in 0..11 {
         check_failure(&rt, rt.alloc(), 1, good_calls);
         check_failure(&rt, rt.alloc(), 65536, good_calls);

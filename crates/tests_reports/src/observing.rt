@@ -21,7 +21,7 @@ struct Answer {
     bytes: Vec<u8>,
 }
 
-/// The report that must be told, or why it must be refused, and nothing written.
+/// The report that must be written, or why it must be refused, and nothing written.
 type Wanted = Result<&'static [u8], Fault>;
 
 /// What a trace is fed, or asked for.
@@ -34,8 +34,8 @@ enum Step {
 }
 
 /// The report of a trace so far.
-fn told<A: Allocator + Copy, C: Channel<A>>(alloc: Global, trace: &Live<A, C>) -> Answer
-    requires fed { IsFed C.interface_of C.number_of C.stands_for trace.now }
+fn got<A: Allocator + Copy, C: Channel<A>>(alloc: Global, trace: &Live<A, C>) -> Answer
+    requires fed { IsFed C.interface_of C.number_of C.represents trace.now }
 {
     let mut sink = CutSink::new(alloc, Cuts::none());
     let fault = trace.report(&mut sink).err();
@@ -47,7 +47,7 @@ fn told<A: Allocator + Copy, C: Channel<A>>(alloc: Global, trace: &Live<A, C>) -
 
 /// The report of a trace that has ended.
 fn ended<A: Allocator + Copy, C: Channel<A>>(alloc: Global, trace: Live<A, C>) -> Answer
-    requires fed { IsFed C.interface_of C.number_of C.stands_for trace }
+    requires fed { IsFed C.interface_of C.number_of C.represents trace }
 {
     let mut sink = CutSink::new(alloc, Cuts::none());
     let fault = trace.end(&mut sink, &mut Uncounted::none()).err();
@@ -57,44 +57,44 @@ fn ended<A: Allocator + Copy, C: Channel<A>>(alloc: Global, trace: Live<A, C>) -
     }
 }
 
-/// Sees that a fault is the one that is wanted, if any is.
+/// Checks that a fault is the one that is expected, if any is.
 fn same_fault(rt: &impl Abort, fault: Option<Fault>, wanted: Option<Fault>) {
     assert!(rt; fault == wanted);
 }
 
-/// Sees that these bytes were written.
+/// Checks that these bytes were written.
 fn same_bytes(rt: &impl Abort, bytes: &[u8], wanted: &[u8]) {
     assert!(rt; bytes == wanted);
 }
 
-/// Sees that an answer is the one that is wanted.
+/// Checks that a result is the one that is expected.
 fn agree(rt: &impl Abort, answer: &Answer, wanted: Wanted) {
     same_fault(rt, answer.fault, wanted.err());
     same_bytes(rt, answer.bytes.as_slice(), wanted.unwrap_or(b""));
 }
 
-/// Sees that the report of a trace so far is the one that is wanted.
+/// Checks that the report of a trace so far is the one that is expected.
 fn check<A: Allocator + Copy, C: Channel<A>>(
     rt: &impl Abort,
     alloc: Global,
     trace: &Live<A, C>,
     wanted: Wanted,
 )
-    requires fed { IsFed C.interface_of C.number_of C.stands_for trace.now }
+    requires fed { IsFed C.interface_of C.number_of C.represents trace.now }
 {
-    let answer = told(alloc, trace);
+    let answer = got(alloc, trace);
     agree(rt, &answer, wanted);
 }
 
-/// Feeds a chunk, and sees why it is refused, if it is.
+/// Feeds a chunk, and checks why it is refused, if it is.
 fn check_fed<A: Allocator + Copy, C: Channel<A>>(
     rt: &impl Abort,
     trace: &mut Live<A, C>,
     chunk: &[u8],
     fault: Option<Fault>,
 )
-    requires fed { IsFed C.interface_of C.number_of C.stands_for trace.old }
-    ensures fed { IsFed C.interface_of C.number_of C.stands_for trace.new }
+    requires fed { IsFed C.interface_of C.number_of C.represents trace.old }
+    ensures fed { IsFed C.interface_of C.number_of C.represents trace.new }
 {
     let answer = trace.feed(chunk).err();
     same_fault(rt, answer, fault);
@@ -107,8 +107,8 @@ fn play_steps<A: Allocator + Copy, C: Channel<A>>(
     trace: &mut Live<A, C>,
     steps: &[Step],
 )
-    requires fed { IsFed C.interface_of C.number_of C.stands_for trace.old }
-    ensures fed { IsFed C.interface_of C.number_of C.stands_for trace.new }
+    requires fed { IsFed C.interface_of C.number_of C.represents trace.old }
+    ensures fed { IsFed C.interface_of C.number_of C.represents trace.new }
 {
     for step in steps {
         match *step {
@@ -139,6 +139,6 @@ const CALL_AND_ITS_END: [Step; 6] = [
 ];
 
 #[test]
-fn an_open_call_and_its_end_are_told(rt: HostRuntime) {
+fn an_open_call_and_its_end_are_reported(rt: HostRuntime) {
     play(&rt, rt.alloc(), CALL_AND_ITS_END.as_slice(), Ok(ENDED_CALL))
 }

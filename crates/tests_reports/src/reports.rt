@@ -1,4 +1,5 @@
-//! Reports of recorded interfaces, merged from the reports of their pieces, against reports that were made elsewhere.
+//! Reports of recorded interfaces, merged from the reports of their pieces, against reports that another program
+//! printed.
 
 ghost use Rattle.std.specs.Prelude.{◌≡◌, None};
 
@@ -29,14 +30,14 @@ fn writes(alloc: Global, report: &Report, expected: &[u8]) -> Result<bool, Fault
     Ok(sink.as_slice() == expected)
 }
 
-/// Sees that the text of a report is the one that is expected.
+/// Checks that the text of a report is the expected one.
 fn check(rt: &impl Abort, alloc: Global, report: &Report, expected: &[u8]) -> Result<(), Fault> {
     let same = writes(alloc, report, expected)?;
     assert!(rt; same);
     Ok(())
 }
 
-/// A sink with room for so many bytes, which fails once it is full.
+/// A sink with room for `room` bytes, which fails once it is full.
 #[derive(Drop)]
 struct Narrow {
     room: usize,
@@ -59,7 +60,7 @@ impl Sink for Narrow {
     }
 }
 
-/// What is answered where a sink has room for so many bytes.
+/// What is returned where a sink has room for `room` bytes.
 fn answered(room: usize, report: &Report) -> Result<(), Fault> {
     let mut sink = Narrow {
         room,
@@ -194,7 +195,7 @@ fn three_epochs(alloc: Global, third: Option<u32>) -> Result<Vec<PieceReport>, A
     Ok(reports)
 }
 
-/// The same reports in bundles of so many pieces; the last bundle has what is left, or none.
+/// The same reports in bundles of `pieces` pieces; the last bundle has what is left, or none.
 fn bundles(alloc: Global, pieces: usize) -> Result<Vec<BundleReport>, AllocError> {
     let mut bundles = Vec::new(alloc);
     let mut bundle = BundleReport::new(alloc);
@@ -209,7 +210,8 @@ fn bundles(alloc: Global, pieces: usize) -> Result<Vec<BundleReport>, AllocError
     Ok(bundles)
 }
 
-/// The same reports dealt to so many bundles by turns, so that the calls of each bundle stand between those of others.
+/// The same reports dealt to `count` bundles one by one, so that the calls of each bundle stand between those of
+/// others.
 fn dealt(alloc: Global, count: u32) -> Result<Vec<BundleReport>, AllocError> {
     let mut bundles = Vec::new(alloc);
     for turn in 0..count {
@@ -224,7 +226,7 @@ fn dealt(alloc: Global, count: u32) -> Result<Vec<BundleReport>, AllocError> {
     Ok(bundles)
 }
 
-/// Sees that the reports of the twelve pieces give that of the three epochs.
+/// Checks that the reports of the twelve pieces give that of the three epochs.
 fn check_merged<T: Reports<Global> + Drop>(
     rt: &impl Abort,
     alloc: Global,
@@ -254,7 +256,7 @@ fn pieces_and_bundles_in_any_order_give_the_report_of_the_trace(
 }
 
 /// Why the reports of the twelve pieces are refused, if they are, with another id for the piece 3, or without it, where
-/// the plan has so many pieces.
+/// the plan has `pieces` pieces.
 fn refusal(alloc: Global, third: Option<u32>, pieces: u32) -> Result<Option<Fault>, AllocError> {
     let reports = three_epochs(alloc, third)?;
     Ok(merge(alloc, reports, Vec::new(alloc), ROWS, pieces).err())
@@ -277,13 +279,13 @@ fn reports_that_are_not_the_plans_are_refused(rt: HostRuntime) -> Result<(), Fai
     Ok(())
 }
 
-/// Sees what is answered where a sink has room for so many bytes.
+/// Checks what is returned where a sink has room for `room` bytes.
 fn check_room(rt: &impl Abort, room: usize, report: &Report, wanted: Result<(), Fault>) {
     assert!(rt; answered(room, report) == wanted);
 }
 
 #[test]
-fn a_sink_that_is_full_is_told(rt: HostRuntime) -> Result<(), Fail> {
+fn a_sink_that_is_full_is_reported(rt: HostRuntime) -> Result<(), Fail> {
     let reports = three_epochs(rt.alloc(), Some(3))?;
     let report = merge(rt.alloc(), reports, Vec::new(rt.alloc()), ROWS, 12)?;
     check_room(&rt, THREE_EPOCHS.len(), &report, Ok(()));

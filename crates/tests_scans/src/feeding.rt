@@ -1,4 +1,4 @@
-//! Worked traces that are read in steps of any size while workers take their pieces.
+//! Worked traces that are read in steps of any size while workers receive their pieces.
 
 ghost use Rattle.std.specs.Prelude.{◌≡◌, Some};
 ghost use Rattle.line_model.specs.traces.Traces.{trace_plan};
@@ -15,15 +15,15 @@ use std::test::Fail;
 use std::thread::Threads;
 use std::time::Clock;
 use tests_devices::{CutSource, Cuts};
-use trace_scan::block_queues::{BlockQueues, BlockSizes};
-use trace_scan::blocks::TraceText;
-use trace_scan::feeding::{Read, ReadingTask};
+use trace_reading::block_queues::{BlockQueues, BlockSizes};
+use trace_reading::blocks::TraceText;
+use trace_reading::feeding::{Read, ReadingTask};
+use trace_reading::room::Room;
+use trace_reading::text_cutter::TextCutter;
 use trace_scan::gate::{BlockGate, OpenGate};
-use trace_scan::room::Room;
-use trace_scan::text_cutter::TextCutter;
 use workers::{Crew, Worked, work_through};
 
-/// How many bytes a source gives at once, how few bytes of a read are taken at once, and how many bytes a block has.
+/// How many bytes a source gives at once, how few bytes of a read are used at once, and how many bytes a block has.
 type Step = (usize, usize, usize);
 
 const STEPS: [Step; 9] = [
@@ -38,7 +38,7 @@ const STEPS: [Step; 9] = [
     (usize::MAX, 1, 1),
 ];
 
-/// Reads a text beside two workers, over a queue of one piece.
+/// Reads a trace text next to two workers, over a queue of one piece.
 fn read_by<P: Plan + TraceText + Send + Sync, R: Threads + Wait + Clock + Sync>(
     rt: &R,
     alloc: Global,
@@ -72,7 +72,7 @@ fn read_by<P: Plan + TraceText + Send + Sync, R: Threads + Wait + Clock + Sync>(
     }
 }
 
-/// Reads a text in such steps, from a source that fails after so many bytes.
+/// Reads a trace text in such steps, from a source that fails after `good` bytes.
 fn read<R: Threads + Wait + Clock + Sync>(
     rt: &R,
     alloc: Global,
@@ -89,7 +89,7 @@ fn read<R: Threads + Wait + Clock + Sync>(
     read_by::<Brand, R>(rt, alloc, text, cuts, sizes)
 }
 
-/// The rows of a text, and how many packets, pieces and findings of the line they have.
+/// The rows of a trace text, and how many packets, pieces and findings of the interface level they have.
 struct Fed {
     rows: &'static str,
     packets: u32,
@@ -144,7 +144,7 @@ fn is_fed(read: Option<Result<Read, Fault>>, fed: &Fed) -> bool {
     }
 }
 
-/// Reads a text in steps of each size.
+/// Reads a trace text in steps of each size.
 fn check_fed<R: Threads + Wait + Clock + Sync + Abort>(
     rt: &R,
     alloc: Global,
@@ -172,7 +172,7 @@ fn all_pieces_are_fed(rt: HostRuntime) -> Result<(), Fail> {
     Ok(())
 }
 
-/// Whether a text was refused for a reason.
+/// Whether a trace text was refused for a reason.
 fn is_refused(read: Option<Result<Read, Fault>>, wanted: Fault) -> bool {
     match read {
         Some(Err(fault)) => fault == wanted,
@@ -180,7 +180,7 @@ fn is_refused(read: Option<Result<Read, Fault>>, wanted: Fault) -> bool {
     }
 }
 
-/// Reads a text in steps of each size, from a source that fails after so many bytes, and is refused.
+/// Reads a trace text in steps of each size, from a source that fails after `good` bytes, and is refused.
 fn check_refused<R: Threads + Wait + Clock + Sync + Abort>(
     rt: &R,
     alloc: Global,
@@ -200,12 +200,12 @@ fn check_refused<R: Threads + Wait + Clock + Sync + Abort>(
 }
 
 #[test]
-fn a_source_that_fails_is_told(rt: HostRuntime) {
+fn a_source_that_fails_is_reported(rt: HostRuntime) {
     let text = "X25 1 MOD 8 WIN 2 SIZE 128 PVC 0 SVC 4\n1 T 100100AA\n2 T 1000FB0000\n3 N 1000FF\n";
     check_refused(&rt, rt.alloc(), text, 70, Fault::Read);
 }
 
-/// The pieces that are known whole with each of two parts of a text, and those that it leaves at its end.
+/// The pieces that are complete with each of two parts of a trace text, and those that it leaves at its end.
 fn cut(alloc: Global, first: &[u8], rest: &[u8]) -> Result<[Vec<Piece>; 3], Fail> {
     let mut text = TextCutter::new(alloc);
     let early = text.feed(first)?;
@@ -216,7 +216,7 @@ fn cut(alloc: Global, first: &[u8], rest: &[u8]) -> Result<[Vec<Piece>; 3], Fail
     Ok([early, late, last])
 }
 
-/// What a row says: its number, its length, and the octets that say more.
+/// A row: its number, its length, and the octets that are kept.
 type Row = (u32, usize, &'static [u8]);
 
 /// Whether this is a row on its channel.
@@ -242,7 +242,7 @@ fn is_piece(piece: &Piece, id: u32, end: Option<u32>, channel: u16, rows: &[Row]
     same
 }
 
-/// A text of three pieces, of which two are known whole at its restart. The last one has data with Q 0 and with Q 1.
+/// A trace text of three pieces, of which two are complete at its restart. The last one has data with Q 0 and Q 1.
 const CUT: &[u8] =
     b"X25 1 MOD 8 WIN 2 SIZE 128 PVC 0 SVC 4\n1 T 10030B0000\n2 T 10010B0000\n3 N 10030F\n4 T 1000FB0000\n5 N 1000FF\n6 T 100100AABBCC\n7 N 900100AABBCC";
 
@@ -265,7 +265,7 @@ fn are_closed(pieces: &[Piece]) -> bool {
         && is_piece(three, 1, Some(4), 3, &[call, accepted])
 }
 
-/// Whether this is the piece behind the restart: data with Q 0 says its length alone, and that with Q 1 its octets.
+/// Whether this is the piece after the restart: data with Q 0 has only its length, and data with Q 1 its octets.
 fn is_open(pieces: &[Piece]) -> bool {
     let unqualified: Row = (6, 6, &[]);
     let qualified: Row = (7, 6, &[0x90, 1, 0, 0xAA, 0xBB, 0xCC]);

@@ -1,4 +1,4 @@
-//! Four workers that take pieces, run them, post their reports to one book, and look after each post.
+//! Four workers that receive pieces, run them, post their reports to one book, and look after each post.
 
 mod pieces;
 
@@ -20,6 +20,7 @@ use std::sync::atomic::Ordering::SeqCst;
 use std::test::Fail;
 use std::thread::Threads;
 use std::time::Clock;
+use tests_devices::totals::{NONE, sees_all};
 use workers::{Gathered, Handler, RunOutcome, gather, ready_workers, run_scoped};
 
 /// How many workers there are.
@@ -32,22 +33,6 @@ const ALL: Totals = Totals {
     octets: 200,
     segments: 150,
 };
-
-/// The totals of nothing.
-const NONE: Totals = Totals {
-    posts: 0,
-    findings: 0,
-    octets: 0,
-    segments: 0,
-};
-
-/// Whether a look sees at least what a share posted.
-fn sees_all(seen: Totals, own: Totals) -> bool {
-    own.posts <= seen.posts
-        && own.findings <= seen.findings
-        && own.octets <= seen.octets
-        && own.segments <= seen.segments
-}
 
 /// Runs each piece, posts its report and looks. Counts the looks, and those that were below the worker's own share.
 #[derive(Drop)]
@@ -90,7 +75,7 @@ impl<'a, L: Ledgers> Handler<Brand, Global, L> for Looking<'a, L> {
     }
 }
 
-/// Has four workers take all pieces and post to a book without posts.
+/// Has four workers receive all pieces and post to a book without posts.
 fn work_together<R: Threads + Wait + Clock + Sync, L: Ledgers + Send + Sync>(
     rt: &R,
     alloc: Global,
@@ -175,7 +160,7 @@ fn sum(shares: &[Totals]) -> Totals {
     sums
 }
 
-/// Sees that these are the totals of all pieces.
+/// Checks that these are the totals of all pieces.
 fn are_of_all(rt: &impl Abort, totals: Totals) {
     assert_eq!(rt; totals, ALL);
 }

@@ -10,9 +10,9 @@ mod following;
 mod growing;
 mod held;
 mod in_blocks;
-mod line_source;
 mod machines;
 mod meeting;
+mod paced_source;
 mod refused;
 mod refused_crews;
 mod runs;
@@ -20,7 +20,7 @@ mod seams;
 mod wanting;
 mod worked;
 
-use crate::scans::checks::{Stop, Test, check_stops, check_tables, check_writes};
+use crate::scans::checks::{Stop, Test, check_all_traces, check_stops, check_writes};
 use crate::scans::runs::Way;
 use crate::scans::worked::Worked;
 use line_model::fault::{Fault, Kind};
@@ -35,34 +35,18 @@ const NO_ROWS: Worked = Worked {
 
 #[test]
 fn worked_traces_are_reported_however_they_are_cut(rt: HostRuntime) {
-    check_tables(&rt, rt.alloc(), Test::Alone)
+    check_all_traces(&rt, rt.alloc(), Test::Alone)
 }
 
-/// A text whose header is faulty.
+/// A trace text whose header is faulty.
 const FAULTY_HEADER: &[u8] = b"X25 2 MOD 8 WIN 2 SIZE 128 PVC 0 SVC 4\n1 T -\n";
 
 /// Where the source of that text fails.
 const STOPS: [Stop; 4] = [
-    Stop {
-        good_bytes: 0,
-        fault: Fault::Read,
-        taken: b"",
-    },
-    Stop {
-        good_bytes: 38,
-        fault: Fault::Read,
-        taken: b"",
-    },
-    Stop {
-        good_bytes: 39,
-        fault: Fault::Trace(1, Kind::HeaderForm),
-        taken: b"",
-    },
-    Stop {
-        good_bytes: 40,
-        fault: Fault::Trace(1, Kind::HeaderForm),
-        taken: b"",
-    },
+    (0, Fault::Read, b""),
+    (38, Fault::Read, b""),
+    (39, Fault::Trace(1, Kind::HeaderForm), b""),
+    (40, Fault::Trace(1, Kind::HeaderForm), b""),
 ];
 
 #[test]

@@ -3,7 +3,7 @@
 use std::alloc::{Allocator, Global};
 use tests_devices::scarce::Scarce;
 
-/// How many of so many lists of one byte get their room.
+/// How many of `lists` lists of one byte get their room.
 fn lists_with_room<A: Allocator + Copy + Send + Sync>(alloc: A, lists: usize) -> usize {
     let mut with_room = 0usize;
     for _ in 0..lists {
@@ -30,7 +30,7 @@ fn rooms(heap: &Scarce<Global>) -> (usize, usize, usize, usize, u64) {
 }
 
 #[test]
-fn growths_are_refused_as_it_was_told(rt: HostRuntime) {
+fn growths_are_refused_as_asked(rt: HostRuntime) {
     let heap = Scarce::new(rt.alloc());
     assert!(rt; rooms(&heap) == (5, 4, 2, 5, 5));
     assert!(rt; heap.held() == 0);

@@ -10,7 +10,6 @@ mod refused;
 
 use crate::checks::holds_for;
 use line_model::finding::{Code, Finding};
-use line_model::interface::Interface;
 use line_model::piece::Piece;
 use line_model::row::Row;
 use line_model::state::Side;
@@ -19,19 +18,7 @@ use restart_epochs::cutter::{Cut, Cutter};
 use std::alloc::{Allocator, Global};
 use std::process::Abort;
 use std::test::Fail;
-
-/// Channels 1 to 4 are virtual.
-pub(crate) const PLAIN: Interface = Interface {
-    modulus: 8,
-    window: 2,
-    size: 128,
-    pvc: 0,
-    incoming: 0,
-    two_way: 4,
-    svc: 4,
-    join: false,
-    gaps: false,
-};
+use tests_devices::interfaces::PLAIN;
 
 /// Pushes the next row.
 fn push(cutter: &mut Cutter, side: Side, octets: &[u8], out: &mut Vec<Piece>) -> Result<(), Fail> {
@@ -87,8 +74,8 @@ fn line_is(line: &[Finding], wanted: &[(u32, Code)]) -> bool {
     same
 }
 
-/// Two channels whose rows come before a restart, and what comes behind it; with each row, how many pieces are given out
-/// with it or were before.
+/// Two channels with rows before a restart, and what comes after it; with each row, how many pieces are given out up to
+/// it.
 const TWO_EPOCHS: [(Side, &[u8], usize); 8] = [
     (Side::T, b"\x10\x02\x0b\x00\x00", 0),
     (Side::T, b"\x10\x01\x0b\x00\x00", 0),
@@ -110,7 +97,7 @@ fn push_two(rt: &impl Abort, cutter: &mut Cutter, out: &mut Vec<Piece>) -> Resul
     Ok(())
 }
 
-/// Whether there were so many rows, and these pieces and findings.
+/// Whether there were `packets` rows, and these pieces and findings.
 fn is_cut(cut: Cut, packets: u32, pieces: &[Shape], line: &[(u32, Code)]) -> bool {
     cut.packets == packets
         && shapes_are(&cut.pieces, pieces)
@@ -128,7 +115,7 @@ fn ends_with_second(cutter: Cutter) -> bool {
 /// The pieces of the first epoch.
 const FIRST_EPOCH: [Shape; 2] = [(0, 1, 1, 1, Some(4)), (1, 1, 2, 2, Some(4))];
 
-/// Pushes two epochs, and sees that the first one was given out.
+/// Pushes two epochs, and checks that the first one was given out.
 fn gives_first(rt: &impl Abort, alloc: Global, cutter: &mut Cutter) -> Result<(), Fail> {
     let mut out = Vec::new(alloc);
     push_two(rt, cutter, &mut out)?;

@@ -1,5 +1,5 @@
-//! The tests of the base and of the layers from a text to its pieces: line_model, trace_text,
-//! packet_decode, restart_epochs; and of what tests use.
+//! The tests of the base and of the layers from a trace text to its pieces: line_model, trace_text, packet_decode,
+//! restart_epochs; and of what tests use.
 #![tactic(auto)]
 
 #[cfg(test)]

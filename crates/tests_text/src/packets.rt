@@ -1,7 +1,6 @@
 //! The packets of many rows.
 
 use crate::checks::holds_at;
-use crate::epochs::PLAIN;
 use line_model::packet::Packet;
 use line_model::row::Row;
 use line_model::state::Side;
@@ -11,8 +10,9 @@ use std::alloc::Global;
 use std::process::Abort;
 use std::test::Fail;
 use std::thread::Threads;
+use tests_devices::interfaces::PLAIN;
 
-/// So many rows, on each of six logical channels in turn, with each type octet in turn.
+/// `count` rows, on each of six logical channels in turn, with each type octet in turn.
 fn rows_of(alloc: Global, count: u32) -> Result<Vec<Row>, Fail> {
     let mut rows = Vec::new(alloc);
     for at in 0..count {
@@ -27,7 +27,7 @@ fn rows_of(alloc: Global, count: u32) -> Result<Vec<Row>, Fail> {
     Ok(rows)
 }
 
-/// Whether each row has the packet that it has by itself.
+/// Whether each row has the packet that it has alone.
 fn are_decoded(rows: &[Row], packets: &[Packet]) -> bool {
     let mut same = packets.len() == rows.len();
     for (row, packet) in rows.iter().zip(packets) {

@@ -1,4 +1,4 @@
-//! Texts from outside, read in chunks of several sizes.
+//! Texts read in chunks of several sizes.
 
 mod blocks;
 mod refused;
@@ -16,7 +16,7 @@ use trace_text::lines::Lines;
 
 const HEADER: &[u8] = b"X25 1 MOD 8 WIN 2 SIZE 128 PVC 0 SVC 4\n";
 
-/// Reads a text that comes in chunks of so many bytes.
+/// Reads a trace text that comes in chunks of `size` bytes.
 fn read(
     alloc: Global,
     text: &[u8],
@@ -33,30 +33,30 @@ fn read(
     lines.end(rows)
 }
 
-/// What a text answers that comes in chunks of so many bytes, and how many rows it tells.
+/// The result of a trace text that comes in chunks of `size` bytes, and how many rows it has.
 fn read_counted(alloc: Global, text: &[u8], size: usize) -> (Result<Interface, Fault>, usize) {
     let mut rows = Vec::new(alloc);
     let answer = read(alloc, text, size, &mut rows);
     (answer, rows.len())
 }
 
-/// Reads a text in chunks of 1, 7, 64 and 65,536 bytes, which all have to answer the same.
+/// Reads a trace text in chunks of 1, 7, 64 and 65,536 bytes, which all must have the same result.
 fn read_in_chunks(
     rt: &impl Abort,
     alloc: Global,
     text: &[u8],
     rows: usize,
 ) -> Result<Interface, Fault> {
-    let (answer, told) = read_counted(alloc, text, text.len());
-    assert!(rt; told == rows);
+    let (answer, shown) = read_counted(alloc, text, text.len());
+    assert!(rt; shown == rows);
     for size in [1, 7, 64, 1 << 16] {
-        let (again, told) = read_counted(alloc, text, size);
-        holds_at(rt, again == answer && told == rows, size as u64);
+        let (again, shown) = read_counted(alloc, text, size);
+        holds_at(rt, again == answer && shown == rows, size as u64);
     }
     answer
 }
 
-/// Rows behind a header of one line, the line of the first that is faulty, its fault, and how many rows come before it.
+/// Rows after a header of one line, the line of the first that is faulty, its fault, and how many rows come before it.
 const FAULTY_ROWS: [(&[u8], u32, Kind, usize); 13] = [
     (b"5 T -\n5 T -\n", 3, Kind::Number, 1),
     (b"\n", 2, Kind::LineForm, 0),
@@ -73,7 +73,7 @@ const FAULTY_ROWS: [(&[u8], u32, Kind, usize); 13] = [
     (b"1 T 10\r\n", 2, Kind::Hex, 0),
 ];
 
-/// A text of a header and these rows.
+/// A trace text of a header and these rows.
 fn with_header(alloc: Global, rows: &[u8]) -> Result<Vec<u8>, Fail> {
     let mut text = Vec::new(alloc);
     text.extend_from_slice(HEADER)?;
@@ -82,7 +82,7 @@ fn with_header(alloc: Global, rows: &[u8]) -> Result<Vec<u8>, Fail> {
 }
 
 #[test]
-fn the_first_faulty_line_is_told(rt: HostRuntime) -> Result<(), Fail> {
+fn the_first_faulty_line_is_returned(rt: HostRuntime) -> Result<(), Fail> {
     for (faulty, line, kind, rows) in &FAULTY_ROWS {
         let text = with_header(rt.alloc(), faulty)?;
         let answer = read_in_chunks(&rt, rt.alloc(), text.as_slice(), *rows);
@@ -97,30 +97,30 @@ fn is_wanted(row: &ReadRow<Global>, number: u32, side: Side, octets: &[u8]) -> b
 
 /// Appends a row of a number below 256: the number, the side, how many octets it has, and those that were read. Of a gap
 /// its channel, or 0 for all, has the place of the side.
-fn tell(row: &ReadRow<Global>, told: &mut Vec<u8, Global>) -> Result<(), Fault> {
-    told.push((row.number % 256) as u8)?;
-    told.push(match row.gap {
+fn tell(row: &ReadRow<Global>, shown: &mut Vec<u8, Global>) -> Result<(), Fault> {
+    shown.push((row.number % 256) as u8)?;
+    shown.push(match row.gap {
         Some(gap) => (gap.unwrap_or(0) % 256) as u8,
         None if row.side == Side::T => b'T',
         None => b'N',
     })?;
-    told.push((row.length % 256) as u8)?;
-    told.extend_from_slice(row.octets.as_slice())?;
+    shown.push((row.length % 256) as u8)?;
+    shown.extend_from_slice(row.octets.as_slice())?;
     Ok(())
 }
 
-/// Tells the rows that end in these bytes, which are taken one by one into one row.
+/// Shows the rows that end in these bytes, which are read one by one into one row.
 fn take_ended(
     lines: &mut Lines<Global>,
     row: &mut ReadRow<Global>,
     bytes: &[u8],
-    told: &mut Vec<u8, Global>,
+    shown: &mut Vec<u8, Global>,
 ) -> Result<(), Fault> {
     let mut rest = bytes;
     for _ in 0..bytes.len() {
         match lines.next_row(rest, row)? {
             Some(after) => {
-                tell(row, told)?;
+                tell(row, shown)?;
                 rest = after;
             }
             None => return Ok(()),
@@ -129,7 +129,7 @@ fn take_ended(
     Ok(())
 }
 
-/// A row without octets, for those that are taken.
+/// A row without octets, for those that are read.
 fn blank(alloc: Global) -> ReadRow<Global> {
     ReadRow {
         number: 0,
@@ -140,39 +140,43 @@ fn blank(alloc: Global) -> ReadRow<Global> {
     }
 }
 
-/// Tells the last row of a text.
+/// Shows the last row of a trace text.
 fn take_last(
     lines: Lines<Global>,
     row: &mut ReadRow<Global>,
-    told: &mut Vec<u8, Global>,
+    shown: &mut Vec<u8, Global>,
 ) -> Result<(), Fault> {
     if lines.end_row(row)?.has_row {
-        tell(row, told)?;
+        tell(row, shown)?;
     }
     Ok(())
 }
 
-/// Tells the rows of a text, which are taken one by one out of chunks of so many bytes into one row that is used again.
+/// Shows the rows of a trace text, which are read one by one from chunks of `size` bytes into one row that is used
+/// again.
 fn take_rows(
     alloc: Global,
     text: &[u8],
     size: usize,
-    told: &mut Vec<u8, Global>,
+    shown: &mut Vec<u8, Global>,
 ) -> Result<(), Fault> {
     let mut lines = Lines::new(alloc);
     let mut row = blank(alloc);
     let mut rest = text;
     for _ in 0..text.len() {
         let (chunk, more) = rest.split_at(size.min(rest.len()));
-        take_ended(&mut lines, &mut row, chunk, told)?;
+        take_ended(&mut lines, &mut row, chunk, shown)?;
         rest = more;
     }
-    take_last(lines, &mut row, told)
+    take_last(lines, &mut row, shown)
 }
 
-/// Texts, their rows as they are read, and their faults. The second has rows that end with a chunk of 64 bytes. The third
-/// has data with Q 0 and with Q 1, and packets of each length around four octets. The last have gaps.
-const ONE_BY_ONE: [(&[u8], &[u8], Option<Fault>); 18] = [
+/// The line that refuses a trace text, if one does, and why.
+type FaultyLine = Option<(u32, Kind)>;
+
+/// Texts, their rows as they are read, and their faulty lines. The second has rows that end with a chunk of 64 bytes.
+/// The third has data with Q 0 and with Q 1, and packets of each length around four octets.
+const ONE_BY_ONE: [(&[u8], &[u8], FaultyLine); 12] = [
     (
         b"# first\nX25 1 MOD 8 WIN 2 SIZE 128 PVC 0 SVC 4\n1 T 10010b0000\n2 N 10010F\n# between\n3 T 100100deadBEEF\n7 N -\n# last\n12 N 10",
         b"\x01T\x05\x10\x01\x0b\x00\x00\x02N\x03\x10\x01\x0f\x03T\x07\x10\x01\x00\xde\x07N\x00\x0cN\x01\x10",
@@ -191,102 +195,84 @@ const ONE_BY_ONE: [(&[u8], &[u8], Option<Fault>); 18] = [
     (
         b"X25 1 MOD 8 WIN 2 SIZE 128 PVC 0 SVC 4\n1 T 1001000102030405060708090a0b0c0d0e0f\n2 N 100102101112131415161718191a1b1c1d1e1f2021222324252627g8\n3 T 1001000102030405060708090a0b0c0d0e0f\n",
         b"\x01T\x12\x10\x01\x00\x01",
-        Some(Fault::Trace(3, Kind::Hex)),
-    ),
-    (HEADER, b"", None),
-    (
-        b"#\n# no header\n",
-        b"",
-        Some(Fault::Trace(3, Kind::HeaderMissing)),
+        Some((3, Kind::Hex)),
     ),
     (
         b"X25 1 MOD 8 WIN 2 SIZE 128 PVC 0 SVC 4\n1 T 10010b0000\n2 N 10010F\n3 T 100\n4 T -\n",
         b"\x01T\x05\x10\x01\x0b\x00\x00\x02N\x03\x10\x01\x0f",
-        Some(Fault::Trace(4, Kind::Hex)),
+        Some((4, Kind::Hex)),
     ),
+    (HEADER, b"", None),
     (
         b"X25 1 MOD 8 WIN 2 SIZE 128 PVC 0 SVC 4\n1 T 10010b0000\n2 n -",
         b"\x01T\x05\x10\x01\x0b\x00\x00",
-        Some(Fault::Trace(3, Kind::Side)),
-    ),
-    (
-        b"X25 3 MOD 8 WIN 2 SIZE 128 PVC 0 IN 0 TWO 4 OUT 4\n1 T 10010B0000\n2 ? 4\n3 N 10010F\n4 ? *\n5 T -\n6 ? 1",
-        b"\x01T\x05\x10\x01\x0b\x00\x00\x02\x04\x00\x03N\x03\x10\x01\x0f\x04\x00\x00\x05T\x00\x06\x01\x00",
-        None,
+        Some((3, Kind::Side)),
     ),
     (
         b"X25 2 MOD 8 WIN 2 SIZE 128 PVC 0 IN 0 TWO 4 OUT 4\n1 ? 1\n",
         b"",
-        Some(Fault::Trace(2, Kind::Side)),
-    ),
-    (
-        b"X25 3 MOD 8 WIN 2 SIZE 128 PVC 0 IN 0 TWO 4 OUT 4\n2 ? 1\n1 ? 1\n",
-        b"\x02\x01\x00",
-        Some(Fault::Trace(3, Kind::Number)),
-    ),
-    (
-        b"X25 3 MOD 8 WIN 2 SIZE 128 PVC 0 IN 0 TWO 4 OUT 4\n9 T -\n9 ? *\n",
-        b"\x09T\x00",
-        Some(Fault::Trace(3, Kind::Number)),
+        Some((2, Kind::Side)),
     ),
     (
         b"X25 3 MOD 8 WIN 2 SIZE 128 PVC 0 IN 0 TWO 4 OUT 4 JOIN\n1 ? 5\n",
         b"",
-        Some(Fault::Trace(2, Kind::Hex)),
+        Some((2, Kind::Hex)),
     ),
-    (
-        b"X25 3 MOD 8 WIN 2 SIZE 128 PVC 0 IN 0 TWO 4 OUT 4\n1 ? 0\n",
-        b"",
-        Some(Fault::Trace(2, Kind::Hex)),
-    ),
-    (
-        b"X25 3 MOD 8 WIN 2 SIZE 128 PVC 0 IN 0 TWO 4 OUT 4\n1 ? 01\n",
-        b"",
-        Some(Fault::Trace(2, Kind::Hex)),
-    ),
-    (
-        b"X25 3 MOD 8 WIN 2 SIZE 128 PVC 0 IN 0 TWO 4 OUT 4\n1 ? -\n",
-        b"",
-        Some(Fault::Trace(2, Kind::Hex)),
-    ),
+    (b"#\n# no header\n", b"", Some((3, Kind::HeaderMissing))),
     (
         b"X25 3 MOD 8 WIN 2 SIZE 128 PVC 0 SVC 4\n",
         b"",
-        Some(Fault::Trace(1, Kind::HeaderForm)),
+        Some((1, Kind::HeaderForm)),
     ),
     (
         b"X25 4 MOD 8 WIN 2 SIZE 128 PVC 0 IN 0 TWO 4 OUT 4\n",
         b"",
-        Some(Fault::Trace(1, Kind::HeaderForm)),
+        Some((1, Kind::HeaderForm)),
     ),
 ];
 
-/// The rows of a text and its fault are these, in chunks of so many bytes.
-fn check_taken(
-    rt: &impl Abort,
-    alloc: Global,
-    text: &[u8],
-    size: usize,
-    wanted: &[u8],
-    end: Option<Fault>,
-) {
-    let mut told = Vec::new(alloc);
-    let answer = take_rows(alloc, text, size, &mut told);
-    let right = answer.err() == end && told.as_slice() == wanted;
-    holds_at(rt, right, size as u64);
-}
+/// The header of a recording that may have gaps.
+const WITH_GAPS: &[u8] = b"X25 3 MOD 8 WIN 2 SIZE 128 PVC 0 IN 0 TWO 4 OUT 4\n";
 
-#[test]
-fn rows_are_taken_one_by_one(rt: HostRuntime) {
-    for (text, wanted, end) in &ONE_BY_ONE {
-        check_taken(&rt, rt.alloc(), text, 1, wanted, *end);
-        check_taken(&rt, rt.alloc(), text, 7, wanted, *end);
-        check_taken(&rt, rt.alloc(), text, 64, wanted, *end);
-        check_taken(&rt, rt.alloc(), text, text.len(), wanted, *end);
+/// Lines after that header, the rows and gaps as they are read, and the faulty lines.
+const GAPS: [(&[u8], &[u8], FaultyLine); 6] = [
+    (
+        b"1 T 10010B0000\n2 ? 4\n3 N 10010F\n4 ? *\n5 T -\n6 ? 1",
+        b"\x01T\x05\x10\x01\x0b\x00\x00\x02\x04\x00\x03N\x03\x10\x01\x0f\x04\x00\x00\x05T\x00\x06\x01\x00",
+        None,
+    ),
+    (b"2 ? 1\n1 ? 1\n", b"\x02\x01\x00", Some((3, Kind::Number))),
+    (b"9 T -\n9 ? *\n", b"\x09T\x00", Some((3, Kind::Number))),
+    (b"1 ? 0\n", b"", Some((2, Kind::Hex))),
+    (b"1 ? 01\n", b"", Some((2, Kind::Hex))),
+    (b"1 ? -\n", b"", Some((2, Kind::Hex))),
+];
+
+/// The rows of a trace text and its faulty line are these, in chunks of each of some sizes.
+fn check_taken(rt: &impl Abort, alloc: Global, text: &[u8], wanted: &[u8], end: FaultyLine) {
+    let fault = end.map(|(line, kind)| Fault::Trace(line, kind));
+    for size in [1, 7, 64, text.len()] {
+        let mut shown = Vec::new(alloc);
+        let answer = take_rows(alloc, text, size, &mut shown);
+        let right = answer.err() == fault && shown.as_slice() == wanted;
+        holds_at(rt, right, size as u64);
     }
 }
 
-/// Whether a row is taken out of these bytes.
+#[test]
+fn rows_are_taken_one_by_one(rt: HostRuntime) -> Result<(), Fail> {
+    for (text, wanted, end) in &ONE_BY_ONE {
+        check_taken(&rt, rt.alloc(), text, wanted, *end);
+    }
+    for (lines, wanted, end) in &GAPS {
+        let mut text = WITH_GAPS.to_vec(rt.alloc())?;
+        text.extend_from_slice(lines)?;
+        check_taken(&rt, rt.alloc(), text.as_slice(), wanted, *end);
+    }
+    Ok(())
+}
+
+/// Whether a row is read from these bytes.
 fn takes(
     lines: &mut Lines<Global>,
     row: &mut ReadRow<Global>,

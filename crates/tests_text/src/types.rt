@@ -1,4 +1,4 @@
-//! What no contract says: the texts of faults, and values from outside.
+//! What no contract covers: the texts of faults, and values from outside.
 
 use crate::checks::holds_at;
 use line_model::fault::{Fault, Kind};

@@ -7,7 +7,7 @@ ghost use Rattle.annotated_trace.specs.declared.rows.Rows.TheVariants.{All};
 
 use annotated_trace::annotating::annotate;
 use annotated_trace::describer::Describer;
-use annotated_trace::notes::{Notes, Words};
+use annotated_trace::notes::{NoteWords, Notes};
 use annotated_trace::page::ClosingPage;
 use annotated_trace::rows::Rows;
 use channel_machine::channel::{PackedChannel, PlainChannel};
@@ -51,7 +51,7 @@ impl<A: Allocator + Copy, O: TraceObserver<A>> Describer<A, O> for Numbered {
         &mut self,
         _trace: &O,
         finding: &Finding,
-        words: &mut Words<A>,
+        words: &mut NoteWords<A>,
     ) -> Result<(), AllocError> {
         words.say("packet\n")?;
         words.number(u64::from(finding.packet))
@@ -65,7 +65,7 @@ impl<A: Allocator + Copy, O: TraceObserver<A>> Describer<A, O> for Numbered {
     }
 }
 
-/// Why a trace was refused, if it was, and what the sink took.
+/// Why a trace was refused, if it was, and what the sink accepted.
 #[derive(Drop)]
 struct Answer {
     fault: Option<Fault>,
@@ -88,7 +88,7 @@ where
     }
 }
 
-/// The annotation of a trace that comes in pieces of so many bytes, with the numbers of its lines.
+/// The annotation of a trace that comes in pieces of `step` bytes, with the numbers of its lines.
 fn annotated(alloc: Global, text: &[u8], step: usize) -> Answer {
     let cuts = Cuts::of_steps(step, step);
     let describer = Numbered { lines: 0 };

@@ -2,7 +2,7 @@
 
 use std::process::Abort;
 
-/// It holds for these words.
+/// Checks that something holds for these words.
 pub(crate) fn holds_for(rt: &impl Abort, holds: bool, words: &str) {
     assert!(rt; holds, "for {words}");
 }

@@ -1,4 +1,4 @@
-//! The rows of the diagnostic codes beside the constants of the codes.
+//! Compares the rows of the diagnostic codes with the constants of the codes.
 
 use crate::checks::holds_for;
 use explanations::explanation::Explanation;

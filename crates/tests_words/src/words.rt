@@ -29,7 +29,7 @@ fn the_status_follows_the_scan(rt: HostRuntime) -> Result<(), Fail> {
         good_writes: 0,
         ..whole
     };
-    for (header, rows, cuts, status, report, told) in [
+    for (header, rows, cuts, status, report, errors_taken) in [
         (HEADER, "", whole, 0, "P 0 -\nZ 0 0 0 0 0\n", ""),
         (
             HEADER,
@@ -68,7 +68,7 @@ fn the_status_follows_the_scan(rt: HostRuntime) -> Result<(), Fail> {
             let ran = run(&rt, rt.alloc(), words, text.as_bytes(), cuts);
             assert_eq!(rt; ran.status, status, "at {rows}");
             assert_eq!(rt; ran.taken.as_slice(), report.as_bytes());
-            assert_eq!(rt; ran.told.as_slice(), told.as_bytes());
+            assert_eq!(rt; ran.errors_taken.as_slice(), errors_taken.as_bytes());
         }
     }
     files_are_read_by_their_names(&rt, rt.alloc());
@@ -81,7 +81,7 @@ fn files_are_read_by_their_names<R: Threads + Wait + Clock + Abort + Sync>(rt: &
         name: "day.trace",
         text: b"X25 1 MOD 8 WIN 2 SIZE 128 PVC 0 SVC 4\n1 T -\n",
     };
-    for (name, status, report, told) in [
+    for (name, status, report, errors_taken) in [
         ("day.trace", 1, "F 1 T - 38\nP 0 -\nZ 1 1 0 0 0\n", ""),
         ("-", 2, "", "x25scan: line 1: kind 22\n"),
         (
@@ -95,12 +95,16 @@ fn files_are_read_by_their_names<R: Threads + Wait + Clock + Abort + Sync>(rt: &
         let ran = run_in_memory(rt, alloc, words.as_slice(), b"no trace\n", &file);
         assert_eq!(rt; ran.status, status, "at {name}");
         assert_eq!(rt; ran.taken.as_slice(), report.as_bytes());
-        assert!(rt; ran.told.as_slice().starts_with(told.as_bytes()));
+        assert!(rt;
+            ran.errors_taken
+                .as_slice()
+                .starts_with(errors_taken.as_bytes())
+        );
     }
 }
 
 #[test]
-fn an_explanation_that_is_not_taken_is_told(rt: HostRuntime) {
+fn an_explanation_that_is_not_taken_is_a_failure(rt: HostRuntime) {
     let cuts = Cuts {
         good_writes: 1,
         ..Cuts::of_steps(usize::MAX, 10)
@@ -114,7 +118,10 @@ fn an_explanation_that_is_not_taken_is_told(rt: HostRuntime) {
     );
     assert_eq!(rt; ran.status, 3);
     assert_eq!(rt; ran.taken.as_slice(), b"F (line of".as_slice());
-    assert_eq!(rt; ran.told.as_slice(), b"x25scan: write failed\n".as_slice());
+    assert_eq!(rt;
+        ran.errors_taken.as_slice(),
+        b"x25scan: write failed\n".as_slice()
+    );
 }
 
 #[test]
@@ -129,7 +136,7 @@ fn help_that_is_not_taken_ends_well(rt: HostRuntime) {
         };
         let ran = run(&rt, rt.alloc(), words, b"", cuts);
         assert_eq!(rt; ran.status, 0);
-        assert_eq!(rt; ran.told.as_slice(), b"".as_slice());
+        assert_eq!(rt; ran.errors_taken.as_slice(), b"".as_slice());
     }
 }
 

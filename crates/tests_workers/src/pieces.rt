@@ -13,23 +13,11 @@ use line_model::part_items::PartItems;
 use line_model::piece::Piece;
 use line_model::piece_items::PieceItems;
 use line_model::state::{Side, StateName};
-use line_model::totals::Totals;
 use std::alloc::{AllocError, Allocator, Global};
+use tests_devices::interfaces::PLAIN;
 
 /// The pieces of three epochs on four channels.
 pub(crate) const PIECES: u32 = 12;
-
-const PLAIN: Interface = Interface {
-    modulus: 8,
-    window: 2,
-    size: 128,
-    pvc: 0,
-    incoming: 0,
-    two_way: 4,
-    svc: 4,
-    join: false,
-    gaps: false,
-};
 
 /// A piece without rows.
 pub(crate) fn piece(alloc: Global, id: u32) -> Piece
@@ -47,7 +35,7 @@ pub(crate) fn piece(alloc: Global, id: u32) -> Piece
     }
 }
 
-/// Appends a row without octets. It is no packet, and of channel 0.
+/// Appends a row without octets. It is not a packet, and counts as channel 0.
 fn add_row(interface: &Interface, items: &mut Items) -> Result<(), AllocError>
     ensures of_channel { All (IsItem interface.now 0) items.old
         → OnOk result (All (IsItem interface.now 0) items.new) }
@@ -64,7 +52,7 @@ fn add_row(interface: &Interface, items: &mut Items) -> Result<(), AllocError>
     Ok(())
 }
 
-/// So many rows without octets.
+/// A number of rows without octets.
 fn rows_of(alloc: Global, interface: &Interface, rows: u16) -> Result<Items, AllocError>
     ensures of_channel { IfOk result (All (IsItem interface.now 0)) }
     ensures octets { IfOk result (λ items. all_octets items ≡ 0) }
@@ -77,7 +65,7 @@ fn rows_of(alloc: Global, interface: &Interface, rows: u16) -> Result<Items, All
     Ok(items)
 }
 
-/// A piece of an epoch with so many rows.
+/// A piece of an epoch with `rows` rows.
 pub(crate) fn piece_of_rows(
     alloc: Global,
     id: u32,
@@ -117,12 +105,4 @@ pub(crate) fn findings<A: Allocator>(alloc: A, count: u32) -> Result<Vec<Finding
         1 => vec![in alloc; FINDING]?,
         _ => vec![in alloc; FINDING, FINDING]?,
     })
-}
-
-/// Whether a look sees at least what a share posted.
-pub(crate) fn sees_all(seen: Totals, own: Totals) -> bool {
-    own.posts <= seen.posts
-        && own.findings <= seen.findings
-        && own.octets <= seen.octets
-        && own.segments <= seen.segments
 }

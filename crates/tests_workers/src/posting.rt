@@ -15,7 +15,7 @@ use std::alloc::Allocator;
 use std::marker::Brand;
 use std::process::Abort;
 
-/// A report of a piece, with so many findings (two at most), octets and segments.
+/// A report of a piece, with these numbers of findings (two at most), octets and segments.
 #[derive(Clone, Copy)]
 struct Post {
     id: u32,
@@ -37,7 +37,7 @@ fn report<A: Allocator + Copy>(alloc: A, post: Post) -> Result<PieceReport<A>, F
     })
 }
 
-/// What was counted is what was wanted.
+/// What was counted is what was expected.
 fn totals_are<R: Abort>(rt: &R, counted: Totals, wanted: Totals) {
     assert_eq!(rt; counted, wanted);
 }

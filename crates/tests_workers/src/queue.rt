@@ -40,7 +40,7 @@ fn as_many_bundles_go_back_as_the_queue_holds(rt: HostRuntime) -> Result<(), Fai
     Ok(())
 }
 
-/// Counts a piece that was taken.
+/// Counts a piece that was received.
 fn count(rt: &impl Wait, taken: &Mutex<[u32; 12]>, id: u32) {
     let mut counts = taken.lock(rt);
     if let Some(count) = counts.get_mut(id as usize) {
@@ -48,7 +48,7 @@ fn count(rt: &impl Wait, taken: &Mutex<[u32; 12]>, id: u32) {
     }
 }
 
-/// Counts the pieces of a bundle that was taken.
+/// Counts the pieces of a bundle that was received.
 fn count_all(rt: &impl Wait, taken: &Mutex<[u32; 12]>, bundle: &Bundle) {
     let (front, last) = bundle.parts();
     for piece in front {
@@ -152,7 +152,7 @@ fn start<'s, 'e: 's, R: Wait + Sync>(
     started
 }
 
-/// How often each piece was taken by so many workers.
+/// How often each piece was received by `workers` workers.
 fn run<R: Threads + Wait + Sync>(
     rt: &R,
     alloc: Global,

@@ -16,7 +16,7 @@ use std::thread::Threads;
 use std::time::Clock;
 use workers::{Crew, Feed, Gate, feed_piece, work_through};
 
-/// Runs pieces without rows, and wants memory for all others.
+/// Runs pieces without rows, and is out of memory for all others.
 struct EmptyPieces;
 
 impl Gate for EmptyPieces {
@@ -57,7 +57,7 @@ impl Gate for NoMemory {
     }
 }
 
-/// Feeds so many pieces without rows.
+/// Feeds `count` pieces without rows.
 #[derive(Drop)]
 struct Plain {
     alloc: Global,
@@ -96,8 +96,8 @@ fn twelve(alloc: Global) -> Plain {
     }
 }
 
-/// Whether the twelve pieces of two workers want memory.
-fn wants_memory<R: Threads + Wait + Clock + Sync>(rt: &R, alloc: Global) -> bool {
+/// Whether the twelve pieces of two workers are out of memory.
+fn is_out_of_memory<R: Threads + Wait + Clock + Sync>(rt: &R, alloc: Global) -> bool {
     let crew = Crew {
         workers: 2,
         capacity: 1,
@@ -111,5 +111,5 @@ fn wants_memory<R: Threads + Wait + Clock + Sync>(rt: &R, alloc: Global) -> bool
 
 #[test]
 fn a_worker_without_memory_stops_at_its_end(rt: HostRuntime) {
-    assert!(rt; wants_memory(&rt, rt.alloc()));
+    assert!(rt; is_out_of_memory(&rt, rt.alloc()));
 }

@@ -12,28 +12,27 @@ use Rattle.channel_run.specs.declared.run.Channel.{Ghosts as Machine}
 use Rattle.live_report.specs.declared.follow.Follower.{Follower}
 use Rattle.live_report.specs.Follows.{HasFindings, HasFindingsAtLine, HasFirst, HasFollowed, IsFed, IsRefusalOf}
 use Rattle.live_report.specs.Found.{found_text}
-use Rattle.live_report.specs.Reports.{IsRefusal, IsReportFault, IsReported}
-use Rattle.live_report.proofs.FollowLemmas.{nothing_told}
+use Rattle.live_report.specs.Reports.{IsRefusal, IsReportFault, IsReported, IsScanFault}
+use Rattle.live_report.proofs.FollowLemmas.{nothing_written}
 use Rattle.trace_text.specs.Sources.{HasFailed, IsFedAll, IsFedUpTo, IsRefusedBy}
 use Rattle.trace_text.proofs.DecidedLemmas.{all_sound, decided_before, none_sound}
 use Rattle.trace_text.proofs.SourceLemmas.{sound_before, all_sound as sound_at_end}
-use Rattle.trace_scan.specs.Follow.{IsFollowRefusal, IsFollowed, IsRefusedAfter, IsToldOf}
-use Rattle.trace_scan.specs.Scan.{IsScanFault}
-use Rattle.trace_scan.proofs.ScanLemmas.{report_scan}
+use Rattle.trace_scan.specs.Follow.{IsFollowRefusal, IsFollowed, IsRefusedAfter, IsWrittenOf}
+use Rattle.live_report.proofs.ScanLemmas.{report_scan}
 
 pub nothing_followed : {A C : Type 0} (m : Machine C A) (taken : Option (List ℕ)) (n : ℕ) (f : Follower A C) → HasFollowed m [] f → IsFollowed m taken taken n n [] f
-nothing_followed m taken n f s = record { stands = s; told = nothing_told taken; rising = omega arith }
+nothing_followed m taken n f s = record { stands = s; shown = nothing_written taken; rising = omega arith }
 
 -- what has followed a text may be fed and ended
-pub fed_of : {A C : Type 0} (m : Machine C A) (text : List ℕ) (f : Follower A C) → HasFollowed m text f → IsFed m.interface_of m.number_of m.stands_for f
+pub fed_of : {A C : Type 0} (m : Machine C A) (text : List ℕ) (f : Follower A C) → HasFollowed m text f → IsFed m.interface_of m.number_of m.represents f
 fed_of m text f s = record { fed = λ running. (text, s); kinds = subst (λ o. IfSome o IsReportFault) (sym s.running) tt }
 
 -- ---- one more chunk
 
 pub follow_fed : {A C T : Type 0} (m : Machine C A) (r : Result T Fault) (before taken next : Option (List ℕ)) (x y z : ℕ) (text bytes : List ℕ) (f g : Follower A C) → IsFollowed m before taken x y text f → OnOk r (HasFollowed m (text ++ bytes) g) → OnOk r (HasFindings before next (text ++ bytes)) → y ≤ z
     → OnOk r (IsFollowed m before next x z (text ++ bytes) g)
-follow_fed m (Ok u) before taken next x y z text bytes f g was s told rises = record { stands = s; told = told; rising = omega (arith, was.rising, rises) }
-follow_fed m (Err e) before taken next x y z text bytes f g was s told rises = tt
+follow_fed m (Ok u) before taken next x y z text bytes f g was s shown rises = record { stands = s; shown = shown; rising = omega (arith, was.rising, rises) }
+follow_fed m (Err e) before taken next x y z text bytes f g was s shown rises = tt
 
 pub follow_refused : {T : Type 0} (r : Result T Fault) (before taken : Option (List ℕ)) (x y z : ℕ) (text last : List ℕ) → x ≤ y → y ≤ z → IfErr r (IsRefusalOf (early (text ++ last))) → HasFirst before taken (found_text (text ++ last)) → (z ≡ y → IfErr r (HasFindingsAtLine before taken (text ++ last)))
     → IfErr r IsReportFault → (r ≡ Err Write → y < z) → IfErr r (IsRefusedAfter before taken x z text last)
@@ -61,11 +60,11 @@ follow_refusal given bytes rest (Trace line kind) sound few h = (decided_before 
 follow_refusal given bytes rest Write sound few h = h
 follow_refusal given bytes rest _ sound few h = absurd h
 
-told_of : (before taken : Option (List ℕ)) (well : Type 0) (given rest : List ℕ) (f : Fault) → IsReportFault f → HasFirst before taken (found_text given) → (well → HasFindingsAtLine before taken given f) → IsToldOf before taken well given rest f
-told_of before taken well given rest (Trace line kind) kinds first all = (first, all)
-told_of before taken well given rest Read kinds first all = absurd kinds
-told_of before taken well given rest Write kinds first all = inl first
-told_of before taken well given rest _ kinds first all = first
+written_of : (before taken : Option (List ℕ)) (well : Type 0) (given rest : List ℕ) (f : Fault) → IsReportFault f → HasFirst before taken (found_text given) → (well → HasFindingsAtLine before taken given f) → IsWrittenOf before taken well given rest f
+written_of before taken well given rest (Trace line kind) kinds first all = (first, all)
+written_of before taken well given rest Read kinds first all = absurd kinds
+written_of before taken well given rest Write kinds first all = inl first
+written_of before taken well given rest _ kinds first all = first
 
 -- all of some bytes are a first part of them
 all_first : (before taken : Option (List ℕ)) (bytes : List ℕ) → taken ≡ with_more before bytes → HasFirst before taken bytes
@@ -75,21 +74,21 @@ all_first before taken bytes h = (length bytes, h ∙ ap (with_more before) (sym
 abbrev pub IsFollowStop : {A C : Type 0} → Machine C A → (before taken : Option (List ℕ)) → (x z : ℕ) → Follower A C → (fed last : List ℕ) → Fault → Type 0
 IsFollowStop m before taken x z g fed last f = HasFailed (λ text. IsFollowed m before taken x z text g) fed last f ⊎ IsRefusedAfter before taken x z fed last f
 
--- what a refusal says of the bytes that were given, and of the sink
+-- what a refusal says of the bytes that were read, and of the sink
 record Stop (before taken : Option (List ℕ)) (well : Type 0) (given : List ℕ) (f : Fault) : Type 0 where
   pub refusal : (rest : List ℕ) → IsFollowRefusal given rest f
-  pub told : (rest : List ℕ) → IsToldOf before taken well given rest f
+  pub shown : (rest : List ℕ) → IsWrittenOf before taken well given rest f
 
 stop_failed : (before taken : Option (List ℕ)) (well : Type 0) (given : List ℕ) → early given ≡ None → HasFindings before taken given → Stop before taken well given Read
-stop_failed before taken well given sound told = record { refusal = λ rest. sound; told = λ rest. told }
+stop_failed before taken well given sound shown = record { refusal = λ rest. sound; shown = λ rest. shown }
 
 stop_is : {A C : Type 0} (m : Machine C A) (before taken : Option (List ℕ)) (x z : ℕ) (g : Follower A C) (fed last : List ℕ) (f : Fault) → early fed ≡ None → length last ≤ 2 ^ 16 → IsFollowStop m before taken x z g fed last f → Stop before taken (z ≡ x) (fed ++ last) f
 stop_is m before taken x z g fed last f sound few (inl why) =
     subst (Stop before taken (z ≡ x) (fed ++ last)) (sym why.failure)
-    (subst (λ xs. Stop before taken (z ≡ x) (fed ++ xs) Read) (sym why.none) (subst (λ xs. Stop before taken (z ≡ x) xs Read) (sym (append-nil fed)) (stop_failed before taken (z ≡ x) fed sound why.stands.told)))
+    (subst (λ xs. Stop before taken (z ≡ x) (fed ++ xs) Read) (sym why.none) (subst (λ xs. Stop before taken (z ≡ x) xs Read) (sym (append-nil fed)) (stop_failed before taken (z ≡ x) fed sound why.stands.shown)))
 stop_is m before taken x z g fed last f sound few (inr why) = record {
   refusal = λ rest. follow_refusal fed last rest f sound few why.refusal;
-  told = λ rest. told_of before taken (z ≡ x) (fed ++ last) rest f why.kinds why.first why.at_line;
+  shown = λ rest. written_of before taken (z ≡ x) (fed ++ last) rest f why.kinds why.first why.at_line;
 }
 
 pub stop_kinds : {A C : Type 0} (m : Machine C A) (before taken : Option (List ℕ)) (x z : ℕ) (g : Follower A C) (fed last : List ℕ) (f : Fault) → IsFollowStop m before taken x z g fed last f → IsScanFault f
@@ -105,35 +104,35 @@ abbrev pub IsFollowedUpTo : {A C : Type 0} → Machine C A → (left after asked
 IsFollowedUpTo m left after asked before taken x z g f = IsFedUpTo 0 left after asked (λ text. IsFollowed m before taken x z text g) (IsRefusedAfter before taken x z) f
 
 pub stopped_refused : {A C : Type 0} (m : Machine C A) (left after asked before taken : Option (List ℕ)) (x z : ℕ) (g : Follower A C) (f : Fault) (text : List ℕ) → left ≡ Some text → IsFollowedUpTo m left after asked before taken x z g f → IsRefusedBy 0 IsFollowRefusal text after asked f
-stopped_refused m left after asked before taken x z g f text told u =
-    let at = u.given text told in
+stopped_refused m left after asked before taken x z g f text shown u =
+    let at = u.given text shown in
     record {
       given = u.fed ++ u.last;
       rest = at.0;
       whole = at.1;
       left = at.2;
-      order = inr (sound_before 0 left after asked (λ t. IsFollowed m before taken x z t g) (IsRefusedAfter before taken x z) f text u told);
+      order = inr (sound_before 0 left after asked (λ t. IsFollowed m before taken x z t g) (IsRefusedAfter before taken x z) f text u shown);
       refusal = (stop_is m before taken x z g u.fed u.last f (none_sound u.fed u.sound) u.few u.why).refusal at.0;
     }
 
 pub stopped_taken : {A C : Type 0} (m : Machine C A) (left after asked before taken : Option (List ℕ)) (x z : ℕ) (g : Follower A C) (f : Fault) (text : List ℕ) → left ≡ Some text → IsFollowedUpTo m left after asked before taken x z g f
-    → IsRefusedBy 0 (IsToldOf before taken (z ≡ x)) text after asked f
-stopped_taken m left after asked before taken x z g f text told u =
-    let at = u.given text told in
+    → IsRefusedBy 0 (IsWrittenOf before taken (z ≡ x)) text after asked f
+stopped_taken m left after asked before taken x z g f text shown u =
+    let at = u.given text shown in
     record {
       given = u.fed ++ u.last;
       rest = at.0;
       whole = at.1;
       left = at.2;
-      order = inr (sound_before 0 left after asked (λ t. IsFollowed m before taken x z t g) (IsRefusedAfter before taken x z) f text u told);
-      refusal = (stop_is m before taken x z g u.fed u.last f (none_sound u.fed u.sound) u.few u.why).told at.0;
+      order = inr (sound_before 0 left after asked (λ t. IsFollowed m before taken x z t g) (IsRefusedAfter before taken x z) f text u shown);
+      refusal = (stop_is m before taken x z g u.fed u.last f (none_sound u.fed u.sound) u.few u.why).shown at.0;
     }
 
 pub stopped_given : {A C : Type 0} (m : Machine C A) (left after asked before taken : Option (List ℕ)) (x z : ℕ) (g : Follower A C) (f : Fault) → IsFollowedUpTo m left after asked before taken x z g f
-    → (given : List ℕ) × (rest : List ℕ) × IsFollowRefusal given rest f × IsToldOf before taken (z ≡ x) given rest f
+    → (given : List ℕ) × (rest : List ℕ) × IsFollowRefusal given rest f × IsWrittenOf before taken (z ≡ x) given rest f
 stopped_given m left after asked before taken x z g f u =
     let stop = stop_is m before taken x z g u.fed u.last f (none_sound u.fed u.sound) u.few u.why in
-    (u.fed ++ u.last, [], stop.refusal [], stop.told [])
+    (u.fed ++ u.last, [], stop.refusal [], stop.shown [])
 
 -- ---- where all was read
 
@@ -150,37 +149,37 @@ at_end given (Trace line kind) sound h = (all_sound (2 ^ 16) given sound, inr (r
 at_end given Write sound h = sound
 at_end given _ sound h = absurd h
 
-told_at_end : (given : List ℕ) (before taken after : Option (List ℕ)) (well : Type 0) (f : Fault) → HasFindings before taken given → IsRefusal given f → (f ≢ Write → after ≡ taken) → (f ≡ Write → HasFirst before after (trace_report given)) → IsToldOf before after well given [] f
-told_at_end given before taken after well Memory h r kept part = all_first before after (found_text given) (kept (λ e. cc) ∙ h)
-told_at_end given before taken after well (Trace line kind) h r kept part = (all_first before after (found_text given) (kept (λ e. cc) ∙ h), λ w. kept (λ e. cc) ∙ h)
-told_at_end given before taken after well Write h r kept part = inr (refl, r, part refl)
-told_at_end given before taken after well _ h r kept part = absurd r
+written_at_end : (given : List ℕ) (before taken after : Option (List ℕ)) (well : Type 0) (f : Fault) → HasFindings before taken given → IsRefusal given f → (f ≢ Write → after ≡ taken) → (f ≡ Write → HasFirst before after (trace_report given)) → IsWrittenOf before after well given [] f
+written_at_end given before taken after well Memory h r kept part = all_first before after (found_text given) (kept (λ e. cc) ∙ h)
+written_at_end given before taken after well (Trace line kind) h r kept part = (all_first before after (found_text given) (kept (λ e. cc) ∙ h), λ w. kept (λ e. cc) ∙ h)
+written_at_end given before taken after well Write h r kept part = inr (refl, r, part refl)
+written_at_end given before taken after well _ h r kept part = absurd r
 
 pub same_taken : {K : Type 0} → (r : Result Summary Fault) (took : K → Option (List ℕ)) (old new : K) → IfErr r (λ fault. fault ≢ Write → new ≡ old) → IfErr r (λ fault. fault ≢ Write → took new ≡ took old)
 same_taken (Ok sums) took old new h = tt
 same_taken (Err f) took old new h = λ e. ap took (h e)
 
 pub end_given : (given : List ℕ) (before taken after : Option (List ℕ)) (well : Type 0) (r : Result Summary Fault) → early given ≡ None → HasFindings before taken given → IfErr r (IsRefusal given) → IfErr r (λ fault. fault ≢ Write → after ≡ taken)
-    → (r ≡ Err Write → HasFirst before after (trace_report given)) → IfErr r (λ fault. (given : List ℕ) × (rest : List ℕ) × IsFollowRefusal given rest fault × IsToldOf before after well given rest fault)
+    → (r ≡ Err Write → HasFirst before after (trace_report given)) → IfErr r (λ fault. (given : List ℕ) × (rest : List ℕ) × IsFollowRefusal given rest fault × IsWrittenOf before after well given rest fault)
 end_given given before taken after well (Ok sums) sound h r kept part = tt
-end_given given before taken after well (Err f) sound h r kept part = (given, [], at_end given f sound r, told_at_end given before taken after well f h r kept (λ e. part (ap Err e)))
+end_given given before taken after well (Err f) sound h r kept part = (given, [], at_end given f sound r, written_at_end given before taken after well f h r kept (λ e. part (ap Err e)))
 
 pub end_refused : (source after asked : Option (List ℕ)) (was_fed : List ℕ → Type 0) (text : List ℕ) (r : Result Summary Fault) → (w : IsFedAll 0 source after asked was_fed) → source ≡ Some text → IfErr r (IsRefusal w.text) → IfErr r (IsRefusedBy 0 IsFollowRefusal text after asked)
-end_refused source after asked was_fed text (Ok sums) w told h = tt
-end_refused source after asked was_fed text (Err f) w told h =
-    let all = w.source text told in
-    record { given = w.text; rest = []; whole = all.0 ∙ sym (append-nil w.text); left = all.1; order = inr (sound_at_end 0 source after asked was_fed text w told); refusal = at_end w.text f (none_sound w.text w.sound) h }
+end_refused source after asked was_fed text (Ok sums) w shown h = tt
+end_refused source after asked was_fed text (Err f) w shown h =
+    let all = w.source text shown in
+    record { given = w.text; rest = []; whole = all.0 ∙ sym (append-nil w.text); left = all.1; order = inr (sound_at_end 0 source after asked was_fed text w shown); refusal = at_end w.text f (none_sound w.text w.sound) h }
 
 pub end_taken : (source left asked : Option (List ℕ)) (was_fed : List ℕ → Type 0) (text : List ℕ) (before taken after : Option (List ℕ)) (well : Type 0) (r : Result Summary Fault) → (w : IsFedAll 0 source left asked was_fed) → source ≡ Some text → HasFindings before taken w.text → IfErr r (IsRefusal w.text)
-    → IfErr r (λ fault. fault ≢ Write → after ≡ taken) → (r ≡ Err Write → HasFirst before after (trace_report w.text)) → IfErr r (IsRefusedBy 0 (IsToldOf before after well) text left asked)
-end_taken source left asked was_fed text before taken after well (Ok sums) w told h r kept part = tt
-end_taken source left asked was_fed text before taken after well (Err f) w told h r kept part =
-    let all = w.source text told in
+    → IfErr r (λ fault. fault ≢ Write → after ≡ taken) → (r ≡ Err Write → HasFirst before after (trace_report w.text)) → IfErr r (IsRefusedBy 0 (IsWrittenOf before after well) text left asked)
+end_taken source left asked was_fed text before taken after well (Ok sums) w shown h r kept part = tt
+end_taken source left asked was_fed text before taken after well (Err f) w shown h r kept part =
+    let all = w.source text shown in
     record {
       given = w.text;
       rest = [];
       whole = all.0 ∙ sym (append-nil w.text);
       left = all.1;
-      order = inr (sound_at_end 0 source left asked was_fed text w told);
-      refusal = told_at_end w.text before taken after well f h r kept (λ e. part (ap Err e));
+      order = inr (sound_at_end 0 source left asked was_fed text w shown);
+      refusal = written_at_end w.text before taken after well f h r kept (λ e. part (ap Err e));
     }

@@ -5,10 +5,10 @@ use Rattle.std.proofs.lemmas.List.Sorted.{All-permutation, IsPermutation-sym}
 use Rattle.std.specs.List.Sorted.{IsStrictlyIncreasing}
 use Rattle.line_model.specs.declared.fault.Fault.{Fault}
 use Rattle.line_model.specs.declared.fault.Fault.TheVariants.{Memory, Trace, Read as ReadFailed, Write, Start}
-use Rattle.trace_scan.specs.declared.feeding.Read.{Read}
-use Rattle.trace_scan.specs.Readings.{IsOutcome, IsReadingFault, IsRefusal, in_flight}
-use Rattle.live_report.specs.Reports.{IsTaken}
-use Rattle.trace_scan.specs.Scan.{IsPartTaken}
+use Rattle.trace_reading.specs.declared.feeding.Read.{Read}
+use Rattle.trace_reading.specs.Readings.{IsOutcome, IsReadingFault, in_flight}
+use Rattle.live_report.specs.Reports.{IsTaken, IsPartTaken}
+use Rattle.trace_text.specs.Refusals.{IsRefusal}
 use Rattle.trace_scan.specs.declared.threaded.ScanParts.{ScanParts}
 use Rattle.trace_scan.specs.Threaded.{AreRuns, AreScanParts, IsStopFault, IsStopped, IsWorkedFault}
 use Rattle.line_model.specs.declared.totals.Totals.{Totals}
@@ -31,9 +31,9 @@ use Rattle.report_merge.proofs.Posted.{permuted_posts}
 use Rattle.workers.specs.declared.gathering.Gathered.{Gathered}
 use Rattle.workers.specs.Gathers.{IsWhole, reports_of}
 use Rattle.workers.specs.Vouching.{IsRunOfOne}
-use Rattle.trace_scan.specs.Readings.{IsReadOf}
+use Rattle.trace_reading.specs.Readings.{IsReadOf}
 use Rattle.trace_scan.specs.Threaded.{trace_totals}
-use Rattle.trace_scan.proofs.ScanLemmas.{memory_refused}
+use Rattle.live_report.proofs.ScanLemmas.{memory_refused}
 
 -- ---- which faults there are
 
@@ -79,10 +79,10 @@ worker_stopped None before after asked failed fed f k h m = absurd h
 worker_stopped (Some (Err e)) before after asked failed fed f k h m = absurd (cc)
 worker_stopped (Some (Ok read)) before after asked failed fed f k h m = record {
   kinds = memory_stops f m;
-  refused = λ text told. let all = h.told text told in memory_refused in_flight text after asked f m all.1 all.2 all.0.sound;
+  refused = λ text shown. let all = h.shown text shown in memory_refused in_flight text after asked f m all.1 all.2 all.0.sound;
 }
 
--- the task came back without its turn: no byte was given
+-- the task came back without a run: no byte was read
 unfed_refusal : (rest : List ℕ) (f : Fault) → (f ≡ Memory) ⊎ (f ≡ Start) → IsRefusal in_flight [] rest f
 unfed_refusal rest f (inl m) = subst (IsRefusal in_flight [] rest) (sym m) (all_sound (in_flight + 2 ^ 16) [] early-nothing)
 unfed_refusal rest f (inr s) = subst (IsRefusal in_flight [] rest) (sym s) refl
@@ -94,7 +94,7 @@ unfed_stops f (inr s) = subst IsStopFault (sym s) tt
 pub unfed_stopped : (before after asked : Option (List ℕ)) (f : Fault) → after ≡ before → (f ≡ Memory) ⊎ (f ≡ Start) → IsStopped before after asked f
 unfed_stopped before after asked f same why = record {
   kinds = unfed_stops f why;
-  refused = λ text told. record { given = []; rest = text; whole = refl; left = same ∙ told; order = inl refl; refusal = unfed_refusal text f why };
+  refused = λ text shown. record { given = []; rest = text; whole = refl; left = same ∙ shown; order = inl refl; refusal = unfed_refusal text f why };
 }
 
 pub stopped : {T A W : Type 0} (r : Result T Fault) (o : Option (Result (Read A) Fault)) (g : Result W Fault) (before after asked : Option (List ℕ)) (failed : Type 0) (fed : List Piece) (made : W → Type 0)
@@ -103,7 +103,7 @@ pub stopped : {T A W : Type 0} (r : Result T Fault) (o : Option (Result (Read A)
 stopped (Ok t) o g before after asked failed fed made first h m = tt
 stopped (Err f) o g before after asked failed fed made (inl e) h m =
     let read = subst (λ p. IsOutcome before after asked failed fed p) e h in
-    record { kinds = reading_stops f read.kinds; refused = λ text told. read.refused text told }
+    record { kinds = reading_stops f read.kinds; refused = λ text shown. read.refused text shown }
 stopped (Err f) o g before after asked failed fed made (inr w) h m =
     worker_stopped o before after asked failed fed f w.0 h (subst (λ q. MatchResult q made (λ f. f ≡ Memory)) w.1 m)
 
@@ -115,7 +115,7 @@ pub parts_are : {A : Type 0} (r : Result (ScanParts A) Fault) (o : Option (Resul
 parts_are (Err f) o g known ran workers before after asked failed fed both h m = tt
 parts_are (Ok t) o g known ran workers before after asked failed fed both h m =
     let read = subst (λ p. IsOutcome before after asked failed fed p) both.0 h in
-    record { fed = fed; whole = subst (λ q. MatchResult q (IsWhole known ran workers fed) (λ f. f ≡ Memory)) both.1 m; told = λ text told. read.told text told; of_text = read.of_text }
+    record { fed = fed; whole = subst (λ q. MatchResult q (IsWhole known ran workers fed) (λ f. f ≡ Memory)) both.1 m; shown = λ text shown. read.shown text shown; of_text = read.of_text }
 
 -- the pieces that were fed are those of the plan, so the reports are those of the walk over what the rows of the text say
 pub of_walk : {A : Type 0} (known : KnownPlan) (ran : Piece → PieceReport → Type 0) (workers : ℕ) (text : List ℕ) (fed : List Piece) (read : Read A) (g : Gathered A (List PieceReport))

@@ -1,12 +1,2 @@
-pub mod TextCuts
-pub mod TextBlocks
-pub mod Readings
-pub mod Scan
 pub mod Follow
 pub mod Threaded
-pub mod Headers
-pub mod Watched
-pub mod Reactions
-pub mod Tried
-pub mod Trials
-pub mod TriedLines

@@ -1,13 +1,13 @@
 //! The gate through which a scan runs its pieces.
 
-use crate::block_queues::BlockQueues;
-use crate::blocks::TraceText;
 use channel_machine::channel::PackedChannel;
 use channel_run::run::run_piece;
 use line_model::fault::Fault;
 use line_model::piece::{Piece, PieceReport};
 use std::alloc::Allocator;
 use std::sync::Wait;
+use trace_reading::block_queues::BlockQueues;
+use trace_reading::blocks::TraceText;
 use workers::Gate;
 
 /// Runs each piece at once.
@@ -29,7 +29,7 @@ impl Gate for OpenGate {
     }
 }
 
-/// Runs pieces by another gate, and reads the blocks of a text that wait.
+/// Runs pieces by another gate, and reads the blocks that wait.
 #[derive(Drop)]
 pub struct BlockGate<'a, P: TraceText, A: Allocator, G> {
     pub gate: &'a G,

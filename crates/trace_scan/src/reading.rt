@@ -6,7 +6,7 @@ ghost use Rattle.trace_text.proofs.DecidedLemmas.{all_sound};
 ghost use Rattle.trace_text.proofs.SourceLemmas.{few_bytes};
 ghost use Rattle.trace_text.specs.FedBytes.{fed_length};
 ghost use Rattle.trace_text.specs.Progress.{bytes_fed};
-ghost use Rattle.trace_text.specs.StandsFor.{IsFaultOf, IsTextFault};
+ghost use Rattle.trace_text.specs.Represents.{IsFaultOf, IsTextFault};
 ghost use Rattle.live_report.specs.Lives.{WasFed};
 
 use channel_run::run::Channel;
@@ -15,7 +15,7 @@ use live_report::live::Live;
 use std::alloc::Allocator;
 use trace_text::consumer::Consumer;
 
-/// A trace that is walked. What is found stays in it, and the sink is left as it is.
+/// A trace that is walked. It keeps what is found, and writes nothing to the sink.
 #[derive(Drop)]
 pub struct Walk<A: Allocator, C: Channel<A>> {
     pub live: Live<A, C>,
@@ -25,8 +25,8 @@ impl<A: Allocator + Copy, C: Channel<A>, K> Consumer<K> for Walk<A, C> {
     ghost was_fed = { λ first start now sink text. WasFed C.Channel text now.live
         × (sink ≡ start) };
 
-    ghost refused = { λ first start now sink text last told. IsFaultOf (early (text ++ last)) told
-        × IsTextFault told × (sink ≡ start) };
+    ghost refused = { λ first start now sink text last returned. IsFaultOf (early (text ++ last)) returned
+        × IsTextFault returned × (sink ≡ start) };
 
     ghost expects = { λ text. Unit {0} };
 

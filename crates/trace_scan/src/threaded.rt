@@ -4,17 +4,13 @@ ghost use Rattle.std.specs.Prelude.{◌≡◌, ◌≢◌, ℕ, ◌+◌, ◌<◌,
 ghost use Rattle.std.specs.Option.{option_map};
 ghost use Rattle.line_model.specs.traces.Traces.{trace_plan, trace_report};
 ghost use Rattle.line_model.specs.work.Book.{sum_of};
-ghost use Rattle.live_report.specs.Reports.{IsReported, IsTaken};
+ghost use Rattle.live_report.specs.Reports.{IsReported, IsTaken, IsPartTaken};
 ghost use Rattle.trace_text.specs.Sources.{IsRefusedBy};
-ghost use Rattle.trace_scan.specs.Readings.{IsRefusal, in_flight};
-ghost use Rattle.trace_scan.specs.Scan.{IsPartTaken};
+ghost use Rattle.trace_reading.specs.Readings.{in_flight};
+ghost use Rattle.trace_text.specs.Refusals.{IsRefusal};
 ghost use Rattle.trace_scan.specs.Threaded.{AreRuns, AreScanParts, IsStopped, IsWorkedFault, trace_totals};
 
-use crate::block_queues::{BLOCK_BYTES, BlockQueues, BlockSizes};
-use crate::blocks::TraceText;
-use crate::feeding::{Read, ReadingTask};
 use crate::gate::BlockGate;
-use crate::room::Room;
 use line_model::device::Sink;
 use line_model::fault::Fault;
 use line_model::lending::take_back;
@@ -29,6 +25,10 @@ use std::sync::Wait;
 use std::thread::{Threads, available_parallelism};
 use std::time::Clock;
 use streams::room_source::RoomSource;
+use trace_reading::block_queues::{BLOCK_BYTES, BlockQueues, BlockSizes};
+use trace_reading::blocks::TraceText;
+use trace_reading::feeding::{Read, ReadingTask};
+use trace_reading::room::Room;
 use workers::{Crew, Gate, Gathered, Worked, work_through};
 
 /// What the reading thread read, and what the workers made of its pieces.
@@ -40,7 +40,8 @@ pub struct ScanParts<A: Allocator = Global> {
     pub gathered: Gathered<A, BundleReport<A>>,
 }
 
-/// Returns what was read and made. The fault of the reading thread comes before that of a worker, which is refused memory.
+/// Returns what was read and made. Fails with the fault of the reading thread, or else with a worker's, which is out of
+/// memory.
 pub fn first_fault<A: Allocator>(
     outcome: Option<Result<Read<A>, Fault>>,
     gathered: Result<Gathered<A, BundleReport<A>>, Fault>,
@@ -58,10 +59,10 @@ pub fn first_fault<A: Allocator>(
     Ok(ScanParts { read, gathered })
 }
 
-/// A read with fewer bytes is taken at once: a source that gives so few is slow, and its lines are refused as they come.
+/// A read with fewer bytes is cut at once: such a source is slow, and its lines are refused as they come.
 const LEAST_READ: usize = 1 << 15;
 
-/// How a text is cut into blocks. On one processor nothing is a block: no other thread would read it meanwhile.
+/// How the trace text is cut into blocks. On one processor nothing is a block: no other thread would read it meanwhile.
 fn block_sizes(rt: &impl Threads) -> BlockSizes {
     let least_read = match available_parallelism(rt) {
         Ok(processors) if processors.get() > 1 => LEAST_READ,
@@ -141,10 +142,10 @@ fn work_on_trace<
     }
 }
 
-/// What a scan with workers answers: the last line of the report, the totals over the channels, and each worker's share
+/// What a scan with workers returns: the last line of the report, the totals over the channels, and each worker's share
 /// of them.
 #[derive(Drop)]
-pub struct Scan<A: Allocator = Global> {
+pub struct ScanOutcome<A: Allocator = Global> {
     /// The report's last line.
     pub summary: Summary,
     /// The sums over all channels.
@@ -153,12 +154,12 @@ pub struct Scan<A: Allocator = Global> {
     pub shares: Vec<Totals, A>,
 }
 
-/// Reads a trace, and has 1 to 64 workers run its pieces while it is read, over a queue of 1 to 4,096 entries. After the
-/// whole text was accepted and all workers were joined, it writes what one observer finds that walks the trace packet by
-/// packet. Fails where no thread is made, and has then read nothing; by the first faulty line; where the source fails,
-/// and what it gave then shows no faulty line; where memory is refused, and all of that but at most the blocks in flight
-/// then shows none (`IsRefusal`); and where the sink fails, and the text then has no fault. The fault of a line is the
-/// text's however it goes on (`line_model::laws::fault`).
+/// Reads a trace, and has 1 to 64 workers run its pieces while it is read, over a queue of 1 to 4,096 entries. After
+/// the whole text was accepted and all workers were joined, it writes the report of one observer that walks the trace
+/// packet by packet. Fails where no thread is started, before anything is read; with the first faulty line; where the
+/// source fails, whose bytes then show no faulty line; when memory is refused, where all bytes except those of the
+/// blocks in flight show none (`IsRefusal`); and where the sink fails, where the text has no fault. The fault of a line
+/// is the text's whatever follows (`line_model::laws::fault`).
 pub fn scan_with<
     A: Allocator + Copy + Send + Sync,
     S: RoomSource,
@@ -173,7 +174,7 @@ pub fn scan_with<
     workers: usize,
     capacity: usize,
     gate: &G,
-) -> Result<Scan<A>, Fault>
+) -> Result<ScanOutcome<A>, Fault>
     requires workers { (0 < workers) × (workers ≤ 64) }
     requires capacity { (0 < capacity) × (capacity ≤ 4096) }
     // Of a text without a fault the sink took exactly the report of the one observer.
@@ -182,7 +183,7 @@ pub fn scan_with<
     // The totals are that observer's over the channels.
     ensures totals { (text : List ℕ) → S.left source.old ≡ Some text
         → IfOk result (λ scan. scan.totals ≡ trace_totals text) }
-    // So it is of some text with a source that does not tell its bytes.
+    // The same holds of some text for a source that hides its bytes.
     ensures of_text { IfOk result (λ scan. (text : List ℕ)
         × IsReported text (K.taken sink.old) (K.taken sink.new) scan.summary
         × (scan.totals ≡ trace_totals text)) }
@@ -191,8 +192,8 @@ pub fn scan_with<
     // Each piece's report is one that this gate made of it.
     ensures runs { (text : List ℕ) → S.left source.old ≡ Some text
         → OnOk result (AreRuns (G.ran gate.now) text) }
-    // A refusal is by the bytes that were given: by the first faulty line of all of them. Those before the last call of the
-    // source show none, except for at most those of the blocks in flight.
+    // A refusal is by the bytes that were read: by the first faulty line of all of them. Those before the last call of
+    // the source show none, except for at most those of the blocks in flight.
     ensures refused { (text : List ℕ) → S.left source.old ≡ Some text
         → IfErr result (IsRefusedBy in_flight (IsRefusal in_flight) text (S.left source.new)
         (S.before source.new)) }
@@ -204,9 +205,9 @@ pub fn scan_with<
     ensures unwritten { IfErr result (λ fault. fault ≢ Fault.Write → sink.new ≡ sink.old) }
     ensures taken { (text : List ℕ) → S.left source.old ≡ Some text
         → IfErr result (IsTaken (K.taken sink.old) (K.taken sink.new) (trace_report text)) }
-    // Whatever the source tells: where the sink failed, it took a first part of the report of a text without a fault.
+    // Whatever the source shows: where the sink failed, it took a first part of the report of a text without a fault.
     ensures part { result ≡ Err Fault.Write → IsPartTaken (K.taken sink.old) (K.taken sink.new) }
-    // No refusal of the merge but for want of memory.
+    // The merge fails only when memory is refused.
     ensures kinds { IfErr result IsWorkedFault }
     // A source that was not asked is as it was.
     ensures unasked { S.calls source.new ≡ S.calls source.old → source.new ≡ source.old }
@@ -232,7 +233,7 @@ pub fn scan_with<
         read.pieces,
     )?;
     write_report(&report, sink)?;
-    Ok(Scan {
+    Ok(ScanOutcome {
         summary: report.summary,
         totals,
         shares,

@@ -1,4 +1,4 @@
--- What a reader of lines stands for as it takes a chunk.
+-- What a reader of lines represents as it reads a chunk.
 use Rattle.std.proofs.Common.{◌≡◌, ◌∙◌, sym, ap, refl, subst, ◌+◌, ◌++◌, [], ◌∷◌, length, ℕ, arith, List, Option, Some, None, Err, append_assoc, append-nil, true, false, length-append}
 use Rattle.std.specs.Prelude.{is_some}
 use Rattle.line_model.specs.text.Text.{early, early_head, early_rows, size_kind}
@@ -8,33 +8,33 @@ use Rattle.line_model.specs.declared.interface.Interface.{Interface}
 use Rattle.line_model.specs.basics.Records.{Row}
 use Rattle.line_model.proofs.TextLemmas.{HasNoLf}
 use Rattle.trace_text.specs.Progress.{Progress, bytes_fed}
-use Rattle.trace_text.specs.StandsFor.{StandsFor, AreKnown, HasAppended, IsAppended, IsAtLine, IsFaultOf, IsHeadKept, ReadsChunk, TakesRow}
+use Rattle.trace_text.specs.Represents.{Represents, AreKnown, HasAppended, IsAppended, IsAtLine, IsFaultOf, IsHeadKept, ReadsChunk, TakesRow}
 use Rattle.trace_text.specs.Steps.{with_more, EndsLine}
 use Rattle.trace_text.proofs.FeedLemmas.{begun-stands, line-passes, line-row, line-size, line-stands, rows-begun}
 use Rattle.trace_text.proofs.Grows.{early_head_stays}
 use Rattle.trace_text.proofs.RefusalLemmas.{head_alike, head_stands, head_stopped, known-here, refused-appended}
 
--- after the bytes `fed` of the chunk, of which `rest` is left, the reader stands for the text with them, and their rows came to a list
+-- after the bytes `fed` of the chunk, of which `rest` is left, the reader represents the text with them, and their rows came to a list
 pub record Fed (before after : Progress) (rows more : List Row) (chunk rest : List ℕ) : Type 0 where
   pub fed : List ℕ
   pub whole : chunk ≡ fed ++ rest
-  pub stands : (text : List ℕ) → StandsFor before text → StandsFor after (text ++ fed)
-  pub appended : (text : List ℕ) → StandsFor before text → HasAppended rows more (early_rows text) (early_rows (text ++ fed))
+  pub stands : (text : List ℕ) → Represents before text → Represents after (text ++ fed)
+  pub appended : (text : List ℕ) → Represents before text → HasAppended rows more (early_rows text) (early_rows (text ++ fed))
   pub size : bytes_fed after ≡ bytes_fed before + length fed
 
 -- the same, whatever rows they have
 pub record Taken (before after : Progress) (chunk rest : List ℕ) : Type 0 where
   pub fed : List ℕ
   pub whole : chunk ≡ fed ++ rest
-  pub stands : (text : List ℕ) → StandsFor before text → StandsFor after (text ++ fed)
+  pub stands : (text : List ℕ) → Represents before text → Represents after (text ++ fed)
   pub size : bytes_fed after ≡ bytes_fed before + length fed
 
 -- the same, where no line that ended wrote a row
 pub record Passed (before after : Progress) (chunk rest : List ℕ) : Type 0 where
   pub fed : List ℕ
   pub whole : chunk ≡ fed ++ rest
-  pub stands : (text : List ℕ) → StandsFor before text → StandsFor after (text ++ fed)
-  pub rows : (text : List ℕ) → StandsFor before text → early_rows (text ++ fed) ≡ early_rows text
+  pub stands : (text : List ℕ) → Represents before text → Represents after (text ++ fed)
+  pub rows : (text : List ℕ) → Represents before text → early_rows (text ++ fed) ≡ early_rows text
   pub size : bytes_fed after ≡ bytes_fed before + length fed
 
 -- the chunk is what was fed and what is left
@@ -74,7 +74,7 @@ takes-row before after next row chunk rest front back p e h line = record {
 -- the rest of a chunk, without an LF
 pub reads-chunk : (before after u : Progress) (chunk rest : List ℕ) → Passed before after chunk rest → HasNoLf rest → u ≡ with_more after rest → size_kind after.start 0 (length after.begun + length rest) ≡ None → ReadsChunk before u chunk
 reads-chunk before after u chunk rest p h e k =
-    let stands = λ (text : List ℕ) (s : StandsFor before text). begun-stands after u (text ++ p.fed) rest e (p.stands text s) h k in
+    let stands = λ (text : List ℕ) (s : Represents before text). begun-stands after u (text ++ p.fed) rest e (p.stands text s) h k in
     record {
       stands = λ text s. rw (whole_chunk text p.fed rest chunk p.whole) at (stands text s);
       rows = λ text s. rw (whole_chunk text p.fed rest chunk p.whole) at (rows-begun u after (text ++ p.fed) rest (p.stands text s) (stands text s) h ∙ p.rows text s);
@@ -108,8 +108,8 @@ fed-more before after next rows more most row chunk rest back f t size grown = r
   size = omega (arith, f.size, size, ap (λ (xs : List ℕ). length xs) t.whole, length-append t.taken back, length-append f.fed t.taken);
 }
 
--- the last row was taken out of a chunk
-pub all-fed : (before after next : Progress) (rows more : List Row) (chunk rest : List ℕ) → Fed before after rows more chunk rest → ReadsChunk after next rest → (text : List ℕ) → StandsFor before text → HasAppended rows more (early_rows text) (early_rows (text ++ chunk))
+-- the last row was read from a chunk
+pub all-fed : (before after next : Progress) (rows more : List Row) (chunk rest : List ℕ) → Fed before after rows more chunk rest → ReadsChunk after next rest → (text : List ℕ) → Represents before text → HasAppended rows more (early_rows text) (early_rows (text ++ chunk))
 all-fed before after next rows more chunk rest f r text s =
     rw (whole_chunk text f.fed rest chunk f.whole)
     at (appended-on rows more more (early_rows text) (early_rows (text ++ f.fed)) (early_rows ((text ++ f.fed) ++ rest)) (f.appended text s)
@@ -120,13 +120,13 @@ taken_head : (o : Option Interface) (given more : List ℕ) → early given ≡ 
 taken_head (Some i) given more h e k = sym (early_head_stays given more i h e)
 taken_head None given more h e k = cc
 
-pub row-head : (before next : Progress) (chunk rest : List ℕ) (row : Row) → TakesRow before next chunk rest row → is_some next.interface ≡ true → (text : List ℕ) → StandsFor before text → next.interface ≡ early_head (text ++ chunk)
+pub row-head : (before next : Progress) (chunk rest : List ℕ) (row : Row) → TakesRow before next chunk rest row → is_some next.interface ≡ true → (text : List ℕ) → Represents before text → next.interface ≡ early_head (text ++ chunk)
 row-head before next chunk rest row t k text s =
     let after = t.stands text s in
     rw (whole_chunk text t.taken rest chunk t.whole) at (taken_head next.interface (text ++ t.taken) rest after.sound (sym (head_stands next (text ++ t.taken) after)) k)
 
 -- a refusal after some lines
-pub known-so-far : (before after : Progress) (chunk rest : List ℕ) (f : Fault) (p : Passed before after chunk rest) (text : List ℕ) → StandsFor before text → IsAtLine (after.ended + 1) f → IsFaultOf (early ((text ++ p.fed) ++ rest)) f →
+pub known-so-far : (before after : Progress) (chunk rest : List ℕ) (f : Fault) (p : Passed before after chunk rest) (text : List ℕ) → Represents before text → IsAtLine (after.ended + 1) f → IsFaultOf (early ((text ++ p.fed) ++ rest)) f →
     AreKnown (early_rows text) (early_rows (text ++ chunk)) f
 known-so-far before after chunk rest f p text s l h =
     subst (λ (xs : List ℕ). AreKnown (early_rows text) (early_rows xs) f) (whole_chunk text p.fed rest chunk p.whole)
@@ -135,25 +135,25 @@ known-so-far before after chunk rest f p text s l h =
 abbrev pub passed-taken : {before after : Progress} {chunk rest : List ℕ} → Passed before after chunk rest → Taken before after chunk rest
 passed-taken p = record { fed = p.fed; whole = p.whole; stands = p.stands; size = p.size }
 
-pub head-so-far : (T : Type 0) (before after : Progress) (chunk rest : List ℕ) (f : Fault) (kept : Option Interface) (p : Taken before after chunk rest) (text : List ℕ) → StandsFor before text → IsAtLine (after.ended + 1) f → IsFaultOf (early ((text ++ p.fed) ++ rest)) f →
+pub head-so-far : (T : Type 0) (before after : Progress) (chunk rest : List ℕ) (f : Fault) (kept : Option Interface) (p : Taken before after chunk rest) (text : List ℕ) → Represents before text → IsAtLine (after.ended + 1) f → IsFaultOf (early ((text ++ p.fed) ++ rest)) f →
     kept ≡ after.interface → IsHeadKept {T = T} (Err f) kept (early_head (text ++ chunk))
 head-so-far T before after chunk rest f kept p text s l h e =
     subst (λ (xs : List ℕ). IsHeadKept {T = T} (Err f) kept (early_head xs)) (whole_chunk text p.fed rest chunk p.whole)
     (head_stopped T after (text ++ p.fed) rest f kept (p.stands text s) l h e)
 
 -- a refusal after some rows
-pub fed-refused : (T : Type 0) (before after : Progress) (rows more : List Row) (chunk rest : List ℕ) (f : Fault) (fed : Fed before after rows more chunk rest) (text : List ℕ) → StandsFor before text →
+pub fed-refused : (T : Type 0) (before after : Progress) (rows more : List Row) (chunk rest : List ℕ) (f : Fault) (fed : Fed before after rows more chunk rest) (text : List ℕ) → Represents before text →
     AreKnown (early_rows (text ++ fed.fed)) (early_rows ((text ++ fed.fed) ++ rest)) f → IsAppended {T = T} (Err f) rows more (early_rows text) (early_rows (text ++ chunk))
 fed-refused T before after rows more chunk rest f fed text s k =
     subst (λ (xs : List ℕ). IsAppended {T = T} (Err f) rows more (early_rows text) (early_rows xs)) (whole_chunk text fed.fed rest chunk fed.whole)
     (refused-appended T f rows more (early_rows text) (early_rows (text ++ fed.fed)) (early_rows ((text ++ fed.fed) ++ rest)) (fed.appended text s) k)
 
-pub fed-no-memory : (T : Type 0) (before after : Progress) (rows more : List Row) (chunk rest : List ℕ) (fed : Fed before after rows more chunk rest) (text : List ℕ) → StandsFor before text →
+pub fed-no-memory : (T : Type 0) (before after : Progress) (rows more : List Row) (chunk rest : List ℕ) (fed : Fed before after rows more chunk rest) (text : List ℕ) → Represents before text →
     IsAppended {T = T} (Err Memory) rows more (early_rows text) (early_rows (text ++ chunk))
 fed-no-memory T before after rows more chunk rest fed text s =
     fed-refused T before after rows more chunk rest Memory fed text s (known-here after (text ++ fed.fed) rest Memory (fed.stands text s) tt tt)
 
-pub fed-head : (T U : Type 0) (before after : Progress) (rows more : List Row) (chunk rest : List ℕ) (f : Fault) (kept : Option Interface) (fed : Fed before after rows more chunk rest) (text : List ℕ) → StandsFor before text →
+pub fed-head : (T U : Type 0) (before after : Progress) (rows more : List Row) (chunk rest : List ℕ) (f : Fault) (kept : Option Interface) (fed : Fed before after rows more chunk rest) (text : List ℕ) → Represents before text →
     IsHeadKept {T = U} (Err f) kept (early_head ((text ++ fed.fed) ++ rest)) → IsHeadKept {T = T} (Err f) kept (early_head (text ++ chunk))
 fed-head T U before after rows more chunk rest f kept fed text s k =
     subst (λ (xs : List ℕ). IsHeadKept {T = T} (Err f) kept (early_head xs)) (whole_chunk text fed.fed rest chunk fed.whole) (head_alike T U f kept _ k)

@@ -11,7 +11,7 @@ use Rattle.line_model.proofs.LineLemmas.{size_kind-zero}
 use Rattle.line_model.proofs.TextLemmas.{HasNoLf, begun-lf, ended-lf, ended-more, size_kind-none, size_of-append, size_of-ended}
 use Rattle.trace_text.specs.EndedPart.{ended_part}
 use Rattle.trace_text.specs.Progress.{Progress}
-use Rattle.trace_text.specs.StandsFor.{StandsFor, EndsText}
+use Rattle.trace_text.specs.Represents.{Represents, EndsText}
 use Rattle.trace_text.proofs.EndLemmas.{end-header, end-missing, ends-empty, empty-rows, known-end, rows-all}
 use Rattle.trace_text.proofs.FeedLemmas.{early-none, no_fault, rows-sound, size-sound}
 
@@ -46,8 +46,8 @@ more_ended text (b ∷ more) h = subst (λ (xs : List ℕ). IsEnded xs (ended_pa
 pub ended-part : (text : List ℕ) → IsEnded text (ended_part text)
 ended-part text = more_ended [] text (record { lines = refl; begun = refl })
 
--- the reader without the line begun stands for it
-part-stands : (v : Progress) (text : List ℕ) → StandsFor v text → StandsFor (record v { begun = [] }) (ended_part text)
+-- the reader without the line begun represents it
+part-stands : (v : Progress) (text : List ℕ) → Represents v text → Represents (record v { begun = [] }) (ended_part text)
 part-stands v text s =
     let e = ended-part text in
     let same = sym e.lines in
@@ -63,24 +63,24 @@ part-stands v text s =
       running = s.running;
     }
 
-part-ends : (v : Progress) (text : List ℕ) → StandsFor v text → EndsText (record v { begun = [] }) v.ended (ended_part text)
+part-ends : (v : Progress) (text : List ℕ) → Represents v text → EndsText (record v { begun = [] }) v.ended (ended_part text)
 part-ends v text s = ends-empty (record v { begun = [] }) (ended_part text) (part-stands v text s) refl
 
-pub part-header : (v : Progress) (text : List ℕ) (interface : Interface) → StandsFor v text → v.interface ≡ Some interface → (fault (ended_part text) ≡ None) × (head (ended_part text) ≡ Some interface)
+pub part-header : (v : Progress) (text : List ℕ) (interface : Interface) → Represents v text → v.interface ≡ Some interface → (fault (ended_part text) ≡ None) × (head (ended_part text) ≡ Some interface)
 part-header v text interface s h = end-header (record v { begun = [] }) v.ended (ended_part text) interface (part-ends v text s) h
 
-pub part-missing : (v : Progress) (text : List ℕ) → StandsFor v text → v.interface ≡ None → fault (ended_part text) ≡ Some (v.ended + 1, HeaderMissing)
+pub part-missing : (v : Progress) (text : List ℕ) → Represents v text → v.interface ≡ None → fault (ended_part text) ≡ Some (v.ended + 1, HeaderMissing)
 part-missing v text s h = end-missing (record v { begun = [] }) v.ended (ended_part text) (part-ends v text s) h
 
-same_rows : (v : Progress) (text : List ℕ) → StandsFor v text → early_rows (ended_part text) ≡ early_rows text
+same_rows : (v : Progress) (text : List ℕ) → Represents v text → early_rows (ended_part text) ≡ early_rows text
 same_rows v text s =
     rows-sound (ended_part text) (part-stands v text s).sound ∙ ap rows_in (ended-part text).lines ∙ sym (rows-sound text s.sound)
 
-rows_at : (o : Option Interface) (v : Progress) (text : List ℕ) → v.interface ≡ o → StandsFor v text → rows (ended_part text) ≡ early_rows text
+rows_at : (o : Option Interface) (v : Progress) (text : List ℕ) → v.interface ≡ o → Represents v text → rows (ended_part text) ≡ early_rows text
 rows_at (Some i) v text h s =
     rows-all (ended_part text) (part-header v text i s h).0 ∙ empty-rows (record v { begun = [] }) (ended_part text) (part-stands v text s) refl ∙ append-nil (early_rows (ended_part text)) ∙ same_rows v text s
 rows_at None v text h s =
     known-end (ended_part text) (Trace (v.ended + 1) HeaderMissing) (part-stands v text s).sound (part-missing v text s h) ∙ same_rows v text s
 
-pub part-rows : (v : Progress) (text : List ℕ) → StandsFor v text → rows (ended_part text) ≡ early_rows text
+pub part-rows : (v : Progress) (text : List ℕ) → Represents v text → rows (ended_part text) ≡ early_rows text
 part-rows v text s = rows_at v.interface v text refl s

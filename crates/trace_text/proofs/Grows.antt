@@ -7,7 +7,7 @@ use Rattle.line_model.specs.text.RowLine.{row_of}
 use Rattle.line_model.specs.text.Text.{early, early_head, early_rows, ended_lines, good_lines, head_of, rows_in}
 use Rattle.line_model.proofs.LineLemmas.{no_content}
 use Rattle.trace_text.specs.Progress.{Progress}
-use Rattle.trace_text.specs.StandsFor.{StandsFor}
+use Rattle.trace_text.specs.Represents.{Represents}
 use Rattle.trace_text.proofs.FeedLemmas.{rows-sound}
 use Rattle.trace_text.proofs.RefusalLemmas.{head_grows}
 
@@ -27,7 +27,7 @@ early_head_stays given more i h e = by (head_grows given more h)
     by (inr same) = sym same ∙ here
 
 -- without a header there are no rows
-pub no_rows : (v : Progress) (text : List ℕ) → StandsFor v text → v.interface ≡ None → early_rows text ≡ []
+pub no_rows : (v : Progress) (text : List ℕ) → Represents v text → v.interface ≡ None → early_rows text ≡ []
 unfolding rows_in
 no_rows v text s none =
     rows-sound text s.sound ∙ ap (λ ls. filter_map row_of (drop 1 ls)) (no_content (ended_lines text) (sym s.header ∙ ap (λ (o : Option Interface). is_some o) none))

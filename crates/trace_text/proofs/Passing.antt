@@ -10,7 +10,7 @@ use Rattle.line_model.proofs.LineLemmas.{size_kind-zero}
 use Rattle.line_model.proofs.TextLemmas.{first_fault-append, size_kind-none, size_of-append, size_of-ended}
 use Rattle.trace_text.specs.Blocks.{HasPassed, IsBlock, IsHeading, IsSpanOf, first_number, is_between_lines, last_of, may_follow, may_pass}
 use Rattle.trace_text.specs.Progress.{Progress}
-use Rattle.trace_text.specs.StandsFor.{StandsFor}
+use Rattle.trace_text.specs.Represents.{Represents}
 use Rattle.trace_text.specs.declared.lines.block.BlockSpan.{BlockSpan}
 use Rattle.trace_text.proofs.BlockLemmas.{AreRows, Follows, WritesRow, are_rows, follows, rebased, seam, second_none}
 use Rattle.trace_text.proofs.FeedLemmas.{early-none, no_fault, rows-sound, size-sound}
@@ -44,7 +44,7 @@ is_read i heading block is sound =
     }
 
 -- what was read after a heading is a block
-pub ends_block : (i : Interface) (heading block : List ℕ) (reader : Progress) (span : BlockSpan) → IsHeading i heading → StandsFor reader (heading ++ block) → length reader.begun ≡ 0 → span.first ≡ first_number (early_rows (heading ++ block))
+pub ends_block : (i : Interface) (heading block : List ℕ) (reader : Progress) (span : BlockSpan) → IsHeading i heading → Represents reader (heading ++ block) → length reader.begun ≡ 0 → span.first ≡ first_number (early_rows (heading ++ block))
     → span.last ≡ reader.last → span.lines ≡ reader.ended - 2 → span.bytes ≡ reader.start - 200 → IsBlock i block (early_rows (heading ++ block)) × IsSpanOf block (early_rows (heading ++ block)) span
 ends_block i heading block reader span is s none first last lines bytes =
     let at = seam heading block is.whole in
@@ -64,7 +64,7 @@ abbrev last_after : ℕ → List Row → ℕ
 last_after last rows = last_or last (map (λ r. r.number) rows)
 
 -- the reader goes past a block
-passes : (i : Interface) (text block : List ℕ) (rows : List Row) (reader after : Progress) (span : BlockSpan) → may_pass reader span ≡ true → StandsFor reader text → reader.interface ≡ Some i → IsBlock i block rows → IsSpanOf block rows span
+passes : (i : Interface) (text block : List ℕ) (rows : List Row) (reader after : Progress) (span : BlockSpan) → may_pass reader span ≡ true → Represents reader text → reader.interface ≡ Some i → IsBlock i block rows → IsSpanOf block rows span
     → after ≡ record { ended = reader.ended + span.lines; start = reader.start + span.bytes; interface = reader.interface; last = last_after reader.last rows; begun = reader.begun; refused = reader.refused } → HasPassed reader after text block rows
 passes i text block rows reader after span may s headed is of e =
     let parts = both (is_between_lines reader) (may_follow reader.last span.first && (nat_le span.lines span.bytes && nat_le (reader.start + span.bytes) 1073741824)) may in
@@ -84,7 +84,7 @@ passes i text block rows reader after span may s headed is of e =
     let sound : early (text ++ block) ≡ None = early-none (text ++ block)
     (ap (first_fault []) at.lines ∙ first_fault-append [] (ended_lines text) (ended_lines block) ∙ ap (λ o. option_or o (first_fault (ended_lines text) (ended_lines block))) (no_fault text s.sound) ∙ f.sound)
     (rw (at.begun, is.whole) (size_kind-zero (size_of (ended_lines (text ++ block))) (omega (arith, all, ap size_of at.lines, size_of-append (ended_lines text) (ended_lines block))))) in
-    let stands : StandsFor (record { ended = reader.ended + span.lines; start = reader.start + span.bytes; interface = reader.interface; last = last_after reader.last rows; begun = reader.begun; refused = reader.refused }) (text ++ block) = record {
+    let stands : Represents (record { ended = reader.ended + span.lines; start = reader.start + span.bytes; interface = reader.interface; last = last_after reader.last rows; begun = reader.begun; refused = reader.refused }) (text ++ block) = record {
       ended = omega (arith, s.ended, of.lines, ap (λ (ls : List (List ℕ)). length ls) at.lines, length-append (ended_lines text) (ended_lines block));
       start = omega (arith, s.start, of.bytes, bytes, ap size_of at.lines, size_of-append (ended_lines text) (ended_lines block));
       interface = s.interface ∙ sym f.head ∙ ap head_of (sym at.lines);
@@ -105,7 +105,7 @@ last_first [] a b h = absurd (h refl)
 last_first (row ∷ rows) a b h = refl
 
 -- a block with rows
-pub passes_rows : (i : Interface) (text block : List ℕ) (rows : List Row) (reader after : Progress) (span : BlockSpan) → may_pass reader span ≡ true → StandsFor reader text → reader.interface ≡ Some i → IsBlock i block rows → IsSpanOf block rows span → (span.first ≡ 0 → ⊥)
+pub passes_rows : (i : Interface) (text block : List ℕ) (rows : List Row) (reader after : Progress) (span : BlockSpan) → may_pass reader span ≡ true → Represents reader text → reader.interface ≡ Some i → IsBlock i block rows → IsSpanOf block rows span → (span.first ≡ 0 → ⊥)
     → after ≡ record { ended = reader.ended + span.lines; start = reader.start + span.bytes; interface = reader.interface; last = span.last; begun = reader.begun; refused = reader.refused } → HasPassed reader after text block rows
 passes_rows i text block rows reader after span may s headed is of some e =
     let last : span.last ≡ last_after reader.last rows = of.last ∙ last_first rows 0 reader.last (λ none. some (of.first ∙ none)) in
@@ -121,7 +121,7 @@ are_none i (l ∷ ls) rows h none = by (λ k. are_none i ls rows k none) h.1
     by later (inr r) = let above = r.3 in absurd (omega (arith, above, ap first_number r.4, none))
 
 -- a block without
-pub passes_none : (i : Interface) (text block : List ℕ) (rows : List Row) (reader after : Progress) (span : BlockSpan) → may_pass reader span ≡ true → StandsFor reader text → reader.interface ≡ Some i → IsBlock i block rows → IsSpanOf block rows span → span.first ≡ 0
+pub passes_none : (i : Interface) (text block : List ℕ) (rows : List Row) (reader after : Progress) (span : BlockSpan) → may_pass reader span ≡ true → Represents reader text → reader.interface ≡ Some i → IsBlock i block rows → IsSpanOf block rows span → span.first ≡ 0
     → after ≡ record { ended = reader.ended + span.lines; start = reader.start + span.bytes; interface = reader.interface; last = reader.last; begun = reader.begun; refused = reader.refused } → HasPassed reader after text block rows
 passes_none i text block rows reader after span may s headed is of none e =
     let read = is_read i is.heading block is.is is.sound in

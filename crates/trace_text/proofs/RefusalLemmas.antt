@@ -1,6 +1,6 @@
--- The rows that were told where a text is refused: those of the lines before the faulty one.
+-- The rows that were returned where a text is refused: those of the lines before the faulty one.
 use Rattle.std.proofs.Common.{◌≡◌, ◌∙◌, sym, ap, refl, ℕ, ◌+◌, ◌-◌, ◌<◌, ◌≤◌, Bool, true, false, List, [], ◌∷◌, ◌++◌, length, Option, Some, None, Result, Ok, Err, take, drop, cond, ◌⊎◌, inl, inr, arith, append_assoc, append-nil, length-append}
-use Rattle.std.specs.Prelude.{not}
+use Rattle.std.specs.Prelude.{IfSome, not}
 use Rattle.std.specs.Option.{option_or, option_map}
 use Rattle.std.specs.List.{filter_map}
 use Rattle.std.proofs.lemmas.Bool.{eqb-true}
@@ -9,13 +9,14 @@ use Rattle.std.proofs.Math.Seq.{take-append_seam, take-append-add}
 use Rattle.line_model.specs.basics.Records.{Row}
 use Rattle.line_model.specs.declared.interface.Interface.{Interface}
 use Rattle.line_model.specs.text.RowLine.{row_of}
-use Rattle.line_model.specs.text.Text.{Line, is_lf, is_comment, content_of, early, early_head, early_rows, head_in, head_of, ended_lines, begun_line, first_fault, good_lines, line_kind, rows_in}
+use Rattle.line_model.specs.text.Text.{Line, is_lf, is_comment, content_of, early, early_head, early_rows, head, head_in, head_of, ended_lines, begun_line, first_fault, good_lines, line_kind, rows_in}
 use Rattle.line_model.specs.declared.fault.Kind.{Kind}
 use Rattle.line_model.specs.declared.fault.Fault.{Fault}
 use Rattle.line_model.specs.declared.fault.Fault.TheVariants.{Memory, Trace, Read, Write, Start, Double, Stranger, Missing}
 use Rattle.line_model.proofs.TextLemmas.{ended-lf, ended-more, first_fault-append}
+use Rattle.line_model.proofs.TextRows.{early_head_law}
 use Rattle.trace_text.specs.Progress.{Progress}
-use Rattle.trace_text.specs.StandsFor.{StandsFor, AreKnown, HasAppended, IsAppended, IsFaultOf, IsTold, IsHeadKept, IsAtLine}
+use Rattle.trace_text.specs.Represents.{Represents, AreKnown, HasAppended, IsAppended, IsFaultOf, AreAppended, IsHeadKept, IsAtLine}
 use Rattle.trace_text.proofs.FeedLemmas.{no_fault}
 
 -- a text that goes on has more lines
@@ -113,7 +114,7 @@ rows_stop text more line kind h e k =
     ∙ good_here kind line (ended_lines text) lines.0 e ∙ ap (λ at. rows_in (good_lines at (ended_lines text))) (sym h)
 
 -- at a refusal the rows of the lines before the faulty one are known
-pub known-here : (v : Progress) (text more : List ℕ) (f : Fault) → StandsFor v text → IsAtLine (v.ended + 1) f → IsFaultOf (early (text ++ more)) f → AreKnown (early_rows text) (early_rows (text ++ more)) f
+pub known-here : (v : Progress) (text more : List ℕ) (f : Fault) → Represents v text → IsAtLine (v.ended + 1) f → IsFaultOf (early (text ++ more)) f → AreKnown (early_rows text) (early_rows (text ++ more)) f
 known-here v text more Memory s l h = rows_grow text more s.sound
 known-here v text more (Trace line kind) s l h = rows_stop text more line kind s.sound (l ∙ ap (λ n. n + 1) s.ended) h
 known-here v text more Read s l h = absurd h
@@ -141,14 +142,14 @@ grown : (out out' first known known' : List Row) → HasAppended out out' known 
 grown out out' first known known' a e = a.out_has ∙ ap (λ xs. xs ++ a.more) e ∙ append_assoc first known a.more ∙ ap (λ xs. first ++ xs) (sym a.known_has)
 
 -- a list that holds all earlier rows holds them all
-pub told-of : {T : Type 0} (r : Result T Fault) (out out' first known known' : List Row) → IsAppended r out out' known known' → out ≡ first ++ known → IsTold r out' first known'
-told-of (Err Memory) out out' first known known' a e = (
+pub appended-of : {T : Type 0} (r : Result T Fault) (out out' first known known' : List Row) → IsAppended r out out' known known' → out ≡ first ++ known → AreAppended r out' first known'
+appended-of (Err Memory) out out' first known known' a e = (
   length (known ++ a.more),
   grown out out' first known (known ++ a.more) (record { more = a.more; out_has = a.out_has; known_has = refl }) e
       ∙ ap (λ xs. first ++ xs) (sym (ap (take (length (known ++ a.more))) a.known_has ∙ take-append_seam (known ++ a.more) a.rest)),
 )
-told-of (Ok x) out out' first known known' a e = grown out out' first known known' a e
-told-of (Err f) out out' first known known' a e = grown out out' first known known' a e
+appended-of (Ok x) out out' first known known' a e = grown out out' first known known' a e
+appended-of (Err f) out out' first known known' a e = grown out out' first known known' a e
 
 first_stays : (xs ys : List Line) → (head_in xs ≡ None) ⊎ (head_in xs ≡ head_in (xs ++ ys))
 first_stays [] ys = inl refl
@@ -181,7 +182,7 @@ head_stops text more line kind e k =
     sym (ap (λ at. head_of (good_lines at (ended_lines (text ++ more)))) k ∙ ap (λ ls. head_of (take (line - 1) ls)) lines.1 ∙ ap head_of here)
 
 -- at a refusal the interface is that of the lines before the faulty one
-pub head_stopped : (T : Type 0) (v : Progress) (text more : List ℕ) (f : Fault) (kept : Option Interface) → StandsFor v text → IsAtLine (v.ended + 1) f → IsFaultOf (early (text ++ more)) f → kept ≡ v.interface → IsHeadKept {T = T} (Err f) kept (early_head (text ++ more))
+pub head_stopped : (T : Type 0) (v : Progress) (text more : List ℕ) (f : Fault) (kept : Option Interface) → Represents v text → IsAtLine (v.ended + 1) f → IsFaultOf (early (text ++ more)) f → kept ≡ v.interface → IsHeadKept {T = T} (Err f) kept (early_head (text ++ more))
 head_stopped T v text more Memory kept s l h e = elim (head_grows text more s.sound) [
   | inl none ↦ inl (e ∙ s.interface ∙ none)
   | inr same ↦ inr (e ∙ s.interface ∙ same)
@@ -194,12 +195,23 @@ head_stopped T v text more (Double i) kept s l h e = absurd h
 head_stopped T v text more (Stranger i) kept s l h e = absurd h
 head_stopped T v text more (Missing i) kept s l h e = absurd h
 
--- what it stands for says the interface
-pub head_stands : (v : Progress) (text : List ℕ) → StandsFor v text → v.interface ≡ early_head text
+-- what it represents says the interface
+pub head_stands : (v : Progress) (text : List ℕ) → Represents v text → v.interface ≡ early_head text
 unfolding early_head
 head_stands v text s = s.interface ∙ ap (λ at. head_of (good_lines at (ended_lines text))) (sym s.sound)
 
--- whatever the call answers else
+some_same : {T : Type 0} (a b : T) → Some a ≡ Some b → a ≡ b
+some_same a b h = cc
+
+known_head : (o : Option Interface) (i : Interface) → ((j : Interface) → o ≡ Some j → Some j ≡ Some i) → IfSome o (λ j. j ≡ i)
+known_head None i h = tt
+known_head (Some j) i h = some_same j i (h j refl)
+
+-- the header that is known is that of the whole text
+pub whole_head : (lines : Progress) (text : List ℕ) (i : Interface) → Represents lines text → head text ≡ Some i → IfSome lines.interface (λ j. j ≡ i)
+whole_head lines text i s e = known_head lines.interface i (λ j h. sym (ap head (sym (append-nil text)) ∙ early_head_law text [] j (sym (head_stands lines text s) ∙ h)) ∙ e)
+
+-- whatever the call returns else
 pub head_alike : (T U : Type 0) (f : Fault) (kept head : Option Interface) → IsHeadKept {T = U} (Err f) kept head → IsHeadKept {T = T} (Err f) kept head
 head_alike T U Memory kept head h = h
 head_alike T U (Trace line kind) kept head h = h
@@ -211,5 +223,5 @@ head_alike T U (Stranger i) kept head h = h
 head_alike T U (Missing i) kept head h = h
 
 -- it refused nothing
-pub is-running : (v : Progress) (text : List ℕ) (f : Fault) → StandsFor v text → v.refused ≡ Some f → ⊥
+pub is-running : (v : Progress) (text : List ℕ) (f : Fault) → Represents v text → v.refused ≡ Some f → ⊥
 is-running v text f s h = let none : None ≡ Some f = sym s.running ∙ h in cc

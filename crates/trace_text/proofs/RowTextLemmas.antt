@@ -22,7 +22,7 @@ use Rattle.trace_text.specs.Cuts.{Lacks}
 use Rattle.trace_text.specs.Progress.{Progress}
 use Rattle.trace_text.specs.Reads.{BeginsLine, BeginsRow}
 use Rattle.trace_text.specs.RowTexts.{octets_word, row_text, side_letter}
-use Rattle.trace_text.specs.StandsFor.{TakesRow}
+use Rattle.trace_text.specs.Represents.{TakesRow}
 use Rattle.trace_text.specs.Steps.{TakesLine, after_line}
 use Rattle.trace_text.proofs.ChunkLemmas.{passed-none, takes-row}
 use Rattle.trace_text.proofs.NumberLemmas.{number_is}

@@ -16,12 +16,12 @@ pub record Reached (left after : Option (List ℕ)) (was_fed : List ℕ → Type
   pub source : IsGiven left after text
 
 pub begun : (left : Option (List ℕ)) (was_fed : List ℕ → Type 0) → was_fed [] → Reached left left was_fed
-begun left was_fed fed = record { text = []; fed = fed; source = λ text told. (text, refl, told) }
+begun left was_fed fed = record { text = []; fed = fed; source = λ text shown. (text, refl, shown) }
 
 pub given_more : (left after next : Option (List ℕ)) (given bytes : List ℕ) → IsGiven left after given → Gives after next bytes → IsGiven left next (given ++ bytes)
-given_more left after next given bytes source gives text told =
-    let before = source text told in
-    let more = gives.told before.0 before.2 in
+given_more left after next given bytes source gives text shown =
+    let before = source text shown in
+    let more = gives.shown before.0 before.2 in
     (more.0, before.1 ∙ ap (λ xs. given ++ xs) more.2 ∙ sym (append_assoc given bytes more.0), more.1)
 
 pub begins_so : (left after : Option (List ℕ)) (given : List ℕ) → IsGiven left after given → BeginsSo left given
@@ -34,10 +34,10 @@ all_read lag left after next asked was_fed bytes r sound gives same none = recor
   text = r.text;
   fed = r.fed;
   sound = sound;
-  source = λ text told.
-      let before = r.source text told in
+  source = λ text shown.
+      let before = r.source text shown in
       let rest = gives.end before.0 before.2 none in
-      let more = gives.told before.0 before.2 in (
+      let more = gives.shown before.0 before.2 in (
         before.1 ∙ ap (λ xs. r.text ++ xs) rest ∙ append-nil r.text,
         more.1 ∙ ap (λ xs. Some xs) (sym (ap (λ xs. xs ++ more.0) none) ∙ sym more.2 ∙ rest),
         same ∙ before.2 ∙ ap (λ xs. Some xs) rest,
@@ -45,9 +45,9 @@ all_read lag left after next asked was_fed bytes r sound gives same none = recor
 }
 
 -- what the last call gave was refused
-pub refused_at : (lag : ℕ) (left after next asked : Option (List ℕ)) (had_fed was_fed : List ℕ → Type 0) (refused : (fed last : List ℕ) → Fault → Type 0) (told : Fault) (last : List ℕ) → (r : Reached left after had_fed) → NoneDecidedButLast lag r.text → Gives after next last → asked ≡ after → length last ≤ 2 ^ 16
-    → refused r.text last told → IsFedUpTo lag left next asked was_fed refused told
-refused_at lag left after next asked had_fed was_fed refused told last r sound gives same few why = record {
+pub refused_at : (lag : ℕ) (left after next asked : Option (List ℕ)) (had_fed was_fed : List ℕ → Type 0) (refused : (fed last : List ℕ) → Fault → Type 0) (shown : Fault) (last : List ℕ) → (r : Reached left after had_fed) → NoneDecidedButLast lag r.text → Gives after next last → asked ≡ after → length last ≤ 2 ^ 16
+    → refused r.text last shown → IsFedUpTo lag left next asked was_fed refused shown
+refused_at lag left after next asked had_fed was_fed refused shown last r sound gives same few why = record {
   fed = r.text;
   last = last;
   few = few;
@@ -75,17 +75,17 @@ few_bytes x sound = omega (arith, (size_kind-none (size_of (ended_lines x)) 0 (l
 
 -- what was given before the last call shows no faulty line
 none_decided : (lag : ℕ) (left asked : Option (List ℕ)) (fed text : List ℕ) → IsGiven left asked fed → NoneDecidedButLast lag fed → left ≡ Some text → NoneDecided lag text asked
-none_decided lag left asked fed text source sound told = let g = source text told in record { before = fed; last = g.0; whole = g.1; left = g.2; sound = sound }
+none_decided lag left asked fed text source sound shown = let g = source text shown in record { before = fed; last = g.0; whole = g.1; left = g.2; sound = sound }
 
 -- so it is where the last call gave nothing
 pub all_sound : (lag : ℕ) (left after asked : Option (List ℕ)) (was_fed : List ℕ → Type 0) (text : List ℕ) → IsFedAll lag left after asked was_fed → left ≡ Some text → NoneDecided lag text asked
-all_sound lag left after asked was_fed text w told =
-    let all = w.source text told in
+all_sound lag left after asked was_fed text w shown =
+    let all = w.source text shown in
     record { before = w.text; last = []; whole = all.0 ∙ sym (append-nil w.text); left = all.2; sound = w.sound }
 
 -- and where what it gave was refused, or it failed
-pub sound_before : (lag : ℕ) (left after asked : Option (List ℕ)) (was_fed : List ℕ → Type 0) (refused : (fed last : List ℕ) → Fault → Type 0) (told : Fault) (text : List ℕ) → IsFedUpTo lag left after asked was_fed refused told → left ≡ Some text → NoneDecided lag text asked
-sound_before lag left after asked was_fed refused told text u e = none_decided lag left asked u.fed text u.before u.sound e
+pub sound_before : (lag : ℕ) (left after asked : Option (List ℕ)) (was_fed : List ℕ → Type 0) (refused : (fed last : List ℕ) → Fault → Type 0) (shown : Fault) (text : List ℕ) → IsFedUpTo lag left after asked was_fed refused shown → left ≡ Some text → NoneDecided lag text asked
+sound_before lag left after asked was_fed refused shown text u e = none_decided lag left asked u.fed text u.before u.sound e
 
 -- ---- a fault that a `?` passes on
 

@@ -5,7 +5,7 @@ use Rattle.line_model.specs.text.Text.{Line, begun_line, content_of, early, earl
 use Rattle.line_model.specs.basics.Records.{Row}
 use Rattle.line_model.specs.declared.interface.Interface.{Interface}
 use Rattle.trace_text.specs.Progress.{Progress}
-use Rattle.trace_text.specs.StandsFor.{StandsFor}
+use Rattle.trace_text.specs.Represents.{Represents}
 use Rattle.trace_text.specs.declared.lines.block.BlockSpan.{BlockSpan}
 
 -- a text that has a header of this interface and no row: what a block is read after, in two lines and 200 bytes
@@ -22,7 +22,7 @@ pub record IsHeading (i : Interface) (heading : List ℕ) : Type 0 where
 pub record IsAtRows (i : Interface) (reader : Progress) : Type 0 where
   pub heading : List ℕ
   pub is : IsHeading i heading
-  pub stands : StandsFor reader heading
+  pub stands : Represents reader heading
 
 -- the number of the first of some rows, or 0
 abbrev pub first_number : List Row → ℕ
@@ -56,12 +56,12 @@ may_follow last first = (first == 0) || nat_lt last first
 abbrev pub is_between_lines : Progress → Bool
 is_between_lines reader = is_some reader.interface && ((length reader.begun == 0) && is_none reader.refused)
 
--- whether a reader may go past a block: it is between lines, the numbers rise, and the text has room
+-- whether a reader may pass a block: it is between lines, the numbers rise, and the text has room
 abbrev pub may_pass : Progress → BlockSpan → Bool
 may_pass reader span = is_between_lines reader && (may_follow reader.last span.first && (nat_le span.lines span.bytes && nat_le (reader.start + span.bytes) (2 ^ 30)))
 
--- a reader went past a block: it stands for the text with it, which has its rows more
+-- a reader passed a block: it represents the text with the block, which has the rows of the block more
 pub record HasPassed (before after : Progress) (text block : List ℕ) (rows : List Row) : Type 0 where
-  pub stands : StandsFor after (text ++ block)
+  pub stands : Represents after (text ++ block)
   pub interface : after.interface ≡ before.interface
   pub rows_are : early_rows (text ++ block) ≡ early_rows text ++ rows

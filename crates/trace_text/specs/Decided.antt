@@ -1,8 +1,8 @@
--- What the bytes decide that a source gave.
+-- What the bytes that a source gave decide.
 use Rattle.std.specs.Prelude.{◌≡◌, ℕ, ◌≤◌, List, ◌++◌, length, None}
 use Rattle.line_model.specs.text.Text.{early}
 
--- the bytes that were given, except for at most so many of the last ones, decide no faulty line
+-- the bytes that were given, except for at most `most` of the last ones, decide no faulty line
 pub record NoneDecidedButLast (most : ℕ) (given : List ℕ) : Type 0 where
   pub before : List ℕ
   pub last : List ℕ

@@ -1,4 +1,4 @@
--- What an observer of a trace answers: what its rows found, and its report.
+-- What an observer of a trace returns: what its rows found, and its report.
 use Rattle.std.specs.Prelude.{◌≡◌, ℕ, List, [], Some, None}
 use Rattle.line_model.specs.basics.Records.{Report}
 use Rattle.line_model.specs.observer.Report.{report_of}

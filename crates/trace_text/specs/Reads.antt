@@ -34,12 +34,12 @@ ReadsAs after_header last line Comment row = is_comment line ≡ true
 ReadsAs after_header last line (Header interface) row = (is_comment line ≡ false) × (after_header ≡ false) × (interface_of line ≡ Some interface)
 ReadsAs after_header last line Packet row = (is_comment line ≡ false) × (after_header ≡ true) × (row_of line ≡ Some row)
 
--- the rule that a line breaks, or want of memory
+-- the rule that a line breaks, or refused memory
 abbrev pub Breaks : Option Kind → LineFault → Type 0
 Breaks kind Memory = Unit {0}
 Breaks kind (Broken k) = kind ≡ Some k
 
--- a line begins as a row's: a number above the last one, a side, and what follows the space behind it
+-- a line begins as a row's: a number above the last one, a side, and what follows the space after it
 pub record BeginsRow (last : ℕ) (line : List ℕ) (number : ℕ) (side : Side) (rest : List ℕ) : Type 0 where
   pub word : List ℕ
   pub letter : ℕ

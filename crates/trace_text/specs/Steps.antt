@@ -12,7 +12,7 @@ use Rattle.trace_text.specs.Reads.{ReadsAs}
 use Rattle.trace_text.specs.declared.content.Content.{Content}
 use Rattle.trace_text.specs.declared.content.Content.TheVariants.{Comment, Header, Packet}
 
--- the fault tells this rule at this line, or want of memory
+-- the fault has this rule at this line, or is refused memory
 abbrev pub RefusedBy : Option Kind → ℕ → Fault → Type 0
 RefusedBy kind line Memory = Unit {0}
 RefusedBy kind line (Trace l k) = (l ≡ line) × (kind ≡ Some k)
@@ -40,7 +40,7 @@ after_content Comment number v = v
 after_content (Header interface) number v = record v { interface = Some interface }
 after_content Packet number v = record v { last = number }
 
--- the next line begins, after one of so many bytes and its LF
+-- the next line begins, after one of `len` bytes and its LF
 abbrev pub after_line : ℕ → Progress → Progress
 after_line len v = record v { ended = v.ended + 1; start = v.start + len + 1; begun = [] }
 
@@ -54,7 +54,7 @@ pub record EndsLine (before after : Progress) (row : Row) (is_row : Bool) : Type
   pub sound : ended_kind 1 before ≡ None
   pub reads : ReadsAs (is_some before.interface) before.last before.begun content row
   pub reader : after ≡ after_line (length before.begun) (after_content content row.number before)
-  pub told : is_row ≡ is_packet content
+  pub is_packet_row : is_row ≡ is_packet content
 
 -- a chunk begins with the rest of the line begun, which its LF ends, and which writes this row
 pub record TakesLine (before after : Progress) (chunk rest : List ℕ) (row : Row) : Type 0 where

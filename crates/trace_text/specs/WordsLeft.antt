@@ -1,4 +1,4 @@
--- The words that are still to come.
+-- The words that are left.
 use Rattle.std.specs.Prelude.{ℕ, List, [], Option, None, Some}
 use Rattle.std.specs.Borrow.{Bor}
 use Rattle.line_model.specs.text.Header.{words_of}

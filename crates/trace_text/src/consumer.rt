@@ -1,4 +1,4 @@
-//! A source that is read to its end, and what takes its bytes.
+//! A source that is read to its end, and the trait of what reads its bytes.
 
 ghost use Rattle.std.specs.Prelude.{◌≡◌, ℕ, ◌+◌, ◌<◌, ◌≤◌, ◌^◌, [], Err, IfErr, OnOk};
 ghost use Rattle.trace_text.specs.Sources.{IsFedAll, IsFedUpTo, MayBeFed};
@@ -6,13 +6,13 @@ ghost use Rattle.trace_text.specs.Sources.{IsFedAll, IsFedUpTo, MayBeFed};
 use line_model::device::Source;
 use line_model::fault::Fault;
 
-/// What takes a text, chunk by chunk, and puts what it makes of it into an `O`.
+/// Reads an input chunk by chunk, and puts what it makes of it into an `O`.
 pub trait Consumer<O> {
     ghost use Rattle.std.specs.Prelude.{◌≡◌, ◌≢◌, ℕ, ◌++◌, ◌≤◌, ◌^◌, List, IfErr, OnOk, length};
     ghost use Rattle.trace_text.specs.Decided.{NoneDecidedButLast};
     ghost use Rattle.line_model.specs.declared.fault.Fault.{Fault as AnyFault};
 
-    /// Since it and its `O` were the first two, it was fed this text, and refused none of it.
+    /// From the first state of it and of its `O` to the second, it was fed this text, and refused none of it.
     ghost was_fed: { Self → O → Self → O → List ℕ → Type 0 };
 
     /// After it was fed this text it refused this chunk.
@@ -21,13 +21,13 @@ pub trait Consumer<O> {
     /// A text that begins so may be fed.
     ghost expects: { List ℕ → Type 0 };
 
-    /// No more of the last bytes that it was fed may show a faulty line.
+    /// At most this many of the last bytes that it was fed may show a faulty line.
     ghost lag: { ℕ };
 
     /// How many bytes it was fed.
     ghost size: { Self → ℕ };
 
-    /// Takes the next chunk of the text.
+    /// Reads the next chunk of the text. Fails with what it refuses, and never with `Read`.
     fn feed(&mut self, chunk: &[u8], out: &mut O) -> Result<(), Fault>
         requires fed { (first : Self) × (start : O) × (text : List ℕ)
             × was_fed first start self.old out.old text × expects (text ++ chunk.now) }
@@ -47,13 +47,13 @@ pub trait Consumer<O> {
     ghost sized: { (first : Self) (start : O) (now : Self) (out : O) (text : List ℕ)
         → was_fed first start now out text → size now ≡ length text };
 
-    /// It is fed no more than a text may have.
+    /// It is fed at most the bytes that a text may have.
     ghost few: { (first : Self) (start : O) (now : Self) (out : O) (text : List ℕ)
         → was_fed first start now out text → length text ≤ 2 ^ 30 };
 }
 
-/// Feeds all that a source gives, each read before the next. It stops at the first refusal, and with `Fault::Read` where
-/// the source fails.
+/// Feeds all bytes that a source gives, read by read. Fails with the first refusal of the consumer, and with
+/// `Fault::Read` where the source fails.
 pub fn read_to_end<O, T: Consumer<O>, S: Source>(
     source: &mut S,
     consumer: &mut T,
@@ -63,7 +63,7 @@ pub fn read_to_end<O, T: Consumer<O>, S: Source>(
     requires expected { MayBeFed (S.left source.old) T.expects }
     ensures whole { OnOk result (IsFedAll T.lag (S.left source.old) (S.left source.new)
         (S.before source.new) (T.was_fed consumer.old out.old consumer.new out.new)) }
-    // At a refusal all was fed that the source gave before its last call.
+    // At a refusal, all bytes that the source gave before its last call were fed.
     ensures stopped { IfErr result (IsFedUpTo T.lag (S.left source.old) (S.left source.new)
         (S.before source.new) (T.was_fed consumer.old out.old consumer.new out.new)
         (T.refused consumer.old out.old consumer.new out.new)) }

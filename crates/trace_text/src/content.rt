@@ -18,7 +18,7 @@ pub enum Content {
 /// Why a line was not read.
 #[derive(Clone, Copy)]
 pub enum LineFault {
-    /// Want of memory.
+    /// Memory was refused.
     Memory,
     /// The line is faulty.
     Broken(Kind),

@@ -13,7 +13,7 @@ use line_model::fault::Kind;
 use line_model::interface::Interface;
 use std::marker::Model;
 
-/// What a header says.
+/// The numbers and flags of a header.
 #[derive(Drop)]
 struct Numbers {
     modulus: u32,
@@ -35,7 +35,7 @@ impl Model for Numbers {
     ghost view = { λ n. record { modulus = n.modulus; window = n.window; size = n.size; pvc = n.pvc; incoming = n.incoming; two_way = n.two_way; svc = n.svc; join = n.join; gaps = n.gaps } };
 }
 
-/// What all forms of a header say first.
+/// The numbers that all forms of a header begin with.
 #[derive(Drop)]
 struct Defaults {
     modulus: u32,
@@ -52,7 +52,7 @@ impl Model for Defaults {
     ghost view = { λ d. record { modulus = d.modulus; window = d.window; size = d.size; pvc = d.pvc } };
 }
 
-/// The number behind the next word, which must be this name.
+/// Removes the next word, which must be this name, and returns the number after it.
 fn next_number(words: &mut Words<'_>, name: &[u8]) -> Option<u32>
     ensures { MatchOption result (named name.now words.old ≡ None) (λ n. named name.now words.old
         ≡ Some (n, words.new)) }
@@ -65,7 +65,7 @@ fn next_number(words: &mut Words<'_>, name: &[u8]) -> Option<u32>
     read_number(number)
 }
 
-/// What all forms say first.
+/// Removes and returns the numbers that all forms begin with.
 fn next_defaults(words: &mut Words<'_>) -> Option<Defaults>
     ensures { MatchOption result (defaults_in words.old ≡ None) (λ d. defaults_in words.old
         ≡ Some (d, words.new)) }
@@ -82,7 +82,7 @@ fn next_defaults(words: &mut Words<'_>) -> Option<Defaults>
     })
 }
 
-/// Whether JOIN alone is left, or nothing.
+/// Returns whether JOIN alone is left, or nothing; `None` where something else is.
 fn read_join(words: &mut Words<'_>) -> Option<bool>
     ensures { result ≡ join_in words.old }
 {
@@ -95,7 +95,7 @@ fn read_join(words: &mut Words<'_>) -> Option<bool>
     }
 }
 
-/// The first form of a header, behind its version.
+/// Reads the first form of a header, after its version.
 fn read_first(words: &mut Words<'_>) -> Option<Numbers>
     ensures { result ≡ first_form words.old }
 {
@@ -122,7 +122,7 @@ fn read_first(words: &mut Words<'_>) -> Option<Numbers>
     }
 }
 
-/// The second form of a header, and the third where gaps are rows, behind their versions.
+/// Reads the second form of a header, or the third where gaps are rows, after the version.
 fn read_second(words: &mut Words<'_>, gaps: bool) -> Option<Numbers>
     ensures { result ≡ second_form gaps words.old }
 {
@@ -187,7 +187,7 @@ fn has_channels(pvc: u32, incoming: u32, two_way: u32, svc: u32) -> bool
     1 <= svc && svc <= 4095 && pvc <= incoming && incoming <= two_way && two_way <= svc
 }
 
-/// The interface that the numbers set up, if they keep the rules.
+/// Returns the interface of these numbers, if they keep the rules.
 fn interface_with_numbers(numbers: Numbers) -> Option<Interface>
     ensures { result ≡ interface_with numbers }
 {
@@ -221,7 +221,7 @@ fn interface_with_numbers(numbers: Numbers) -> Option<Interface>
     })
 }
 
-/// The interface that a header line sets up, or the rule that it breaks.
+/// Returns the interface of a header line, or the rule that it breaks (profile).
 #[tactic(auto, unfolding(line_model::specs::text::Text::header_kind, line_model::specs::text::Header::interface_of))]
 pub fn read_header(line: &[u8]) -> Result<Interface, Kind>
     ensures { MatchResult result (λ interface. (header_kind line.now ≡ None)

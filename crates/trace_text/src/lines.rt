@@ -22,7 +22,7 @@ pub const TEXT_LIMIT: u32 = 1 << 30;
 /// The bytes that a line may have without its LF.
 pub const LINE_LIMIT: usize = 8500;
 
-/// The last place where a line of so many bytes may begin.
+/// The last place where a line of `LINE_LIMIT` bytes may begin.
 const LAST_START: u32 = TEXT_LIMIT - LINE_LIMIT as u32 - 1;
 
 /// A reader of a trace text, which is fed in chunks.
@@ -32,9 +32,9 @@ const LAST_START: u32 = TEXT_LIMIT - LINE_LIMIT as u32 - 1;
 ///               `------ ended, start ----------'`begun-'
 /// ```
 ///
-/// Of the lines that an LF has ended it keeps what they say: the interface and the last number; of the line that has
-/// not ended the bytes, at most 8,500. After a refusal it answers the same fault from then on. No line of a text that it
-/// stands for is known to be faulty, so want of memory hides no faulty line of an earlier chunk.
+/// Of the lines that an LF has ended it keeps the interface and the last number; of the line that has not ended it
+/// keeps the bytes, at most 8,500. After a refusal it always returns the same fault. No line of a text that it
+/// represents is known to be faulty, so refused memory hides no faulty line of an earlier chunk.
 #[derive(Drop)]
 pub struct Lines<A: Allocator> {
     /// The lines that an LF has ended.
@@ -44,7 +44,7 @@ pub struct Lines<A: Allocator> {
     interface: Option<Interface>,
     /// The number of the last row, or 0.
     last: u32,
-    /// What stands after the last LF.
+    /// The bytes after the last LF.
     begun: Vec<u8, A>,
     refused: Option<Fault>,
 }
@@ -52,7 +52,7 @@ pub struct Lines<A: Allocator> {
 impl<A: Allocator> Model for Lines<A> {
     ghost use Rattle.std.specs.Prelude.{◌≤◌, ◌<◌, ◌+◌, ◌^◌, length, IfSome};
     ghost use Rattle.trace_text.specs.Progress.{Progress};
-    ghost use Rattle.trace_text.specs.StandsFor.{IsTextFault};
+    ghost use Rattle.trace_text.specs.Represents.{IsTextFault};
 
     ghost Value = { Progress };
 
@@ -64,13 +64,13 @@ impl<A: Allocator> Model for Lines<A> {
 /// How a text without a fault ends.
 #[derive(Clone, Copy)]
 pub struct TextEnd {
-    /// What the header says.
+    /// The interface of the header.
     pub interface: Interface,
     /// Whether a last line that no LF ended writes a row.
     pub has_row: bool,
 }
 
-/// A row to put others in. It takes no memory.
+/// Returns a row for others to be read into. It needs no memory.
 fn blank_row<A: Allocator + Clone>(alloc: &A) -> Result<ReadRow<A>, AllocError> {
     Ok(ReadRow {
         number: 0,
@@ -103,7 +103,7 @@ fn drop_unread<A: Allocator>(row: &mut ReadRow<A>, whole: bool)
     }
 }
 
-/// The rule on sizes that a line of so many bytes breaks, after `start` bytes; `lf` is 1 where an LF ends it.
+/// Returns the rule on sizes that a line of `len` bytes breaks, after `start` bytes; `lf` is 1 where an LF ends it.
 #[tactic(auto, unfolding(line_model::specs::text::Text::size_kind))]
 fn size_fault(start: u32, lf: usize, len: usize) -> Option<Kind>
     requires start { start ≤ 2 ^ 30 }
@@ -124,7 +124,7 @@ impl<A: Allocator> Lines<A> {
     ghost use Rattle.std.specs.Prelude.{◌≡◌, ℕ, true, ◌+◌, ◌<◌, ◌^◌, ◌++◌, [], List, Some, None, Err, OnOk, OnErr, IfErr, IfOk, IfSome, MatchOption, length, is_some, ◌≤◌};
     ghost use Rattle.line_model.specs.text.Text.{early, early_head, early_rows, ended_lines as lines_ended, fault, head, lines_of, rows as rows_of_text, rows_in};
     ghost use Rattle.trace_text.specs.Progress.{Progress, bytes_fed};
-    ghost use Rattle.trace_text.specs.StandsFor.{StandsFor, IsFaultOf, IsHeadKept, IsTextFault, EndsText, AreKnown, ReadsChunk, TakesRow, last_row};
+    ghost use Rattle.trace_text.specs.Represents.{Represents, IsFaultOf, IsHeadKept, IsTextFault, EndsText, AreKnown, ReadsChunk, TakesRow, last_row};
     ghost use Rattle.trace_text.specs.EndedPart.{ended_part};
     ghost use Rattle.line_model.specs.declared.fault.Fault.{Fault};
     ghost use Rattle.line_model.specs.declared.fault.Fault.TheVariants.{Trace};
@@ -134,9 +134,9 @@ impl<A: Allocator> Lines<A> {
     ghost use Rattle.line_model.specs.basics.Records as records;
     ghost use Rattle.line_model.specs.packets.Says.{read_row};
 
-    /// A reader that was fed nothing. It takes no memory.
+    /// Returns a reader that was fed nothing. It needs no memory.
     pub fn new(alloc: A) -> Self
-        ensures { StandsFor result [] }
+        ensures { Represents result [] }
     {
         Lines {
             ended: 0,
@@ -148,41 +148,42 @@ impl<A: Allocator> Lines<A> {
         }
     }
 
-    /// What the header says, once an LF has ended it.
+    /// Returns the interface of the header, once an LF has ended the header.
     pub fn interface(&self) -> Option<Interface>
-        ensures head { (text : List ℕ) → StandsFor self.now text → result ≡ early_head text }
+        ensures head { (text : List ℕ) → Represents self.now text → result ≡ early_head text }
         ensures kept { result ≡ self.now.interface }
     {
         self.interface
     }
 
-    /// How many lines an LF has ended.
+    /// Returns how many lines an LF has ended.
     pub fn ended_lines(&self) -> u32
-        ensures lines { (text : List ℕ) → StandsFor self.now text
+        ensures lines { (text : List ℕ) → Represents self.now text
             → result ≡ length (lines_ended text) }
         ensures kept { result ≡ self.now.ended }
     {
         self.ended
     }
 
-    /// How many bytes it was fed.
+    /// Returns how many bytes it was fed.
     pub fn bytes(&self) -> u32
         ensures { result ≡ bytes_fed self.now }
     {
         self.start + self.begun.len() as u32
     }
 
-    /// What the text says up to its last LF, if it ended there: its header, or that it has none.
+    /// Returns the header of the text up to its last LF, as if it ended there. Fails with `HeaderMissing` where it has
+    /// none, and after a refusal with the same fault.
     pub fn ended_header(&self) -> Result<Interface, Fault>
-        ensures ok { (text : List ℕ) → StandsFor self.now text
+        ensures ok { (text : List ℕ) → Represents self.now text
             → IfOk result (λ interface. (fault (ended_part text) ≡ None)
             × (head (ended_part text) ≡ Some interface)) }
-        ensures refused { (text : List ℕ) → StandsFor self.now text
+        ensures refused { (text : List ℕ) → Represents self.now text
             → IfErr result (IsFaultOf (fault (ended_part text))) }
-        ensures missing { (text : List ℕ) → StandsFor self.now text
+        ensures missing { (text : List ℕ) → Represents self.now text
             → IfErr result (λ f. f ≡ Trace (length (lines_ended text) + 1) HeaderMissing) }
-        // The rows that were told are those of that text.
-        ensures rows { (text : List ℕ) → StandsFor self.now text
+        // The rows that were returned are those of that text.
+        ensures rows { (text : List ℕ) → Represents self.now text
             → rows_of_text (ended_part text) ≡ early_rows text }
         ensures again { (fault : Fault) → self.now.refused ≡ Some fault → result ≡ Err fault }
     {
@@ -195,7 +196,7 @@ impl<A: Allocator> Lines<A> {
         }
     }
 
-    /// Takes bytes without an LF.
+    /// Reads bytes without an LF.
     fn begin(&mut self, more: &[u8]) -> Result<(), Fault>
         ensures ok { OnOk result (self.new ≡ with_more self.old more.now) }
         ensures sound { OnOk result (size_kind self.old.start 0
@@ -234,10 +235,10 @@ impl<A: Allocator> Lines<A> {
         }
     }
 
-    /// Keeps what a line says, and tells whether it is a row, which then has this number.
+    /// Records what a line says, and returns whether it is a row, whose number then is this.
     fn keep(&mut self, content: Content, number: u32) -> bool
         ensures reader { self.new ≡ after_content content number self.old }
-        ensures told { result ≡ is_packet content }
+        ensures is_packet_row { result ≡ is_packet content }
     {
         match content {
             Content::Comment => false,
@@ -252,7 +253,7 @@ impl<A: Allocator> Lines<A> {
         }
     }
 
-    /// Counts a line of so many bytes with its LF, which came before what is kept of the line begun.
+    /// Counts a line of `size` bytes with its LF, which came before what is kept of the line begun.
     fn count_line(&mut self, size: usize)
         requires some { 1 ≤ size }
         requires fits { self.old.start + size + length self.old.begun ≤ 2 ^ 30 }
@@ -262,7 +263,7 @@ impl<A: Allocator> Lines<A> {
         self.ended += 1;
     }
 
-    /// The next line begins, after one of so many bytes and its LF.
+    /// Begins the next line, after one of `len` bytes and its LF.
     fn next_line(&mut self, len: usize)
         requires { self.old.start + len + 1 ≤ 2 ^ 30 }
         ensures { self.new ≡ after_line len self.old }
@@ -281,7 +282,7 @@ impl<A: Allocator> Lines<A> {
         ensures kept { OnErr result (self.new.interface ≡ self.old.interface) }
     {
         if self.begun.is_empty() {
-            // The line lies whole in the chunk, and is read there.
+            // The chunk has the whole line, which is read there.
             let content = self.read(front, 1, row)?;
             let is_row = self.keep(content, row.number);
             self.next_line(front.len());
@@ -295,8 +296,8 @@ impl<A: Allocator> Lines<A> {
         Ok(is_row)
     }
 
-    /// Fast path: reads the row that a chunk begins with, unless it is to be kept `whole`, and returns what is still to be
-    /// read of the chunk. `None`: nothing was read, and what the row holds is not said. The line is then read by its words.
+    /// Fast path: reads the row that a chunk begins with, unless it is to be kept `whole`, and returns the rest of the
+    /// chunk. `None` where nothing was read; the line is then read by its words, and nothing says what the row has.
     #[inline(always)]
     fn read_first<'a>(
         &mut self,
@@ -339,11 +340,11 @@ impl<A: Allocator> Lines<A> {
             IfSome next (λ rest. length rest.now < length chunk.now)) }
         ensures headed { IfOk result (λ next.
             IfSome next (λ rest. is_some self.new.interface ≡ true)) }
-        ensures refused { (text : List ℕ) → StandsFor self.old text
+        ensures refused { (text : List ℕ) → Represents self.old text
             → IfErr result (IsFaultOf (early (text ++ chunk.now))) }
-        ensures known { (text : List ℕ) → StandsFor self.old text
+        ensures known { (text : List ℕ) → Represents self.old text
             → IfErr result (AreKnown (early_rows text) (early_rows (text ++ chunk.now))) }
-        ensures header { (text : List ℕ) → StandsFor self.old text
+        ensures header { (text : List ℕ) → Represents self.old text
             → IsHeadKept result self.new.interface (early_head (text ++ chunk.now)) }
         ensures size { IfOk result (λ next. MatchOption next (bytes_fed self.new
             ≡ bytes_fed self.old + length chunk.now) (λ rest. bytes_fed self.new + length rest.now
@@ -368,9 +369,10 @@ impl<A: Allocator> Lines<A> {
         Ok(None)
     }
 
-    /// Reads the text's next row out of a chunk, and puts it in the place of another, whose octets' room is used again:
-    /// `Some` holds what is still to be read of the chunk. `None`: the chunk was read to its end, and has no further row.
-    /// Of data with Q 0 the hex digits after the fourth octet are validated, and not kept.
+    /// Reads the next row of the text from a chunk into `row`, whose memory is used again, and returns the rest of the
+    /// chunk; `None` where the chunk was read to its end and has no further row. Fails with the first line that is
+    /// faulty however the text goes on, or when memory is refused; from then on it fails with the same. Of data with Q
+    /// 0 the hex digits after the fourth octet are validated, and not kept.
     ///
     /// ```text
     /// while let Some(rest) = lines.next_row(chunk, &mut row)? {
@@ -379,15 +381,15 @@ impl<A: Allocator> Lines<A> {
     /// }
     /// ```
     ///
-    /// A line is read where it lies in the chunk. Only one that a chunk's end cuts is copied. What the row holds where
-    /// none was taken is not said.
+    /// A line is read in the chunk; only one that the end of a chunk cuts is copied. Nothing says what `row` has where
+    /// no row was read.
     #[inline(always)]
     pub fn next_row<'a>(
         &mut self,
         chunk: &'a [u8],
         row: &mut ReadRow<A>,
     ) -> Result<Option<&'a [u8]>, Fault>
-        // Of any text that it stands for: it stands for the text with what was taken, which has a row more, or none. The
+        // Of any text that it represents: it represents the text with what was read, which has a row more, or none. The
         // row is put in place as it is read.
         ensures ok { IfOk result (λ next. MatchOption next (ReadsChunk self.old self.new chunk.now)
             (λ rest. (taken : records.Row)
@@ -397,12 +399,12 @@ impl<A: Allocator> Lines<A> {
             IfSome next (λ rest. length rest.now < length chunk.now)) }
         ensures headed { IfOk result (λ next.
             IfSome next (λ rest. is_some self.new.interface ≡ true)) }
-        // Else it answers the fault of the first line that is faulty however the text goes on, or want of memory.
-        ensures refused { (text : List ℕ) → StandsFor self.old text
+        // Otherwise it returns the fault of the first line that is faulty however the text goes on, or `Memory`.
+        ensures refused { (text : List ℕ) → Represents self.old text
             → IfErr result (IsFaultOf (early (text ++ chunk.now))) }
-        ensures known { (text : List ℕ) → StandsFor self.old text
+        ensures known { (text : List ℕ) → Represents self.old text
             → IfErr result (AreKnown (early_rows text) (early_rows (text ++ chunk.now))) }
-        ensures header { (text : List ℕ) → StandsFor self.old text
+        ensures header { (text : List ℕ) → Represents self.old text
             → IsHeadKept result self.new.interface (early_head (text ++ chunk.now)) }
 
         // It was fed at most 2^30 bytes.
@@ -411,7 +413,7 @@ impl<A: Allocator> Lines<A> {
             ≡ bytes_fed self.old + length chunk.now)) }
         ensures limit { bytes_fed self.new ≤ 2 ^ 30 }
         ensures kinds { IfErr result IsTextFault }
-        // From a refusal on it answers the same.
+        // From a refusal on it returns the same.
         ensures refuses { IfErr result (λ fault. self.new.refused ≡ Some fault) }
         ensures again { (fault : Fault) → self.old.refused ≡ Some fault → (result ≡ Err fault)
             × (self.new ≡ self.old) × (row.new ≡ row.old) }
@@ -430,13 +432,13 @@ impl<A: Allocator> Lines<A> {
     /// Ends the text, whose last line may lack its LF. Counts its lines, and returns whether the last one is a row, which
     /// then is put in the place of another, as `read_row` does.
     fn end_begun(&mut self, row: &mut ReadRow<A>) -> Result<(u32, bool), Fault>
-        ensures ok { (text : List ℕ) → StandsFor self.old text
+        ensures ok { (text : List ℕ) → Represents self.old text
             → IfOk result (λ end. EndsText self.new end.0 text) }
         ensures few { IfOk result (λ end. end.0 ≤ 2 ^ 30 + 1) }
-        ensures row { (text : List ℕ) → StandsFor self.old text
+        ensures row { (text : List ℕ) → Represents self.old text
             → IfOk result (λ end. rows_in (lines_of text) ≡ early_rows text
             ++ last_row end.1 (whole_row row.new)) }
-        ensures refused { (text : List ℕ) → StandsFor self.old text
+        ensures refused { (text : List ℕ) → Represents self.old text
             → IfErr result (IsFaultOf (fault text)) }
         ensures kinds { IfErr result IsTextFault }
     {
@@ -449,18 +451,18 @@ impl<A: Allocator> Lines<A> {
         Ok((count, is_row))
     }
 
-    /// The text has ended: its header, and whether a last line that no LF ended writes a row, which then is put in the
-    /// place of another, with all its octets where it is to be kept `whole`.
+    /// Ends the text. Returns its header, and whether a last line that no LF ended writes a row, which is then put in
+    /// the place of another, with all its octets where it is to be kept `whole`.
     fn end_text(mut self, row: &mut ReadRow<A>, whole: bool) -> Result<TextEnd, Fault>
-        ensures ok { (text : List ℕ) → StandsFor self text
+        ensures ok { (text : List ℕ) → Represents self text
             → IfOk result (λ end. (fault text ≡ None) × (head text ≡ Some end.interface)) }
-        ensures row { (text : List ℕ) → StandsFor self text
+        ensures row { (text : List ℕ) → Represents self text
             → IfOk result (λ end. (last : records.Row)
             × (rows_of_text text ≡ early_rows text ++ last_row end.has_row last)
             × (end.has_row ≡ true → row.new ≡ kept_row whole last)) }
-        ensures refused { (text : List ℕ) → StandsFor self text
+        ensures refused { (text : List ℕ) → Represents self text
             → IfErr result (IsFaultOf (fault text)) }
-        ensures known { (text : List ℕ) → StandsFor self text
+        ensures known { (text : List ℕ) → Represents self text
             → IfErr result (AreKnown (early_rows text) (rows_of_text text)) }
         ensures kinds { IfErr result IsTextFault }
         ensures again { (fault : Fault) → self.refused ≡ Some fault → (result ≡ Err fault)
@@ -477,18 +479,18 @@ impl<A: Allocator> Lines<A> {
         }
     }
 
-    /// The text has ended: its header, and whether a last line that no LF ended writes a row, which then is put in the
-    /// place of another, as `next_row` does.
+    /// Ends the text. Returns its header, and whether a last line that no LF ended writes a row, which it then reads
+    /// into `row` as `next_row` does. Fails with the first faulty line, or when memory is refused.
     pub fn end_row(self, row: &mut ReadRow<A>) -> Result<TextEnd, Fault>
-        ensures ok { (text : List ℕ) → StandsFor self text
+        ensures ok { (text : List ℕ) → Represents self text
             → IfOk result (λ end. (fault text ≡ None) × (head text ≡ Some end.interface)) }
-        ensures row { (text : List ℕ) → StandsFor self text
+        ensures row { (text : List ℕ) → Represents self text
             → IfOk result (λ end. (last : records.Row)
             × (rows_of_text text ≡ early_rows text ++ last_row end.has_row last)
             × (end.has_row ≡ true → row.new ≡ read_row last)) }
-        ensures refused { (text : List ℕ) → StandsFor self text
+        ensures refused { (text : List ℕ) → Represents self text
             → IfErr result (IsFaultOf (fault text)) }
-        ensures known { (text : List ℕ) → StandsFor self text
+        ensures known { (text : List ℕ) → Represents self text
             → IfErr result (AreKnown (early_rows text) (rows_of_text text)) }
         ensures kinds { IfErr result IsTextFault }
         ensures again { (fault : Fault) → self.refused ≡ Some fault → (result ≡ Err fault)
@@ -503,19 +505,19 @@ impl<A: Allocator + Clone> Lines<A> {
     ghost use Rattle.line_model.specs.text.Text.{early, early_head, early_rows, fault, head, rows as rows_of_text};
     ghost use Rattle.line_model.specs.basics.Records as records;
     ghost use Rattle.trace_text.specs.Progress.{bytes_fed};
-    ghost use Rattle.trace_text.specs.StandsFor.{StandsFor, IsFaultOf, IsTold, IsAppended, IsHeadKept, IsTextFault};
+    ghost use Rattle.trace_text.specs.Represents.{Represents, IsFaultOf, AreAppended, IsAppended, IsHeadKept, IsTextFault};
     ghost use Rattle.line_model.specs.declared.fault.Fault.{Fault};
 
     /// Appends the rows of a chunk.
     fn feed_rows(&mut self, chunk: &[u8], out: &mut Vec<Row<A>, A>) -> Result<(), Fault>
-        ensures ok { OnOk result ((text : List ℕ) → StandsFor self.old text
-            → StandsFor self.new (text ++ chunk.now)) }
-        ensures refused { (text : List ℕ) → StandsFor self.old text
+        ensures ok { OnOk result ((text : List ℕ) → Represents self.old text
+            → Represents self.new (text ++ chunk.now)) }
+        ensures refused { (text : List ℕ) → Represents self.old text
             → IfErr result (IsFaultOf (early (text ++ chunk.now))) }
-        ensures appended { (text : List ℕ) → StandsFor self.old text
+        ensures appended { (text : List ℕ) → Represents self.old text
             → IsAppended result out.old.items out.new.items (early_rows text) (early_rows (text
             ++ chunk.now)) }
-        ensures header { (text : List ℕ) → StandsFor self.old text
+        ensures header { (text : List ℕ) → Represents self.old text
             → IsHeadKept result self.new.interface (early_head (text ++ chunk.now)) }
         ensures size { OnOk result (bytes_fed self.new ≡ bytes_fed self.old + length chunk.now) }
         ensures kinds { IfErr result IsTextFault }
@@ -531,30 +533,32 @@ impl<A: Allocator + Clone> Lines<A> {
         }
     }
 
-    /// Takes the next chunk of the text, and appends the rows of the lines that an LF of it ends.
+    /// Reads the next chunk of the text, and appends the rows of the lines that an LF of it ends. Fails with the first
+    /// line that is faulty however the text goes on, after the rows before it; or when memory is refused, after some
+    /// rows. From then on it fails with the same.
     pub fn feed(&mut self, chunk: &[u8], out: &mut Vec<Row<A>, A>) -> Result<(), Fault>
-        // Of any text that it stands for: it stands for the text with the chunk, where no line of that is faulty so far.
-        ensures ok { OnOk result ((text : List ℕ) → StandsFor self.old text
-            → StandsFor self.new (text ++ chunk.now)) }
-        // Else it answers the fault of the first line that is faulty however the text goes on, or want of memory.
-        ensures refused { (text : List ℕ) → StandsFor self.old text
+        // Of any text that it represents: it represents the text with the chunk, none of whose lines is faulty so far.
+        ensures ok { OnOk result ((text : List ℕ) → Represents self.old text
+            → Represents self.new (text ++ chunk.now)) }
+        // Otherwise it returns the fault of the first line that is faulty however the text goes on, or `Memory`.
+        ensures refused { (text : List ℕ) → Represents self.old text
             → IfErr result (IsFaultOf (early (text ++ chunk.now))) }
-        // Whatever the list held: the rows that came are appended, at a faulty line those before it, for want of memory
+        // Whatever the list has: the rows are appended, at a faulty line those before it, and where memory is refused
         // some first ones.
-        ensures appended { (text : List ℕ) → StandsFor self.old text
+        ensures appended { (text : List ℕ) → Represents self.old text
             → IsAppended result out.old.items out.new.items (early_rows text) (early_rows (text
             ++ chunk.now)) }
-        ensures told { (text : List ℕ) (rows : List records.Row) → StandsFor self.old text
+        ensures rows_appended { (text : List ℕ) (rows : List records.Row) → Represents self.old text
             → out.old.items ≡ rows ++ early_rows text
-            → IsTold result out.new.items rows (early_rows (text ++ chunk.now)) }
-        ensures header { (text : List ℕ) → StandsFor self.old text
+            → AreAppended result out.new.items rows (early_rows (text ++ chunk.now)) }
+        ensures header { (text : List ℕ) → Represents self.old text
             → IsHeadKept result self.new.interface (early_head (text ++ chunk.now)) }
 
         // It was fed at most 2^30 bytes.
         ensures size { OnOk result (bytes_fed self.new ≡ bytes_fed self.old + length chunk.now) }
         ensures limit { bytes_fed self.new ≤ 2 ^ 30 }
         ensures kinds { IfErr result IsTextFault }
-        // From a refusal on it answers the same.
+        // From a refusal on it returns the same.
         ensures refuses { IfErr result (λ fault. self.new.refused ≡ Some fault) }
         ensures again { (fault : Fault) → self.old.refused ≡ Some fault → (result ≡ Err fault)
             × (self.new ≡ self.old) × (out.new.items ≡ out.old.items) }
@@ -571,17 +575,18 @@ impl<A: Allocator + Clone> Lines<A> {
         }
     }
 
-    /// The text has ended: its header, and the row of a last line that no LF ended.
+    /// Ends the text. Returns its header, and appends the row of a last line that no LF ended. Fails with the first
+    /// faulty line, or when memory is refused.
     pub fn end(self, out: &mut Vec<Row<A>, A>) -> Result<Interface, Fault>
-        ensures ok { (text : List ℕ) → StandsFor self text
+        ensures ok { (text : List ℕ) → Represents self text
             → IfOk result (λ interface. (fault text ≡ None) × (head text ≡ Some interface)) }
-        ensures refused { (text : List ℕ) → StandsFor self text
+        ensures refused { (text : List ℕ) → Represents self text
             → IfErr result (IsFaultOf (fault text)) }
-        ensures appended { (text : List ℕ) → StandsFor self text
+        ensures appended { (text : List ℕ) → Represents self text
             → IsAppended result out.old.items out.new.items (early_rows text) (rows_of_text text) }
-        ensures told { (text : List ℕ) (rows : List records.Row) → StandsFor self text
+        ensures rows_appended { (text : List ℕ) (rows : List records.Row) → Represents self text
             → out.old.items ≡ rows ++ early_rows text
-            → IsTold result out.new.items rows (rows_of_text text) }
+            → AreAppended result out.new.items rows (rows_of_text text) }
         ensures kinds { IfErr result IsTextFault }
         ensures again { (fault : Fault) → self.refused ≡ Some fault → (result ≡ Err fault)
             × (out.new.items ≡ out.old.items) }

@@ -24,7 +24,7 @@ fn is_number(word: &[u8]) -> bool
     word.len() == 1 || word[0] != b'0'
 }
 
-/// A number of 1 to 9 digits without leading zeros.
+/// Returns the number of a word of 1 to 9 digits without leading zeros; `None` for any other word.
 pub fn read_number(word: &[u8]) -> Option<u32>
     ensures value { result ≡ number_of word.now }
 {
@@ -41,7 +41,7 @@ pub fn read_number(word: &[u8]) -> Option<u32>
 /// The largest number of a row.
 pub const LARGEST_NUMBER: u32 = 999_999_999;
 
-/// How many digits a row's number has.
+/// Returns how many digits the number of a row has.
 #[inline(always)]
 pub fn digit_count(number: u32) -> usize
     requires some { 0 < number }

@@ -20,8 +20,9 @@ fn is_comment_line(line: &[u8]) -> bool
     }
 }
 
-/// What a line says that stands before the header, or after that of an interface and after a row of the number `last`. A row is put in the
-/// place of another, as `read_row` does.
+/// Returns what a line says that comes before the header, or after the header of an interface and a row with the number
+/// `last`. A row is read into `row`, as `read_row` does. Fails with the rule that the line breaks, or when memory is
+/// refused.
 #[tactic(auto, unfolding(line_model::specs::text::Text::contents_kind))]
 pub fn read_line<A: Allocator>(
     head: &Option<Interface>,

@@ -8,8 +8,8 @@ use line_model::state::Side;
 /// The most digits that a number has.
 const NUMBER_DIGITS: usize = 9;
 
-/// The number and the side at the front of a row after one of the number `last`, and what follows the space after them.
-/// `None`: the line is faulty, is no row, or ends within them.
+/// Returns the number and the side at the front of a row after one with the number `last`, and what follows the space
+/// after them. `None` where the line is faulty or not a row, or the text ends within them.
 #[inline(always)]
 pub fn split_front(last: u32, text: &[u8]) -> Option<(u32, Side, &[u8])>
     ensures { IfSome result (λ parts. BeginsRow last text.now parts.0 parts.1 parts.2.now) }

@@ -54,7 +54,7 @@ fn split_fields(line: &[u8]) -> Option<Fields<'_>>
     }
 }
 
-/// The number of a row that stands after one of the number `last`.
+/// Returns the number of a row after one with the number `last`.
 fn read_rising(last: u32, word: &[u8]) -> Option<u32>
     ensures { result ≡ rising_number last word.now }
 {
@@ -74,7 +74,7 @@ fn read_side(word: &[u8]) -> Option<Side>
     }
 }
 
-/// Puts the octets that hex digits write, or `-` for none, in the place of what was in a list, whose room is used again.
+/// Puts the octets that hex digits write, or none for `-`, in place of those in a list, whose memory is used again.
 #[tactic(auto, unfolding(line_model::specs::text::RowLine::octets_of))]
 fn read_octets<A: Allocator>(word: &[u8], octets: &mut Vec<u8, A>) -> Result<(), LineFault>
     ensures { MatchResult result (λ _. octets_of word.now ≡ Some octets.new.items) (λ fault.
@@ -94,7 +94,7 @@ fn read_octets<A: Allocator>(word: &[u8], octets: &mut Vec<u8, A>) -> Result<(),
     }
 }
 
-/// The channel that a word names, or all.
+/// Returns the channel that a word names, or that it names all.
 fn read_gap(svc: u16, word: &[u8]) -> Option<Option<u16>>
     ensures { result ≡ gap_within svc word.now }
 {
@@ -107,7 +107,7 @@ fn read_gap(svc: u16, word: &[u8]) -> Option<Option<u16>>
     }
 }
 
-/// Puts the row of a packet with a number in the place of another.
+/// Reads the row of a packet with a number into `row`.
 fn read_packet<A: Allocator>(
     number: u32,
     fields: &Fields<'_>,
@@ -126,7 +126,7 @@ fn read_packet<A: Allocator>(
     Ok(())
 }
 
-/// Puts the row of a gap with a number in the place of another.
+/// Reads the row of a gap with a number into `row`.
 fn read_gap_row<A: Allocator>(
     number: u32,
     svc: u16,
@@ -146,8 +146,8 @@ fn read_gap_row<A: Allocator>(
     Ok(())
 }
 
-/// Puts the row that a line writes after one of the number `last`, with all its octets, in the place of another, whose
-/// length is not set. Fails with the rule that the line breaks, or when memory is refused; then the row has no meaning.
+/// Reads the row of a line after one with the number `last`, with all its octets, into `row`, whose length it does not
+/// set. Fails with the rule that the line breaks, or when memory is refused; `row` has no meaning then.
 #[tactic(auto, unfolding(line_model::specs::text::RowLine::row_kind, line_model::specs::text::RowLine::row_of))]
 pub fn read_row<A: Allocator>(
     interface: &Interface,

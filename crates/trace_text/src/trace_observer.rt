@@ -11,10 +11,10 @@ pub trait TraceObserver<A: Allocator>: Drop {
     ghost use Rattle.line_model.specs.text.Text.{early, ended_lines, fault};
     ghost use Rattle.line_model.specs.declared.finding.Finding.{Finding as AnyFinding};
     ghost use Rattle.trace_text.specs.ObserverAnswers.{IsReportOf, found_in};
-    ghost use Rattle.trace_text.specs.StandsFor.{IsFaultOf, IsTextFault};
+    ghost use Rattle.trace_text.specs.Represents.{IsFaultOf, IsTextFault};
 
     /// It was fed this text, and refused none of it.
-    ghost stands_for: { Self → List ℕ → Type 0 };
+    ghost represents: { Self → List ℕ → Type 0 };
 
     /// What the rows of the last chunk found.
     ghost last_found: { Self → List AnyFinding };
@@ -22,34 +22,34 @@ pub trait TraceObserver<A: Allocator>: Drop {
     /// How many bytes it was fed.
     ghost size: { Self → ℕ };
 
-    /// Takes the next chunk of the text. It refuses by the first line that is faulty however the text goes on, and for
-    /// want of memory.
+    /// Reads the next chunk of the text. Fails with the first line that is faulty however the text goes on, or when
+    /// memory is refused.
     fn feed(&mut self, chunk: &[u8]) -> Result<(), Fault>
-        requires fed { (text : List ℕ) × stands_for self.old text }
-        ensures stands { (text : List ℕ) → stands_for self.old text
-            → OnOk result (stands_for self.new (text ++ chunk.now)) }
-        ensures refused { (text : List ℕ) → stands_for self.old text
+        requires fed { (text : List ℕ) × represents self.old text }
+        ensures stands { (text : List ℕ) → represents self.old text
+            → OnOk result (represents self.new (text ++ chunk.now)) }
+        ensures refused { (text : List ℕ) → represents self.old text
             → IfErr result (IsFaultOf (early (text ++ chunk.now))) }
-        ensures found { (text : List ℕ) → stands_for self.old text
+        ensures found { (text : List ℕ) → represents self.old text
             → OnOk result (found_in (ended_lines (text ++ chunk.now)) ≡ found_in (ended_lines text)
             ++ last_found self.new) }
         ensures kinds { IfErr result IsTextFault };
 
-    /// What the rows of the last chunk found, in their order.
+    /// Returns what the rows of the last chunk found, in their order.
     fn found(&self) -> &[Finding]
         ensures { result.now ≡ last_found self.now };
 
-    /// The text has ended: its report. It refuses by the first faulty line, and for want of memory.
+    /// Ends the text and returns its report. Fails with the first faulty line, or when memory is refused.
     fn whole(self) -> Result<Report<A>, Fault>
-        requires fed { (text : List ℕ) × stands_for self text }
-        ensures told { (text : List ℕ) → stands_for self text → IfOk result (IsReportOf text) }
-        ensures refused { (text : List ℕ) → stands_for self text
+        requires fed { (text : List ℕ) × represents self text }
+        ensures report_is { (text : List ℕ) → represents self text → IfOk result (IsReportOf text) }
+        ensures refused { (text : List ℕ) → represents self text
             → IfErr result (IsFaultOf (fault text)) }
         ensures kinds { IfErr result IsTextFault };
 
     /// No line of what it was fed is known to be faulty.
-    ghost sound: { (observer : Self) (text : List ℕ) → stands_for observer text → early text ≡ None };
+    ghost sound: { (observer : Self) (text : List ℕ) → represents observer text → early text ≡ None };
 
     /// It counts the bytes of the text.
-    ghost sized: { (observer : Self) (text : List ℕ) → stands_for observer text → size observer ≡ length text };
+    ghost sized: { (observer : Self) (text : List ℕ) → represents observer text → size observer ≡ length text };
 }

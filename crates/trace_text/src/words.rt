@@ -1,4 +1,4 @@
-//! The words of a line, parted by single spaces.
+//! The words of a line, which single spaces separate.
 
 ghost use Rattle.std.specs.Prelude.{◌≡◌, ◌∷◌, [], MatchOption};
 ghost use Rattle.trace_text.specs.WordsLeft.{words_left};
@@ -7,7 +7,7 @@ ghost use Rattle.line_model.specs.text.Header.{words_of};
 use crate::cuts::split_at_byte;
 use std::marker::Model;
 
-/// The words of a line that are still to come. Single spaces part them.
+/// The words of a line that are left. Single spaces separate them.
 #[derive(Drop)]
 pub struct Words<'a> {
     rest: Option<&'a [u8]>,
@@ -23,21 +23,21 @@ impl<'a> Model for Words<'a> {
 }
 
 impl<'a> Words<'a> {
-    /// The words of a line; an empty line has one empty word.
+    /// Returns the words of a line; an empty line has one empty word.
     pub fn new(line: &'a [u8]) -> Self
         ensures { result ≡ words_of line.entry.now }
     {
         Words { rest: Some(line) }
     }
 
-    /// No words.
+    /// Returns no words.
     pub fn none() -> Self
         ensures { result ≡ [] }
     {
         Words { rest: None }
     }
 
-    /// The next word, which may be empty, if one is left.
+    /// Returns the next word, which may be empty, if one is left.
     pub fn next(&mut self) -> Option<&'a [u8]>
         ensures { MatchOption result ((self.old ≡ [])
             × (self.new ≡ [])) (λ word. self.old ≡ word.now ∷ self.new) }

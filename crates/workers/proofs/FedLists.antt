@@ -53,25 +53,30 @@ planned_back plan n ps qs planned k p is = subst (λ m. IsPlanned plan m p) sum 
     at (x ∷ l) zero e = absurd (omega (arith, e))
     at (x ∷ l) (suc j) e = at l j (omega (arith, e))
 
--- those that are to be fed next, once the first were
-pub planned_next : (plan : KnownPlan) (v w : PassView) (first rest all : List Piece) → FeedsAll v first w → first ++ rest ≡ all → ArePlanned plan v.record_of.fed all → ArePlanned plan w.record_of.fed rest
-planned_next plan v w first rest all fed same planned =
-    subst (λ n. ArePlanned plan n rest) (sym fed.fed) (planned_back plan v.record_of.fed first rest (subst (ArePlanned plan v.record_of.fed) (sym same) planned))
+-- those that are left are planned, once the first were fed
+pub left_planned : (plan : KnownPlan) (v w : PassView) (all rest : List Piece) → FeedsFirst v all rest w → ArePlanned plan v.record_of.fed all → ArePlanned plan w.record_of.fed rest
+left_planned plan v w all rest fed planned =
+    subst (λ n. ArePlanned plan n rest) (sym fed.1.fed) (planned_back plan v.record_of.fed fed.0 rest (subst (ArePlanned plan v.record_of.fed) (sym fed.2) planned))
 
 -- those that wait and the next one are planned
 pub first_planned : (plan : KnownPlan) (v w : PassView) (all waiting rest left : List Piece) (p : Piece) → rest ≡ p ∷ left → FeedsFirst v all (waiting ++ rest) w → ArePlanned plan v.record_of.fed all → ArePlanned plan w.record_of.fed (waiting ++ p ∷ [])
 first_planned plan v w all waiting rest left p is fed planned =
     planned_front plan w.record_of.fed (waiting ++ p ∷ []) left
-    (subst (ArePlanned plan w.record_of.fed) (ap (λ l. waiting ++ l) is ∙ sym (append_assoc waiting (p ∷ []) left)) (planned_next plan v w fed.0 (waiting ++ rest) all fed.1 fed.2 planned))
+    (subst (ArePlanned plan w.record_of.fed) (ap (λ l. waiting ++ l) is ∙ sym (append_assoc waiting (p ∷ []) left)) (left_planned plan v w all (waiting ++ rest) fed planned))
 
--- and some of them are fed
+-- some were fed, and then some of those that were left
+pub first_on : (v u w : PassView) (all rest still : List Piece) → FeedsFirst v all rest u → FeedsFirst u rest still w → FeedsFirst v all still w
+first_on v u w all rest still one two = (one.0 ++ two.0, fed_then v u w one.0 two.0 one.1 two.1, append_assoc one.0 two.0 still ∙ (ap (λ l. one.0 ++ l) two.2 ∙ one.2))
+
+-- more pieces come after those that wait
+pub first_more : (v w : PassView) (ps waiting more : List Piece) → FeedsFirst v ps waiting w → FeedsFirst v (ps ++ more) (waiting ++ more) w
+first_more v w ps waiting more fed = (fed.0, fed.1, sym (append_assoc fed.0 waiting more) ∙ ap (λ l. l ++ more) fed.2)
+
+-- the next one was added, and some were fed
 pub first_next : (v u w : PassView) (all waiting still rest left : List Piece) (p : Piece) → rest ≡ p ∷ left → FeedsFirst v all (waiting ++ rest) u → FeedsFirst u (waiting ++ p ∷ []) still w → FeedsFirst v all (still ++ left) w
-first_next v u w all waiting still rest left p is fed more = (
-  fed.0 ++ more.0,
-  fed_then v u w fed.0 more.0 fed.1 more.1,
-  append_assoc fed.0 more.0 (still ++ left)
-      ∙ (ap (λ l. fed.0 ++ l) (sym (append_assoc more.0 still left) ∙ (ap (λ l. l ++ left) more.2 ∙ (append_assoc waiting (p ∷ []) left ∙ ap (λ l. waiting ++ l) (sym is)))) ∙ fed.2),
-)
+first_next v u w all waiting still rest left p is fed more =
+    first_on v u w all (waiting ++ rest) (still ++ left) fed
+    (subst (λ l. FeedsFirst u l (still ++ left) w) (append_assoc waiting (p ∷ []) left ∙ ap (λ l. waiting ++ l) (sym is)) (first_more u w (waiting ++ p ∷ []) still left more))
 
 -- all that wait are fed
 pub first_whole : (v u w : PassView) (all waiting rest : List Piece) → rest ≡ [] → FeedsFirst v all (waiting ++ rest) u → FeedsAll u waiting w → FeedsAll v all w
@@ -80,15 +85,11 @@ first_whole v u w all waiting rest none fed more =
 
 pub last_planned : (plan : KnownPlan) (v w : PassView) (all waiting rest : List Piece) → rest ≡ [] → FeedsFirst v all (waiting ++ rest) w → ArePlanned plan v.record_of.fed all → ArePlanned plan w.record_of.fed waiting
 last_planned plan v w all waiting rest none fed planned =
-    planned_front plan w.record_of.fed waiting rest (planned_next plan v w fed.0 (waiting ++ rest) all fed.1 fed.2 planned)
+    planned_front plan w.record_of.fed waiting rest (left_planned plan v w all (waiting ++ rest) fed planned)
 
--- those that waited were fed, and then some of the others
-pub first_then : (v u w : PassView) (waiting none more still : List Piece) → none ≡ [] → FeedsAll v waiting u → FeedsFirst u (none ++ more) still w → FeedsFirst v (waiting ++ more) still w
-first_then v u w waiting none more still empty fed rest = (
-  waiting ++ rest.0,
-  fed_then v u w waiting rest.0 fed rest.1,
-  append_assoc waiting rest.0 still ∙ ap (λ l. waiting ++ l) (rest.2 ∙ ap (λ l. l ++ more) empty),
-)
+-- all were fed
+pub all_fed : (v w : PassView) (ps none : List Piece) → none ≡ [] → FeedsAll v ps w → FeedsFirst v ps none w
+all_fed v w ps none empty fed = (ps, fed, ap (λ l. ps ++ l) empty ∙ append-nil ps)
 
 -- nothing was fed, and all wait
 pub all_wait : (v : PassView) (ps waiting : List Piece) → v.record_of.ends ≡ 0 → waiting ≡ ps → FeedsFirst v ps waiting v
@@ -104,9 +105,3 @@ last_next plan v w ps p q same fed planned =
     let next = planned_back plan v.record_of.fed ps (p ∷ []) planned 0 p refl in
     let sum : v.record_of.fed + length ps + 0 ≡ w.record_of.fed = omega (arith, fed.fed) in
     subst (λ (y : ℕ × Piece). IsPlanned plan y.0 y.1) (λ i. (sum i, sym same i)) next
-
--- those that come next are planned, where none waits any more
-pub next_planned : (plan : KnownPlan) (v w : PassView) (waiting none more : List Piece) → none ≡ [] → FeedsAll v waiting w → ArePlanned plan v.record_of.fed (waiting ++ more) → ArePlanned plan w.record_of.fed (none ++ more)
-next_planned plan v w waiting none more empty fed planned =
-    subst (λ l. ArePlanned plan w.record_of.fed (l ++ more)) (sym empty)
-    (subst (λ n. ArePlanned plan n more) (sym fed.fed) (planned_back plan v.record_of.fed waiting more planned))

@@ -12,7 +12,8 @@ use Rattle.workers.specs.declared.whole.Worked.{Worked}
 abbrev pub reports_of : {A : Type 0} → Gathered A (List PieceReport) → List PieceReport
 reports_of g = flat_map (λ ps. ps) g.reports.items
 
--- as many reports as pieces were fed, each the value of another piece of the plan, and of another one that was fed and was run so; the totals are theirs, and those of the shares, of which each worker has one
+-- as many reports as pieces were fed, each the value of a different piece of the plan, and of a different one that was fed and run in this
+-- way; the totals are theirs, and those of the shares, of which each worker has one
 pub record IsWhole {A : Type 0} (plan : KnownPlan) (ran : Piece → PieceReport → Type 0) (workers : ℕ) (fed : List Piece) (g : Gathered A (List PieceReport)) : Type 0 where
   pub posted : AreOf plan (reports_of g)
   pub of_fed : AreOf (Some fed) (reports_of g)

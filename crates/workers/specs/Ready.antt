@@ -2,7 +2,7 @@
 use Rattle.std.specs.Prelude.{ℕ}
 use Rattle.shared_work.specs.queue.Passes.{QueueId}
 
--- at which queue they are to start, and how many they are
+-- the queue at which they start, and their number
 pub record ReadyView : Type 0 where
   pub queue : QueueId
   pub count : ℕ

@@ -4,11 +4,11 @@ use Rattle.line_model.specs.basics.Records.{Piece, PieceReport}
 use Rattle.line_model.specs.pieces.Plans.{value}
 use Rattle.shared_work.specs.queue.Passes.{QueueId}
 
--- the name of no queue
+-- a name that stands for no queue
 abbrev pub no_queue : QueueId
 no_queue = record { words = 0; slots = 0; views_name = 0; atom = 0; block = 0; offset = 0; slot_names = [] }
 
--- the piece stands among these
+-- the piece is among these
 abbrev pub HasPiece : List Piece → Piece → Type 0
 HasPiece pieces p = (k : ℕ) × (slice_get pieces k ≡ Some p)
 
@@ -16,6 +16,6 @@ HasPiece pieces p = (k : ℕ) × (slice_get pieces k ≡ Some p)
 abbrev pub IsValueOfOne : List Piece → PieceReport → Type 0
 IsValueOfOne pieces r = (p : Piece) × HasPiece pieces p × (r ≡ value p)
 
--- the report is the value of one of these pieces, which was run so
+-- the report is the value of one of these pieces, which was run in this way
 abbrev pub IsRunOfOne : (ran : Piece → PieceReport → Type 0) → List Piece → PieceReport → Type 0
 IsRunOfOne ran pieces r = (p : Piece) × HasPiece pieces p × (r ≡ value p) × ran p r

@@ -1,4 +1,4 @@
--- What a worker starts with, and what it hands back.
+-- What a worker starts with, and what it returns.
 use Rattle.std.specs.Prelude.{◌≡◌, ◌+◌, List, ◌++◌, length, true, false, [], MatchOption}
 use Rattle.shared_work.specs.queue.Passes.{QueueId, PassView}
 use Rattle.shared_work.specs.queue.Rule.{worker}
@@ -10,7 +10,7 @@ use Rattle.line_model.specs.declared.totals.Totals.{Totals}
 use Rattle.workers.specs.declared.worker.WorkerOutcome.{WorkerOutcome}
 use Rattle.workers.specs.declared.starting.WorkerStart.{WorkerStart}
 
--- a new pass of this queue, and a share of nothing
+-- a new pass of this queue, and a share whose totals are 0
 pub record IsWorkerStart {A : Type 0} (id : QueueId) (s : WorkerStart Totals A) : Type 0 where
   pub queue : s.pass.queue ≡ id
   pub fresh : s.pass.record_of ≡ worker [] false 0

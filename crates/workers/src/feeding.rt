@@ -17,7 +17,7 @@ pub trait Feed<P: Plan, A: Allocator> {
     ghost use Rattle.std.specs.Prelude.{List};
     ghost use Rattle.line_model.specs.basics.Records as records;
 
-    /// What it wants.
+    /// What it needs.
     ghost can_feed: { Self → Type 0 };
 
     /// What becomes of it where these pieces were fed, in order.
@@ -26,7 +26,7 @@ pub trait Feed<P: Plan, A: Allocator> {
     /// What is known of it where its turn does not come.
     ghost unfed: { Self → Self → Type 0 };
 
-    /// It comes back without a turn.
+    /// Returns the task without a turn.
     fn back(self) -> Self
         ensures { unfed self result };
 
@@ -90,14 +90,15 @@ pub fn feed_piece<P: Plan, A: Allocator + Copy, R: Wait + Clock>(
     feed_bundle(rt, work, Bundle::of(piece), pass);
 }
 
-/// A bundle has no more rows than this, or is one piece.
+/// The most rows of a bundle of more than one piece.
 const MOST_ROWS: usize = 500;
 
-/// A bundle with so many rows goes where another epoch begins. So its calls stand before those of the next bundle, unless an
-/// epoch has more rows.
+/// A bundle with at least this many rows goes where another epoch begins. So its calls come before those of the next
+/// bundle, unless an epoch has more rows.
 const ENOUGH_ROWS: usize = 400;
 
-/// The pieces of a list with no more pieces go through the queue one by one, so that each worker has work of a short trace.
+/// The pieces of a list with no more pieces go through the queue one by one, so that each worker has work of a short
+/// trace.
 const FEW_PIECES: usize = 64;
 
 /// How many rows a piece has. A gap of all channels after the others is one.
@@ -111,7 +112,7 @@ fn row_count<A: Allocator>(piece: &Piece<A>) -> usize {
 struct Waiting<A: Allocator> {
     pieces: Vec<Piece<A>, A>,
     rows: usize,
-    /// Whether each piece goes by itself.
+    /// Whether each piece goes alone.
     one_by_one: bool,
 }
 
@@ -152,33 +153,8 @@ fn feed_waiting<P: Plan, A: Allocator + Copy, R: Wait + Clock>(
     none
 }
 
-/// Lets one more piece wait. Where memory for that is refused, all of them are fed.
-fn push_waiting<P: Plan, A: Allocator + Copy, R: Wait + Clock>(
-    rt: &R,
-    work: &Work<P, A>,
-    waiting: Waiting<A>,
-    piece: Piece<A>,
-    pass: &mut FeederPass<A>,
-) -> Waiting<A>
-    requires queue { pass.old.queue ≡ work.now.queue }
-    requires next { ArePlanned P.pieces pass.old.record_of.fed (waiting.pieces.items ++ piece ∷ []) }
-    requires open { pass.old.record_of.ends ≡ 0 }
-    ensures fed { FeedsFirst pass.old (waiting.pieces.items ++ piece ∷ []) result.pieces.items pass.new }
-{
-    let mut waiting = waiting;
-    waiting.rows = waiting.rows.saturating_add(row_count(&piece));
-    match waiting.pieces.push(piece) {
-        Ok(()) => waiting,
-        Err(refused) => {
-            let none = feed_waiting(rt, work, waiting, pass);
-            feed_piece(rt, work, refused.value, pass);
-            none
-        }
-    }
-}
-
-/// Lets one more piece wait. Those before it are fed first where pieces go one by one, where all of them have too many rows
-/// together, or where enough rows wait and another epoch begins.
+/// Lets one more piece wait. Those before it are fed first where pieces go one by one, where all of them have too many
+/// rows together, or where enough rows wait and another epoch begins. All of them are fed where memory is refused.
 fn add_waiting<P: Plan, A: Allocator + Copy, R: Wait + Clock>(
     rt: &R,
     work: &Work<P, A>,
@@ -191,15 +167,23 @@ fn add_waiting<P: Plan, A: Allocator + Copy, R: Wait + Clock>(
     requires open { pass.old.record_of.ends ≡ 0 }
     ensures fed { FeedsFirst pass.old (waiting.pieces.items ++ piece ∷ []) result.pieces.items pass.new }
 {
+    let mut waiting = waiting;
     if waiting.go_before(&piece) {
-        let none = feed_waiting(rt, work, waiting, pass);
-        return push_waiting(rt, work, none, piece, pass);
+        waiting = feed_waiting(rt, work, waiting, pass);
     }
-    push_waiting(rt, work, waiting, piece, pass)
+    waiting.rows = waiting.rows.saturating_add(row_count(&piece));
+    match waiting.pieces.push(piece) {
+        Ok(()) => waiting,
+        Err(refused) => {
+            let none = feed_waiting(rt, work, waiting, pass);
+            feed_piece(rt, work, refused.value, pass);
+            none
+        }
+    }
 }
 
-/// Feeds the plan's next pieces, in order. Of a list of more than 64 pieces, those that have few rows go together. All of
-/// them are fed when it returns, so a piece waits only for the others of this list.
+/// Feeds the plan's next pieces, in order. Of a list of more than 64 pieces, those that have few rows go together. All
+/// of them are fed when it returns, so a piece waits only for the others of this list.
 pub fn feed_pieces<P: Plan, A: Allocator + Copy, R: Wait + Clock>(
     rt: &R,
     work: &Work<P, A>,
@@ -250,7 +234,7 @@ fn feed_end<P: Plan, A: Allocator, R: Wait + Clock>(
     unreachable!()
 }
 
-/// Feeds so many ends.
+/// Feeds a count of ends.
 pub fn feed_ends<P: Plan, A: Allocator, R: Wait + Clock>(
     rt: &R,
     work: &Work<P, A>,

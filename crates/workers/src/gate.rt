@@ -1,4 +1,4 @@
-//! How a worker runs a piece, and what else it does.
+//! How a worker runs a piece, and the other work that it does.
 
 ghost use Rattle.std.specs.Prelude.{◌≡◌, All, IfOk, MatchResult, OnOk, map};
 ghost use Rattle.line_model.specs.pieces.Plans.{value};
@@ -15,15 +15,15 @@ use std::sync::Wait;
 pub trait Gate: Sync {
     ghost use Rattle.line_model.specs.basics.Records as records;
 
-    /// It made this report of the piece. Callers know so which gate their pieces went through.
+    /// It made this report of the piece. So callers know which gate ran their pieces.
     ghost ran: { Self → records.Piece → records.PieceReport → Type 0 };
 
-    /// The value of the piece. Fails only when memory is refused.
+    /// Returns the report of the piece. Fails only when memory is refused.
     fn run<A: Allocator + Copy>(&self, alloc: A, piece: &Piece<A>) -> Result<PieceReport<A>, Fault>
         ensures value { MatchResult result (λ r. r ≡ value piece.now) (λ fault. fault ≡ Memory) }
         ensures ran { IfOk result (ran self.now piece.now) };
 
-    /// The values of the pieces of a bundle, in the bundle's order. Fails only when memory is refused.
+    /// Returns the reports of the pieces of a bundle, in the bundle's order. Fails only when memory is refused.
     fn run_bundle<A: Allocator + Copy>(
         &self,
         alloc: A,

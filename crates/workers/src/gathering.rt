@@ -10,7 +10,7 @@ use line_model::fault::Fault;
 use line_model::piece::{PieceReport, Plan};
 use line_model::totals::Totals;
 use report_merge::reports::{BundleReport, Reports};
-use shared_work::findings::{Book, Ledgers, Share, Witness};
+use shared_work::findings::{Book, Ledgers, Share, Voucher};
 use shared_work::queue::FeederPass;
 use std::alloc::{Allocator, Global};
 
@@ -38,8 +38,9 @@ fn totals_of_each<L: Ledgers, A: Allocator + Copy>(
     Ok(all)
 }
 
-/// What was posted, from all shares of the book, and who vouches for it; or want of memory.
-pub fn gather<P: Plan, L: Ledgers, A: Allocator + Copy, N: Witness + Drop, T: Reports<A> + Drop>(
+/// Returns what was posted, from all shares of the book, and the witness that vouches for it. Fails only when memory is
+/// refused.
+pub fn gather<P: Plan, L: Ledgers, A: Allocator + Copy, N: Voucher + Drop, T: Reports<A> + Drop>(
     alloc: A,
     book: Book<P, L, A, N, T>,
     shares: Vec<Share<L>, A>,
@@ -62,7 +63,7 @@ pub fn gather<P: Plan, L: Ledgers, A: Allocator + Copy, N: Witness + Drop, T: Re
     Ok((gathered, witness))
 }
 
-/// What was posted, where all pieces that were fed have their reports, or want of memory.
+/// Returns what was posted, where all pieces that were fed have their reports. Fails only when memory is refused.
 pub fn gather_all<'w, P: Plan, L: Ledgers + QueueName, A: Allocator + Copy>(
     alloc: A,
     book: Book<P, L, A, PieceWitness<'w, P, L, A>, BundleReport<A>>,

@@ -1,4 +1,4 @@
-//! What a worker does with a bundle of pieces, and beside the bundles.
+//! What a worker does with a bundle of pieces, and between bundles.
 
 ghost use Rattle.std.specs.Prelude.{◌≡◌, ◌+◌, All, OnOk, IfErr, length};
 ghost use Rattle.line_model.specs.work.Book.{IsPlanned};
@@ -11,7 +11,7 @@ use line_model::piece::Plan;
 use report_merge::reports::BundleReport;
 use shared_work::findings::{Ledgers, LockedPosts, Share};
 use shared_work::queue::{Bundle, Work, WorkerPass};
-use std::alloc::{Allocator, Global};
+use std::alloc::Allocator;
 use std::marker::PhantomData;
 use std::sync::Wait;
 
@@ -39,7 +39,7 @@ pub trait Handler<P: Plan, A: Allocator, L: Ledgers> {
         ensures posted { OnOk result (share.new.posts ≡ share.old.posts + length bundle.now) }
         ensures refused { IfErr result (λ fault. fault ≡ Fault.Memory) };
 
-    /// Does some other work, if some waits, and says whether it did.
+    /// Does some other work, if there is some, and returns whether it did.
     fn help<R: Wait>(&self, _rt: &R) -> bool {
         false
     }
@@ -72,7 +72,7 @@ impl<'a, 'w, P: Plan, L: Ledgers + QueueName, A: Allocator + Copy, G: Gate> Hand
     ) -> Result<(), Fault> {
         let mut reports = self.gate.run_bundle(alloc, bundle)?;
         for _ in rt.forever() {
-            // Reports that are answered as posted twice are posted again.
+            // Reports that are returned as posted twice are posted again.
             let witness = PieceWitness {
                 work: self.work,
                 witness: self.work.witness_of(pass),

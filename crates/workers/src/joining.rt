@@ -11,9 +11,9 @@ use shared_work::queue::{FeederPass, Work};
 use std::alloc::{Allocator, Global};
 use std::thread::Threads;
 
-/// What all workers handed back: the feeder's pass with theirs, their shares, and the first of their faults.
+/// What all workers returned: the feeder's pass with theirs, their shares, and the first of their faults.
 #[derive(Drop)]
-pub struct Joined<H, A: Allocator = Global> {
+pub struct JoinedWorkers<H, A: Allocator = Global> {
     pub pass: FeederPass<A>,
     pub shares: Vec<H, A>,
     pub fault: Option<Fault>,
@@ -26,7 +26,7 @@ pub fn join_all<'w, P: Plan, L: Ledgers, A: Allocator, R: Threads>(
     mut pass: FeederPass<A>,
     running: Vec<Running<'w, P, L, A>, A>,
     mut shares: Vec<Share<L>, A>,
-) -> Joined<Share<L>, A>
+) -> JoinedWorkers<Share<L>, A>
     requires queue { pass.queue ≡ work.now.queue }
     requires promised { All (λ h. h.promise.work.now.queue ≡ work.now.queue) running.items }
     requires fresh { (pass.record_of.done ≡ 0) × (length pass.record_of.taken ≡ 0) }
@@ -43,7 +43,7 @@ pub fn join_all<'w, P: Plan, L: Ledgers, A: Allocator, R: Threads>(
             fault = done.fault;
         }
     }
-    Joined {
+    JoinedWorkers {
         pass,
         shares,
         fault,

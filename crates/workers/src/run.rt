@@ -1,7 +1,7 @@
 //! Reading and working side by side.
 
 ghost use Rattle.std.specs.Prelude.{◌≡◌, ◌<◌, ◌⊎◌, IfOk, IfErr};
-ghost use Rattle.workers.specs.Runs.{IsRunOutcome};
+ghost use Rattle.workers.specs.Runs.{CameBack, IsRunOutcome};
 
 use crate::feeding::{Feed, feed_ends};
 use crate::handler::Handler;
@@ -48,8 +48,7 @@ fn run<
     requires some { 0 < ready.count }
     requires able { T.can_feed task }
     ensures ran { IfOk result (IsRunOutcome (T.feed_gives task) ready.entry.count ready.entry.queue) }
-    ensures refused { IfErr result (λ e. T.unfed task e.0
-        × ((e.1 ≡ Fault.Memory) ⊎ (e.1 ≡ Fault.Start))) }
+    ensures refused { IfErr result (CameBack T.unfed task) }
 {
     let Some(started) = start_all(scope, rt, handler, ready) else {
         return Err((task.back(), Fault::Memory));
@@ -104,8 +103,7 @@ pub fn run_scoped<
         move |scope| -> Result<RunOutcome<T, Share<L>, A>, (T, Fault)>
             requires { (0 < ready.count) × T.can_feed task × W.handles handler.now ready.queue }
             ensures { IfOk result (IsRunOutcome (T.feed_gives task) ready.entry.count ready.entry.queue)
-                × IfErr result (λ e. T.unfed task e.0
-                × ((e.1 ≡ Fault.Memory) ⊎ (e.1 ≡ Fault.Start))) }
+                × IfErr result (CameBack T.unfed task) }
         { run(scope, rt, handler, ready, task) },
     )
 }

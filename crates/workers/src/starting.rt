@@ -9,7 +9,7 @@ use crate::worker::{Finishes, WorkerOutcome, work_on};
 use line_model::fault::Fault;
 use line_model::piece::Plan;
 use report_merge::reports::Reports;
-use shared_work::findings::{Book, Ledgers, Share, Witness};
+use shared_work::findings::{Book, Ledgers, Share, Voucher};
 use shared_work::queue::{FeederPass, Work, WorkerPass};
 use std::alloc::{Allocator, Global};
 use std::marker::Model;
@@ -27,8 +27,8 @@ pub struct WorkerStart<H, A: Allocator = Global> {
 /// A worker that runs.
 pub type Running<'w, P, L, A> = PromisedHandle<WorkerOutcome<Share<L>, A>, Finishes<'w, P, A>>;
 
-/// Workers that are ready to start at a queue, and the pass of its feeder. Contracts see which queue it is, and how many
-/// workers they are.
+/// Workers that are ready to start over a queue, and the pass of its feeder. Contracts see which queue it is, and how
+/// many workers there are.
 #[derive(Drop)]
 pub struct ReadyWorkers<'w, P: Plan, L: Ledgers, A: Allocator = Global> {
     pub(crate) work: &'w Work<P, A>,
@@ -49,8 +49,9 @@ impl<'w, P: Plan, L: Ledgers, A: Allocator> Model for ReadyWorkers<'w, P, L, A> 
     ghost invariant = { λ c. (c.pass.queue ≡ c.work.now.queue) × (c.pass.record_of ≡ feeder 0 0 (vec_len c.starts) 0 []) × (c.pass.pieces ≡ []) × All (IsWorkerStart c.work.now.queue) c.starts.items };
 }
 
-/// So many workers, each with a pass of the queue and a share of the book; or want of memory.
-pub fn ready_workers<'w, P: Plan, L: Ledgers, A: Allocator + Copy, N: Witness, T: Reports<A>>(
+/// Returns `workers` workers that are ready to start, each with a pass of the queue and a share of the book. Fails only
+/// when memory is refused.
+pub fn ready_workers<'w, P: Plan, L: Ledgers, A: Allocator + Copy, N: Voucher, T: Reports<A>>(
     alloc: A,
     work: &'w Work<P, A>,
     book: &mut Book<P, L, A, N, T>,
@@ -78,7 +79,8 @@ pub fn ready_workers<'w, P: Plan, L: Ledgers, A: Allocator + Copy, N: Witness, T
     Ok(ReadyWorkers { work, pass, starts })
 }
 
-/// The queue and its feeder's pass, the workers that run, room for their shares, and whether each worker has its thread.
+/// The queue and its feeder's pass, the workers that run, room for their shares, and whether each worker has its
+/// thread.
 #[derive(Drop)]
 pub struct Started<'s, P: Plan, L: Ledgers, A: Allocator> {
     pub work: &'s Work<P, A>,
@@ -88,7 +90,7 @@ pub struct Started<'s, P: Plan, L: Ledgers, A: Allocator> {
     pub all: bool,
 }
 
-/// Starts the workers, each in a thread of its own, up to the first that gets none; or wants memory.
+/// Starts the workers, each in a thread of its own, up to the first that gets none. Fails only when memory is refused.
 pub fn start_all<
     's,
     'e: 's,

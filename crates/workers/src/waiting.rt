@@ -3,29 +3,29 @@
 use std::thread;
 use std::time::{Clock, Duration};
 
-/// From so many microseconds on a backoff is a sleep: a shorter one takes the system longer than it lasts.
+/// A backoff of at least this many microseconds is a sleep: a shorter one costs the system longer than it lasts.
 const SHORTEST: u64 = 64;
 
-/// The first backoff has so many microseconds.
+/// The first backoff, in microseconds.
 const FIRST: u64 = 16;
 
-/// No backoff is longer than so many microseconds.
+/// The longest backoff, in microseconds.
 const LONGEST: u64 = 8192;
 
-/// How long a thread rests before it asks the queue again: a quarter longer each time, up to 8 ms, so it is late by about
-/// a quarter of what it waited.
+/// How long a thread rests before it asks the queue again: a quarter longer each time, up to 8 ms. So it is late by at
+/// most about a quarter of the time that it has waited.
 #[derive(Drop)]
 pub struct Backoff {
     micros: u64,
 }
 
 impl Backoff {
-    /// The first backoff.
+    /// Returns the first backoff.
     pub fn new() -> Backoff {
         Backoff { micros: FIRST }
     }
 
-    /// Lets the other threads run, and sleeps where it waited for long. The next backoff is longer.
+    /// Yields to other threads, or sleeps once the backoff is long enough. The next backoff is longer.
     pub fn wait(&mut self, clock: &impl Clock) {
         if self.micros < SHORTEST {
             thread::yield_now();

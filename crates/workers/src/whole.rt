@@ -4,6 +4,7 @@ ghost use Rattle.std.specs.Prelude.{◌≡◌, ◌<◌, ◌≤◌, ◌⊎◌, []
 ghost use Rattle.line_model.specs.basics.Records as records;
 ghost use Rattle.shared_work.specs.queue.Rule.{feeder};
 ghost use Rattle.workers.specs.Gathers.{HasWorked, IsWhole};
+ghost use Rattle.workers.specs.Runs.{CameBack};
 
 use crate::feeding::Feed;
 use crate::gate::Gate;
@@ -23,7 +24,7 @@ use std::sync::Wait;
 use std::thread::Threads;
 use std::time::Clock;
 
-/// So many workers over a queue of so many entries, who run pieces by a gate.
+/// A count of workers over a queue of a given capacity, which run pieces by a gate.
 #[derive(Clone, Copy)]
 pub struct Crew<'a, G> {
     /// How many workers there are.
@@ -34,7 +35,7 @@ pub struct Crew<'a, G> {
     pub gate: &'a G,
 }
 
-/// What became of the task, and what the workers made, or want of memory.
+/// What became of the task, and what the workers made, unless memory was refused.
 #[derive(Drop)]
 pub struct Worked<T, A: Allocator = Global> {
     pub task: T,
@@ -82,48 +83,6 @@ struct NewQueue<'w, P: Plan, A: Allocator> {
     pass: FeederPass<A>,
 }
 
-/// As `work_through`, over this book and this queue.
-fn work_with<
-    'w,
-    P: Plan + Send + Sync,
-    L: Ledgers + QueueName + Send + Sync,
-    A: Allocator + Copy + Send + Sync,
-    G: Gate,
-    R: Threads + Wait + Clock + Sync,
-    T: Feed<P, A> + Drop,
->(
-    rt: &R,
-    mut book: Book<P, L, A, PieceWitness<'w, P, L, A>, BundleReport<A>>,
-    queue: NewQueue<'w, P, A>,
-    crew: Crew<'_, G>,
-    task: T,
-) -> Result<Worked<T, A>, (T, Fault)>
-    requires book { book ≡ 0 }
-    requires named { queue.work.now.queue ≡ L.queue }
-    requires queue { queue.pass.queue ≡ queue.work.now.queue }
-    requires fresh { (queue.pass.record_of ≡ feeder 0 0 0 0 []) × (queue.pass.pieces ≡ []) }
-    requires workers { (0 < crew.workers) × (crew.workers ≤ 64) }
-    requires able { T.can_feed task }
-    requires gate { (piece : records.Piece) (report : records.PieceReport)
-        → G.ran crew.gate.now piece report → L.ran piece report }
-    ensures worked { IfOk result (HasWorked P.pieces L.ran
-        (T.feed_gives task) crew.entry.workers) }
-    ensures refused { IfErr result (λ e. T.unfed task e.0
-        × ((e.1 ≡ Fault.Memory) ⊎ (e.1 ≡ Fault.Start))) }
-{
-    let NewQueue { alloc, work, pass } = queue;
-    let Ok(ready) = ready_workers(alloc, work, &mut book, pass, crew.workers) else {
-        return Err((task.back(), Fault::Memory));
-    };
-    let posting = Posting {
-        work,
-        locked_posts: book.locked_posts(),
-        gate: crew.gate,
-    };
-    let ran = run_scoped(rt, &posting, ready, task)?;
-    Ok(gather_ran(alloc, book, ran))
-}
-
 /// As `work_through`, over the four ledgers of these blanks and this queue.
 fn work_in<
     P: Plan + Send + Sync,
@@ -149,8 +108,7 @@ fn work_in<
         → G.ran crew.gate.now piece report → L.ran piece report }
     ensures worked { IfOk result (HasWorked P.pieces L.ran
         (T.feed_gives task) crew.entry.workers) }
-    ensures refused { IfErr result (λ e. T.unfed task e.0
-        × ((e.1 ≡ Fault.Memory) ⊎ (e.1 ≡ Fault.Start))) }
+    ensures refused { IfErr result (CameBack T.unfed task) }
 {
     let NewQueue {
         alloc,
@@ -158,12 +116,23 @@ fn work_in<
         mut pass,
     } = queue;
     let witness = PieceWitness::<P, L, A>::new(work, &mut pass);
-    let book = Book::<P, L, A, PieceWitness<P, L, A>, BundleReport<A>>::new(alloc, blanks, witness);
-    work_with(rt, book, NewQueue { alloc, work, pass }, crew, task)
+    let mut book = Book::<P, L, A, PieceWitness<P, L, A>, BundleReport<A>>::new(
+        alloc, blanks, witness,
+    );
+    let Ok(ready) = ready_workers(alloc, work, &mut book, pass, crew.workers) else {
+        return Err((task.back(), Fault::Memory));
+    };
+    let posting = Posting {
+        work,
+        locked_posts: book.locked_posts(),
+        gate: crew.gate,
+    };
+    let ran = run_scoped(rt, &posting, ready, task)?;
+    Ok(gather_ran(alloc, book, ran))
 }
 
-/// Works through the pieces that the task feeds, with a crew of 1 to 64 workers over a queue of 1 to 4,096 entries. Where
-/// memory ran out or a thread was refused before the task had its turn, it comes back without it.
+/// Works through the pieces that the task feeds, with a crew of 1 to 64 workers over a queue of 1 to 4,096 entries.
+/// Where memory ran out or a thread was refused before the task had its turn, it comes back without it.
 pub fn work_through<
     P: Plan + Send + Sync,
     A: Allocator + Copy + Send + Sync,

@@ -1,4 +1,4 @@
-//! Who knows of which pieces the reports are.
+//! Witnesses that know of which pieces the reports are.
 
 ghost use Rattle.std.specs.Prelude.{◌≡◌, [], Some, length};
 ghost use Rattle.line_model.specs.basics.Records as records;
@@ -28,8 +28,8 @@ impl QueueName for Brand {
     ghost ran = { λ piece report. Unit {0} };
 }
 
-/// Vouches for the reports of pieces that were fed to the queue of this name and run as it says. Contracts see the pieces that
-/// it knows of.
+/// Vouches for the reports of pieces that were fed to the queue of this name and run as it says. Contracts see the
+/// pieces that it knows of.
 #[derive(Drop)]
 pub struct PieceWitness<'a, P: Plan, N: QueueName, A: Allocator> {
     pub(crate) work: &'a Work<P, A>,
@@ -49,7 +49,7 @@ impl<'a, P: Plan, N: QueueName, A: Allocator> Model for PieceWitness<'a, P, N, A
 }
 
 impl<'a, P: Plan, N: QueueName, A: Allocator> PieceWitness<'a, P, N, A> {
-    /// A witness that knows of no piece.
+    /// Returns a witness that knows of no piece.
     pub fn new(work: &'a Work<P, A>, pass: &mut FeederPass<A>) -> PieceWitness<'a, P, N, A>
         requires queue { pass.old.queue ≡ work.now.queue }
         requires named { work.now.queue ≡ N.queue }
@@ -63,8 +63,8 @@ impl<'a, P: Plan, N: QueueName, A: Allocator> PieceWitness<'a, P, N, A> {
         }
     }
 
-    /// Each report of a piece that it knows of is the value of the piece of its id among those that were fed, and each that
-    /// it vouches for is of one that was run. They are as many as the record of the feeder says.
+    /// Ensures that each report that it vouches for is the result of the piece with its id among those that were fed,
+    /// and was made of a piece that was run. The record of the feeder has the number of pieces.
     pub fn confirm(self, pass: FeederPass<A>)
         requires { pass.queue ≡ N.queue }
         ensures fed { (r : records.PieceReport) → IsValueOfOne self.entry r
@@ -82,7 +82,7 @@ impl<'a, P: Plan, N: QueueName, A: Allocator> PieceWitness<'a, P, N, A> {
     }
 }
 
-impl<'a, P: Plan, N: QueueName, A: Allocator> shared_work::findings::Witness
+impl<'a, P: Plan, N: QueueName, A: Allocator> shared_work::findings::Voucher
     for PieceWitness<'a, P, N, A> {
     ghost use Rattle.workers.specs.Vouching.{IsRunOfOne};
 

@@ -17,8 +17,7 @@ use std::sync::Wait;
 use std::thread::Promise;
 use std::time::Clock;
 
-/// What a worker has while it works, and hands back: its pass, which then has its end, its share, and its fault where
-/// memory ran out.
+/// What a worker returns: its pass, which has had its end, its share, and its fault where memory ran out.
 #[derive(Drop)]
 pub struct WorkerOutcome<H, A: Allocator = Global> {
     pub pass: WorkerPass<A>,
@@ -60,9 +59,9 @@ fn handle_unless<P: Plan, L: Ledgers, A: Allocator + Copy, W: Handler<P, A, L>, 
     }
 }
 
-/// Takes bundles of pieces and handles them, until the end of this worker comes. Where memory
-/// ran out it keeps that fault, and drops the bundles that it takes from then on. It helps once
-/// before each take, so bundles and other work go on by turns.
+/// Removes bundles of pieces and handles them, until the end of this worker comes. Where memory
+/// ran out it keeps that fault, and drops the bundles that it removes from then on. It helps once
+/// before each take, so bundles and other work alternate.
 pub fn work_on<P: Plan, L: Ledgers, A: Allocator + Copy, W: Handler<P, A, L>, R: Wait + Clock>(
     rt: &R,
     alloc: A,

@@ -38,7 +38,8 @@ fn run_streams<R: Threads + Wait + Clock + Sync>(
     )
 }
 
-/// The words of the process; else the status: 64 where they are no text, 3 where memory ran out.
+/// Returns the words of the command line. Fails with the exit status: 64 where they are not text, 3 when memory is
+/// refused.
 fn process_words(rt: &HostRuntime) -> Result<Vec<String>, u8> {
     match env::args(rt) {
         Ok(words) => words.collect(rt.alloc()).map_err(|_| OTHER_FAULT),

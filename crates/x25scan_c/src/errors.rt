@@ -2,7 +2,7 @@
 
 use line_model::fault::Fault;
 
-/// The call did what it says.
+/// The call succeeded.
 pub const OK: u32 = 0;
 /// Memory was refused.
 pub const MEMORY: u32 = 1;
@@ -12,7 +12,7 @@ pub const TRACE: u32 = 2;
 pub const CLOSED: u32 = 3;
 /// The trace has ended.
 pub const ENDED: u32 = 4;
-/// Nothing is left to be taken.
+/// Nothing is left to return.
 pub const NONE_LEFT: u32 = 5;
 /// The buffer is too short.
 pub const SHORT: u32 = 6;
@@ -27,7 +27,7 @@ pub const ROWS: u32 = 11;
 /// The last line that was fed has not ended.
 pub const LINE: u32 = 12;
 
-/// The number of a fault.
+/// Returns the number of a fault.
 pub(crate) fn number_of(fault: Fault) -> u32 {
     match fault {
         Fault::Trace(_, _) => TRACE,
@@ -35,7 +35,7 @@ pub(crate) fn number_of(fault: Fault) -> u32 {
     }
 }
 
-/// The words of a number; the header makes number 9.
+/// Returns the words of a number; the header makes number 9.
 pub(crate) fn words_of(error: u32) -> &'static [u8] {
     match error {
         OK => b"no error",

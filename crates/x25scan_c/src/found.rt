@@ -52,7 +52,7 @@ fn code_number(code: Code) -> u32 {
 }
 
 impl FindingNumbers {
-    /// The numbers of a finding.
+    /// Returns the numbers of a finding.
     pub(crate) fn of(finding: &Finding) -> FindingNumbers {
         let (state, number) = state_numbers(finding.state);
         FindingNumbers {

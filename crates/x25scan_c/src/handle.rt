@@ -23,14 +23,14 @@ impl Model for Handle {
 }
 
 impl Handle {
-    /// Holds nothing.
+    /// Returns a handle that holds nothing.
     pub(crate) fn none() -> Handle
         ensures { result.value ≡ None }
     {
         Handle { at: null_mut() }
     }
 
-    /// Holds the value of a loose box.
+    /// Returns a handle that holds the value of a loose box.
     pub(crate) fn holding(loose: Loose<Scanning, Global>) -> Handle
         ensures { result.value ≡ Some loose.value }
     {
@@ -38,7 +38,7 @@ impl Handle {
         Handle { at: at as *mut u8 }
     }
 
-    /// The loose box of the value that it holds.
+    /// Returns the loose box of the value that it holds.
     pub(crate) fn into_loose(self, alloc: Global) -> Loose<Scanning, Global>
         requires { ¬ (self.value ≡ None) }
         ensures { Some result.value ≡ self.value }

@@ -1,4 +1,4 @@
-//! The observer for C: one export for each thing that C asks of a trace that grows. `docs/x25scan.h` is the manual.
+//! The observer for C: exports that read a trace as it grows. `library/x25scan.h` is the manual.
 //!
 //! An export starts no thread and waits for none. A `Scan` is used by one call at a time.
 #![tactic(auto)]
@@ -40,7 +40,7 @@ pub struct Scan {
     ghost holds: { Holds mark observer.value },
 }
 
-/// What an open scan holds, or the error of one that is not open.
+/// Removes and returns what an open scan holds. Fails with the error of a scan that is not open.
 fn take(alloc: Global, scan: &mut Scan) -> Result<Box<Scanning>, u32>
     requires { IsSoundScan ⟦<PackedChannel<Global> as Channel<Global>>⟧ scan.old.observer.value }
     ensures taken { OnOk result (scan.old.mark ≡ 1) }
@@ -62,7 +62,7 @@ fn take(alloc: Global, scan: &mut Scan) -> Result<Box<Scanning>, u32>
     }
 }
 
-/// A scan that holds this again.
+/// Puts back what an open scan holds.
 fn put(scan: &mut Scan, held: Box<Scanning>)
     requires { IsSound ⟦<PackedChannel<Global> as Channel<Global>>⟧ held.value.reading }
     ensures mark { scan.new.mark ≡ 1 }
@@ -74,7 +74,7 @@ fn put(scan: &mut Scan, held: Box<Scanning>)
     };
 }
 
-/// Copies bytes into a buffer, and says how many there are. A buffer that is too short is left alone.
+/// Copies bytes into a buffer, and sets `needed` to their number. A buffer that is too short is not changed.
 fn copy_words(words: &[u8], buffer: &mut [u8], needed: &mut usize) -> u32
     ensures { needed.new ≡ length words.now }
 {
@@ -150,7 +150,7 @@ pub extern "C" fn x25scan_feed_packet(
     }
 }
 
-/// Takes the next finding.
+/// Returns the next finding.
 #[unsafe(no_mangle)]
 pub extern "C" fn x25scan_take_finding(
     alloc: Global,
@@ -212,7 +212,7 @@ pub extern "C" fn x25scan_end_trace(alloc: Global, scan: &mut Scan, form: u32) -
     }
 }
 
-/// Takes the next bytes of a report or of rows, as many as the buffer has room for.
+/// Returns the next bytes of a report or of rows, up to the room of the buffer.
 #[unsafe(no_mangle)]
 pub extern "C" fn x25scan_take_text(
     alloc: Global,
@@ -240,7 +240,7 @@ pub extern "C" fn x25scan_take_text(
     }
 }
 
-/// The faulty line: its number, its kind, and what is wrong with it in a sentence.
+/// Returns the faulty line: its number, its kind, and what is wrong with it in a sentence.
 #[unsafe(no_mangle)]
 pub extern "C" fn x25scan_take_fault(
     alloc: Global,
@@ -271,7 +271,7 @@ pub extern "C" fn x25scan_take_fault(
     }
 }
 
-/// Gives back all memory of a scan, and marks it.
+/// Frees all memory of a scan, and marks it as closed.
 #[unsafe(no_mangle)]
 pub extern "C" fn x25scan_close_scan(alloc: Global, scan: &mut Scan) -> u32
     requires { IsSoundScan ⟦<PackedChannel<Global> as Channel<Global>>⟧ scan.old.observer.value }
@@ -290,7 +290,7 @@ pub extern "C" fn x25scan_close_scan(alloc: Global, scan: &mut Scan) -> u32
     }
 }
 
-/// The words of an error.
+/// Returns the words of an error.
 #[unsafe(no_mangle)]
 pub extern "C" fn x25scan_copy_words(error: u32, buffer: &mut [u8], needed: &mut usize) -> u32 {
     copy_words(words_of(error), buffer, needed)

@@ -22,7 +22,7 @@ use std::mem::replace;
 /// What is read.
 #[derive(Drop)]
 pub enum Reading<A: Allocator, C: Channel<A>> {
-    /// Reports can be asked at any moment.
+    /// A trace whose report can be asked for at any moment.
     Report(Live<A, C>),
     /// The text so far, whose rows are printed at its end.
     Rows(Vec<u8, A>),
@@ -30,7 +30,7 @@ pub enum Reading<A: Allocator, C: Channel<A>> {
     Ended,
 }
 
-/// A text up to its last line feed.
+/// Returns a trace text up to its last line feed.
 fn ended_part(text: &[u8]) -> &[u8] {
     let end = match memrchr(b'\n', text) {
         Some(last) => last.saturating_add(1),
@@ -42,7 +42,7 @@ fn ended_part(text: &[u8]) -> &[u8] {
     }
 }
 
-/// Writes the rows of a text and its report, as `print_trace`.
+/// Writes the rows of a trace text and its report, as `print_trace`.
 fn print_rows<A: Allocator + Copy, C: Channel<A>, K: Sink>(
     alloc: A,
     text: &[u8],
@@ -58,7 +58,7 @@ fn print_rows<A: Allocator + Copy, C: Channel<A>, K: Sink>(
     Ok(())
 }
 
-/// Reads the next bytes of a text, as `Live::feed`, and appends what their rows found.
+/// Reads the next bytes of a trace text, as `Live::feed`, and appends what their rows found.
 fn feed_live<A: Allocator + Copy, C: Channel<A>>(
     live: &mut Live<A, C>,
     chunk: &[u8],
@@ -92,7 +92,7 @@ fn live_packet<A: Allocator + Copy, C: Channel<A>>(
 }
 
 impl<A: Allocator + Copy, C: Channel<A>> Reading<A, C> {
-    /// A trace of which nothing was fed. It takes no memory.
+    /// Returns a trace of which nothing was fed. Allocates nothing.
     pub fn new(alloc: A, prints_rows: bool) -> Self
         ensures { IsSound C.Channel result }
     {
@@ -103,12 +103,12 @@ impl<A: Allocator + Copy, C: Channel<A>> Reading<A, C> {
         }
     }
 
-    /// Whether rows are printed.
+    /// Returns whether rows are printed.
     pub fn prints_rows(&self) -> bool {
         matches!(self, Reading::Rows(_))
     }
 
-    /// Whether the trace has ended.
+    /// Returns whether the trace has ended.
     pub fn has_ended(&self) -> bool {
         matches!(self, Reading::Ended)
     }
@@ -160,7 +160,7 @@ impl<A: Allocator + Copy, C: Channel<A>> Reading<A, C> {
         Ok(())
     }
 
-    /// The text has ended: writes its report, as `Live::end`, or its rows and its report, as `print_trace`.
+    /// Writes the report of the text, which has ended, as `Live::end`, or its rows and its report, as `print_trace`.
     pub fn end<K: Sink>(&mut self, alloc: A, sink: &mut K) -> Result<(), Fault>
         requires { IsSound C.Channel self.old }
         ensures { self.new ≡ Reading.Ended }

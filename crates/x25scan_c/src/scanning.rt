@@ -1,4 +1,4 @@
-//! What a handle holds: a trace that is read, its findings, and the text that the caller has not taken.
+//! What a handle holds: a trace that is read, its findings, and the text that the caller has not received.
 
 ghost use Rattle.std.specs.Prelude.{◌≡◌};
 ghost use Rattle.x25scan_c.specs.Sound.{IsSound};
@@ -22,7 +22,7 @@ pub const JSON: u32 = 1;
 /// Rows as JSON lines, as they come, and last the report.
 pub const ROW_OBJECTS: u32 = 2;
 
-/// How many of the last bytes are kept at the most, except of one large chunk.
+/// The most bytes that are kept of the last ones, except for one larger chunk.
 const MOST_RECENT: usize = 1 << 17;
 
 /// The most octets of a packet.
@@ -33,12 +33,12 @@ const MOST_OCTETS: usize = 4200;
 pub struct Scanning {
     pub reading: Reading<Global, PackedChannel<Global>>,
     found: Vec<Finding>,
-    /// How many findings were taken.
+    /// How many findings were returned.
     found_taken: usize,
     /// The room of the line that writes a packet.
     line: Vec<u8>,
     text: VecSink<Global>,
-    /// How many bytes of the text were taken.
+    /// How many bytes of the text were returned.
     text_taken: usize,
     /// The last bytes that were fed, in which the faulty line is looked for, and where they begin.
     recent: Vec<u8>,
@@ -50,7 +50,7 @@ pub struct Scanning {
 }
 
 impl Scanning {
-    /// Nothing was fed. It takes no memory.
+    /// Returns a value of which nothing was fed. Allocates nothing.
     pub(crate) fn new(alloc: Global, form: u32) -> Scanning
         ensures { IsSound ⟦<PackedChannel<Global> as Channel<Global>>⟧ result.reading }
     {
@@ -82,7 +82,7 @@ impl Scanning {
         }
     }
 
-    /// Keeps what a refusal says, and returns its number.
+    /// Keeps the fault of a refusal, and returns its number.
     fn refuse(&mut self, alloc: Global, fault: Fault) -> u32
         ensures { self.new.reading ≡ self.old.reading }
     {
@@ -163,7 +163,7 @@ impl Scanning {
         answer
     }
 
-    /// The next finding that was not taken.
+    /// Returns the next finding that was not returned before.
     pub(crate) fn next_finding(&mut self) -> Option<Finding>
         ensures { self.new.reading ≡ self.old.reading }
     {
@@ -179,12 +179,12 @@ impl Scanning {
         None
     }
 
-    /// Whether it prints rows.
+    /// Returns whether it prints rows.
     pub(crate) fn prints_rows(&self) -> bool {
         self.reading.prints_rows()
     }
 
-    /// Puts lines of a report in the place of the text that was not taken.
+    /// Replaces the text that was not returned by lines of a report.
     fn put_report(&mut self, alloc: Global, form: u32, lines: VecSink<Global>) -> u32
         ensures { self.new.reading ≡ self.old.reading }
     {
@@ -201,8 +201,8 @@ impl Scanning {
         OK
     }
 
-    /// The report of the lines that have ended, or their rows, take the place of the text that was not taken. A refusal
-    /// changes nothing of that text.
+    /// Replaces the text that was not returned by the report of the lines that have ended, or by their rows. When it
+    /// fails, that text is as it was.
     pub(crate) fn report(&mut self, alloc: Global, form: u32) -> u32
         requires { IsSound ⟦<PackedChannel<Global> as Channel<Global>>⟧ self.old.reading }
         ensures { self.new.reading ≡ self.old.reading }
@@ -225,8 +225,8 @@ impl Scanning {
         }
     }
 
-    /// The text has ended: its report, or its rows and their report, take the place of the text that was not taken. The
-    /// trace has ended then, refused or not, except where the form is another than the scan's.
+    /// Replaces the text that was not returned by the report of the text, which has ended, or by its rows and their
+    /// report. The trace has ended then, also when it fails, except where the form is another than the scan's.
     pub(crate) fn end(&mut self, alloc: Global, form: u32) -> u32
         requires { IsSound ⟦<PackedChannel<Global> as Channel<Global>>⟧ self.old.reading }
         ensures { IsSound ⟦<PackedChannel<Global> as Channel<Global>>⟧ self.new.reading }
@@ -244,7 +244,7 @@ impl Scanning {
         }
     }
 
-    /// The text that was not taken.
+    /// Returns the text that was not returned before.
     pub(crate) fn waiting(&self) -> &[u8] {
         match self.text.as_slice().get(self.text_taken..) {
             Some(rest) => rest,
@@ -252,7 +252,7 @@ impl Scanning {
         }
     }
 
-    /// So many bytes of the text were taken.
+    /// Counts `taken` more bytes of the text as returned.
     pub(crate) fn take_text(&mut self, alloc: Global, taken: usize)
         ensures { self.new.reading ≡ self.old.reading }
     {
@@ -263,12 +263,12 @@ impl Scanning {
         }
     }
 
-    /// The faulty line, by its number and its kind.
+    /// Returns the faulty line, by its number and its kind.
     pub(crate) fn refused(&self) -> Option<(u32, Kind)> {
         self.refused
     }
 
-    /// What is wrong with the faulty line, in a sentence.
+    /// Returns what is wrong with the faulty line, in a sentence.
     pub(crate) fn advice(&self) -> &[u8] {
         match &self.advice {
             Some(sentence) => sentence.as_bytes(),

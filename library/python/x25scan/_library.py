@@ -113,7 +113,7 @@ class Scan:
         self._check(self._library.x25scan_feed_packet(self._at, number, ord(side), octets, len(octets)))
 
     def found(self) -> list[Finding]:
-        """The findings that were not taken."""
+        """The findings that were not returned yet."""
         findings, one, take = [], self._finding, self._library.x25scan_take_finding
         while (error := take(self._at, one)) == OK:
             state = "-" if one.state == ord("-") else f"{chr(one.state)}{one.number}"

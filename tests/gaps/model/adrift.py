@@ -90,7 +90,7 @@ def bring_up(interface: Interface, number: int, before: GapChannel) -> GapStep:
 
 
 def resetting(interface: Interface, number: int, before: GapChannel, row: PacketRow) -> GapStep:
-    """A reset, after which its side resets, or a reset confirmation, after which nobody resets."""
+    """A reset, after which its side resets, or a reset confirmation, after which no side resets."""
     is_reset = row.packet.kind is Kind.RESET
     doubts = doubts_of(before)
     if doubts.owed is Owed.RESET and (is_reset or row.side is Side.DTE):

@@ -1,4 +1,4 @@
-"""Takes rows out of traces, and puts gap rows in their place."""
+"""Removes rows from traces, and puts gap rows in their place."""
 from __future__ import annotations
 
 import random
@@ -27,7 +27,7 @@ def lost_at(source: random.Random, share: float, has_runs: bool, rows: list[Row]
 
 
 def with_gaps(source: random.Random, trace: Trace) -> Trace:
-    """The trace in the third form, with rows taken out singly or in runs, and gap rows in their place."""
+    """The trace in the third form, with rows removed singly or in runs, and gap rows in their place."""
     has_runs = source.random() < 0.5
     share = source.choice(SHARES)
     kept: list[Row] = []

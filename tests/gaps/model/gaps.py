@@ -81,7 +81,7 @@ def with_hidden_terms(interface: Interface, number: int, channel: Channel) -> Ch
 
 
 def state_after_gap(interface: Interface, number: int, channel: Channel) -> State:
-    """The state that stands for a channel adrift: d1 where its call is up, p1 to p3 where it is not."""
+    """The state that represents a channel adrift: d1 where its call is up, p1 to p3 where it is not."""
     if channel.request is None:
         return State.D1 if interface.is_permanent(number) else State.P1
     if channel.state.is_data_transfer():

@@ -67,7 +67,7 @@ class Observer:
         self.peak: tuple[int, int | None] = (0, None)
 
     def copy(self) -> Observer:
-        """An observer of the same interface that reads on by itself."""
+        """A copy of the observer, which goes on separately."""
         other = copy.copy(self)
         other.channels = dict(self.channels)
         other.shown = list(self.shown)

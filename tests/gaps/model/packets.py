@@ -127,7 +127,7 @@ FLOW_TYPES = {1: Kind.RECEIVE_READY, 5: Kind.RECEIVE_NOT_READY, 9: Kind.REJECT}
 
 
 def octet(position: int, octets: bytes) -> int:
-    """The octet at a position from 1 on, or 0 behind the last."""
+    """The octet at a position from 1 on, or 0 after the last."""
     return octets[position - 1] if len(octets) >= position else 0
 
 

@@ -1,4 +1,4 @@
-"""Draws right traces: packets are drawn, and those that would be a finding are not taken."""
+"""Draws right traces: packets are drawn, and those that would be a finding are left out."""
 from __future__ import annotations
 
 import random
@@ -13,7 +13,7 @@ from model.traces import GAPS_FORM, Trace
 
 MOST_TRIES = 2000
 RESTART_SHARE = 0.015
-# How often a packet that changes nothing is taken.
+# How often a packet that changes nothing is kept.
 IDLE_SHARE = 0.2
 SIZE = 16
 SET_UP_SHARE = 0.7

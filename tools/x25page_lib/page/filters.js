@@ -1,4 +1,4 @@
-// What the filters of tables mean: "call 4" and "channel 3" are a call and a channel, and other words stand in texts.
+// What the filters of tables mean: "call 4" and "channel 3" are a call and a channel, and other words are looked for in the texts.
 
 const NUMBERED = /\b(?:(call|channel|packet|frame)\s+(\d+)|(code)\s+(x[\dl]|\d+))(?!\S)/g;
 const BEGUN = /\b(?:call|channel|packet|frame|code)\s*$/;

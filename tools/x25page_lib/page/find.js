@@ -43,7 +43,7 @@ function foundChannel(number) {
 const FOUND = { packet: foundPacket, frame: foundFrame, call: (number) => foundLadder(`call-${number}`),
   channel: foundChannel };
 
-// Where a text leads, or words on why it leads nowhere. A number alone is that of a frame, where packets have frames.
+// Where the words of the find box lead, or why they lead nowhere. A number alone is that of a frame, where packets have frames.
 function found(text) {
   const match = SOUGHT.exec(text);
   if (!match) return { words: `Give the number of a ${FOUND_BY}, or call 4, or channel 3.` };

@@ -18,7 +18,7 @@ function keepPlace() {
   history.replaceState({ top: window.scrollY }, "");
 }
 
-// Goes to a part of the page; a step between packets of one ladder takes the place of the one before in the history.
+// Goes to a part of the page; a step between packets of one ladder replaces the one before in the history.
 function goTo(part, isStep = false) {
   if (isStep) {
     history.replaceState(history.state, "", `#${part}`);
@@ -60,7 +60,7 @@ function showAddress() {
 function follow() {
   const seen = showAddress();
   if (!seen) return;
-  // A row comes to stand above what is said of it.
+  // Scrolls a row to just above its details.
   const isRow = seen.matches(".row, tr");
   if (isRow) window.scrollBy({ top: seen.getBoundingClientRect().top - 0.3 * window.innerHeight });
   else seen.scrollIntoView({ block: "start" });
@@ -98,7 +98,7 @@ function listenForSteps() {
   history.scrollRestoration = "manual";
   window.addEventListener("popstate", goBack);
   window.addEventListener("hashchange", () => history.state === null && follow());
-  // A page that is read again stands where it was.
+  // A page that is read again is scrolled to where it was.
   window.addEventListener("pagehide", () => { history.scrollRestoration = "auto"; });
   document.addEventListener("click", (event) => event.target.closest?.("a[href^='#']") && keepPlace(), true);
   document.addEventListener("keydown", closeByKey);

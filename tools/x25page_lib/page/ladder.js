@@ -15,7 +15,7 @@ function callOfKey(key) {
   return key.startsWith("call-") ? callsByNumber.get(Number(key.slice(5))) : null;
 }
 
-// The rows of a ladder with the restart that ended its call, which stands in the ladder of the interface.
+// The rows of a ladder with the restart that ended its call, which is in the ladder of the interface.
 function entries(key) {
   const found = (facts.ladders[key] || []).map((it) => (Array.isArray(it) ? { row: rowOf(it) }
     : it.missing ? { missing: it } : { run: it }));
@@ -67,7 +67,8 @@ function drawLadder() {
   const items = shown.items.slice(shown.from, shown.from + ITEMS_AT_ONCE);
   const begun = shown.items.find((item) => item.row && item.row.time !== null)?.row.time ?? 0;
   let state = firstState(items);
-  const parts = [[[stateChip(state, at.left, 14), stateChip(state, at.right, 14), ...lifelines(at, 0, 30, state)], 30]];
+  // The chips come after the lifelines, which they cover in a narrow ladder.
+  const parts = [[[...lifelines(at, 0, 30, state), stateChip(state, at.left, 14), stateChip(state, at.right, 14)], 30]];
   let y = 30;
   for (const item of items) {
     const [part, height] = item.row ? drawRow(item.row, at, y, begun)
@@ -184,7 +185,7 @@ function openLadder(key, packet) {
   if (shown.items.length) drawLadder();
 }
 
-// Which page of the ladder a packet stands on; a fold with it is opened.
+// Which page of the ladder a packet is on; a fold with it is opened.
 function pageOf(packet) {
   const holds = (item) => (item.row ? item.row.packet === packet : item.fold?.some((it) => it.row.packet === packet));
   let at = shown.items.findIndex(holds);
@@ -222,7 +223,7 @@ function focusRow(element) {
   inView(element);
 }
 
-// Has an element stand where neither the top of the page nor the detail hides it.
+// Scrolls an element to where neither the top of the page nor the detail hides it.
 function inView(element) {
   const box = element.getBoundingClientRect();
   const detail = place("detail");

@@ -1,4 +1,4 @@
-// All packets in their order, over all ladders, so many lines at once; and where a packet is found by its number.
+// All packets in their order, over all ladders, some lines at a time; and where a packet is found by its number.
 
 const LINES_AT_ONCE = 100;
 const list = { all: null, lines: [], from: 0, filter: null, chosen: null };
@@ -53,7 +53,7 @@ function listedTexts(row) {
   return `${SIDES[row.side]} ${typeName(row.type)} ${codes}`;
 }
 
-// Whether a line of the list is looked for: sums of what is left out stand only in the whole list.
+// Whether a line of the list is looked for: sums of what is left out are only in the whole list.
 function isListed(it, filter) {
   if (filter.isEmpty) return true;
   if (!isRow(it)) return false;

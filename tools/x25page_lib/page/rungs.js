@@ -1,4 +1,4 @@
-// The rungs of a ladder: an arrow for each packet between two lifelines, and beside or below it what was wrong.
+// The rungs of a ladder: an arrow for each packet between two lifelines, and next to it or below it what was wrong.
 
 const ARROW = 24;
 const LINE = 15;
@@ -6,16 +6,19 @@ const ROW = 38;
 const NARROW = 640;
 const COMPACT = 860;
 const LETTER = 6.5;
+const BOLD_LETTER = 7.5;
 const GAP = "\u00a0\u00a0";
 const CHIP = 34;
+const CHIP_HEIGHT = 20;
 
-// Where everything stands in a ladder that is so wide; a narrow one has its notes below the arrows.
+// Where everything is in a ladder of this width; a narrow one has its notes below the arrows.
 function layout(width) {
   if (width < NARROW) {
     const [dte, dce] = [CHIP / 2 + 3, width - CHIP / 2 - 3];
     const note = dte + 24;
+    const room = dce - note - 22;
     return { width, isNarrow: true, dte, dce, left: dte, right: dce, number: note, note, text: 13, arrow: 42, chip: 18,
-      notes: 62, row: 66, letters: Math.floor((dce - note - 22) / LETTER) };
+      notes: 62, row: 66, letters: Math.floor(room / LETTER), boldLetters: Math.floor(room / BOLD_LETTER) };
   }
   const isWide = width > COMPACT;
   const [number, time] = isWide ? [width * 0.05, width * 0.136] : [58, 150];
@@ -23,8 +26,9 @@ function layout(width) {
   const dte = time + 10 + 2 * beside;
   const dce = dte + Math.max(222, width * (isWide ? 0.382 : 0.3));
   const note = dce + beside + (isWide ? 38 : 24);
+  const letters = Math.floor((width - note - 4) / LETTER);
   return { width, isNarrow: false, dte, dce, left: dte - beside, right: dce + beside, number, time, note, text: 14,
-    arrow: ARROW, chip: 0, notes: 16, row: ROW, letters: Math.floor((width - note - 4) / LETTER) };
+    arrow: ARROW, chip: 0, notes: 16, row: ROW, letters, boldLetters: letters };
 }
 
 function phase(state) {
@@ -52,12 +56,13 @@ function cut(text, most) {
   return [text.slice(0, most), rest.length > most ? `${rest.slice(0, most)}\u2026` : rest];
 }
 
-// What stands beside an arrow, line by line: the text and its style.
+// What is next to an arrow, line by line: the text and its style.
 function notes(row, at) {
   const { more, fault } = row;
   const found = [];
-  const say = (text, style = "", code = null) => wrapped(text, at.letters).forEach((line) =>
-    found.push({ text: line, style, code }));
+  const say = (text, style = "", code = null) =>
+    wrapped(text, style === "fault" ? at.boldLetters : at.letters).forEach((line) =>
+      found.push({ text: line, style, code }));
   if (fault) {
     say(`Code ${fault.code}: ${fault.name}`, "fault", fault.code);
     say(upper(fault.wrong), "wrong");
@@ -107,7 +112,7 @@ function packetText(row, gap = GAP) {
 
 function stateChip(state, x, y) {
   return drawnWord("state", state, { class: `state ${phase(state)}` },
-    draw("rect", { x: x - CHIP / 2, y: y - 10, width: CHIP, height: 20, rx: 10 }),
+    draw("rect", { x: x - CHIP / 2, y: y - CHIP_HEIGHT / 2, width: CHIP, height: CHIP_HEIGHT, rx: CHIP_HEIGHT / 2 }),
     draw("text", { x, y: y + 4, "text-anchor": "middle" }, state === "unknown" ? "?" : state));
 }
 
@@ -151,10 +156,16 @@ function kind(row) {
   return /^(reset|restart|clear|diag)/.test(row.type) ? "ending" : "calling";
 }
 
+// How high a row is: its notes and its chips lie in it, so that the next row is not drawn over them.
+function rowHeight(row, lines, at) {
+  const height = at.isNarrow ? at.row + lines.length * LINE : Math.max(at.row, 12 + lines.length * LINE);
+  return row.before === row.after ? height : Math.max(height, at.arrow + at.chip + CHIP_HEIGHT / 2 + 3);
+}
+
 // The drawing of a row, and how high it is.
 function drawRow(row, at, y, begun) {
   const lines = notes(row, at);
-  const height = at.isNarrow ? at.row + lines.length * LINE : Math.max(at.row, 12 + lines.length * LINE);
+  const height = rowHeight(row, lines, at);
   const label = { class: "label", x: (at.dte + at.dce) / 2, y: y + (at.isNarrow ? 33 : at.text),
     "text-anchor": "middle" };
   const parts = [

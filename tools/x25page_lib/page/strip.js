@@ -48,7 +48,7 @@ function layOut() {
   const names = facts.channels.map(String);
   if (facts.restarts.length || facts.marks.some((mark) => mark[2] === null)) names.unshift("interface");
   strip.lane = laneHeight(names.length);
-  // On paper all lanes stand on one page.
+  // On paper all lanes are on one page.
   if (printing.width) strip.lane = Math.min(strip.lane, LANES_ON_PAPER / names.length);
   strip.labels = 24 + 6.4 * Math.max(...names.map((name) => laneName(name).length), strip.width < NARROW ? 4 : 9);
   strip.lanes = new Map(names.map((name, at) => [name, at]));

@@ -1,4 +1,4 @@
-// The tables: calls, findings, accounts, PAD settings and words. Each shows so many lines at once, and can be sorted.
+// The tables: calls, findings, accounts, PAD settings and words. Each shows some lines at a time, and can be sorted.
 
 const AT_ONCE = 50;
 

@@ -97,7 +97,7 @@ function showWaits() {
   if (times) addTable("waits", "From data to its acknowledgement", "", times);
 }
 
-// A chart of a number over time: a bar for each part, with its number where the pointer stands.
+// A chart of a number over time: a bar for each part, with its number where the pointer is.
 function chart(title, style, value, width) {
   const { seconds, begin, parts } = facts.use.parts;
   const [height, inner] = [CHART.height - CHART.top - CHART.bottom, width - CHART.left - CHART.right];

@@ -37,7 +37,7 @@ function explained(topic, word) {
 
 const codeTopic = (code) => (explained("code", code) ? "code" : "message");
 
-// A word that is explained where it stands.
+// A word with an explanation at its place.
 function word(topic, value, shown = value, style = "") {
   if (!explained(topic, value)) return make("span", { class: style }, String(shown));
   const attributes = { class: `word ${style}`, tabindex: 0, "data-topic": topic, "data-word": value };

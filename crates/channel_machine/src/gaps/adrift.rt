@@ -52,7 +52,7 @@ fn waiting_name(call: Option<Opened>) -> StateName
     }
 }
 
-/// The state in which the calling side waits.
+/// Returns the state in which the calling side waits.
 pub(crate) fn calling_state(side: Side) -> StateName
     ensures { result ≡ calling_state side }
 {
@@ -69,7 +69,7 @@ fn is_outgoing(side: Side) -> bool
     matches!(side, Side::T)
 }
 
-/// The end of a call by the side that clears it.
+/// Returns the end of a call by the side that clears it.
 pub(crate) fn cleared_by(side: Side) -> How
     ensures { result ≡ cleared_by side }
 {
@@ -79,7 +79,7 @@ pub(crate) fn cleared_by(side: Side) -> How
     }
 }
 
-/// The state in which a side resets.
+/// Returns the state in which a side resets.
 pub(crate) fn resetting_state(side: Side) -> StateName
     ensures { result ≡ resetting_state side }
 {
@@ -90,14 +90,14 @@ pub(crate) fn resetting_state(side: Side) -> StateName
 }
 
 impl<A: Allocator + Clone, S: StatusStore> StatusChannel<A, S> {
-    /// The interface of the channel.
+    /// Returns the interface of the channel.
     pub(crate) fn interface(&self) -> Interface
         ensures { result ≡ self.now.terms.interface }
     {
         self.status.interface()
     }
 
-    /// The indication that the channel owes.
+    /// Returns the indication that the channel owes.
     pub(crate) fn owed(&self) -> Owed
         ensures { (c : Channel) → Stands self.now c → result ≡ owed_by c }
     {
@@ -108,7 +108,7 @@ impl<A: Allocator + Clone, S: StatusStore> StatusChannel<A, S> {
         }
     }
 
-    /// Whether the channel is in a state of data transfer.
+    /// Returns whether the channel is in a state of data transfer.
     pub(crate) fn is_in_transfer(&self) -> bool
         ensures { (c : Channel) → Stands self.now c
             → result ≡ is_in_transfer c }
@@ -116,14 +116,14 @@ impl<A: Allocator + Clone, S: StatusStore> StatusChannel<A, S> {
         matches!(self.status.state(), ChannelState::Transfer(_))
     }
 
-    /// Whether the channel is a permanent circuit.
+    /// Returns whether the channel is a permanent circuit.
     pub(crate) fn is_permanent(&self) -> bool
         ensures { result ≡ is_permanent self.now.terms.interface self.now.channel }
     {
         self.status.interface().is_permanent(self.channel)
     }
 
-    /// Whether the channel has a call, or needs none.
+    /// Returns whether the channel has a call, or needs none.
     pub(crate) fn is_in_use(&self) -> bool
         ensures { (c : Channel) → Stands self.now c
             → result ≡ is_in_use self.now.terms.interface self.now.channel c }
@@ -131,7 +131,7 @@ impl<A: Allocator + Clone, S: StatusStore> StatusChannel<A, S> {
         self.is_permanent() || self.status.call().is_some()
     }
 
-    /// Whether a call is open that is not up.
+    /// Returns whether a call is open that is not up.
     pub(crate) fn is_calling(&self) -> bool
         ensures { (c : Channel) → Stands self.now c
             → result ≡ (is_open c && not (is_in_transfer c)) }
@@ -139,7 +139,7 @@ impl<A: Allocator + Clone, S: StatusStore> StatusChannel<A, S> {
         self.status.call().is_some() && !self.is_in_transfer()
     }
 
-    /// Whether the side that called accepts: then another call may be hidden.
+    /// Returns whether the side that called accepts: then another call may be hidden.
     pub(crate) fn is_own_acceptance(&self, side: Side) -> bool
         ensures { (c : Channel) → Stands self.now c
             → result ≡ is_own_acceptance side c.opening }
@@ -150,14 +150,14 @@ impl<A: Allocator + Clone, S: StatusStore> StatusChannel<A, S> {
         }
     }
 
-    /// Whether another call may be hidden after a packet that brings the call up, if it is not.
+    /// Returns whether another call may be hidden after a packet that brings the call up, if it is not.
     pub(crate) fn is_hidden_when_up(&self, adrift: &WhileAdrift) -> bool
         ensures { (c : Channel) → Stands self.now c → result ≡ hidden_when_up adrift.now c }
     {
         adrift.is_hidden() || !self.is_in_transfer()
     }
 
-    /// Whether another call may be hidden after an acceptance of a side.
+    /// Returns whether another call may be hidden after an acceptance of a side.
     pub(crate) fn is_hidden_when_accepted(&self, adrift: &WhileAdrift, side: Side) -> bool
         ensures { (c : Channel) → Stands self.now c
             → result ≡ (adrift.now.hidden || is_own_acceptance side c.opening) }
@@ -165,7 +165,7 @@ impl<A: Allocator + Clone, S: StatusStore> StatusChannel<A, S> {
         adrift.is_hidden() || self.is_own_acceptance(side)
     }
 
-    /// Whether a side resets.
+    /// Returns whether a side resets.
     pub(crate) fn is_resetting(&self, side: Side) -> bool
         ensures { (c : Channel) → Stands self.now c → result ≡ is_resetting side c.state }
     {
@@ -175,7 +175,7 @@ impl<A: Allocator + Clone, S: StatusStore> StatusChannel<A, S> {
         }
     }
 
-    /// Whether another call may be hidden behind the one that is open, where a gap comes.
+    /// Returns whether another call may be hidden after the open one, where a gap comes.
     pub(crate) fn is_hidden_by_gap(&self) -> bool
         ensures { (c : Channel) → Stands self.now c
             → result ≡ is_hidden_by_gap self.now.terms.interface self.now.channel c }
@@ -183,7 +183,7 @@ impl<A: Allocator + Clone, S: StatusStore> StatusChannel<A, S> {
         !self.is_permanent() && self.status.call().is_some()
     }
 
-    /// Leaves of the channel what a gap leaves: its call, and whether it came up.
+    /// Forgets all of the channel except its call, and whether that came up, as a gap does.
     pub(crate) fn drift(&mut self)
         ensures interface { self.new.terms.interface ≡ self.old.terms.interface }
         ensures channel { self.new.channel ≡ self.old.channel }
@@ -199,7 +199,7 @@ impl<A: Allocator + Clone, S: StatusStore> StatusChannel<A, S> {
         }
     }
 
-    /// The state that says no more than whether a call is open and whether it came up.
+    /// Returns the state that says only whether a call is open and whether it came up.
     fn idle_name(&self) -> StateName
         ensures { (c : Channel) → Stands self.now c → result ≡ idle_name
             (is_permanent self.now.terms.interface self.now.channel || is_in_transfer c) c.opening }
@@ -211,7 +211,7 @@ impl<A: Allocator + Clone, S: StatusStore> StatusChannel<A, S> {
         }
     }
 
-    /// Brings a call up that was not, by a packet that is no acceptance.
+    /// Brings up a call that was not up, by a packet other than an acceptance.
     pub(crate) fn bring_up(&mut self, origin: EventOrigin, events: &mut Vec<Event, A>)
         requires room { vec_len events.old < vec_capacity events.old }
         ensures does { (c : Channel) → Stands self.old c
@@ -239,7 +239,8 @@ impl<A: Allocator + Clone, S: StatusStore> StatusChannel<A, S> {
         self.enter(StateName::P4, false, &terms);
     }
 
-    /// An acceptance of a call that is not up: under its terms, or under the largest where another call may be hidden.
+    /// Steps by an acceptance of a call that is not up: under its terms, or under the largest where another call may be
+    /// hidden.
     pub(crate) fn accept_adrift(
         &mut self,
         origin: EventOrigin,
@@ -264,7 +265,7 @@ impl<A: Allocator + Clone, S: StatusStore> StatusChannel<A, S> {
         }
     }
 
-    /// A reset or its confirmation on a channel with a call, which it brings up.
+    /// Steps by a reset or its confirmation on a channel with a call, which it brings up.
     pub(crate) fn reset_adrift(
         &mut self,
         origin: EventOrigin,
@@ -283,7 +284,7 @@ impl<A: Allocator + Clone, S: StatusStore> StatusChannel<A, S> {
         Ok(())
     }
 
-    /// Opens a call on a channel adrift; the one before ends by a gap.
+    /// Opens a call on a channel adrift; a gap ends the one before.
     pub(crate) fn call_adrift(
         &mut self,
         origin: EventOrigin,
@@ -314,8 +315,8 @@ impl<A: Allocator + Clone, S: StatusStore> StatusChannel<A, S> {
         Ok(())
     }
 
-    /// A packet of data transfer while the other side does not reset: it brings the call up, nothing is outstanding then,
-    /// and data counts.
+    /// Steps by a packet of data transfer while the other side does not reset: it brings the call up, nothing is
+    /// outstanding then, and data counts.
     pub(crate) fn carry_on(
         &mut self,
         origin: EventOrigin,

@@ -11,7 +11,7 @@ use line_model::packet::DataHeader;
 use line_model::state::Side;
 use std::marker::Model;
 
-/// What is known of a channel adrift beside its call.
+/// What is known of a channel adrift apart from its call.
 #[derive(Clone, Copy)]
 pub struct WhileAdrift {
     owed: Owed,
@@ -32,7 +32,7 @@ impl Model for WhileAdrift {
 }
 
 impl WhileAdrift {
-    /// No data packet was seen yet.
+    /// Returns the value before any data packet was seen.
     pub(crate) fn new(owed: Owed, hidden: bool) -> WhileAdrift
         ensures { result ≡ record { owed = owed; hidden = hidden; last = gaps.of_both None } }
     {
@@ -44,28 +44,28 @@ impl WhileAdrift {
         }
     }
 
-    /// The indication that was owed.
+    /// Returns the indication that was owed.
     pub(crate) fn owed(&self) -> Owed
         ensures { result ≡ self.now.owed }
     {
         self.owed
     }
 
-    /// Whether another call may be hidden behind the one that is open.
+    /// Returns whether another call may be hidden after the open one.
     pub(crate) fn is_hidden(&self) -> bool
         ensures { result ≡ self.now.hidden }
     {
         self.hidden
     }
 
-    /// The same where another indication is owed.
+    /// Returns the same where another indication is owed.
     pub(crate) fn owing(self, owed: Owed) -> WhileAdrift
         ensures { result ≡ record self { owed = owed } }
     {
         WhileAdrift { owed, ..self }
     }
 
-    /// The same where another call may be hidden, or not.
+    /// Returns the same where another call may be hidden, or not.
     pub(crate) fn hiding(self, hidden: bool) -> WhileAdrift
         ensures { result ≡ record self { hidden = hidden } }
     {
@@ -82,7 +82,7 @@ impl WhileAdrift {
         }
     }
 
-    /// The data packet of the other side that a P(R) of a side acknowledges, where nothing is owed.
+    /// Returns the data packet of the other side that a P(R) of a side acknowledges, where nothing is owed.
     pub(crate) fn acknowledged(&self, side: Side, receive: u8) -> Option<LastData>
         ensures { result ≡ acknowledged_data self.now side receive }
     {
@@ -101,8 +101,8 @@ impl WhileAdrift {
         }
     }
 
-    /// After a packet of a side that does not settle the channel: a data packet is the last one of its side, and another
-    /// P(R) replaces that of the last one.
+    /// Records a packet of a side that does not settle the channel: data becomes the last data of its side, and the
+    /// P(R) of any other packet replaces that of the last data.
     pub(crate) fn receive(
         &mut self,
         modulus: u8,

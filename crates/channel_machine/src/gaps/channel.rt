@@ -29,7 +29,8 @@ pub(crate) enum Certainty<A: Allocator> {
     Settled(Box<SettledNumbers<A>, A>),
 }
 
-/// A logical channel (profile). A gap takes no memory; where nothing is in doubt the channel steps as if there were no gaps.
+/// A logical channel (profile). A gap allocates nothing; where nothing is in doubt the channel steps as if there were
+/// no gaps.
 #[derive(Drop)]
 pub struct GapChannel<A: Allocator, S: StatusStore> {
     pub(crate) channel: StatusChannel<A, S>,
@@ -47,7 +48,7 @@ impl<A: Allocator, S: StatusStore> Model for GapChannel<A, S> {
 }
 
 impl<A: Allocator + Clone, S: StatusStore> GapChannel<A, S> {
-    /// A channel of an epoch as it begins. It takes no memory.
+    /// Returns a channel of an epoch as it begins. Allocates nothing.
     pub(crate) fn begun(
         alloc: A,
         interface: &Interface,
@@ -83,7 +84,7 @@ impl<A: Allocator + Clone, S: StatusStore> GapChannel<A, S> {
         }
     }
 
-    /// Whether a gap left open in which state the channel is.
+    /// Returns whether a gap left open in which state the channel is.
     pub(crate) fn is_adrift(&self) -> bool
         ensures { result ≡ is_adrift (certainty_of self.now.certainty) }
     {
@@ -94,7 +95,8 @@ impl<A: Allocator + Clone, S: StatusStore> GapChannel<A, S> {
         }
     }
 
-    /// Leaves of the channel what a gap of it leaves, or a gap of all channels of the interface. It takes no memory.
+    /// Keeps of the channel what a gap leaves: a gap of this channel, or of all channels of the interface. Allocates
+    /// nothing.
     pub fn gap(&mut self, all_channels: bool)
         ensures interface { interface_of self.new ≡ interface_of self.old }
         ensures number { number_of self.new ≡ number_of self.old }
@@ -108,7 +110,7 @@ impl<A: Allocator + Clone, S: StatusStore> GapChannel<A, S> {
         self.certainty = Certainty::Adrift(adrift);
     }
 
-    /// What was owed as a gap comes, or at the gap before.
+    /// Returns the indication that is owed as a gap comes, or was owed at the gap before.
     fn owed_at_gap(&self) -> Owed
         ensures { (g : gaps.GapChannel) → Represents self.now g
             → result ≡ gaps.owed_at_gap g.certainty g.channel }

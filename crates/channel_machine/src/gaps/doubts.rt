@@ -20,7 +20,7 @@ pub(crate) struct SideDoubts {
 }
 
 impl SideDoubts {
-    /// After a data packet that was accepted the next P(S) is certain, and the sequence where the packet ends one.
+    /// Records an accepted data packet: the next P(S) is certain, and so is the sequence where the packet ends one.
     fn settle_data(&mut self, is_category_a: bool)
         ensures { self.new ≡ record self.old {
           number = false;
@@ -61,8 +61,8 @@ const NO_DOUBTS: SideDoubts = SideDoubts {
 };
 
 impl Doubts {
-    /// What is in doubt where a packet of a side settles a channel: all but the numbers, and the next P(S) of its side
-    /// where it is no data.
+    /// Returns what is in doubt where a packet of a side settles a channel: all but the numbers, and the next P(S) of
+    /// its side where it is not data.
     pub(crate) fn settled(hidden: bool, side: Side, is_data: bool) -> Doubts
         ensures { result ≡ record {
           hidden = hidden;
@@ -94,14 +94,14 @@ impl Doubts {
         }
     }
 
-    /// Whether another call may be hidden behind the one that is open.
+    /// Returns whether another call may be hidden after the open one.
     pub(crate) fn is_hidden(&self) -> bool
         ensures { result ≡ self.now.hidden }
     {
         self.hidden
     }
 
-    /// What is in doubt of a side.
+    /// Returns what is in doubt of a side.
     pub(crate) fn of(&self, side: Side) -> SideDoubts
         ensures { result ≡ record {
           number = of_side side self.now.numbers;
@@ -115,7 +115,7 @@ impl Doubts {
         }
     }
 
-    /// It is certain whether an interrupt of a side is unconfirmed.
+    /// Records that it is certain whether an interrupt of a side is unconfirmed.
     pub(crate) fn settle_interrupt(&mut self, side: Side)
         ensures { self.new ≡ record self.old {
           interrupts = with_side side false self.old.interrupts;
@@ -127,7 +127,8 @@ impl Doubts {
         }
     }
 
-    /// After a data packet of a side that was accepted its next P(S) is certain, and its sequence where the packet ends one.
+    /// Records an accepted data packet of a side: its next P(S) is certain, and so is its sequence where the packet
+    /// ends one.
     pub(crate) fn settle_data(&mut self, side: Side, is_category_a: bool)
         ensures { self.new ≡ doubts_after_data side is_category_a self.old }
     {
@@ -137,7 +138,7 @@ impl Doubts {
         }
     }
 
-    /// What is in doubt in a state: outside d1 only whether another call may be hidden.
+    /// Returns what is in doubt in a state: outside d1 only whether another call may be hidden.
     pub(crate) fn in_state(self, state: ChannelState) -> Doubts
         ensures { result ≡ doubts_in state self }
     {

@@ -1,4 +1,4 @@
-//! What gaps leave open of a channel, as far as a word says it.
+//! What gaps leave open about a channel, as far as a word has it.
 
 ghost use Rattle.std.specs.Prelude.{◌≡◌, is_none, option_map};
 ghost use Rattle.line_model.specs.channels.Gaps.{indication_of, is_nothing_owed};
@@ -9,7 +9,7 @@ use line_model::gap::{AdriftEntry, Owed};
 use line_model::packet::{Class, Packet, PacketKind};
 use line_model::state::{ChannelState, DState, PState, Side};
 
-/// Whether a gap is one of all channels; none where a packet is no gap.
+/// Returns whether a gap is one of all channels; none where a packet is not a gap.
 #[inline(always)]
 pub(crate) fn gap_in(packet: &Packet) -> Option<bool>
     ensures { result ≡ option_map (λ c. is_none c) (gap_of packet.now) }
@@ -24,7 +24,7 @@ pub(crate) fn gap_in(packet: &Packet) -> Option<bool>
     }
 }
 
-/// What a packet of a class does on a channel adrift, which is a permanent circuit or not.
+/// Returns what a packet of a class does on a channel adrift, which is a permanent circuit or not.
 pub(crate) fn adrift_entry(permanent: bool, class: Class) -> AdriftEntry
     ensures { result ≡ adrift_entry permanent class }
 {
@@ -52,7 +52,7 @@ fn of_call(permanent: bool, entry: AdriftEntry) -> AdriftEntry
     }
 }
 
-/// The indication that a state owes.
+/// Returns the indication that a state owes.
 pub(crate) fn indication_of(state: ChannelState) -> Owed
     ensures { result ≡ indication_of state }
 {
@@ -63,14 +63,14 @@ pub(crate) fn indication_of(state: ChannelState) -> Owed
     }
 }
 
-/// Whether no indication was owed.
+/// Returns whether no indication was owed.
 pub(crate) fn is_nothing_owed(owed: Owed) -> bool
     ensures { result ≡ is_nothing_owed owed }
 {
     matches!(owed, Owed::NoIndication)
 }
 
-/// What is still owed after a packet of a side.
+/// Returns what is still owed after a packet of a side.
 pub(crate) fn owed_after(side: Side, entry: AdriftEntry, owed: Owed) -> Owed
     ensures { result ≡ owed_after side entry owed }
 {

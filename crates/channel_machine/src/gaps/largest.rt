@@ -1,4 +1,4 @@
-//! The terms of a call behind which another may be hidden.
+//! The terms of a call after which another call may be hidden.
 
 ghost use Rattle.std.specs.Prelude.{◌≡◌};
 ghost use Rattle.channel_machine.specs.Largest.{largest_values};
@@ -9,7 +9,7 @@ use crate::terms::{Terms, Values};
 const LARGEST_SIZE: u16 = 4096;
 
 impl Terms {
-    /// The same call under the largest packet sizes and windows.
+    /// Returns the same call under the largest packet sizes and windows.
     pub(crate) fn largest(self) -> Terms
         ensures interface { result.interface ≡ self.interface }
         ensures call { result.call ≡ self.call }

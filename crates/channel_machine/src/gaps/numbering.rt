@@ -11,7 +11,7 @@ use line_model::packet::DataHeader;
 use line_model::state::Side;
 
 /// Judges a data packet of a side whose next P(S) is in doubt, and returns the numbers after it: `INVALID_P_R`, or
-/// `INVALID_P_S` where P(S) is no number of the modulus.
+/// `INVALID_P_S` where P(S) is not below the modulus.
 pub(crate) fn judge_first(flow: Flow, side: Side, header: &DataHeader) -> Result<Flow, u8>
     requires widest { IsWidest flow }
     ensures numbers { (c : Counts) → IsFirst flow side header.now.send c
@@ -58,7 +58,7 @@ pub(crate) fn judge_next(
     Ok(flow)
 }
 
-/// How many packets are unacknowledged, by the numbers of the next one and of the first that is.
+/// How many packets are unacknowledged, by the number of the next packet and that of the first unacknowledged one.
 fn outstanding(modulus: u8, next: u8, lowest: u8) -> u8
     requires eight { (modulus ≡ 8) ⊎ (modulus ≡ 128) }
     requires next { next < modulus }

@@ -22,7 +22,8 @@ use std::alloc::Allocator;
 const LARGEST_SIZE: usize = 4096;
 
 impl<A: Allocator + Clone, S: StatusStore> StatusChannel<A, S> {
-    /// What a packet says on a channel adrift, or its first fault: of data only what no packet size allows.
+    /// Returns what a packet says on a channel adrift, or its first fault; data is only too long if no packet size
+    /// allows it.
     pub(crate) fn read_adrift<'a>(&self, item: &ItemRef<'a>) -> Result<Contents<'a>, u8>
         requires said { IsSaid self.now.terms.interface item.now }
         ensures fault { (c : Channel) → Stands self.now c

@@ -43,7 +43,7 @@ pub(crate) struct GapRow {
 }
 
 impl<A: Allocator + Clone, S: StatusStore> GapChannel<A, S> {
-    /// Steps a channel adrift by what a row says. Nothing is a finding, and a packet with a fault of format does nothing.
+    /// Steps a channel adrift by what a row says. Finds nothing; a packet with a fault of format does nothing.
     pub(crate) fn step_adrift(
         &mut self,
         row: &GapRow,
@@ -86,7 +86,7 @@ impl<A: Allocator + Clone, S: StatusStore> GapChannel<A, S> {
         }
     }
 
-    /// A call: it may follow the end of the one before, which was not recorded.
+    /// Steps by a call, before which the end of another may be missing.
     fn open_adrift(
         &mut self,
         row: &GapRow,
@@ -109,7 +109,7 @@ impl<A: Allocator + Clone, S: StatusStore> GapChannel<A, S> {
         Ok(())
     }
 
-    /// An acceptance: it brings a call up that was not.
+    /// Steps by an acceptance, which brings up a call that was not up.
     fn accept_adrift(
         &mut self,
         row: &GapRow,
@@ -135,7 +135,7 @@ impl<A: Allocator + Clone, S: StatusStore> GapChannel<A, S> {
         Ok(())
     }
 
-    /// A clear: it ends the call by its side.
+    /// Steps by a clear, which ends the call by its side.
     fn clear_adrift(
         &mut self,
         row: &GapRow,
@@ -164,8 +164,8 @@ impl<A: Allocator + Clone, S: StatusStore> GapChannel<A, S> {
         Ok(())
     }
 
-    /// A clear confirmation: all before it is over, and nothing is in doubt any more, unless an indication may still be
-    /// owed or the interface may be restarting.
+    /// Steps by a clear confirmation: nothing is in doubt after it, unless an indication may still be owed or the
+    /// interface may be restarting.
     fn confirm_clear_adrift(
         &mut self,
         row: &GapRow,
@@ -194,8 +194,7 @@ impl<A: Allocator + Clone, S: StatusStore> GapChannel<A, S> {
         Ok(())
     }
 
-    /// A reset or its confirmation: it brings a call up that was not, and enters a state of it. What is owed after it is
-    /// known.
+    /// Steps by a reset or its confirmation, which brings up a call that was not up. What is owed after it is known.
     fn reset_adrift(
         &mut self,
         row: &GapRow,
@@ -220,8 +219,8 @@ impl<A: Allocator + Clone, S: StatusStore> GapChannel<A, S> {
         Ok(())
     }
 
-    /// A packet of data transfer: it brings a call up that was not, and may settle the channel. While the other side resets
-    /// it does nothing.
+    /// Steps by a packet of data transfer, which brings up a call that was not up and may settle the channel. While the
+    /// other side resets it does nothing.
     fn carry_adrift(
         &mut self,
         row: &GapRow,
@@ -252,7 +251,7 @@ impl<A: Allocator + Clone, S: StatusStore> GapChannel<A, S> {
         }
     }
 
-    /// A packet that settles the channel.
+    /// Steps by a packet that settles the channel.
     fn settle(
         &mut self,
         row: &GapRow,
@@ -284,7 +283,7 @@ impl<A: Allocator + Clone, S: StatusStore> GapChannel<A, S> {
         Ok(())
     }
 
-    /// A packet that does not settle the channel.
+    /// Steps by a packet that does not settle the channel.
     fn stay_adrift(
         &mut self,
         row: &GapRow,

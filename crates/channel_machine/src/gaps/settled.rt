@@ -47,7 +47,7 @@ pub(crate) struct Settling {
 }
 
 impl Settling {
-    /// The packet of a side, if it settles the channel.
+    /// Returns the packet of a side, if it settles the channel.
     pub(crate) fn by(adrift: &WhileAdrift, side: Side, packet: &Packet) -> Option<Settling>
         ensures { result ≡ settling_by side (header_in packet.now)
             (receive_by (header_in packet.now) (receive_in packet.now))
@@ -80,8 +80,8 @@ pub(crate) fn received(packet: &Packet) -> Option<u8>
     }
 }
 
-/// What is kept of a settled channel beside its state and its call: what is in doubt, its numbers and interrupts, and the
-/// sequences that it has begun. The windows here are the widest: the window in force is judged before them.
+/// What is kept of a settled channel apart from its state and its call: what is in doubt, its numbers and interrupts,
+/// and the sequences that it has begun. The windows here are the widest: the window in force is judged before them.
 #[derive(Drop)]
 pub(crate) struct SettledNumbers<A: Allocator> {
     doubts: Doubts,
@@ -102,7 +102,7 @@ impl<A: Allocator> Model for SettledNumbers<A> {
 }
 
 impl<A: Allocator + Clone> SettledNumbers<A> {
-    /// What a packet that settles the channel makes certain. It takes no memory.
+    /// Returns what a packet that settles the channel makes certain. Allocates nothing.
     pub(crate) fn new(
         alloc: A,
         interface: &Interface,
@@ -122,15 +122,15 @@ impl<A: Allocator + Clone> SettledNumbers<A> {
         }
     }
 
-    /// What is in doubt.
+    /// Returns what is in doubt.
     pub(crate) fn doubts(&self) -> Doubts
         ensures { result ≡ self.now.doubts }
     {
         self.doubts
     }
 
-    /// Nothing is outstanding or begun any more, as where a channel enters a state; outside d1 no more is in doubt but
-    /// whether another call may be hidden.
+    /// Forgets what is outstanding or begun, as entering a state does. Outside d1 only whether another call may be
+    /// hidden stays in doubt.
     pub(crate) fn restart(&mut self, state: ChannelState)
         ensures doubts { self.new.doubts ≡ doubts_in state self.old.doubts }
         ensures modulus { self.new.flow.modulus ≡ self.old.flow.modulus }
@@ -160,8 +160,8 @@ impl<A: Allocator + Clone> SettledNumbers<A> {
         }
     }
 
-    /// Accepts an interrupt, an interrupt confirmation, or the P(R) of an RR or RNR, or returns its fault; then all is as it
-    /// was.
+    /// Accepts an interrupt, an interrupt confirmation, or the P(R) of an RR or RNR, or returns its fault and changes
+    /// nothing.
     pub(crate) fn control(
         &mut self,
         class: Class,
@@ -248,12 +248,12 @@ impl<A: Allocator + Clone> SettledNumbers<A> {
         Ok(())
     }
 
-    /// Whether it is certain that a packet of a side has another Q bit than the sequence that it continues.
+    /// Returns whether it is certain that a packet of a side has another Q bit than the sequence that it continues.
     pub(crate) fn is_mixed(&self, side: Side, qualified: bool) -> bool
         ensures { (i : Interface) (c : Channel) (p : AcceptedData) → p.qualified ≡ qualified
             → SequencesStand i self.now c → result ≡ is_mixed self.now.doubts.hidden
             (of_side side self.now.doubts.sequences) p
-            (may_be_begun self.now.doubts.hidden (size_in_force i c side) side c.heard) }
+            (may_be_begun self.now.doubts.hidden (size_in_force i c side) side c.accepted) }
     {
         self.is_known(side) && !self.assembler.is_alike(side, qualified)
     }

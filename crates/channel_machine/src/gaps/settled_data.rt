@@ -3,7 +3,7 @@
 ghost use Rattle.std.specs.Prelude.{◌≡◌, ◌+◌, ◌≤◌, Bool, List, true, false, drop, IfOk, OnErr, OnSome, vec_len, vec_capacity};
 ghost use Rattle.line_model.specs.basics.Bounds.{IsSaid};
 ghost use Rattle.line_model.specs.channels.Channels.{AcceptedData, Channel};
-ghost use Rattle.line_model.specs.channels.ChannelStep.{heard_of};
+ghost use Rattle.line_model.specs.channels.ChannelStep.{accepted_of};
 ghost use Rattle.line_model.specs.channels.GapStep.{data_in_doubt, is_in_d1, may_be_category_a, settings_in_doubt};
 ghost use Rattle.line_model.specs.packets.Classes.{header_length, packet_class};
 ghost use Rattle.line_model.specs.packets.Says.{header_in};
@@ -121,10 +121,10 @@ impl<A: Allocator + Clone, S: StatusStore> StatusChannel<A, S> {
         requires short { item.now.length ≤ largest_length }
         ensures adds { (c : Channel) (hs : List AcceptedData) → Stands self.now (at_rest c)
             → Continues settled.old judgement.now.side hs
-            (heard_of self.now.terms.interface item.now header.now)
+            (accepted_of self.now.terms.interface item.now header.now)
             → IfOk result (λ a. IsAdded judgement.now.origin self.now.terms.interface
             judgement.now.side settled.old settled.new events.old.items events.new.items a hs
-            (heard_of self.now.terms.interface item.now header.now) c) }
+            (accepted_of self.now.terms.interface item.now header.now) c) }
         ensures unchanged { OnErr result ((settled.new ≡ settled.old)
             × (events.new.items ≡ events.old.items)) }
         ensures memory { IsMemory result }
@@ -168,9 +168,9 @@ impl<A: Allocator + Clone, S: StatusStore> StatusChannel<A, S> {
         requires unqualified { header.now.qualified ≡ false }
         ensures puts { (c : Channel) (hs : List AcceptedData) → Stands self.now (at_rest c)
             → Continues settled.old side hs
-            (heard_of self.now.terms.interface item.now header.now)
+            (accepted_of self.now.terms.interface item.now header.now)
             → IfOk result (λ a. IsPut self.now.terms.interface side settled.old
-            settled.new a hs (heard_of self.now.terms.interface item.now header.now) c) }
+            settled.new a hs (accepted_of self.now.terms.interface item.now header.now) c) }
         ensures unchanged { OnErr result (settled.new ≡ settled.old) }
         ensures memory { IsMemory result }
     {
@@ -188,8 +188,8 @@ impl<A: Allocator + Clone, S: StatusStore> StatusChannel<A, S> {
     }
 }
 
-/// Whether a data packet of so many octets of user data may be of category A, by the size in force for its side: the size
-/// is not known where another call may be hidden.
+/// Whether a data packet of this length may be of category A, by the size in force for its side: the size is not known
+/// where another call may be hidden.
 fn may_be_category_a(hidden: bool, size: u16, header: &DataHeader, length: usize) -> bool
     ensures { (p : AcceptedData) → p.more ≡ header.now.more → p.delivery ≡ header.now.delivery
         → p.length ≡ length → result ≡ may_be_category_a hidden size p }

@@ -207,7 +207,7 @@ impl<A: Allocator + Clone, S: StatusStore> StatusChannel<A, S> {
         }
     }
 
-    /// Nothing is owed any more.
+    /// Records that nothing is owed any more.
     fn settle(&mut self)
         ensures interface { self.new.terms.interface ≡ self.old.terms.interface }
         ensures channel { self.new.channel ≡ self.old.channel }
@@ -224,7 +224,7 @@ impl<A: Allocator + Clone, S: StatusStore> StatusChannel<A, S> {
         matches!(self.status.state(), ChannelState::Transfer(DState::D1))
     }
 
-    /// Whether a channel that was settled still is: its call is open, or it is in d1.
+    /// Returns whether a channel that was settled still is: its call is open, or it is in d1.
     pub(crate) fn is_settled(&self) -> bool
         ensures { (c : Channel) → Stands self.now (at_rest c)
             → result ≡ (is_open c || is_in_d1 c.state) }
@@ -232,7 +232,7 @@ impl<A: Allocator + Clone, S: StatusStore> StatusChannel<A, S> {
         self.status.call().is_some() || self.is_in_d1()
     }
 
-    /// The window in force for data from a side.
+    /// Returns the window in force for data from a side.
     pub(crate) fn window(&self, side: Side) -> u8
         ensures window { (c : Channel) → Stands self.now (at_rest c)
             → result ≡ window_in_force self.now.terms.interface c side }

@@ -85,8 +85,8 @@ impl<A: Allocator + Clone, S: StatusStore> GapChannel<A, S> {
         }
     }
 
-    /// Steps a settled channel by what a row says. After a packet without which no call is open and the channel is out of
-    /// d1, nothing is in doubt any more.
+    /// Steps a settled channel by what a row says. Nothing is in doubt any more where no call is open after it and the
+    /// channel is not in d1.
     fn step_settled(
         &mut self,
         row: &GapRow,

@@ -1,11 +1,11 @@
-//! Files that are no trace, by their first bytes.
+//! Files that are not traces, by their first bytes.
 
 use crate::advice::sentence::quoting_sentence;
 use memchr::memmem;
 use std::alloc::{AllocError, Global};
 
 /// What a file is that begins with some bytes, and what to do with it.
-struct Form {
+struct FileForm {
     magic: &'static [u8],
     sentence: &'static str,
 }
@@ -27,112 +27,112 @@ const IXIA: &str =
 
 const UTF16: &str = "The text is UTF-16: iconv -f UTF-16 -t ASCII FILE | x25scan reads it.";
 
-const FORMS: [Form; 25] = [
-    Form {
+const FORMS: [FileForm; 25] = [
+    FileForm {
         magic: b"\xef\xbb\xbf",
         sentence: "The text begins with a byte order mark: tail -c +4 FILE | x25scan reads it.",
     },
-    Form {
+    FileForm {
         magic: b"\xff\xfe",
         sentence: UTF16,
     },
-    Form {
+    FileForm {
         magic: b"\xfe\xff",
         sentence: UTF16,
     },
-    Form {
+    FileForm {
         magic: b"\x1f\x8b",
         sentence: "This is a gzip file: gzip -dc FILE | x25scan reads what is in it.",
     },
-    Form {
+    FileForm {
         magic: b"\x28\xb5\x2f\xfd",
         sentence: "This is a zstd file: zstd -dc FILE | x25scan reads what is in it.",
     },
-    Form {
+    FileForm {
         magic: b"\xfd7zXZ\x00",
         sentence: "This is an xz file: xz -dc FILE | x25scan reads what is in it.",
     },
-    Form {
+    FileForm {
         magic: b"BZh",
         sentence: "This is a bzip2 file: bzip2 -dc FILE | x25scan reads what is in it.",
     },
-    Form {
+    FileForm {
         magic: b"\x04\x22\x4d\x18",
         sentence: "This is an lz4 file: lz4 -dc FILE | x25scan reads what is in it.",
     },
-    Form {
+    FileForm {
         magic: b"PK\x03\x04",
         sentence: "This is a zip file: unzip -p FILE | x25scan reads what is in it.",
     },
-    Form {
+    FileForm {
         magic: b"\xd4\xc3\xb2\xa1",
         sentence: CAPTURE,
     },
-    Form {
+    FileForm {
         magic: b"\xa1\xb2\xc3\xd4",
         sentence: CAPTURE,
     },
-    Form {
+    FileForm {
         magic: b"\x4d\x3c\xb2\xa1",
         sentence: CAPTURE,
     },
-    Form {
+    FileForm {
         magic: b"\xa1\xb2\x3c\x4d",
         sentence: CAPTURE,
     },
-    Form {
+    FileForm {
         magic: b"\xa1\xb2\xcd\x34",
         sentence: CAPTURE,
     },
-    Form {
+    FileForm {
         magic: b"\x34\xcd\xb2\xa1",
         sentence: CAPTURE,
     },
-    Form {
+    FileForm {
         magic: b"\x0a\x0d\x0d\x0a",
         sentence: CAPTURE,
     },
-    Form {
+    FileForm {
         magic: b"snoop\x00\x00\x00",
         sentence: CAPTURE,
     },
-    Form {
+    FileForm {
         magic: b"TRSNIFF data",
         sentence: SNIFFER,
     },
-    Form {
+    FileForm {
         magic: b"XCP\x00",
         sentence: NETXRAY,
     },
-    Form {
+    FileForm {
         magic: b"RTSS",
         sentence: NETWORK_MONITOR,
     },
-    Form {
+    FileForm {
         magic: b"GMBU",
         sentence: NETWORK_MONITOR,
     },
-    Form {
+    FileForm {
         magic: b"\x1c\x00\x01\xac",
         sentence: IXIA,
     },
-    Form {
+    FileForm {
         magic: b"\xac\x01\x00\x1c",
         sentence: IXIA,
     },
-    Form {
+    FileForm {
         magic: b"\x1c\x00\x01\xab",
         sentence: IXIA,
     },
-    Form {
+    FileForm {
         magic: b"\xab\x01\x00\x1c",
         sentence: IXIA,
     },
 ];
 
-/// What a text is, and what to do with it, where its first bytes are those of another kind of file: a byte order mark,
-/// UTF-16, a compressed file, a capture in pcap (also the modified form, of either byte order), pcapng or snoop, or a
-/// capture in a form that Wireshark turns into one of these.
+/// Returns what the input is, and what to do with it, where its first bytes are those of another kind of file: a byte
+/// order mark, UTF-16, a compressed file, a capture in pcap (also the modified form, of either byte order), pcapng or
+/// snoop, or a capture in a form that Wireshark converts into one of these.
 pub fn file_advice(text: &[u8]) -> Option<&'static str> {
     for form in FORMS.as_slice() {
         if text.starts_with(form.magic) {
@@ -150,8 +150,8 @@ fn is_like_trace(words: &[u8]) -> bool {
     }
 }
 
-/// Returns that a text is no trace, and how it begins, where its first line that is neither a comment nor blank is like
-/// none of a trace. Fails only when memory is refused.
+/// Returns that the input is not a trace, and how it begins, where its first line that is neither a comment nor blank
+/// is neither a header nor a row. Fails only when memory is refused.
 pub fn other_text_advice(alloc: Global, text: &[u8]) -> Result<Option<String>, AllocError> {
     let mut begin: &[u8] = b"";
     for line in text.split(|byte| *byte == b'\n') {

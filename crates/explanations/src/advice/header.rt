@@ -33,7 +33,7 @@ impl<'a> WordsLeft<'a> {
     }
 }
 
-/// What is wrong with a word where a name belongs, if it is another.
+/// What is wrong with a word where a name belongs, if it is another word.
 fn name_advice(
     alloc: Global,
     word: Option<&[u8]>,
@@ -72,12 +72,12 @@ fn number_after(
     }
 }
 
-/// No number, and the sentence that stands in its place.
+/// Returns the sentence in place of a number.
 fn refused(sentence: Result<String, AllocError>) -> Result<Result<u32, String>, AllocError> {
     Ok(Err(sentence?))
 }
 
-/// What is wrong with a word after a name that is no number.
+/// What is wrong with a word after a name where the word is not a number.
 fn no_number_advice(alloc: Global, word: &[u8], name: &str) -> Result<String, AllocError> {
     let word = quoted(alloc, word)?;
     format!(in alloc;
@@ -85,7 +85,7 @@ fn no_number_advice(alloc: Global, word: &[u8], name: &str) -> Result<String, Al
     )
 }
 
-/// Takes a name and its number off the words, or returns what is wrong there.
+/// Removes a name and its number from the words, or returns what is wrong there.
 fn next_number(
     alloc: Global,
     words: &mut WordsLeft<'_>,
@@ -97,7 +97,7 @@ fn next_number(
     }
 }
 
-/// Takes the names and their numbers off the words, or returns what is wrong with the first that is wrong.
+/// Removes the names and their numbers from the words, or returns what is wrong with the first that is wrong.
 fn next_numbers(
     alloc: Global,
     words: &mut WordsLeft<'_>,
@@ -126,7 +126,7 @@ fn end_advice(
     }
 }
 
-/// What is wrong with a word where JOIN may stand and with those after it, if something is.
+/// What is wrong with a word in the place of JOIN and with those after it, if something is.
 fn join_advice(
     alloc: Global,
     word: &[u8],
@@ -191,7 +191,7 @@ fn header_advice(alloc: Global, line: &[u8]) -> Result<Option<String>, AllocErro
     }
 }
 
-/// What is wrong with a header whose words are parted, if something is.
+/// What is wrong with a header that is split into words, if something is.
 fn first_line_advice(alloc: Global, line: &[u8]) -> Result<Option<String>, AllocError> {
     match line.first() {
         Some(byte) if byte.is_ascii_digit() => some_sentence(format!(in alloc;
@@ -201,7 +201,7 @@ fn first_line_advice(alloc: Global, line: &[u8]) -> Result<Option<String>, Alloc
     }
 }
 
-/// What is wrong with the header among some lines, its first that is no comment.
+/// Returns what is wrong with the header among some lines, the first one that is not a comment.
 pub fn headers_advice(
     alloc: Global,
     text: &[u8],

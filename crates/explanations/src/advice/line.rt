@@ -5,7 +5,7 @@ use line_model::device::Beginning;
 use memchr::{memchr, memmem};
 use std::alloc::{AllocError, Global};
 
-/// Whether some bytes of a text begin with it.
+/// Returns whether some bytes begin where the trace text does.
 pub fn is_whole(beginning: Beginning) -> bool {
     match beginning {
         Beginning::Text => true,
@@ -13,7 +13,7 @@ pub fn is_whole(beginning: Beginning) -> bool {
     }
 }
 
-/// Whether they begin with a line.
+/// Returns whether some bytes begin with a line.
 pub fn begins_line(beginning: Beginning) -> bool {
     match beginning {
         Beginning::Midst => false,
@@ -26,24 +26,24 @@ fn column(place: usize) -> usize {
     place.saturating_add(1)
 }
 
-/// Whether a line ends in a carriage return.
+/// Returns whether a line ends in a carriage return.
 pub fn ends_in_return(line: &[u8]) -> bool {
     line.ends_with(b"\r")
 }
 
-/// What is said of a line that ends in a carriage return.
+/// The sentence on a line that ends in a carriage return.
 pub const RETURN: &str =
     "The line ends in a carriage return, and a line feed alone ends a line: tr -d '\\r' < FILE | x25scan reads the text.";
 
-/// What is said of an empty line.
+/// The sentence on an empty line.
 const EMPTY: &str =
     "The line is empty: sed '/^$/d' FILE | x25scan reads the text without empty lines.";
 
-/// What is said of an empty line that no other follows.
+/// The sentence on an empty line that no other follows.
 const LAST_EMPTY: &str =
     "The last line that was read is empty: sed '/^$/d' FILE | x25scan reads the text without empty lines.";
 
-/// What is said of an empty line; these bytes were read after it.
+/// Returns the sentence on an empty line; these bytes were read after it.
 pub fn empty_advice(alloc: Global, after: &[u8]) -> Result<Option<String>, AllocError> {
     if after.iter().all(|byte| *byte == b'\n') {
         fixed_sentence(alloc, LAST_EMPTY)
@@ -52,7 +52,7 @@ pub fn empty_advice(alloc: Global, after: &[u8]) -> Result<Option<String>, Alloc
     }
 }
 
-/// What is wrong with the bytes between the words of a line, if it is that.
+/// Returns what is wrong with the bytes between the words of a line, if something is.
 pub fn space_advice(alloc: Global, line: &[u8]) -> Result<Option<String>, AllocError> {
     if line.is_empty() {
         return fixed_sentence(alloc, EMPTY);
@@ -69,7 +69,7 @@ pub fn space_advice(alloc: Global, line: &[u8]) -> Result<Option<String>, AllocE
     parting_advice(alloc, line)
 }
 
-/// What is wrong with the spaces of a line, if it is that.
+/// What is wrong with the spaces of a line, if something is.
 fn parting_advice(alloc: Global, line: &[u8]) -> Result<Option<String>, AllocError> {
     if line.starts_with(b" ") {
         return fixed_sentence(alloc, "The line begins with a space.");
@@ -86,7 +86,7 @@ fn parting_advice(alloc: Global, line: &[u8]) -> Result<Option<String>, AllocErr
     Ok(None)
 }
 
-/// The number that a word is: 1 to 9 digits without a leading zero, but for 0 itself.
+/// Returns the number that a word is: 1 to 9 digits without a leading zero, except for 0 itself.
 pub fn number_in(word: &[u8]) -> Option<u32> {
     if word.is_empty() || word.len() > 9 || (word.len() > 1 && word.starts_with(b"0")) {
         return None;

@@ -5,7 +5,7 @@ use std::alloc::{AllocError, Global};
 /// How many bytes of a word are quoted.
 const QUOTED: usize = 24;
 
-/// Appends a byte, in hex where it is no printable ASCII.
+/// Appends a byte, in hex where it is not printable ASCII.
 fn push_byte(text: &mut String, byte: u8) -> Result<(), AllocError> {
     if byte == b' ' || byte.is_ascii_graphic() {
         text.push(char::from(byte))
@@ -22,7 +22,7 @@ fn push_word(text: &mut String, word: &[u8]) -> Result<(), AllocError> {
     text.push_str(if word.len() > QUOTED { "..\"" } else { "\"" })
 }
 
-/// A word between quotes, of a long one its beginning, and each byte that is no printable ASCII in hex.
+/// Returns a word between quotes, or the beginning of a long one; each byte that is not printable ASCII is in hex.
 pub fn quoted(alloc: Global, word: &[u8]) -> Result<String, AllocError> {
     let mut text = String::from_str(alloc, "\"")?;
     push_word(&mut text, word)?;

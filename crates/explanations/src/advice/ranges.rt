@@ -20,7 +20,7 @@ pub struct Numbers {
 }
 
 impl Numbers {
-    /// No number was read yet.
+    /// Returns numbers that are all 0.
     pub fn none() -> Self {
         Numbers {
             modulus: 0,
@@ -34,7 +34,7 @@ impl Numbers {
         }
     }
 
-    /// The number after a name of the header.
+    /// Keeps the number after a name of the header.
     pub fn put(&mut self, name: &str, number: u32) {
         match name {
             "MOD" => self.modulus = number,
@@ -111,7 +111,7 @@ fn incoming_advice(alloc: Global, numbers: &Numbers) -> Result<Option<String>, A
     }
 }
 
-/// What is wrong with the numbers of a header of the first or the second form, if one is out of its range.
+/// Returns what is wrong with the numbers of a header of the first or the second form, if one is out of its range.
 pub fn range_advice(
     alloc: Global,
     numbers: &Numbers,

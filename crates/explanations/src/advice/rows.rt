@@ -54,11 +54,11 @@ fn is_gap_line(line: &[u8]) -> bool {
     }
 }
 
-/// What is said of a gap row whose third word is wrong by a header that is not known.
+/// The sentence on a gap row whose third word is wrong, where the header is not known.
 const GAP_CHANNEL: &str =
     "The third word of a gap row is a logical channel from 1 to the header's OUT, or * for all.";
 
-/// What is said of a header among the rows.
+/// The sentence on a header among the rows.
 const SECOND_HEADER: &str =
     "A second header stands here, as in joined traces. Where the row numbers go on, awk '!/^X25 / || !n++' FILE.. | x25scan reads them as one trace.";
 
@@ -81,7 +81,7 @@ fn form_advice(alloc: Global, line: &[u8], after: &[u8]) -> Result<Option<String
     }
 }
 
-/// What is said of a row by how many words it has.
+/// The sentence on a row by how many words it has.
 fn word_count_advice(alloc: Global, line: &[u8]) -> Result<Option<String>, AllocError> {
     let count = line.split(|byte| *byte == b' ').count();
     let words = if count == 1 { "word" } else { "words" };
@@ -154,7 +154,7 @@ fn gap_advice(alloc: Global, word: &[u8], last: u32) -> Result<Option<String>, A
     }
 }
 
-/// What is wrong with octets that begin after so many bytes of their line, if they are wrong.
+/// What is wrong with octets that begin after `front` bytes of their line, if they are wrong.
 fn octets_advice(alloc: Global, word: &[u8], front: usize) -> Result<Option<String>, AllocError> {
     if word == b"-".as_slice() {
         return Ok(None);
@@ -168,7 +168,7 @@ fn octets_advice(alloc: Global, word: &[u8], front: usize) -> Result<Option<Stri
     }
 }
 
-/// What is said of a place among the octets that holds no hex digit.
+/// The sentence on a place among the octets that has no hex digit.
 fn digit_advice(
     alloc: Global,
     word: &[u8],
@@ -201,9 +201,9 @@ fn count_advice(alloc: Global, count: usize, front: usize) -> Result<Option<Stri
 /// What the header says of gap rows.
 #[derive(Clone, Copy)]
 struct GapRules {
-    /// The header is known.
+    /// Whether the header is known.
     are_known: bool,
-    /// Rows may be gap rows.
+    /// Whether rows may be gap rows.
     may_be: bool,
     /// The last logical channel.
     last: u32,
@@ -236,7 +236,7 @@ fn words_advice(
     alloc: Global,
     kind: Kind,
     row: RowWords<'_>,
-    place: Place<'_>,
+    place: RowContext<'_>,
 ) -> Result<Option<String>, AllocError> {
     match kind {
         Kind::Number => number_advice(alloc, row.number, place.before),
@@ -252,7 +252,7 @@ fn words_advice(
 
 /// A row, and what was read on both sides of it.
 #[derive(Clone, Copy)]
-struct Place<'a> {
+struct RowContext<'a> {
     line: &'a [u8],
     /// The number of the row before, where it is known.
     before: Option<u32>,
@@ -262,7 +262,11 @@ struct Place<'a> {
 }
 
 /// What is wrong with a row by a rule, if it breaks that rule.
-fn row_advice(alloc: Global, kind: Kind, place: Place<'_>) -> Result<Option<String>, AllocError> {
+fn row_advice(
+    alloc: Global,
+    kind: Kind,
+    place: RowContext<'_>,
+) -> Result<Option<String>, AllocError> {
     match row_words(place.line) {
         Some(row) => words_advice(alloc, kind, row, place),
         None if kind == Kind::LineForm => form_advice(alloc, place.line, place.after),
@@ -283,18 +287,18 @@ fn row_number(line: &[u8]) -> Option<u32> {
 #[derive(Drop)]
 struct LinesSeen {
     header_came: bool,
-    /// The next line is whole.
+    /// Whether the next line is whole.
     line_began: bool,
     row_came: bool,
-    /// A line like a header came before all rows.
+    /// Whether a line like a header came before all rows.
     may_have_header: bool,
-    /// A row like a gap row came.
+    /// Whether a row like a gap row came.
     gap_came: bool,
     gaps: GapRules,
 }
 
 impl LinesSeen {
-    /// No line was seen.
+    /// Returns the value before the first line.
     fn none(beginning: Beginning) -> Self {
         LinesSeen {
             header_came: !is_whole(beginning),
@@ -306,7 +310,7 @@ impl LinesSeen {
         }
     }
 
-    /// Whether the next line is a row.
+    /// Records the next line, and returns whether it is a row.
     fn see(&mut self, line: &[u8]) -> bool {
         let may_be_header = self.line_began && !self.row_came && is_like_header(line);
         let is_other = line.starts_with(b"#") || may_be_header;
@@ -332,8 +336,8 @@ fn number_before(beginning: Beginning) -> Option<u32> {
     }
 }
 
-/// What is wrong with the first row of some lines that breaks a rule, if one does. A line like a header is a faulty row
-/// where a row came before it, or where no other line breaks the rule.
+/// Returns what is wrong with the first row of some lines that breaks a rule, if one does. A line like a header is a
+/// faulty row where a row came before it, or where no other line breaks the rule.
 pub fn rows_advice(
     alloc: Global,
     kind: Kind,
@@ -349,7 +353,7 @@ pub fn rows_advice(
         end = end.saturating_add(line.len());
         if seen.see(line) {
             let after = text.get(end..).unwrap_or(b"");
-            let place = Place {
+            let place = RowContext {
                 line,
                 before,
                 after,
@@ -365,7 +369,7 @@ pub fn rows_advice(
     seen_advice(alloc, kind, &seen)
 }
 
-/// What is wrong with lines of which none shows it alone, if something is.
+/// What is wrong with some lines where none of them shows it alone, if something is.
 fn seen_advice(alloc: Global, kind: Kind, seen: &LinesSeen) -> Result<Option<String>, AllocError> {
     let may_be_gap = seen.gap_came && !seen.gaps.are_known;
     match kind {

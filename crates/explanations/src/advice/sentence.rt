@@ -3,17 +3,17 @@
 use crate::advice::quoted::quoted;
 use std::alloc::{AllocError, Global};
 
-/// A sentence, where there was memory for it.
+/// Returns a sentence. Fails where memory was refused for it.
 pub fn some_sentence(sentence: Result<String, AllocError>) -> Result<Option<String>, AllocError> {
     Ok(Some(sentence?))
 }
 
-/// A sentence that is always the same.
+/// Returns a sentence that is always the same.
 pub fn fixed_sentence(alloc: Global, sentence: &str) -> Result<Option<String>, AllocError> {
     some_sentence(String::from_str(alloc, sentence))
 }
 
-/// A sentence that quotes a word of the trace.
+/// Returns a sentence that quotes a word of the trace.
 pub fn quoting_sentence(
     alloc: Global,
     before: &str,

@@ -47,7 +47,7 @@ pub record IsPiece (i : Interface) (k : ℕ) (items : List Item) : Type 0 where
   pub few_octets : all_octets items ≤ 2 ^ 31
   pub packets : All (IsItem i k) items
 
--- what a piece may be worth: so many octets and segments, of which its calls count no more
+-- the bounds of a piece's result: its calls count no more than its octets and segments
 pub record IsPieceReport (findings : List Finding) (calls : List CallRecord) (octets segments : ℕ) : Type 0 where
   pub few_findings : length findings ≤ 2 ^ 31
   pub few_octets : octets ≤ 2 ^ 31

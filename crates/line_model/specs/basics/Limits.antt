@@ -6,7 +6,7 @@ use Rattle.std.specs.List.{list_any}
 abbrev pub packet_sizes : List ℕ
 packet_sizes = 16 ∷ 32 ∷ 64 ∷ 128 ∷ 256 ∷ 512 ∷ 1024 ∷ 2048 ∷ 4096 ∷ []
 
--- the modulus is 8 or 128, and the window lies below it (X.25 clauses 4.4.1.1 and 4.4.1.2)
+-- the modulus is 8 or 128, and the window is below it (X.25 clauses 4.4.1.1 and 4.4.1.2)
 abbrev pub is_numbering : (modulus window : ℕ) → Bool
 is_numbering modulus window = ((modulus == 8) || (modulus == 128)) && (nat_le 1 window && nat_lt window modulus)
 

@@ -1,4 +1,4 @@
--- What contracts see of the types that hold lists, wherever their memory lies.
+-- What contracts see of the types that hold lists, whatever their allocator.
 use Rattle.std.specs.Prelude.{ℕ, Bool, List, Option}
 use Rattle.line_model.specs.declared.interface.Interface.{Interface}
 use Rattle.line_model.specs.declared.state.Side.{Side}
@@ -19,7 +19,7 @@ pub record Row : Type 0 where
   pub octets : List ℕ
   pub gap : Option (Option ℕ)
 
--- what a row says (X.25 clause 5): its packet, how many octets it has, and those octets that say more than that
+-- what a row says (X.25 clause 5): its packet, its length in octets, and the octets that are kept in addition
 pub record Item : Type 0 where
   pub number : ℕ
   pub side : Side
@@ -65,7 +65,7 @@ pub record CallRecord : Type 0 where
   pub segments : ℕ
   pub settings : List SettingRecord
 
--- what a piece is worth
+-- the result of a piece
 pub record PieceReport : Type 0 where
   pub id : ℕ
   pub epoch : ℕ

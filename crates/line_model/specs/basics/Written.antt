@@ -1,18 +1,18 @@
--- What of a text a sink has taken, and what a buffer still holds of it.
+-- What of a text a sink has accepted, and what a buffer still holds of it.
 use Rattle.std.specs.Prelude.{◌≡◌, ℕ, ◌≤◌, ◌<◌, Bool, true, false, List, ◌++◌, Option}
 use Rattle.line_model.specs.basics.Device.{with_more}
 use Rattle.line_model.specs.declared.device.Sink.{Ghosts as Sink}
 use Rattle.line_model.specs.declared.write_buffer.WriteBuffer.{WriteBuffer}
 
--- what was taken has a first part of a text after what was taken before
+-- what was accepted has a first part of a text after what was accepted before
 abbrev pub HasFront : (before after : Option (List ℕ)) (text : List ℕ) → Type 0
 HasFront before after text = (front : List ℕ) × (rest : List ℕ) × (text ≡ front ++ rest) × (after ≡ with_more before front)
 
--- a sink took all of a text
+-- a sink accepted all of a text
 abbrev pub TakesAll : {W : Type 0} → Sink W → (before after : W) (text : List ℕ) → Type 0
 TakesAll kind before after text = kind.taken after ≡ with_more (kind.taken before) text
 
--- a sink took a first part of a text
+-- a sink accepted a first part of a text
 abbrev pub TakesFront : {W : Type 0} → Sink W → (before after : W) (text : List ℕ) → Type 0
 TakesFront kind before after text = HasFront (kind.taken before) (kind.taken after) text
 
@@ -24,7 +24,7 @@ held_bytes b = b.bytes.items
 abbrev pub has_failed : WriteBuffer → Bool
 has_failed b = b.failed
 
--- the bytes and the failures of a sink: it took a first part of the text; what it did not take is held, unless it failed
+-- the bytes and the failures of a sink: it accepted a first part of the text; what it did not accept is held, unless it failed
 pub record Writes (before taken : Option (List ℕ) × ℕ) (b : WriteBuffer) (text : List ℕ) : Type 0 where
   pub sent : List ℕ
   pub left : List ℕ
@@ -48,6 +48,6 @@ abbrev pub KeepsText : {W : Type 0} → Sink W → (before after : W) (old new :
 KeepsText kind before after old new =
     (start : Option (List ℕ) × ℕ) (text : List ℕ) → Writes start (kind.taken before, kind.failures before) old text → Writes start (kind.taken after, kind.failures after) new text
 
--- of any text that is on its way to a sink, and what the sink had taken before it and had failed
+-- of any text that is on its way to a sink, and what the sink had accepted before it and had failed
 abbrev pub OfWriting : {W : Type 0} → Sink W → W → WriteBuffer → (Option (List ℕ) × ℕ → List ℕ → Type 0) → Type 0
 OfWriting kind sink b Fact = (start : Option (List ℕ) × ℕ) (text : List ℕ) → Writes start (kind.taken sink, kind.failures sink) b text → Fact start text

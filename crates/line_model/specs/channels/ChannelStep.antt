@@ -25,13 +25,13 @@ use Rattle.line_model.specs.channels.Verdicts.CallChange.{Opens, GoesUp, Ends, K
 use Rattle.line_model.specs.declared.event.How.{How}
 use Rattle.line_model.specs.declared.event.How as how
 use Rattle.line_model.specs.declared.event.What.{What}
-use Rattle.line_model.specs.declared.event.What.TheVariants.{Found, Open, Up, End, Data as DataHeard}
+use Rattle.line_model.specs.declared.event.What.TheVariants.{Found, Open, Up, End, Data as DataAccepted}
 use Rattle.line_model.specs.basics.Records.{Item}
 use Rattle.line_model.specs.channels.Tables.{action}
 use Rattle.line_model.specs.packets.Classes.{header_length, packet_class}
 use Rattle.line_model.specs.packets.Says.{header_in, receive_in}
 use Rattle.line_model.specs.packets.Facilities.{fields_of}
-use Rattle.line_model.specs.channels.Channels.{Channel, AcceptedData, is_permanent, Opening, Told}
+use Rattle.line_model.specs.channels.Channels.{Channel, AcceptedData, is_permanent, Opening, PadMessage}
 use Rattle.line_model.specs.channels.FlowControl.{Counts, sent_by, count_data, count_receive, count_interrupt, count_confirm}
 use Rattle.line_model.specs.channels.Sequences.{begun, is_category_a, is_alike, sequence_octets}
 use Rattle.line_model.specs.channels.Pad.{message_fault, settings_after}
@@ -79,17 +79,17 @@ state_named D2 = Transfer transfer.TheVariants.D2
 state_named D3 = Transfer transfer.TheVariants.D3
 state_named _ = Setup setup.TheVariants.P1
 
--- the state in whose column a packet stands, and the entry there
+-- the state in whose column a packet is judged, and the entry there
 pub record Judged : Type 0 where
   pub state : StateName
   pub entry : Action
 
--- the packets that tell of an unknown channel what it is in: `Call` and `Clear` as in p1, on a permanent circuit `Reset` as in d1 (profile)
+-- the packets that show the state of an unknown channel: `Call` and `Clear` as in p1, on a permanent circuit `Reset` as in d1 (profile)
 abbrev pub is_reset : Class → Bool
 is_reset Reset = true
 is_reset _ = false
 
--- whether a packet tells of an unknown virtual channel
+-- whether a packet shows the state of an unknown virtual channel
 abbrev pub is_call_or_clear : Class → Bool
 is_call_or_clear Call = true
 is_call_or_clear Clear = true
@@ -111,7 +111,7 @@ judged false x (Transfer d) w k = elim (action x P4 w k) [
 judged true x Unknown w k = joining (is_reset k) D1 (action x D1 w k)
 judged false x Unknown w k = joining (is_call_or_clear k) P1 (action x P1 w k)
 
--- what a packet comes to: a finding in a state, a move, a packet of data transfer, the end of what is owed, or nothing
+-- the verdict on a packet: a finding in a state, a move, a packet of data transfer, the end of what is owed, or nothing
 abbrev pub verdict : Judged → (fault : Option ℕ) → Verdict
 verdict j fault = elim j.entry [
   | Move s ↦ elim fault [ Some n ↦ Fails j.state n | None ↦ Moves s ]
@@ -121,12 +121,12 @@ verdict j fault = elim j.entry [
   | _ ↦ Nothing
 ]
 
--- a channel that enters a state: nothing was heard there yet, and the indication is owed or not
+-- a channel that enters a state: no packet was accepted there yet, and the indication is owed or not
 abbrev pub entering : StateName → (owed : Bool) → Channel → Channel
 entering s owed c = record c {
   state = state_named s;
   owed = owed;
-  heard = [];
+  accepted = [];
   acknowledged = record { of_t = 0; of_n = 0 };
   unconfirmed = record { of_t = false; of_n = false };
 }
@@ -134,7 +134,7 @@ entering s owed c = record c {
 -- the call ends, if one is open
 abbrev pub ending_open : How → Option Opening → Channel → Outcome
 ending_open h None c = report_nothing c
-ending_open h (Some o) c = record { reported = End h ∷ []; after = record c { opening = None; accepting = None; told = [] } }
+ending_open h (Some o) c = record { reported = End h ∷ []; after = record c { opening = None; accepting = None; pad_messages = [] } }
 
 -- the call of a channel ends, if one is open
 abbrev pub ending : How → Channel → Outcome
@@ -181,8 +181,8 @@ failing T s n c =
 failing N s n c = record { reported = Found N s (Number n) ∷ []; after = c }
 
 -- the data packet that a row says
-abbrev pub heard_of : Interface → Item → DataHeader → AcceptedData
-heard_of i r h = record {
+abbrev pub accepted_of : Interface → Item → DataHeader → AcceptedData
+accepted_of i r h = record {
   side = r.side;
   qualified = h.qualified;
   more = h.more;
@@ -193,7 +193,7 @@ heard_of i r h = record {
 
 -- the counts of a channel
 abbrev pub counts_of : Channel → Counts
-counts_of c = record { sent = sent_by c.heard; acknowledged = c.acknowledged; unconfirmed = c.unconfirmed }
+counts_of c = record { sent = sent_by c.accepted; acknowledged = c.acknowledged; unconfirmed = c.unconfirmed }
 
 -- the message that a packet completes, if it does: a complete sequence with Q 1 of a PAD call
 abbrev pub completed_message : Interface → Side → Channel → AcceptedData → Option (List ℕ)
@@ -203,49 +203,49 @@ completed_message i x c p = elim (is_pad_call c) [
     | false ↦ None
     | true ↦ elim (is_category_a (size_in_force i c x) p) [
       | true ↦ None
-      | false ↦ Some (sequence_octets (begun (size_in_force i c x) x c.heard ++ p ∷ []))
+      | false ↦ Some (sequence_octets (begun (size_in_force i c x) x c.accepted ++ p ∷ []))
     ]
   ]
 ]
 
--- the finding on a message, which stands in d1
+-- the finding on a message, which is judged in d1
 abbrev pub option_found : Side → Option Xcode → Option What
 option_found x fault = option_map (λ f. Found x D1 (Pad f)) fault
 
--- what a message makes: its finding, and what it says of settings
-abbrev pub telling : Side → AcceptedData → (told : List Told) → (message : Option (List ℕ)) → List What
-telling x p told None = DataHeard x p.length ∷ []
-telling x p told (Some m) =
-    let fault : Option Xcode = message_fault x told m in
-    option_to_list (option_found x fault) ++ DataHeard x p.length ∷ settings_after fault x m
+-- the events of a message: its finding, and what it says of settings
+abbrev pub data_reports : Side → AcceptedData → (pad_messages : List PadMessage) → (message : Option (List ℕ)) → List What
+data_reports x p pad_messages None = DataAccepted x p.length ∷ []
+data_reports x p pad_messages (Some m) =
+    let fault : Option Xcode = message_fault x pad_messages m in
+    option_to_list (option_found x fault) ++ DataAccepted x p.length ∷ settings_after fault x m
 
--- the messages told after a packet
-abbrev pub told_after : Side → (told : List Told) → (message : Option (List ℕ)) → List Told
-told_after x told None = told
-told_after x told (Some m) = told ++ record { from = x; message = m } ∷ []
+-- the PAD messages of the call after a packet
+abbrev pub messages_after : Side → (pad_messages : List PadMessage) → (message : Option (List ℕ)) → List PadMessage
+messages_after x pad_messages None = pad_messages
+messages_after x pad_messages (Some m) = pad_messages ++ record { from = x; message = m } ∷ []
 
 -- a data packet without fault
-abbrev pub hearing : Side → AcceptedData → Counts → (message : Option (List ℕ)) → Channel → Outcome
-hearing x p v message c = record {
-  reported = telling x p c.told message;
-  after = record c { heard = c.heard ++ p ∷ []; acknowledged = v.acknowledged; told = told_after x c.told message };
+abbrev pub accepting_data : Side → AcceptedData → Counts → (message : Option (List ℕ)) → Channel → Outcome
+accepting_data x p v message c = record {
+  reported = data_reports x p c.pad_messages message;
+  after = record c { accepted = c.accepted ++ p ∷ []; acknowledged = v.acknowledged; pad_messages = messages_after x c.pad_messages message };
 }
 
 -- a data packet whose numbers are valid, by the Q bit of the sequence that was begun
 abbrev pub data_alike : Interface → Side → StateName → AcceptedData → Counts → (alike : Bool) → Channel → Outcome
 data_alike i x s p v false c = failing x s INCONSISTENT_Q_BIT_SETTING c
-data_alike i x s p v true c = hearing x p v (completed_message i x c p) c
+data_alike i x s p v true c = accepting_data x p v (completed_message i x c p) c
 
 -- a data packet by its numbers
 abbrev pub data_counted : Interface → Side → StateName → AcceptedData → Result Counts ℕ → Channel → Outcome
 data_counted i x s p (Err n) c = failing x s n c
-data_counted i x s p (Ok v) c = data_alike i x s p v (is_alike p (begun (size_in_force i c x) x c.heard)) c
+data_counted i x s p (Ok v) c = data_alike i x s p v (is_alike p (begun (size_in_force i c x) x c.accepted)) c
 
 -- a data packet by its header
 abbrev pub data_step : Interface → StateName → Item → Option DataHeader → Channel → Outcome
 data_step i s r None c = report_nothing c
 data_step i s r (Some h) c =
-    data_counted i r.side s (heard_of i r h)
+    data_counted i r.side s (accepted_of i r h)
     (count_data i.modulus (window_in_force i c r.side) (counts_of c) r.side h.send h.receive) c
 
 -- a packet that changes the counts alone

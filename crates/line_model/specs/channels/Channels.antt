@@ -3,9 +3,7 @@ use Rattle.std.specs.Prelude.{ℕ, Bool, true, false, not, nat_le, ◌&&◌, Lis
 use Rattle.line_model.specs.declared.interface.Interface.{Interface}
 use Rattle.line_model.specs.declared.state.Side.{Side}
 use Rattle.line_model.specs.declared.state.Side.TheVariants.{T, N}
-use Rattle.line_model.specs.declared.state.PState.{PState}
 use Rattle.line_model.specs.declared.state.PState as setup
-use Rattle.line_model.specs.declared.state.DState.{DState}
 use Rattle.line_model.specs.declared.state.DState as transfer
 use Rattle.line_model.specs.declared.state.ChannelState.{ChannelState}
 use Rattle.line_model.specs.declared.state.ChannelState.TheVariants.{Setup, Transfer, Unknown}
@@ -40,7 +38,7 @@ pub record AcceptedData : Type 0 where
   pub octets : List ℕ
 
 -- a PAD message of the call, and the side that it came from
-pub record Told : Type 0 where
+pub record PadMessage : Type 0 where
   pub from : Side
   pub message : List ℕ
 
@@ -49,32 +47,32 @@ pub record Opening : Type 0 where
   pub out : Bool
   pub packet : List ℕ
 
--- what is known of a channel; the opening packet stands as long as the call is open
+-- what is known of a channel; it has the opening packet as long as the call is open
 pub record Channel : Type 0 where
   pub state : ChannelState
   pub owed : Bool
   pub opening : Option Opening
   pub accepting : Option (List ℕ)
-  pub heard : List AcceptedData
+  pub accepted : List AcceptedData
   pub acknowledged : Sides ℕ
   pub unconfirmed : Sides Bool
-  pub told : List Told
+  pub pad_messages : List PadMessage
 
 -- channels 1 to `pvc` are permanent
 abbrev pub is_permanent : Interface → ℕ → Bool
 is_permanent i c = nat_le 1 c && nat_le c i.pvc
 
--- a channel in a state in which nothing was heard
+-- a channel in a state in which no packet was accepted
 abbrev pub channel_in : ChannelState → Channel
 channel_in s = record {
   state = s;
   owed = false;
   opening = None;
   accepting = None;
-  heard = [];
+  accepted = [];
   acknowledged = record { of_t = 0; of_n = 0 };
   unconfirmed = record { of_t = false; of_n = false };
-  told = [];
+  pad_messages = [];
 }
 
 -- channels for calls of one side only

@@ -6,7 +6,7 @@ use Rattle.line_model.specs.declared.diagnostic.TheConstants.{INVALID_P_S, INVAL
 use Rattle.std.specs.List.{range_with_len}
 use Rattle.line_model.specs.channels.Channels.{AcceptedData, Sides, of_side, with_side, other}
 
--- whether two sides are one
+-- whether two sides are the same
 abbrev pub is_side : Side → Side → Bool
 is_side T T = true
 is_side N N = true
@@ -20,7 +20,7 @@ packets_of x hs = filter (λ h. is_side x h.side) hs
 abbrev pub sent : Side → List AcceptedData → ℕ
 sent x hs = length (packets_of x hs)
 
--- P(S) is the next number, and lies in the window (4.4.1.1, 4.4.1.2)
+-- P(S) is the next number, and is in the window (4.4.1.1, 4.4.1.2)
 abbrev pub is_send_valid : (modulus window sent acknowledged number : ℕ) → Bool
 is_send_valid m w s a n = (n == s % m) && nat_lt (s - a) w
 

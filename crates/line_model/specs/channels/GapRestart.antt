@@ -1,4 +1,4 @@
--- The restart machine of a recording with gaps (profile; the rule behind all is that of Gaps.antt).
+-- The restart machine of a recording with gaps (profile; it follows from the rule of Gaps.antt).
 use Rattle.std.specs.Prelude.{ℕ, Bool, true, false, ◌&&◌, Option, Some, None}
 use Rattle.line_model.specs.declared.packet.Class.{Class}
 use Rattle.line_model.specs.declared.packet.Class.TheVariants.{Restart, RestartConfirm}

@@ -1,4 +1,4 @@
--- What a packet does to a channel of a recording with gaps (profile; the rule behind all is that of Gaps.antt).
+-- What a packet does to a channel of a recording with gaps (profile; it follows from the rule of Gaps.antt).
 use Rattle.std.specs.Prelude.{ℕ, Bool, true, false, not, nat_lt, ◌&&◌, ◌||◌, ◌==◌, ◌-◌, ◌+◌, ◌%◌, List, [], ◌∷◌, ◌++◌, replicate, reverse, take_while, Option, Some, None, is_some, option_and_then, Result, Ok, Err}
 use Rattle.line_model.specs.declared.diagnostic.TheConstants.{INCONSISTENT_Q_BIT_SETTING, PACKET_TOO_SHORT, PACKET_TOO_LONG}
 use Rattle.line_model.specs.declared.interface.Interface.{Interface}
@@ -32,7 +32,7 @@ use Rattle.line_model.specs.channels.Sequences.{eq_bool, is_alike, is_category_a
 use Rattle.line_model.specs.channels.Pad.{form_fault, settings_of}
 use Rattle.line_model.specs.channels.Verdicts.{Verdict}
 use Rattle.line_model.specs.channels.Verdicts.Verdict.{Transfers}
-use Rattle.line_model.specs.channels.ChannelStep.{Judged, Outcome, and_then, channel_step, counts_of, ending, entering, failing, heard_of, judged, opening, report_nothing, verdict, verdict_step}
+use Rattle.line_model.specs.channels.ChannelStep.{Judged, Outcome, and_then, channel_step, counts_of, ending, entering, failing, accepted_of, judged, opening, report_nothing, verdict, verdict_step}
 use Rattle.line_model.specs.channels.Gaps.{Certainty, Doubts, GapChannel, WhileAdrift, drifting, is_nothing_owed, largest_terms, no_doubts, of_both}
 use Rattle.line_model.specs.channels.Gaps.Certainty.{Adrift, Certain, Settled}
 
@@ -122,12 +122,11 @@ is_resetting T (Transfer transfer.TheVariants.D2) = true
 is_resetting N (Transfer transfer.TheVariants.D3) = true
 is_resetting x s = false
 
--- a call: it may follow the end of the one before, which was missed
+-- a call, before which the end of another may be missing
 abbrev pub adrift_call : Side → List ℕ → Channel → Outcome
 adrift_call x xs c = and_then (ending how.TheVariants.Gap (entering (calling_state x) false c)) (opening (is_side T x) xs)
 
--- a clear confirmation: all before it is over, and nothing is in doubt any more, unless an indication may still be owed or
--- the interface may restart
+-- a clear confirmation: nothing is in doubt after it, unless an indication may still be owed or the interface may restart
 abbrev pub confirmed_clear : (restarting : Bool) → Owed → Certainty
 confirmed_clear restarting w = elim (restarting || not (is_nothing_owed w)) [ true ↦ drifting w false | false ↦ Certain ]
 
@@ -145,7 +144,7 @@ terms_of_acceptance false i xs = xs
 abbrev pub coming_up : List ℕ → Channel → Outcome
 coming_up xs c = record { reported = Up ∷ []; after = record (entering P4 false c) { accepting = Some xs } }
 
--- an acceptance: it brings a call up that was not
+-- an acceptance, which brings up a call that was not up
 abbrev pub adrift_acceptance : Interface → Side → List ℕ → WhileAdrift → GapChannel → GapOutcome
 adrift_acceptance i x xs a g = elim (is_open g.channel && not (is_in_transfer g.channel)) [
   | true ↦
@@ -154,7 +153,7 @@ adrift_acceptance i x xs a g = elim (is_open g.channel && not (is_in_transfer g.
   | false ↦ passing g
 ]
 
--- another packet brings a call up that was not; its acceptance, and another call before that, may have been missed
+-- another packet brings up a call that was not up; its acceptance, and another call before that, may be missing
 abbrev pub brought_up : Interface → Channel → Outcome
 brought_up i c = elim (is_in_transfer c) [ true ↦ report_nothing c | false ↦ coming_up (largest_terms i) c ]
 
@@ -208,7 +207,7 @@ count_settled m e (Some h) = e + missing m e (h.send + 1)
 -- the channel that a packet of a side settles in d1: P(R) is what the other side has sent, and all of it is acknowledged
 abbrev pub settled_channel : (modulus : ℕ) → Side → (receive : ℕ) → LastData → Option DataHeader → Channel → Channel
 settled_channel m x n l h c = record (entering D1 false c) {
-  heard = replicate n (missed (other x)) ++ replicate (count_settled m l.receive h) (missed x);
+  accepted = replicate n (missed (other x)) ++ replicate (count_settled m l.receive h) (missed x);
   acknowledged = with_side x l.receive (of_both n);
 }
 
@@ -235,7 +234,7 @@ last_after m x None None v = v
 -- data counts, though nothing of it is judged
 abbrev pub data_reported : Interface → Item → Option DataHeader → List What
 data_reported i r None = []
-data_reported i r (Some h) = DataAccepted r.side (heard_of i r h).length ∷ []
+data_reported i r (Some h) = DataAccepted r.side (accepted_of i r h).length ∷ []
 
 -- a packet of data transfer that settles the channel, or not
 abbrev pub adrift_received : Interface → Item → WhileAdrift → GapChannel → (receive : Option ℕ) → (acknowledged : Option LastData) → GapOutcome
@@ -261,7 +260,7 @@ adrift_carried i r a g = elim (is_resetting (other r.side) g.channel.state) [
   | false ↦ adrift_received i r a g (receive_of r) (option_and_then (acknowledged_data a r.side) (receive_of r))
 ]
 
--- a packet of data transfer, which brings a call up that was not
+-- a packet of data transfer, which brings up a call that was not up
 abbrev pub adrift_transfer : Interface → (channel : ℕ) → Item → WhileAdrift → GapChannel → GapOutcome
 adrift_transfer i n r a g = elim (is_in_use i n g.channel) [
   | true ↦
@@ -299,7 +298,7 @@ adrift_step i n r a g = elim (is_some (adrift_fault i n g.channel r)) [
 -- the channel with packets of a side that were missed, up to a number; none where its next P(S) is certain
 abbrev pub completed_to : (modulus : ℕ) → (doubt : Bool) → Side → (number : ℕ) → Channel → Channel
 completed_to m false x n c = c
-completed_to m true x n c = record c { heard = c.heard ++ replicate (missing m (sent x c.heard) n) (missed x) }
+completed_to m true x n c = record c { accepted = c.accepted ++ replicate (missing m (sent x c.accepted) n) (missed x) }
 
 -- before a data packet: those of its own side up to P(S), and those of the other side up to P(R)
 abbrev pub completed_for_data : (modulus : ℕ) → Doubts → Side → DataHeader → Channel → Channel
@@ -315,12 +314,12 @@ abbrev pub with_interrupt : (doubt : Bool) → Side → (unconfirmed : Bool) →
 with_interrupt false x u c = c
 with_interrupt true x u c = record c { unconfirmed = with_side x u c.unconfirmed }
 
--- what a packet comes to on a settled channel: the events, the channel, and what is in doubt
+-- what a packet does on a settled channel: the events, the channel, and what is in doubt
 pub record SettledOutcome : Type 0 where
   pub outcome : Outcome
   pub doubts : Doubts
 
--- an error; it makes nothing certain by itself
+-- an error, which alone makes nothing certain
 abbrev pub failing_in_doubt : Side → StateName → ℕ → Doubts → Channel → SettledOutcome
 failing_in_doubt x s n b c = record { outcome = failing x s n c; doubts = b }
 
@@ -355,7 +354,7 @@ receive_in_doubt m x s (Some n) b c =
 abbrev pub window_in_doubt : Interface → Doubts → Channel → Side → ℕ
 window_in_doubt i b c x = elim (of_side x b.numbers) [ true ↦ i.modulus | false ↦ window_in_force i c x ]
 
--- category A, where the size of packets may not be known: then M without D may say either category, and is taken for A
+-- category A, where the size of packets may not be known: then M without D may say either category, and is read as A
 abbrev pub may_be_category_a : (hidden : Bool) → (size : ℕ) → AcceptedData → Bool
 may_be_category_a true size h = h.more && not h.delivery
 may_be_category_a false size h = is_category_a size h
@@ -408,8 +407,8 @@ accepting_in_doubt m x size p v message b d = record {
   outcome = record {
     reported = DataAccepted x p.length ∷ settings_in_doubt x message;
     after = record d {
-      heard = d.heard ++ p ∷ [];
-      acknowledged = edge_in_doubt m (of_side x b.numbers) x (sent x (d.heard ++ p ∷ [])) v.acknowledged;
+      accepted = d.accepted ++ p ∷ [];
+      acknowledged = edge_in_doubt m (of_side x b.numbers) x (sent x (d.accepted ++ p ∷ [])) v.acknowledged;
     };
   };
   doubts = doubts_after_data x (may_be_category_a b.hidden size p) b;
@@ -418,7 +417,7 @@ accepting_in_doubt m x size p v message b d = record {
 -- a data packet whose numbers are valid
 abbrev pub alike_in_doubt : (modulus : ℕ) → Side → StateName → (size : ℕ) → AcceptedData → Counts → Doubts → (completed : Channel) → Channel → SettledOutcome
 alike_in_doubt m x s size p v b d c =
-    let hs : List AcceptedData = may_be_begun b.hidden size x d.heard in
+    let hs : List AcceptedData = may_be_begun b.hidden size x d.accepted in
     elim (is_mixed b.hidden (of_side x b.sequences) p hs) [
       | true ↦ failing_in_doubt x s INCONSISTENT_Q_BIT_SETTING b c
       | false ↦ accepting_in_doubt m x size p v (message_in_doubt b.hidden (of_side x b.sequences) size p hs d) b d
@@ -434,7 +433,7 @@ abbrev pub data_in_doubt : Interface → StateName → Item → Option DataHeade
 data_in_doubt i s r None b c = record { outcome = report_nothing c; doubts = b }
 data_in_doubt i s r (Some h) b c =
     let d : Channel = completed_for_data i.modulus b r.side h c in
-    counted_in_doubt i.modulus r.side s (size_in_force i c r.side) (heard_of i r h)
+    counted_in_doubt i.modulus r.side s (size_in_force i c r.side) (accepted_of i r h)
     (count_data i.modulus (window_in_doubt i b c r.side) (counts_of d) r.side h.send h.receive) b d c
 
 -- a packet whose entry is `normal`, and whose format has no fault

@@ -1,6 +1,6 @@
 -- Channels of recordings with gaps: what a gap leaves of a channel, and what is certain of it later (profile).
 --
--- One rule is behind all others: what a missing packet could explain is no finding, and what was recorded counts.
+-- All other rules follow from one: what a missing packet could explain is not a finding, and what was recorded counts.
 use Rattle.std.specs.Prelude.{ℕ, Bool, true, false, not, ◌&&◌, ◌||◌, ◌-◌, List, [], ◌∷◌, Option, Some, None}
 use Rattle.line_model.specs.declared.interface.Interface.{Interface}
 use Rattle.line_model.specs.declared.state.DState as transfer
@@ -22,8 +22,8 @@ abbrev pub is_nothing_owed : Owed → Bool
 is_nothing_owed NoIndication = true
 is_nothing_owed _ = false
 
--- of a channel adrift: what was owed at the gap, whether another call may be hidden behind the one that is open, and the
--- last data packet of each side since the last gap, call, clear, reset or reset confirmation
+-- of a channel adrift: what was owed at the gap, whether another call may be hidden after the open one, and the last data packet of each
+-- side since the last gap, call, clear, reset or reset confirmation
 pub record WhileAdrift : Type 0 where
   pub owed : Owed
   pub hidden : Bool
@@ -44,8 +44,7 @@ pub data Certainty : Type 0 where
   Adrift : WhileAdrift → Certainty
   Settled : Doubts → Certainty
 
--- a channel of a recording with gaps: what its recorded packets alone show, whether it may lie in an interface that restarts,
--- and what is certain
+-- a channel of a recording with gaps: what its recorded packets alone show, whether its interface may be restarting, and what is certain
 pub record GapChannel : Type 0 where
   pub channel : Channel
   pub restarting : Bool
@@ -77,7 +76,7 @@ abbrev pub with_largest_terms : (hidden : Bool) → Interface → Channel → Ch
 with_largest_terms true i c = record c { accepting = Some (largest_terms i) }
 with_largest_terms false i c = c
 
--- whether another call may be hidden behind the one that is open, where a gap comes
+-- whether another call may be hidden after the open one, where a gap comes
 abbrev pub is_hidden_by_gap : Interface → (channel : ℕ) → Channel → Bool
 is_hidden_by_gap i n c = not (is_permanent i n) && is_open c
 
@@ -86,7 +85,7 @@ abbrev pub waiting_name : Option Opening → StateName
 waiting_name None = P1
 waiting_name (Some o) = elim o.out [ true ↦ P2 | false ↦ P3 ]
 
--- the state that says no more than whether a call is open and whether it came up
+-- the state that says only whether a call is open and whether it came up
 abbrev pub idle_name : (in_transfer : Bool) → Option Opening → StateName
 idle_name true o = P4
 idle_name false o = waiting_name o

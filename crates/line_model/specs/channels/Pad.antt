@@ -8,7 +8,7 @@ use Rattle.line_model.specs.declared.event.Entry.TheVariants.{Asked, Said, Refus
 use Rattle.line_model.specs.declared.event.What.{What}
 use Rattle.line_model.specs.declared.event.What.TheVariants.{Setting, Initial}
 use Rattle.line_model.specs.basics.Octets.{octet, bits}
-use Rattle.line_model.specs.channels.Channels.{Told, other}
+use Rattle.line_model.specs.channels.Channels.{PadMessage, other}
 use Rattle.line_model.specs.channels.FlowControl.{is_side}
 
 -- a parameter reference and its value (X.29 4.4.1)
@@ -38,7 +38,7 @@ pairs_of [] = []
 pairs_of (r ∷ []) = []
 pairs_of (r ∷ v ∷ rest) = record { reference = r; value = v } ∷ pairs_of rest
 
--- a pair that parts the standard parameters from the national ones (X.29 4.4.5.3; reference 80 in an indication is profile)
+-- the separator between the standard and the national parameters (X.29 4.4.5.3; reference 80 in an indication is profile)
 abbrev pub is_separator : (indication : Bool) → Pair → Bool
 is_separator indication p =
     (p.reference == 0 && p.value == 0) || (indication && p.reference == 0x80)
@@ -68,7 +68,7 @@ is_badly_formed xs = elim (message_code xs == 3) [
   | false ↦ (is_indication xs || is_request xs) && (length (drop 1 xs) % 2 == 1)
 ]
 
--- the fault of a message by itself
+-- the fault of a message alone
 abbrev pub form_fault : List ℕ → Option Xcode
 form_fault xs = elim (is_unknown_message xs) [
   | true ↦ Some X1
@@ -79,9 +79,9 @@ form_fault xs = elim (is_unknown_message xs) [
 ]
 
 -- whether a PAD was asked anything: a well formed request came from the other side
-abbrev pub was_asked : (pad : Side) → List Told → Bool
-was_asked pad told =
-    list_any (λ t. is_side (other pad) t.from && is_request t.message && is_none (form_fault t.message)) told
+abbrev pub was_asked : (pad : Side) → List PadMessage → Bool
+was_asked pad pad_messages =
+    list_any (λ t. is_side (other pad) t.from && is_request t.message && is_none (form_fault t.message)) pad_messages
 
 -- a parameter that can't be set, or a value that it can't have (X.3 Table 1)
 abbrev pub is_refusable : Pair → Bool
@@ -91,10 +91,10 @@ is_refusable p =
     || (list_any (λ n. p.reference == n) (16 ∷ 17 ∷ 18 ∷ []) && nat_lt 127 p.value)
 
 -- the finding on a message, the first that holds (the order is profile)
-abbrev pub message_fault : Side → List Told → List ℕ → Option Xcode
-message_fault from told xs = elim (form_fault xs) [
+abbrev pub message_fault : Side → List PadMessage → List ℕ → Option Xcode
+message_fault from pad_messages xs = elim (form_fault xs) [
   | Some x ↦ Some x
-  | None ↦ elim (is_indication xs && not (was_asked from told)) [
+  | None ↦ elim (is_indication xs && not (was_asked from pad_messages)) [
     | true ↦ Some X4
     | false ↦ elim (is_set xs && list_any is_refusable (standard_pairs xs)) [ true ↦ Some X3 | false ↦ None ]
   ]
@@ -118,19 +118,19 @@ abbrev pub is_parameter : ℕ → Bool
 is_parameter n = nat_le 1 n && nat_le n 22
 
 -- a set without any octet after the first asks for the initial values (X.29 4.4.1)
-abbrev pub set_told : (bare : Bool) → Side → List ℕ → List What
-set_told true from xs = Initial (other from) ∷ []
-set_told false from xs = map (asked (other from)) (filter (λ p. is_parameter p.reference) (standard_pairs xs))
+abbrev pub events_of_set : (bare : Bool) → Side → List ℕ → List What
+events_of_set true from xs = Initial (other from) ∷ []
+events_of_set false from xs = map (asked (other from)) (filter (λ p. is_parameter p.reference) (standard_pairs xs))
 
 -- what a message without fault, or with X3, does to the settings
-abbrev pub settings_told : (indication set : Bool) → Side → List ℕ → List What
-settings_told true s from xs = map (indicated from) (filter (λ p. is_parameter (bits 7 1 p.reference)) (standard_pairs xs))
-settings_told false true from xs = set_told (length xs == 1) from xs
-settings_told false false from xs = []
+abbrev pub events_of_settings : (indication set : Bool) → Side → List ℕ → List What
+events_of_settings true s from xs = map (indicated from) (filter (λ p. is_parameter (bits 7 1 p.reference)) (standard_pairs xs))
+events_of_settings false true from xs = events_of_set (length xs == 1) from xs
+events_of_settings false false from xs = []
 
 -- what a message says of settings
 abbrev pub settings_of : Side → List ℕ → List What
-settings_of from xs = settings_told (is_indication xs) (is_set xs) from xs
+settings_of from xs = events_of_settings (is_indication xs) (is_set xs) from xs
 
 -- X1, XL, X2 and X4 change no setting
 abbrev pub settings_after : Option Xcode → Side → List ℕ → List What

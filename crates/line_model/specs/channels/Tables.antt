@@ -1,5 +1,4 @@
--- The state tables (X.25 Annexes B and C), row by row as they are printed.
--- The codes stand as numbers here; src/diagnostic.rt has their names.
+-- The state tables (X.25 Annexes B and C), row by row as they are printed. The codes are numbers here; src/diagnostic.rt has their names.
 use Rattle.std.specs.Prelude.{ℕ, Bool, false, ◌==◌, List, [], ◌∷◌, ◌++◌, Option, Some, None, if◌then◌else◌}
 use Rattle.std.specs.List.{list_any}
 use Rattle.line_model.specs.declared.state.Side.{Side}
@@ -124,7 +123,7 @@ transfer_n = record {
       (error 35 ∷ pass ∷ owed 29 ∷ []) ∷ [];
 }
 
--- a number for each class and each state, by which they are told apart
+-- a number for each class and each state, by which they differ
 abbrev pub class_number : Class → ℕ
 class_number Short = 0
 class_number WrongFormat = 1
@@ -193,7 +192,7 @@ abbrev pub tables : Side → List Table
 tables T = restart_t ∷ setup_t ∷ transfer_t ∷ []
 tables N = restart_n ∷ setup_n ∷ transfer_n ∷ []
 
--- the code that a class gives by itself (profile, after X.25 Annex E)
+-- the code that a class alone gives (profile, after X.25 Annex E)
 abbrev pub code_of : Class → ℕ
 code_of Short = 38
 code_of WrongFormat = 40

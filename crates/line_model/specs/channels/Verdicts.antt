@@ -1,4 +1,4 @@
--- What a packet comes to on its channel, between the tables and what they do.
+-- The verdict on a packet, between the tables and what they do to the channel.
 use Rattle.std.specs.Prelude.{ℕ, Bool}
 use Rattle.line_model.specs.declared.event.How.{How}
 use Rattle.line_model.specs.declared.state.StateName.{StateName}

@@ -1,4 +1,4 @@
--- Calls, read off a finished list of events (X.25 clause 4; the record is profile).
+-- Calls, by a finished list of events (X.25 clause 4; the record is profile).
 use Rattle.std.specs.Prelude.{ℕ, Bool, true, false, not, ◌==◌, ◌&&◌, ◌||◌, ◌+◌, ◌/◌, List, [], ◌∷◌, map, filter, filter_map, find, reverse, take_while, flat_map, sum, length, slice_get, Option, Some, None, option_map, option_and_then, unwrap_or, if◌then◌else◌}
 use Rattle.line_model.specs.declared.state.Side.{Side}
 use Rattle.line_model.specs.declared.state.Side.TheVariants.{T, N}
@@ -18,22 +18,22 @@ abbrev pub is_opening : Event → Bool
 is_opening e = elim e.what [ Open o a b r ↦ true | _ ↦ false ]
 
 -- what comes up, and what ends
-abbrev pub tells_up : What → Bool
-tells_up Up = true
-tells_up _ = false
+abbrev pub is_up_event : What → Bool
+is_up_event Up = true
+is_up_event _ = false
 
 -- whether a content ends a call
-abbrev pub tells_end : What → Bool
-tells_end (End h) = true
-tells_end _ = false
+abbrev pub is_end_event : What → Bool
+is_end_event (End h) = true
+is_end_event _ = false
 
 -- whether an event brings a call up
 abbrev pub is_up : Event → Bool
-is_up e = tells_up e.what
+is_up e = is_up_event e.what
 
 -- whether an event ends a call
 abbrev pub is_end : Event → Bool
-is_end e = tells_end e.what
+is_end e = is_end_event e.what
 
 -- two events on one channel in one epoch
 abbrev pub is_alongside : Event → Event → Bool
@@ -67,7 +67,7 @@ entry_said pad n e = elim e.what [
   | _ ↦ None
 ]
 
--- the entry of a parameter: what the last event says that speaks of it (X.3)
+-- the entry of a parameter: what the last event about it says (X.3)
 abbrev pub entry_of : Side → ℕ → List Event → Entry
 entry_of pad n es = unwrap_or (slice_get (filter_map (entry_said pad n) (reverse es)) 0) Unknown
 

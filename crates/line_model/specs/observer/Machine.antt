@@ -82,7 +82,7 @@ after_routed m o x None = line_stepped m o x (renewed m o.line x)
 abbrev pub all_stepped : {X L S E : Type 0} → Machine X L S E → Observer L S → X → ℕ → S
 all_stepped m o x = λ k. m.channel_after o.epoch k (o.states k) x
 
--- the observer after a row that steps each channel, or one or none
+-- the observer after a row, which steps all channels, one or none
 abbrev pub after_by : {X L S E : Type 0} → Machine X L S E → Observer L S → X → (all : Bool) → Option ℕ → Observer L S
 after_by m o x true r = record { epoch = o.epoch; line = m.line_after o.line x; states = all_stepped m o x }
 after_by m o x false r = after_routed m o x r
@@ -111,6 +111,6 @@ abbrev pub ChangesBy : {X L S E : Type 0} → Machine X L S E → L → X → (a
 ChangesBy m l x true r = Unit {0}
 ChangesBy m l x false r = ChangesRouted m l x r
 
--- the row reaches more than one channel
+-- the row changes more than one channel
 abbrev pub Changes : {X L S E : Type 0} → Machine X L S E → L → X → Type 0
 Changes m l x = ChangesBy m l x (steps_all m l x) (routed m l x)

@@ -14,7 +14,7 @@ pub record RowEvent (X E : Type 0) : Type 0 where
 abbrev pub stamp : {X E : Type 0} → ℕ → Option ℕ → X → List E → List (RowEvent X E)
 stamp e c x ws = map (λ w. record { epoch = e; channel = c; row = x; what = w }) ws
 
--- a line that was ready and is no more closes each channel
+-- a line that was ready and is not any more closes each channel
 abbrev pub closed_events : {X L S E : Type 0} → Machine X L S E → Observer L S → X → Bool → Bool → List (RowEvent X E)
 closed_events m o x true false = flat_map (λ k. stamp o.epoch (Some k) x (m.closing_events o.epoch k (o.states k) x)) m.channels
 closed_events m o x _ _ = []
@@ -33,7 +33,7 @@ abbrev pub row_events_routed : {X L S E : Type 0} → Machine X L S E → Observ
 row_events_routed m o x (Some k) = stamp o.epoch (Some k) x (m.channel_events o.epoch k (o.states k) x)
 row_events_routed m o x None = line_row_events m o x ++ ended_events m o x (renewed m o.line x)
 
--- the events of a row that steps each channel, or one or none; the channels that such a row steps have none
+-- the events of a row, which steps all channels, one or none; where it steps all channels, these have no events
 abbrev pub row_events_by : {X L S E : Type 0} → Machine X L S E → Observer L S → X → (all : Bool) → Option ℕ → List (RowEvent X E)
 row_events_by m o x true r = line_row_events m o x
 row_events_by m o x false r = row_events_routed m o x r
@@ -48,6 +48,6 @@ walk_events m o [] = []
 walk_events m o (x ∷ xs) = row_events m o x ++ walk_events m (after m o x) xs
 
 -- each row with its events, in order
-abbrev pub told : {X L S E : Type 0} → Machine X L S E → Observer L S → List X → List (X × List (RowEvent X E))
-told m o [] = []
-told m o (x ∷ xs) = (x, row_events m o x) ∷ told m (after m o x) xs
+abbrev pub events_by_row : {X L S E : Type 0} → Machine X L S E → Observer L S → List X → List (X × List (RowEvent X E))
+events_by_row m o [] = []
+events_by_row m o (x ∷ xs) = (x, row_events m o x) ∷ events_by_row m (after m o x) xs

@@ -102,7 +102,7 @@ start i = record { epoch = 1; line = first_line i; states = fresh_at i (start_by
 abbrev pub event_by : {X : Type 0} → (X → ℕ) → RowEvent X What → Event
 event_by number v = record { epoch = v.epoch; channel = option_map_or (λ c. c) v.channel 0; packet = number v.row; what = v.what }
 
--- an event as it is told
+-- an event as it is reported
 abbrev pub event_of : RowEvent Item What → Event
 event_of v = event_by (λ (r : Item). r.number) v
 

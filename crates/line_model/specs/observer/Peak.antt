@@ -26,11 +26,11 @@ pub record IsPeakOfTimes (count : ℕ → ℕ) (peak : ℕ) (at : Option ℕ) : 
   pub greatest : (n : ℕ) → count n ≤ peak
   pub first : MatchOption at (peak ≡ 0) (λ n. (0 < peak) × (count n ≡ peak) × ((k : ℕ) → k < n → count k < peak))
 
--- an event that ends a call stands after the row `low`, up to the row `high`
+-- an event that ends a call comes after the row `low`, up to the row `high`
 abbrev pub ends_between : {X E : Type 0} → (E → Bool) → (X → ℕ) → ℕ → ℕ → RowEvent X E → Bool
 ends_between ends number low high u = ends u.what && (nat_lt low (number u.row) && nat_le (number u.row) high)
 
--- the event's call is up at time n: the event stands up to n, and no end of its epoch and channel behind it does
+-- the event's call is up at time n: the event comes up to n, and no later end of its epoch and channel does
 abbrev pub is_alive : {X E : Type 0} → (E → Bool) → (X → ℕ) → List (RowEvent X E) → ℕ → RowEvent X E → Bool
 is_alive ends number vs n v = nat_le (number v.row) n && not (some_is (ends_between ends number (number v.row) n) (filter (belongs v.epoch v.channel) vs))
 
@@ -66,7 +66,7 @@ pub record Times : Type 0 where
   pub up : ℕ
   pub ended : Option ℕ
 
--- whether a time stands before an end, if there is one
+-- whether a time is before an end, if there is one
 abbrev pub is_after : ℕ → Option ℕ → Bool
 is_after n None = true
 is_after n (Some b) = nat_lt n b
@@ -75,7 +75,7 @@ is_after n (Some b) = nat_lt n b
 abbrev pub is_up_at : ℕ → Times → Bool
 is_up_at n t = nat_le t.up n && is_after n t.ended
 
--- the number of the first end behind a row
+-- the number of the first end after a row
 abbrev pub end_behind : {X E : Type 0} → (E → Bool) → (X → ℕ) → ℕ → List (RowEvent X E) → Option ℕ
 end_behind ends number low [] = None
 end_behind ends number low (u ∷ us) = if ends u.what && nat_lt low (number u.row) then Some (number u.row) else end_behind ends number low us

@@ -51,7 +51,7 @@ summary_of n es = record {
   segments = segments_of (all_lengths es);
 }
 
--- the summary of nothing
+-- the summary without events
 abbrev pub no_summary : Summary
 no_summary = record { packets = 0; findings = 0; calls = 0; octets = 0; segments = 0 }
 
@@ -64,7 +64,7 @@ abbrev pub gaps_among : (has_gaps : Bool) → List Item → Option ℕ
 gaps_among true rs = Some (gaps_of rs)
 gaps_among false rs = None
 
--- the report of the walk over a trace: the sums count packets, and a gap is none
+-- the report of the walk over a trace: the sums count packets, and a gap is not a packet
 abbrev pub report_of : Interface → List Item → Report
 report_of i rs =
     let es : List Event = events i rs in

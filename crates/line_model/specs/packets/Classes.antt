@@ -87,7 +87,7 @@ receive_number i xs = first_that
     ∷ (nat_lt (length xs) 4, None) ∷ [])
     (Some (bits 8 2 (octet 4 xs)))
 
--- how many octets stand before the user data of a data packet, and in a whole RR or RNR
+-- how many octets come before the user data of a data packet, and how many a whole RR or RNR has
 abbrev pub header_length : Interface → ℕ
 header_length i = if i.modulus == 8 then 3 else 4
 
@@ -120,11 +120,11 @@ packet_with i xs Restart = packet.TheVariants.Restart
 packet_with i xs RestartConfirm = packet.TheVariants.RestartConfirm
 packet_with i xs k = packet.TheVariants.Channel (channel_of xs) (kind_of i xs k)
 
--- the packet that some octets are
+-- the packet in some octets
 abbrev pub packet_of : Interface → List ℕ → Packet
 packet_of i xs = packet_with i xs (class_of i xs)
 
--- the class of what stands on a channel; a gap, which is no packet, has that of a type that no packet has
+-- the class of a packet on a channel; a gap, which is not a packet, has the class of an undefined type
 abbrev pub kind_class : PacketKind → Class
 kind_class kind.TheVariants.TwoOctets = TwoOctets
 kind_class kind.TheVariants.RestartHere = RestartHere

@@ -48,11 +48,11 @@ facility_length xs = octet 1 (after_addresses xs)
 abbrev pub facility_octets : List ℕ → List ℕ
 facility_octets xs = take (facility_length xs) (drop 1 (after_addresses xs))
 
--- the user data, behind the facilities (5.2.2)
+-- the user data, after the facilities (5.2.2)
 abbrev pub user_data : List ℕ → List ℕ
 user_data xs = drop (1 + facility_length xs) (after_addresses xs)
 
--- the parameter octets of a facility and what stands before them, by bits 8 and 7 of its code (7.1)
+-- the parameter octets of a facility and what comes before them, by bits 8 and 7 of its code (7.1)
 abbrev pub parameters_from : ℕ → List ℕ → ℕ × ℕ
 parameters_from code rest = if bits 8 7 code == 3 then (octet 1 rest, 1) else (bits 8 7 code + 1, 0)
 
@@ -81,7 +81,7 @@ facilities xs = facilities_of (length (facility_octets xs)) (facility_octets xs)
 abbrev pub read_facilities : List ℕ → List Facility
 read_facilities xs = take_while (λ f. not (f.code == 0)) (unwrap_or (facilities xs) [])
 
--- the parameters of a facility; where a code stands twice the last counts (profile)
+-- the parameters of a facility; of two with one code the last counts (profile)
 abbrev pub last_parameters : ℕ → List Facility → Option (List ℕ)
 last_parameters code fs = option_map (λ f. f.parameters) (find (λ f. f.code == code) (reverse fs))
 

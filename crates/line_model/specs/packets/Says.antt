@@ -5,26 +5,25 @@ use Rattle.line_model.specs.declared.state.Side.TheVariants.{T}
 use Rattle.line_model.specs.declared.packet.DataHeader.{DataHeader}
 use Rattle.line_model.specs.declared.packet.Packet.{Packet}
 use Rattle.line_model.specs.declared.packet.Packet as packet
-use Rattle.line_model.specs.declared.packet.PacketKind.{PacketKind}
 use Rattle.line_model.specs.declared.packet.PacketKind as kind
 use Rattle.line_model.specs.basics.Octets.{octet, bits}
 use Rattle.line_model.specs.basics.Records.{Row, Item, ReadRow}
 use Rattle.line_model.specs.packets.Classes.{packet_of}
 
--- data with Q 0, by bit 1 of octet 3 and bit 8 of octet 1: the user data says nothing but how much it is (5.3)
+-- data with Q 0, by bit 1 of octet 3 and bit 8 of octet 1: of the user data only the length matters (5.3)
 abbrev pub is_unqualified : List ℕ → Bool
 is_unqualified xs = bits 1 1 (octet 3 xs) == 0 && bits 8 8 (octet 1 xs) == 0
 
--- the octets that say more than the packet and the length do
+-- the octets that are kept in addition to the packet and the length
 abbrev pub said_octets : List ℕ → List ℕ
 said_octets xs = if is_unqualified xs then [] else xs
 
--- what stands in place of the packet in a gap of a channel, or of all
+-- what a gap of a channel, or of all, has in place of the packet
 abbrev pub gap_packet : Option ℕ → Packet
 gap_packet None = packet.TheVariants.GapOfAll
 gap_packet (Some c) = packet.TheVariants.Channel c kind.TheVariants.Gap
 
--- the packet of a row, or the gap that it is
+-- the packet of a row, or its gap
 abbrev pub packet_or_gap : Option (Option ℕ) → Packet → Packet
 packet_or_gap None p = p
 packet_or_gap (Some gap) p = gap_packet gap
@@ -87,7 +86,7 @@ receive_in (packet.TheVariants.Channel c (kind.TheVariants.Rr n)) = n
 receive_in (packet.TheVariants.Channel c (kind.TheVariants.Rnr n)) = n
 receive_in p = None
 
--- the logical channel of a packet, 0 where it is on none that is assigned
+-- the logical channel of a packet, 0 where the channel is not assigned
 abbrev pub packet_channel : Packet → ℕ
 packet_channel (packet.TheVariants.Channel c k) = c
 packet_channel p = 0

@@ -21,7 +21,7 @@ pub record Placed (X : Type 0) : Type 0 where
   pub all : Bool
   pub leaves : Bool
 
--- whether the line is ready no more with a row that steps it, or renewed
+-- whether a row that steps the line makes it no longer ready, or renews it
 abbrev pub leaves_line : {X L S E : Type 0} → Machine X L S E → L → X → (renewed : Bool) → Bool
 leaves_line m l x true = true
 leaves_line m l x false = m.ready l && not (m.ready (m.line_after l x))
@@ -31,7 +31,7 @@ abbrev pub leaves_routed : {X L S E : Type 0} → Machine X L S E → L → X �
 leaves_routed m l x (Some k) = false
 leaves_routed m l x None = leaves_line m l x (renewed m l x)
 
--- whether a row that steps each channel, or one or none, ends the epoch
+-- whether a row ends the epoch: one that steps all channels, one channel, or the line part
 abbrev pub leaves_by : {X L S E : Type 0} → Machine X L S E → L → X → (all : Bool) → Option ℕ → Bool
 leaves_by m l x true r = false
 leaves_by m l x false r = leaves_routed m l x r
@@ -90,12 +90,12 @@ piece_value m e k s (x ∷ xs) end = step_events m e k s x (m.for_all x) ++ piec
 abbrev pub value_of : {X L S E : Type 0} → Machine X L S E → ℕ → ℕ → List (Placed X) → List (RowEvent X E)
 value_of m e k ps = piece_value m e k (m.fresh (piece_start e ps) e k) (step_rows m e k ps) (piece_end e ps)
 
--- k stands nowhere in the list
+-- k is not in the list
 abbrev pub IsAbsent : ℕ → List ℕ → Type 0
 IsAbsent k [] = Unit {0}
 IsAbsent k (j ∷ js) = (j ≢ k) × IsAbsent k js
 
--- k stands once in the list
+-- k is in the list once
 abbrev pub StandsOnce : ℕ → List ℕ → Type 0
 StandsOnce k [] = ⊥
 StandsOnce k (j ∷ js) = ((j ≡ k) × IsAbsent k js) ⊎ ((j ≢ k) × StandsOnce k js)

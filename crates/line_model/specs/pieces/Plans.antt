@@ -1,4 +1,4 @@
--- The plan of a trace: its pieces, and what each is worth (profile).
+-- The plan of a trace: its pieces, and the result of each (profile).
 use Rattle.std.specs.Prelude.{ℕ, Bool, true, false, ◌&&◌, List, [], ◌∷◌, map, filter, sum, option_map, not, length}
 use Rattle.std.specs.List.{enumerate_from}
 use Rattle.line_model.specs.declared.interface.Interface.{Interface}
@@ -33,7 +33,7 @@ abbrev pub begins_with_gap : List Item → Bool
 begins_with_gap [] = false
 begins_with_gap (r ∷ rs) = is_gap_of_all r
 
--- rows, of several gaps of all channels with no other row between them only the last one: it leaves no more open than they do
+-- rows; of several gaps of all channels with no other row between them only the last one, which leaves the same open
 abbrev pub single_gaps : List Item → List Item
 single_gaps [] = []
 single_gaps (r ∷ rs) = elim (is_gap_of_all r && begins_with_gap rs) [ true ↦ single_gaps rs | false ↦ r ∷ single_gaps rs ]
@@ -69,7 +69,7 @@ piece_events p =
     map event_of
     (piece_value (x25 p.interface) p.epoch p.channel (fresh_at p.interface p.start p.epoch p.channel) p.items (option_map row_of_end p.end))
 
--- what the events of a piece are worth
+-- the result of the events of a piece
 abbrev pub report_on : (id epoch channel : ℕ) → List Event → PieceReport
 report_on id epoch channel es = record {
   id = id;
@@ -81,7 +81,7 @@ report_on id epoch channel es = record {
   segments = segments_of (all_lengths es);
 }
 
--- what a piece is worth
+-- the result of a piece
 abbrev pub value : Piece → PieceReport
 value p = report_on p.id p.epoch p.channel (piece_events p)
 

@@ -3,7 +3,7 @@ use Rattle.std.specs.Prelude.{◌≡◌, ℕ, Bool, false, ◌==◌, Option, Som
 use Rattle.std.specs.List.{filter}
 use Rattle.std.specs.List.Sorted.{IsPermutation}
 use Rattle.line_model.specs.observer.Machine.{Machine, Observer, own_channel, walk, Changes}
-use Rattle.line_model.specs.observer.MachineEvents.{told}
+use Rattle.line_model.specs.observer.MachineEvents.{events_by_row}
 
 -- whether a row is one of channel k
 abbrev pub is_channel : ℕ → Option ℕ → Bool
@@ -23,5 +23,5 @@ pub record IsShuffle {X L S E : Type 0} (m : Machine X L S E) (start : Observer 
 
 -- each row has the same events in both walks, and both end in one observer
 pub record SameWalks {X L S E : Type 0} (m : Machine X L S E) (start : Observer L S) (xs ys : List X) : Type 0 where
-  pub events : IsPermutation (told m start xs) (told m start ys)
+  pub events : IsPermutation (events_by_row m start xs) (events_by_row m start ys)
   pub observer : walk m start ys ≡ walk m start xs

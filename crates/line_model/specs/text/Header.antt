@@ -9,15 +9,15 @@ use Rattle.std.specs.Str.Parse.{digits_value}
 use Rattle.line_model.specs.basics.Limits.{is_interface}
 use Rattle.line_model.specs.declared.interface.Interface.{Interface}
 
--- whether a byte parts words
+-- whether a byte separates words
 abbrev pub is_space : ℕ → Bool
 is_space b = b == 32
 
--- words are parted by single spaces
+-- single spaces separate words
 abbrev pub words_of : List ℕ → List (List ℕ)
 words_of text = slice_split is_space text
 
--- 1 to 9 digits, and no leading zero but in `0`
+-- 1 to 9 digits, and no leading zero except in `0`
 abbrev pub is_number : List ℕ → Bool
 is_number word = (nat_le 1 (length word) && nat_le (length word) 9) && (list_all is_ascii_digit word && ((length word == 1) || not (slice_index word 0 == 48)))
 
@@ -37,23 +37,23 @@ pub record HeaderNumbers : Type 0 where
   pub join : Bool
   pub gaps : Bool
 
--- a word that has to be there, and the number behind it
+-- a word that has to be there, and the number after it
 abbrev pub named_number : List ℕ → List ℕ → List ℕ → Option ℕ
 named_number name word number = if bytes_eq word name then number_of number else None
 
--- the number behind a name, and the words behind both
+-- the number after a name, and the words after both
 abbrev pub named : List ℕ → List (List ℕ) → Option (ℕ × List (List ℕ))
 named name (word ∷ number ∷ words) = option_map (λ n. (n, words)) (named_number name word number)
 named name _ = None
 
--- what all forms say first: MOD, WIN, SIZE, PVC
+-- the numbers that all forms begin with: MOD, WIN, SIZE, PVC
 pub record Defaults : Type 0 where
   pub modulus : ℕ
   pub window : ℕ
   pub size : ℕ
   pub pvc : ℕ
 
--- these four, and the words behind them
+-- these four, and the words after them
 abbrev pub defaults_in : List (List ℕ) → Option (Defaults × List (List ℕ))
 defaults_in words =
     option_and_then (λ m. option_and_then (λ w. option_and_then (λ s. option_and_then (λ p.
@@ -71,22 +71,22 @@ join_in [] = Some false
 join_in (word ∷ []) = if bytes_eq word (codes "JOIN") then Some true else None
 join_in _ = None
 
--- without ranges the channels behind the permanent ones are two-way
+-- without ranges the channels after the permanent ones are two-way
 abbrev pub all_two_way : Defaults → ℕ → HeaderNumbers
 all_two_way d q = record { modulus = d.modulus; window = d.window; size = d.size; pvc = d.pvc; incoming = d.pvc; two_way = q; svc = q; join = false; gaps = false }
 
--- the first form, behind its version
+-- the first form, after its version
 abbrev pub first_form : List (List ℕ) → Option HeaderNumbers
 first_form words = option_and_then (λ d. option_and_then (λ q. ending (all_two_way d.0 q.0) q.1) (named (codes "SVC") d.1)) (defaults_in words)
 
--- the second form, and the third where gaps are rows, behind their versions
+-- the second form, or the third where gaps are rows, after the version
 abbrev pub second_form : (gaps : Bool) → List (List ℕ) → Option HeaderNumbers
 second_form gaps words =
     option_and_then (λ d. option_and_then (λ i. option_and_then (λ t. option_and_then (λ o. option_and_then (λ join.
     Some (record { modulus = d.0.modulus; window = d.0.window; size = d.0.size; pvc = d.0.pvc; incoming = i.0; two_way = t.0; svc = o.0; join = join; gaps = gaps }))
     (join_in o.1)) (named (codes "OUT") t.1)) (named (codes "TWO") i.1)) (named (codes "IN") d.1)) (defaults_in words)
 
--- a version has its form
+-- each version has its form
 abbrev pub form_of : (version : List ℕ) → List (List ℕ) → Option HeaderNumbers
 form_of version words =
     if bytes_eq version (codes "1") then first_form words else
@@ -102,7 +102,7 @@ numbers_in _ = None
 unfoldable pub header_numbers : List ℕ → Option HeaderNumbers
 header_numbers line = numbers_in (words_of line)
 
--- whether these numbers lie in their ranges
+-- whether these numbers are in their ranges
 abbrev pub is_lawful : HeaderNumbers → Bool
 is_lawful n = is_interface n.modulus n.window n.size n.pvc n.incoming n.two_way n.svc
 

@@ -62,14 +62,14 @@ is_within svc (Some n) = nat_le 1 n && nat_le n svc
 abbrev pub gap_within : (svc : ℕ) → List ℕ → Option (Option ℕ)
 gap_within svc word = option_and_then (λ gap. if is_within svc gap then Some gap else None) (gap_in word)
 
--- the first rule that the words of a packet break behind its number
+-- the first rule that the words of a packet break after its number
 abbrev pub packet_kind : RowWords → Option Kind
 packet_kind words =
     if is_none (side_of words.side) then Some SideKind
     else if is_none (octets_of words.hex) then Some Hex
     else None
 
--- the rule that the words of a gap break behind its number
+-- the rule that the words of a gap break after its number
 abbrev pub gap_kind : (svc : ℕ) → RowWords → Option Kind
 gap_kind svc words = if is_none (gap_within svc words.hex) then Some Hex else None
 

@@ -17,7 +17,7 @@ Line = List ℕ
 abbrev pub is_lf : ℕ → Bool
 is_lf b = b == 10
 
--- b goes onto the first of the lines, or onto what stands after them all
+-- b is put before the first of the lines, or before what comes after them all
 abbrev pub onto_first_line : ℕ → List Line → List Line
 onto_first_line b [] = []
 onto_first_line b (l ∷ ls) = (b ∷ l) ∷ ls
@@ -27,22 +27,22 @@ abbrev pub ended_lines : List ℕ → List Line
 ended_lines [] = []
 ended_lines (b ∷ bs) = if is_lf b then [] ∷ ended_lines bs else onto_first_line b (ended_lines bs)
 
--- b goes onto what stands after the last LF, where it stands after all of them
+-- b is put before what comes after the last LF, where no LF follows it
 abbrev pub onto_begun : ℕ → List Line → Line → Line
 onto_begun b [] begun = b ∷ begun
 onto_begun b (l ∷ ls) begun = begun
 
--- what stands after the last LF
+-- what comes after the last LF
 abbrev pub begun_line : List ℕ → Line
 begun_line [] = []
 begun_line (b ∷ bs) = if is_lf b then begun_line bs else onto_begun b (ended_lines bs) (begun_line bs)
 
--- an empty last part is no line
+-- an empty last part is not a line
 abbrev pub line_or_none : Line → List Line
 line_or_none [] = []
 line_or_none (b ∷ bs) = (b ∷ bs) ∷ []
 
--- the lines of a text
+-- the lines of an input
 abbrev pub lines_of : List ℕ → List Line
 lines_of text = ended_lines text ++ line_or_none (begun_line text)
 
@@ -81,7 +81,7 @@ last_or d (n ∷ ns) = last_or n ns
 unfoldable pub last_number : List Line → ℕ
 last_number ls = last_or 0 (filter_map row_number (drop 1 (content_of ls)))
 
--- how many bytes a text may have (profile)
+-- how many bytes an input may have (profile)
 abbrev pub text_limit : ℕ
 text_limit = 2 ^ 30
 
@@ -94,7 +94,7 @@ abbrev pub size_of : List Line → ℕ
 size_of [] = 0
 size_of (l ∷ ls) = length l + 1 + size_of ls
 
--- a line of so many bytes that is too long, or holds byte 2^30 + 1 of the text; `lf` is 1 where an LF ends it
+-- a line of `len` bytes that is too long, or holds byte 2^30 + 1 of the input; `lf` is 1 where an LF ends it
 unfoldable pub size_kind : ℕ → ℕ → ℕ → Option Kind
 size_kind start lf len =
     if nat_lt line_limit len && nat_le (start + (line_limit + 1)) text_limit then Some LineLong
@@ -108,18 +108,18 @@ header_kind line =
     else if is_none (interface_of line) then Some HeaderRange
     else None
 
--- the rule that the contents of a line break, behind the header of an interface or not
+-- the rule that the contents of a line break, after the header of an interface or before any header
 unfoldable pub contents_kind : Option Interface → ℕ → Line → Option Kind
 contents_kind head last line =
     if is_comment line then None
     else elim head [ None ↦ header_kind line | Some i ↦ row_kind i last line ]
 
--- whether there is a line
+-- whether the list has a line
 abbrev pub is_some_line : List Line → Bool
 is_some_line [] = false
 is_some_line (l ∷ ls) = true
 
--- a line before these that is no comment is the header
+-- whether a line that is not a comment, and so the header, is among these
 unfoldable pub has_header : List Line → Bool
 has_header ls = is_some_line (content_of ls)
 
@@ -144,17 +144,17 @@ abbrev pub begun_kind : List Line → Line → Option Kind
 begun_kind ended [] = None
 begun_kind ended (b ∷ bs) = line_kind ended 0 (b ∷ bs)
 
--- the fault of the line begun after these lines, if the text ends here
+-- the fault of the line begun after these lines, if the input ends here
 abbrev pub end_kind : List Line → Line → Option (ℕ × Kind)
 end_kind ended begun =
     option_or (option_map (λ kind. (length ended + 1, kind)) (begun_kind ended begun))
     (elim (content_of (ended ++ line_or_none begun)) [ [] ↦ Some (length (ended ++ line_or_none begun) + 1, HeaderMissing) | l ∷ ls ↦ None ])
 
--- the line and the rule of the first faulty line, if the text ends here
+-- the line and the rule of the first faulty line, if the input ends here
 unfoldable pub fault : List ℕ → Option (ℕ × Kind)
 fault text = option_or (first_fault [] (ended_lines text)) (end_kind (ended_lines text) (begun_line text))
 
--- the same, of the lines that are known to be faulty however the text goes on
+-- the same among lines that are faulty whatever follows in the input
 unfoldable pub early : List ℕ → Option (ℕ × Kind)
 early text =
     option_or (first_fault [] (ended_lines text))
@@ -165,15 +165,15 @@ abbrev pub good_lines : Option (ℕ × Kind) → List Line → List Line
 good_lines None ls = ls
 good_lines (Some at) ls = take (at.0 - 1) ls
 
--- the interface of a text
+-- the interface of an input
 unfoldable pub head : List ℕ → Option Interface
 head text = head_of (good_lines (fault text) (lines_of text))
 
--- the rows of a text before its first faulty line
+-- the rows of an input before its first faulty line
 unfoldable pub rows : List ℕ → List Row
 rows text = rows_in (good_lines (fault text) (lines_of text))
 
--- what the lines say that an LF ends
+-- the interface that the header sets up, once an LF has ended its line
 unfoldable pub early_head : List ℕ → Option Interface
 early_head text = head_of (good_lines (early text) (ended_lines text))
 

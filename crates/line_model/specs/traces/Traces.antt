@@ -7,7 +7,7 @@ use Rattle.line_model.specs.packets.Says.{items_of}
 use Rattle.line_model.specs.observer.Report.{report_of, report, no_summary}
 use Rattle.line_model.specs.pieces.Plans.{plan}
 
--- the report of a text, nothing where it has no header
+-- the report of an input, nothing where it has no header
 abbrev pub trace_report : List ℕ → List ℕ
 trace_report x = elim (head x) [ None ↦ [] | Some i ↦ report i (items_of i (rows x)) ]
 
@@ -19,7 +19,7 @@ trace_summary x = elim (head x) [ None ↦ no_summary | Some i ↦ (report_of i 
 abbrev pub trace_plan : List ℕ → List Piece
 trace_plan x = elim (head x) [ None ↦ [] | Some i ↦ plan i (items_of i (rows x)) ]
 
--- the text has no fault, and this is its report
+-- the input has no fault, and this is its report
 pub record IsReported (x bytes : List ℕ) : Type 0 where
   pub sound : fault x ≡ None
   pub report : trace_report x ≡ bytes
@@ -29,7 +29,7 @@ abbrev pub text : List (List ℕ) → List ℕ
 text [] = []
 text (l ∷ ls) = l ++ 10 ∷ text ls
 
--- some bytes, so many times
+-- some bytes, repeated
 abbrev pub repeated : ℕ → List ℕ → List ℕ
 repeated zero xs = []
 repeated (suc n) xs = xs ++ repeated n xs

@@ -20,11 +20,11 @@ IsPlanned plan n p = (p.id ≡ n) × IfSome plan (λ ps. slice_get ps n ≡ Some
 abbrev pub IsValue : KnownPlan → PieceReport → Type 0
 IsValue plan r = IfSome plan (λ ps. slice_get (map value ps) r.id ≡ Some r)
 
--- how often a number stands in a list
+-- how often a number is in a list
 abbrev pub times : ℕ → List ℕ → ℕ
 times x xs = count_by (λ y. y == x) xs
 
--- once for a number below another, and else not at all
+-- 1 for a number below the bound, else 0
 abbrev pub once_below : ℕ → ℕ → ℕ
 once_below x n = if nat_lt x n then 1 else 0
 

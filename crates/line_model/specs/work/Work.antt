@@ -4,23 +4,23 @@ use Rattle.line_model.specs.basics.Records.{Piece, PieceReport}
 use Rattle.line_model.specs.pieces.Plans.{value}
 use Rattle.line_model.specs.work.Book.{KnownPlan, IsPlanned, IsNumbered, times, once_below, ids_of}
 
--- what stands in the queue: a piece, or an end
-pub data Entry : Type 0 where
-  job : Piece → Entry
-  finish : Entry
+-- an entry of the queue: a piece, or an end
+pub data WorkEntry : Type 0 where
+  job : Piece → WorkEntry
+  finish : WorkEntry
 
--- a pass that was split: what it took, what of that was not posted, whether it had its end, whether it was joined
+-- a pass that was split: what it received, what of that was not posted, whether it had its end, whether it was joined
 pub record Worker : Type 0 where
   pub taken : List ℕ
   pub held : List Piece
   pub finished : Bool
   pub joined : Bool
 
--- the pieces and the ends that were fed, the queue, the workers, the feeder's record of what joined workers took, and the posts
+-- the pieces and the ends that were fed, the queue, the workers, the feeder's record of what joined workers received, and the posts
 pub record WorkState : Type 0 where
   pub fed : List Piece
   pub ends : ℕ
-  pub queue : List Entry
+  pub queue : List WorkEntry
   pub workers : List Worker
   pub record_of : List ℕ
   pub posts : List PieceReport
@@ -29,7 +29,7 @@ pub record WorkState : Type 0 where
 abbrev pub at_start : WorkState
 at_start = record { fed = []; ends = 0; queue = []; workers = []; record_of = []; posts = [] }
 
--- a worker that took nothing
+-- a worker that received nothing
 abbrev pub new_worker : Worker
 new_worker = record { taken = []; held = []; finished = false; joined = false }
 
@@ -54,11 +54,11 @@ Changes Does ws vs = (before : List Worker) × (after : List Worker) × (w : Wor
 abbrev pub IsOut : Worker → Type 0
 IsOut w = (w.finished ≡ false) × (w.joined ≡ false)
 
--- a worker takes a piece
+-- a worker receives a piece
 abbrev pub Takes : Piece → Worker → Worker → Type 0
 Takes p w v = IsOut w × (v ≡ record { taken = w.taken ++ p.id ∷ []; held = w.held ++ p ∷ []; finished = w.finished; joined = w.joined })
 
--- a worker takes an end
+-- a worker receives an end
 abbrev pub Finishes : Worker → Worker → Type 0
 Finishes w v = IsOut w × (v ≡ record { taken = w.taken; held = w.held; finished = true; joined = w.joined })
 
@@ -77,9 +77,9 @@ Does plan capacity feed s t = (p : Piece) × (slice_get plan (length s.fed) ≡ 
 Does plan capacity met_full s t = (length s.queue ≡ capacity) × (t ≡ s)
 Does plan capacity feed_end s t = (length s.queue < capacity)
     × (t ≡ record { fed = s.fed; ends = s.ends + 1; queue = s.queue ++ finish ∷ []; workers = s.workers; record_of = s.record_of; posts = s.posts })
-Does plan capacity take_piece s t = (p : Piece) × (rest : List Entry) × (vs : List Worker) × (s.queue ≡ job p ∷ rest) × Changes (Takes p) s.workers vs
+Does plan capacity take_piece s t = (p : Piece) × (rest : List WorkEntry) × (vs : List Worker) × (s.queue ≡ job p ∷ rest) × Changes (Takes p) s.workers vs
     × (t ≡ record { fed = s.fed; ends = s.ends; queue = rest; workers = vs; record_of = s.record_of; posts = s.posts })
-Does plan capacity take_end s t = (rest : List Entry) × (vs : List Worker) × (s.queue ≡ finish ∷ rest) × Changes Finishes s.workers vs
+Does plan capacity take_end s t = (rest : List WorkEntry) × (vs : List Worker) × (s.queue ≡ finish ∷ rest) × Changes Finishes s.workers vs
     × (t ≡ record { fed = s.fed; ends = s.ends; queue = rest; workers = vs; record_of = s.record_of; posts = s.posts })
 Does plan capacity met_empty s t = (s.queue ≡ []) × (t ≡ s)
 Does plan capacity split s t = t ≡ record { fed = s.fed; ends = s.ends; queue = s.queue; workers = s.workers ++ new_worker ∷ []; record_of = s.record_of; posts = s.posts }
@@ -89,7 +89,7 @@ Does plan capacity post s t = (p : Piece) × (vs : List Worker) × Changes (Post
     × (t ≡ record { fed = s.fed; ends = s.ends; queue = s.queue; workers = vs; record_of = s.record_of; posts = s.posts ++ value p ∷ [] })
 Does plan capacity look s t = t ≡ s
 
--- the steps lead from one state to the other, each allowed where it stands
+-- the steps lead from one state to the other, each allowed in its state
 abbrev pub Leads : List Piece → ℕ → List Move → WorkState → WorkState → Type 0
 Leads plan capacity [] s t = t ≡ s
 Leads plan capacity (m ∷ ms) s t = (u : WorkState) × Does plan capacity m s u × Leads plan capacity ms u t
@@ -99,7 +99,7 @@ abbrev pub numbers_of : List Piece → List ℕ
 numbers_of ps = map (λ p. p.id) ps
 
 -- the numbers of the pieces in the queue
-abbrev pub waiting_of : List Entry → List ℕ
+abbrev pub waiting_of : List WorkEntry → List ℕ
 waiting_of [] = []
 waiting_of (job p ∷ rest) = p.id ∷ waiting_of rest
 waiting_of (finish ∷ rest) = waiting_of rest
@@ -113,7 +113,7 @@ Each P (x ∷ xs) = P x × Each P xs
 abbrev pub IsPrefixOf : List Piece → List Piece → Type 0
 IsPrefixOf plan fed = (rest : List Piece) × (plan ≡ fed ++ rest)
 
--- each piece that was fed is in the queue, or held by one worker, or posted, and stands there once
+-- each piece that was fed is once in the queue, or held by one worker, or posted
 abbrev pub StandsOnce : WorkState → Type 0
 StandsOnce s = (x : ℕ) → times x (waiting_of s.queue) + sum_by (λ w. times x (numbers_of w.held)) s.workers + times x (ids_of s.posts) ≡ once_below x (length s.fed)
 
@@ -129,8 +129,8 @@ AllPosted s = (x : ℕ) → times x (ids_of s.posts) ≡ once_below x (length s.
 abbrev pub Always : (List Piece → WorkState → Type 0) → Type 0
 Always Fact = (plan : List Piece) (capacity : ℕ) (moves : List Move) (s : WorkState) → IsNumbered plan → Leads plan capacity moves at_start s → Fact plan s
 
--- the entries are the plan's pieces from `taken` up to `fed`, in order, and then so many ends
-abbrev pub IsLine : KnownPlan → (taken fed ends : ℕ) → List Entry → Type 0
+-- the entries are the plan's pieces from `taken` up to `fed`, in order, and then `ends` ends
+abbrev pub IsLine : KnownPlan → (taken fed ends : ℕ) → List WorkEntry → Type 0
 IsLine plan taken fed ends [] = (taken ≡ fed) × (ends ≡ 0)
 IsLine plan taken fed ends (job p ∷ rest) = IsPlanned plan taken p × IsLine plan (suc taken) fed ends rest
 IsLine plan taken fed ends (finish ∷ rest) = (taken ≡ fed) × ((left : ℕ) × (ends ≡ suc left) × IsLine plan taken fed left rest)

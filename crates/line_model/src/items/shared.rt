@@ -1,4 +1,4 @@
-//! Rows of a list that others have rows of too.
+//! Rows of a list that is shared.
 
 ghost use Rattle.std.specs.Prelude.{◌≡◌, ◌+◌, ◌<◌, ◌≤◌, ◌^◌, ◌++◌, length, take, drop, IfOk};
 ghost use Rattle.line_model.specs.basics.Items.{octets_of};
@@ -15,7 +15,7 @@ struct Lists<A: Allocator> {
     octets: Vec<u8, A>,
 }
 
-/// Rows that stand one after the other in a list. The memory of the list is given back with the last rows of it.
+/// Rows that are one after the other in a shared list. The memory of the list is freed with the last of its rows.
 ///
 /// ```text
 ///  list   1 │ 2 │ 3 │ 4 │ 5 │ 6
@@ -49,7 +49,7 @@ impl<A: Allocator> Model for SharedItems<A> {
         × (octets_of (take s.count (drop s.first (arc_value s.lists).heads.items)) ≡ s.kept) };
 }
 
-/// Some items of a list, one after the other.
+/// Returns `count` items of a list, from `first` on.
 fn cut<T>(list: &[T], first: usize, count: usize) -> &[T]
     requires inside { first + count ≤ length list.now }
     ensures { result.now ≡ take count (drop first list.now) }
@@ -72,19 +72,19 @@ fn count_kept(heads: &[Head]) -> usize
 }
 
 impl<A: Allocator> SharedItems<A> {
-    /// How many rows there are.
+    /// Returns how many rows there are.
     pub fn len(&self) -> usize
         ensures { result ≡ length self.now }
     {
         self.count
     }
 
-    /// The allocator of the list.
+    /// Returns the allocator of the list.
     pub fn allocator(&self) -> &A {
         self.lists.heads.allocator()
     }
 
-    /// What the rows say, in order.
+    /// Returns what the rows say, in order.
     pub fn iter(&self) -> Iter<'_>
         ensures { result ≡ self.now }
     {
@@ -94,7 +94,8 @@ impl<A: Allocator> SharedItems<A> {
         }
     }
 
-    /// Splits the first rows off, which take no memory.
+    /// Splits off the first `count` rows, by another reference to the list and without a copy. Fails only where the
+    /// list can't have another reference.
     pub fn split_first(&mut self, count: usize) -> Result<SharedItems<A>, AllocError>
         requires some { count ≤ length self.old }
         ensures rows { IfOk result (λ first. self.old ≡ first ++ self.new) }
@@ -118,7 +119,7 @@ impl<A: Allocator> SharedItems<A> {
 }
 
 impl<A: Allocator + Copy> SharedItems<A> {
-    /// The rows of a list.
+    /// Returns the rows of a list, which can be split. Fails only when memory is refused.
     pub fn of(items: Items<A>) -> Result<Self, AllocError>
         ensures { IfOk result (λ shared. shared ≡ items) }
     {

@@ -1,10 +1,10 @@
-//! A cutter takes rows that were cut apart from those before them.
+//! A cutter reads rows that were cut apart from those before them.
 
 ghost use Rattle.std.specs.Prelude.{◌≡◌, List, IfErr, IfOk};
 ghost use Rattle.line_model.specs.basics.Records as records;
 ghost use Rattle.line_model.specs.declared.fault.Fault.TheVariants.{Memory};
 ghost use Rattle.line_model.specs.declared.interface.Interface.{Interface as AnyInterface};
-ghost use Rattle.restart_epochs.specs.Cutting.{StandsFor};
+ghost use Rattle.restart_epochs.specs.Cutting.{Represents};
 ghost use Rattle.restart_epochs.specs.BlockCuts.{HasTakenAll, MayCome};
 ghost use Rattle.restart_epochs.specs.BlockStates.{IsBlockCut};
 
@@ -18,18 +18,18 @@ use line_model::piece::Piece;
 use std::alloc::Allocator;
 
 impl<A: Allocator + Copy> Cutter<A> {
-    /// The restart machine after the rows that were taken.
+    /// Returns the restart machine after the rows that were read.
     pub fn machine(&self) -> Restart
         ensures { result ≡ self.now.line }
     {
         self.walk.machine
     }
 
-    /// Takes the next rows, which were cut as the cutter's restart machine takes them, and appends the pieces that are
-    /// known whole with them. No row is copied. After a refusal, which is for memory, no cutter is left.
+    /// Reads the next rows, which were cut as the cutter's restart machine routes them, and appends the pieces that are
+    /// complete with them. No row is copied. Fails only when memory is refused, and no cutter is left then.
     pub fn join(self, block: BlockCut<A>, out: &mut Vec<Piece<A>, A>) -> Result<Self, Fault>
         requires next { (i : AnyInterface) × (rows : List records.Item) × (items : List records.Item)
-            × StandsFor i rows self × IsBlockCut self.line items block × MayCome self items }
+            × Represents i rows self × IsBlockCut self.line items block × MayCome self items }
         ensures taken { (items : List records.Item) → IsBlockCut self.line items block
             → MayCome self items → IfOk result (λ cutter. HasTakenAll items self cutter out.old.items out.new.items) }
         ensures memory { IfErr result (λ fault. fault ≡ Memory) }

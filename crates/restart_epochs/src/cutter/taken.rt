@@ -1,4 +1,4 @@
-//! What a cutter has taken.
+//! What a cutter has read.
 
 ghost use Rattle.std.specs.Prelude.{◌≡◌};
 
@@ -7,21 +7,21 @@ use line_model::interface::Interface;
 use std::alloc::Allocator;
 
 impl<A: Allocator + Copy> Cutter<A> {
-    /// The interface of the trace.
+    /// Returns the interface of the trace.
     pub fn interface(&self) -> Interface
         ensures { result ≡ self.now.interface }
     {
         self.walk.interface
     }
 
-    /// The number of the last row that was taken, or 0.
+    /// Returns the number of the last row that was read, or 0.
     pub fn last(&self) -> u32
         ensures { result ≡ self.now.last }
     {
         self.last
     }
 
-    /// How many octets the rows that were taken have.
+    /// Returns how many octets the rows that were read have.
     pub fn octets(&self) -> u32
         ensures { result ≡ self.now.octets }
     {

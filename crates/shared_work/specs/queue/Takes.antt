@@ -1,4 +1,4 @@
--- What a call of `take` says.
+-- What a call of `take` returns.
 use Rattle.std.specs.Prelude.{◌≡◌, ℕ, ◌<◌, List, ◌++◌, true, false, All}
 use Rattle.crossbeam_queue.specs.Fifo.{Held}
 use Rattle.line_model.specs.basics.Records.{Piece}
@@ -15,13 +15,13 @@ IsTaken plan v (Got ps) w = All (λ p. IsPlanned plan p.id p) ps × (w ≡ worke
 IsTaken plan v Finish w = w ≡ worker v.taken true w.fed
 IsTaken plan v Empty w = w ≡ v
 
--- at an end: at one moment of the call ends alone stood in the queue, and each of the pieces that had been fed, so many, was taken
+-- at an end: at one moment of the call only ends were in the queue, and each of the pieces that had been fed, this count, was taken
 abbrev pub WasDrained : {A : Type 0} → KnownPlan → Record → Taken A → ℕ → Type 0
 WasDrained plan v Finish fed = (n : ℕ) × (0 < n) × Held n (IsDrained plan v fed)
 WasDrained plan v (Got ps) fed = Unit {0}
 WasDrained plan v Empty fed = Unit {0}
 
--- the pieces that were taken stand after those before them
+-- the pieces that were taken come after those before them
 abbrev pub AddsTaken : {A : Type 0} → List Piece → Taken A → List Piece → Type 0
 AddsTaken before (Got ps) after = after ≡ before ++ ps
 AddsTaken before Finish after = after ≡ before

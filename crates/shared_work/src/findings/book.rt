@@ -1,4 +1,4 @@
-//! The lock round the posts, and the shares.
+//! The lock around the posts, and the shares.
 ghost use Rattle.std.specs.Prelude.{◌≡◌, ℕ, ◌+◌, ◌^◌, ◌<◌, ◌≤◌, OnOk, IfErr, vec_len, List, All};
 ghost use Rattle.std.specs.List.{flat_map};
 ghost use Rattle.line_model.specs.basics.Records as records;
@@ -11,7 +11,7 @@ use crate::findings::posts::Posts;
 use crate::findings::share::Share;
 use crate::findings::spares::Spares;
 use crate::findings::sums::Sums;
-use crate::findings::witness::{AnyReport, Witness};
+use crate::findings::witness::{AnyReport, Voucher};
 use line_model::fault::Fault;
 use line_model::piece::{PieceReport, Plan};
 use line_model::totals::Totals;
@@ -23,25 +23,26 @@ use std::sync::{Mutex, Wait};
 /// How many shares a book can give, and how many parts each of its ledgers has.
 pub const MOST_SHARES: u64 = 4096;
 
-/// The lock round the posts, which is all of a book that threads share.
+/// The lock around the posts, which is all of a book that threads share.
 #[derive(Drop)]
 pub struct LockedPosts<
     P: Plan,
     L: Ledgers,
     A: Allocator = Global,
-    W: Witness = AnyReport,
+    W: Voucher = AnyReport,
     T: Reports<A> = PieceReport<A>,
 > {
     locked: Mutex<Posts<P, L, A, W, T>>,
 }
 
-/// The posts under their lock, each the report of a piece or of a bundle, and the parts that were not given. Contracts see how many shares were given.
+/// The posts under their lock, each the report of a piece or of a bundle, and the parts that were not given. Contracts
+/// see how many shares were given.
 #[derive(Drop)]
 pub struct Book<
     P: Plan,
     L: Ledgers,
     A: Allocator = Global,
-    W: Witness = AnyReport,
+    W: Voucher = AnyReport,
     T: Reports<A> = PieceReport<A>,
 > {
     locked_posts: LockedPosts<P, L, A, W, T>,
@@ -49,7 +50,7 @@ pub struct Book<
     given: u64,
 }
 
-impl<P: Plan, L: Ledgers, A: Allocator, W: Witness, T: Reports<A>> Model for Book<P, L, A, W, T> {
+impl<P: Plan, L: Ledgers, A: Allocator, W: Voucher, T: Reports<A>> Model for Book<P, L, A, W, T> {
     ghost Value = { ℕ };
 
     ghost view = { λ s. s.given };
@@ -57,9 +58,9 @@ impl<P: Plan, L: Ledgers, A: Allocator, W: Witness, T: Reports<A>> Model for Boo
     ghost invariant = { λ s. s.spares + s.given ≡ 4096 };
 }
 
-impl<P: Plan, L: Ledgers, A: Allocator, W: Witness, T: Reports<A>> Book<P, L, A, W, T> {
-    /// A book without posts, over four ledgers of 4,096 parts, one part a share, with a witness who will vouch for them.
-    /// It takes no memory.
+impl<P: Plan, L: Ledgers, A: Allocator, W: Voucher, T: Reports<A>> Book<P, L, A, W, T> {
+    /// Returns a book without posts, over four ledgers of 4,096 parts, one for each share, with a witness that will
+    /// vouch for the posts. Needs no memory.
     pub fn new(alloc: A, blanks: Blanks, witness: W) -> Book<P, L, A, W, T>
     where
         A: Copy,
@@ -83,7 +84,7 @@ impl<P: Plan, L: Ledgers, A: Allocator, W: Witness, T: Reports<A>> Book<P, L, A,
         }
     }
 
-    /// A share of nothing.
+    /// Returns a share without posts, its totals 0.
     pub fn share(&mut self) -> Share<L>
         requires room { self.old < 4096 }
         ensures given { self.new ≡ self.old + 1 }
@@ -93,13 +94,13 @@ impl<P: Plan, L: Ledgers, A: Allocator, W: Witness, T: Reports<A>> Book<P, L, A,
         self.spares.share()
     }
 
-    /// What threads share.
+    /// Returns the part that threads share.
     pub fn locked_posts(&self) -> &LockedPosts<P, L, A, W, T> {
         &self.locked_posts
     }
 
-    /// The totals and the posts, once every share is back, and who vouches for their reports. Each total is the sum over
-    /// the shares.
+    /// Returns the totals, the posts, and the witness that vouches for their reports, once every share is back. Each
+    /// total is the sum over the shares.
     pub fn gather(self, shares: Vec<Share<L>, A>) -> (Totals, Vec<T, A>, W)
         requires all { vec_len shares ≡ self }
         ensures shares { result.0 ≡ sum_of shares.items }
@@ -121,9 +122,9 @@ impl<P: Plan, L: Ledgers, A: Allocator, W: Witness, T: Reports<A>> Book<P, L, A,
     }
 }
 
-impl<P: Plan, L: Ledgers, A: Allocator, W: Witness, T: Reports<A>> LockedPosts<P, L, A, W, T> {
-    /// Adds a post, for whose reports a witness vouches, to the posts and to the share. Fails where an id of its reports is
-    /// among the posts, or where memory is refused; the post then comes back, and the share is as it was.
+impl<P: Plan, L: Ledgers, A: Allocator, W: Voucher, T: Reports<A>> LockedPosts<P, L, A, W, T> {
+    /// Adds a post, for whose reports a witness vouches, to the posts and to the share. Fails where an id of its
+    /// reports is among the posts, or when memory is refused; then it returns the post, and the share is as it was.
     pub fn post<R: Wait>(
         &self,
         rt: &R,
@@ -142,7 +143,7 @@ impl<P: Plan, L: Ledgers, A: Allocator, W: Witness, T: Reports<A>> LockedPosts<P
         self.locked.lock(rt).add(post, share, witness)
     }
 
-    /// The totals of some of the plan's pieces, each counted once. No number is below that of the share.
+    /// Returns the totals of some of the plan's pieces, each counted once. No number is below that of the share.
     pub fn look<R: Wait>(&self, rt: &R, share: &mut Share<L>) -> Totals
         ensures posts { (rs : List records.PieceReport) × AreOf P.pieces rs
             × (result ≡ totals_of rs) }

@@ -20,7 +20,7 @@ impl<A: Allocator> Model for KnownIds<A> {
 }
 
 impl<A: Allocator> KnownIds<A> {
-    /// No id is known. It takes no memory.
+    /// Returns a set without ids. Needs no memory.
     pub(crate) fn new(alloc: A) -> Self
         ensures { result ≡ [] }
     {
@@ -29,7 +29,7 @@ impl<A: Allocator> KnownIds<A> {
         }
     }
 
-    /// Whether an id is known.
+    /// Returns whether an id is known.
     pub(crate) fn contains(&self, id: u32) -> bool
         ensures { result ≡ is_known self.now id }
     {
@@ -54,7 +54,8 @@ impl<A: Allocator> KnownIds<A> {
         Ok(())
     }
 
-    /// Notes an id, and returns whether it was not known. Where memory is refused nothing changes.
+    /// Inserts an id, and returns whether it was not known. Fails only when memory is refused, and nothing has changed
+    /// then.
     pub(crate) fn insert(&mut self, id: u32) -> Result<bool, AllocError>
         ensures added { IfOk result (λ added. added ≡ not (is_known self.old id)) }
         ensures updates { OnOk result (HasFlag self.old self.new id true) }
@@ -66,7 +67,7 @@ impl<A: Allocator> KnownIds<A> {
         Ok(is_new)
     }
 
-    /// Forgets an id.
+    /// Removes an id.
     pub(crate) fn remove(&mut self, id: u32)
         ensures updates { HasFlag self.old self.new id false }
     {

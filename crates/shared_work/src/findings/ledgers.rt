@@ -3,7 +3,7 @@ use crate::findings::book::MOST_SHARES;
 use std::marker::{Brand, Model, PhantomData};
 use std::sync::ledger::{Blank, Ledger};
 
-/// The names of a book's four ledgers, which contracts alone see.
+/// The names of a book's four ledgers, which only contracts see.
 pub trait Ledgers {
     ghost use Rattle.shared_work.specs.findings.Names.{LedgerNames};
 
@@ -16,8 +16,7 @@ impl Ledgers for Brand {
     ghost names = { no_names };
 }
 
-/// Four new ledgers, which no type stands for yet, each of as many parts as a book can give shares. Contracts see their
-/// names.
+/// Four new ledgers of 4,096 parts each, which no type names yet. Contracts see their names.
 #[derive(Drop)]
 pub struct Blanks {
     pub(crate) posts: Blank,
@@ -38,7 +37,7 @@ impl Model for Blanks {
 }
 
 impl Blanks {
-    /// Four new ledgers.
+    /// Returns four new ledgers.
     pub fn new() -> Blanks {
         Blanks {
             posts: Blank::new(MOST_SHARES),

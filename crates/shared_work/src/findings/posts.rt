@@ -1,4 +1,4 @@
-//! What stands behind the lock.
+//! What the lock guards.
 ghost use Rattle.std.specs.Prelude.{◌≡◌, ◌++◌, All, OnOk, IfErr};
 ghost use Rattle.std.specs.List.{flat_map};
 ghost use Rattle.line_model.specs.work.Book.{IsValue, totals_of, AreOf, IsWithin};
@@ -10,7 +10,7 @@ use crate::findings::room::make_room;
 use crate::findings::share::Share;
 use crate::findings::spares::Returned;
 use crate::findings::sums::Sums;
-use crate::findings::witness::{AnyReport, Witness};
+use crate::findings::witness::{AnyReport, Voucher};
 use line_model::fault::Fault;
 use line_model::piece::{PieceReport, Plan};
 use line_model::totals::Totals;
@@ -18,14 +18,14 @@ use report_merge::reports::Reports;
 use std::alloc::{Allocator, Global};
 use std::marker::{Model, PhantomData};
 
-/// The posts, each the report of a piece or of a bundle, with their ids and their sums. Contracts see the reports of the
-/// pieces in order.
+/// The posts, each the report of a piece or of a bundle, with their ids and their sums. Contracts see the reports of
+/// the pieces in order.
 #[derive(Drop)]
 pub struct Posts<
     P: Plan,
     L: Ledgers,
     A: Allocator = Global,
-    W: Witness = AnyReport,
+    W: Voucher = AnyReport,
     T: Reports<A> = PieceReport<A>,
 > {
     pub(crate) witness: W,
@@ -35,7 +35,7 @@ pub struct Posts<
     pub(crate) plan: PhantomData<P>,
 }
 
-impl<P: Plan, L: Ledgers, A: Allocator, W: Witness, T: Reports<A>> Model for Posts<P, L, A, W, T> {
+impl<P: Plan, L: Ledgers, A: Allocator, W: Voucher, T: Reports<A>> Model for Posts<P, L, A, W, T> {
     ghost use Rattle.std.specs.Prelude.{List, All};
     ghost use Rattle.std.specs.List.{flat_map};
     ghost use Rattle.line_model.specs.basics.Records as records;
@@ -48,9 +48,10 @@ impl<P: Plan, L: Ledgers, A: Allocator, W: Witness, T: Reports<A>> Model for Pos
     ghost invariant = { λ s. IsBook P.pieces (flat_map T.reports s.posts.items) s.ids s.sums × All (W.vouches s.witness) (flat_map T.reports s.posts.items) };
 }
 
-impl<P: Plan, L: Ledgers, A: Allocator, W: Witness, T: Reports<A>> Posts<P, L, A, W, T> {
-    /// Appends a post for whose reports a witness vouches, and adds its numbers to the sums and to the share. It comes back
-    /// where an id of its reports stands among the posts, or where memory ran out, and no number has changed then.
+impl<P: Plan, L: Ledgers, A: Allocator, W: Voucher, T: Reports<A>> Posts<P, L, A, W, T> {
+    /// Appends a post for whose reports a witness vouches, and adds its numbers to the sums and to the share. Fails
+    /// where an id of its reports is among the posts, or when memory is refused; then it returns the post, and no
+    /// number has changed.
     pub fn add(&mut self, post: T, share: &mut Share<L>, witness: W) -> Result<(), (T, Fault)>
     where
         A: Clone,
@@ -71,14 +72,14 @@ impl<P: Plan, L: Ledgers, A: Allocator, W: Witness, T: Reports<A>> Posts<P, L, A
         Ok(())
     }
 
-    /// The sums of the posts.
+    /// Returns the sums of the posts.
     pub fn totals(&self) -> Totals
         ensures { result ≡ totals_of self.now }
     {
         self.sums.totals()
     }
 
-    /// No number of the share is above that of the posts.
+    /// Ensures that no number of the share is above that of the posts.
     pub fn audit(&mut self, share: &mut Share<L>)
         ensures same { (self.new ≡ self.old) × (share.new ≡ share.old) }
         ensures posts { AreOf P.pieces self.old }
@@ -87,7 +88,7 @@ impl<P: Plan, L: Ledgers, A: Allocator, W: Witness, T: Reports<A>> Posts<P, L, A
         self.sums.audit(share);
     }
 
-    /// The sums of the posts, for whom the share is. No number is below that of the share.
+    /// Returns the sums of the posts to the owner of a share. No number is below that of the share.
     pub fn seen_by(&mut self, share: &mut Share<L>) -> Totals
         ensures same { (self.new ≡ self.old) × (share.new ≡ share.old) }
         ensures posts { AreOf P.pieces self.old }
@@ -98,8 +99,8 @@ impl<P: Plan, L: Ledgers, A: Allocator, W: Witness, T: Reports<A>> Posts<P, L, A
         self.totals()
     }
 
-    /// The totals and the posts, with the parts of all shares, and who vouches for the posts. Each total is the sum over
-    /// the shares.
+    /// Returns the totals, the posts, and the witness that vouches for them, given the parts of all shares. Each total
+    /// is the sum over the shares.
     pub fn gathered(self, all: Returned<L>) -> (Totals, Vec<T, A>, W)
         requires all { all.parts ≡ 4096 }
         ensures shares { result.0 ≡ all.sums }

@@ -21,7 +21,8 @@ fn first_known<A: Allocator>(known: &KnownIds<A>, ids: &[u32]) -> Option<u32>
     None
 }
 
-/// Notes ids up to the first that can't be noted. Where there is one, returns how many were noted, and why no more.
+/// Inserts ids up to the first that can't be inserted. Where there is one, returns how many were inserted, and the
+/// fault.
 fn note_each<A: Allocator + Clone>(
     known: &mut KnownIds<A>,
     ids: &[u32],
@@ -41,7 +42,7 @@ fn note_each<A: Allocator + Clone>(
     Ok(())
 }
 
-/// Forgets ids, each of which is known.
+/// Removes ids, each of which is known.
 fn forget<A: Allocator>(known: &mut KnownIds<A>, ids: &[u32])
     requires known { (x : ℕ) → times x ids.now ≤ once_known known.old x }
     ensures { HasNoted known.new ids.now known.old }
@@ -51,8 +52,8 @@ fn forget<A: Allocator>(known: &mut KnownIds<A>, ids: &[u32])
     }
 }
 
-/// Makes room for a post with these ids, and notes them. Where one of them is known or stands twice, or memory is
-/// refused, the ids that are known stay the same.
+/// Makes room for a post with these ids, and inserts them. Fails where one of them is known or occurs twice, or when
+/// memory is refused; the known ids are the same then.
 pub fn make_room<T, A: Allocator + Clone>(
     posts: &mut Vec<T, A>,
     known: &mut KnownIds<A>,

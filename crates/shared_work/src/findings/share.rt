@@ -2,7 +2,7 @@
 ghost use Rattle.std.specs.Prelude.{◌≡◌};
 
 use crate::findings::ledgers::{Ledgers, OfFindings, OfOctets, OfPosts, OfSegments};
-use crate::findings::tally::Part;
+use crate::findings::tally::TallyPart;
 use line_model::totals::Totals;
 use std::marker::Model;
 
@@ -10,10 +10,10 @@ use std::marker::Model;
 /// numbers.
 #[derive(Drop)]
 pub struct Share<L: Ledgers> {
-    pub(crate) posts: Part<OfPosts<L>>,
-    pub(crate) findings: Part<OfFindings<L>>,
-    pub(crate) octets: Part<OfOctets<L>>,
-    pub(crate) segments: Part<OfSegments<L>>,
+    pub(crate) posts: TallyPart<OfPosts<L>>,
+    pub(crate) findings: TallyPart<OfFindings<L>>,
+    pub(crate) octets: TallyPart<OfOctets<L>>,
+    pub(crate) segments: TallyPart<OfSegments<L>>,
 }
 
 impl<L: Ledgers> Model for Share<L> {
@@ -25,7 +25,7 @@ impl<L: Ledgers> Model for Share<L> {
 }
 
 impl<L: Ledgers> Share<L> {
-    /// The four numbers.
+    /// Returns the four numbers.
     pub fn totals(&self) -> Totals
         ensures { result ≡ self.now }
     {

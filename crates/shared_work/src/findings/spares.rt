@@ -1,4 +1,4 @@
-//! The parts of the four ledgers that are with no share.
+//! The parts of the four ledgers that belong to no share.
 ghost use Rattle.std.specs.Prelude.{◌≡◌, ◌+◌, ◌<◌};
 ghost use Rattle.shared_work.specs.findings.Sums.{plus};
 
@@ -49,7 +49,7 @@ impl<L: Ledgers> Model for Returned<L> {
 }
 
 impl<L: Ledgers> Spares<L> {
-    /// A share of nothing.
+    /// Returns a share whose totals are 0.
     pub fn share(&mut self) -> Share<L>
         requires some { 0 < self.old }
         ensures left { self.new + 1 ≡ self.old }
@@ -63,7 +63,7 @@ impl<L: Ledgers> Spares<L> {
         }
     }
 
-    /// No share has come back.
+    /// Returns these parts, before any share came back.
     pub fn into_returned(self) -> Returned<L>
         ensures parts { result.parts ≡ self }
         ensures nothing { result.sums ≡ record {
@@ -89,7 +89,7 @@ impl<L: Ledgers> Spares<L> {
 }
 
 impl<L: Ledgers> Returned<L> {
-    /// A share comes back.
+    /// Adds a share that came back.
     pub fn add(&mut self, share: Share<L>)
         ensures parts { self.new.parts ≡ self.old.parts + 1 }
         ensures sums { self.new.sums ≡ plus self.old.sums share }

@@ -28,7 +28,7 @@ impl<L: Ledgers> Model for Sums<L> {
 }
 
 impl<L: Ledgers> Sums<L> {
-    /// Sums of nothing, and the parts of all shares.
+    /// Returns sums that are all 0, and the parts of all shares.
     pub fn open(blanks: Blanks) -> (Sums<L>, Spares<L>)
         requires names { blanks ≡ L.names }
         ensures zero { result.0 ≡ record { posts = 0; findings = 0; octets = 0; segments = 0 } }
@@ -53,7 +53,7 @@ impl<L: Ledgers> Sums<L> {
         (sums, spares)
     }
 
-    /// The four numbers.
+    /// Returns the four numbers.
     pub fn totals(&self) -> Totals
         ensures { result ≡ self.now }
     {
@@ -80,7 +80,7 @@ impl<L: Ledgers> Sums<L> {
         self.segments.add(&mut share.segments, more.segments);
     }
 
-    /// No number of the share is above that of the sums.
+    /// Ensures that no number of the share is above that of the sums.
     pub fn audit(&mut self, share: &mut Share<L>)
         ensures same { (self.new ≡ self.old) × (share.new ≡ share.old) }
         ensures within { IsWithin share.old self.old }
@@ -91,7 +91,7 @@ impl<L: Ledgers> Sums<L> {
         self.segments.audit(&mut share.segments);
     }
 
-    /// With the parts of all shares, the sums are theirs.
+    /// Ensures that the sums are those of all shares.
     pub fn settle(&mut self, all: Returned<L>)
         requires all { all.parts ≡ 4096 }
         ensures same { self.new ≡ self.old }

@@ -1,11 +1,11 @@
-//! What the queue holds.
+//! The entries of the queue.
 ghost use Rattle.std.specs.Prelude.{◌≡◌, ◌<◌, ◌++◌, ◌∷◌, [], vec_len};
 
 use line_model::piece::Piece;
 use std::alloc::{Allocator, Global};
 use std::marker::Model;
 
-/// One piece or more that go through the queue together, in the order of the plan. Contracts see the pieces.
+/// One or more pieces that go through the queue together, in the order of the plan. Contracts see the pieces.
 #[derive(Drop)]
 pub struct Bundle<A: Allocator = Global> {
     pub(crate) front: Vec<Piece<A>, A>,
@@ -22,7 +22,7 @@ impl<A: Allocator> Model for Bundle<A> {
 }
 
 impl<A: Allocator> Bundle<A> {
-    /// A bundle of one piece. It takes no memory.
+    /// Returns a bundle of one piece. Needs no memory.
     pub fn of(piece: Piece<A>) -> Bundle<A>
     where
         A: Copy,
@@ -34,7 +34,7 @@ impl<A: Allocator> Bundle<A> {
         }
     }
 
-    /// A bundle of these pieces.
+    /// Returns a bundle of these pieces.
     pub fn of_all(pieces: Vec<Piece<A>, A>) -> Bundle<A>
         requires some { 0 < vec_len pieces }
         ensures { result ≡ pieces.items }
@@ -44,7 +44,7 @@ impl<A: Allocator> Bundle<A> {
         Bundle { front, last }
     }
 
-    /// All pieces but the last, and the last one.
+    /// Returns all pieces except the last, and the last one.
     pub fn parts(&self) -> (&[Piece<A>], &Piece<A>)
         ensures { self.now ≡ result.0.now ++ result.1.now ∷ [] }
     {
@@ -54,16 +54,16 @@ impl<A: Allocator> Bundle<A> {
 
 /// A bundle of pieces, or an end where there is none.
 #[derive(Drop)]
-pub struct Entry<A: Allocator = Global> {
+pub struct QueueEntry<A: Allocator = Global> {
     pub(crate) bundle: Option<Bundle<A>>,
 }
 
-impl<A: Allocator> Model for Entry<A> {
+impl<A: Allocator> Model for QueueEntry<A> {
     ghost use Rattle.std.specs.Prelude.{List};
     ghost use Rattle.line_model.specs.work.Work as work;
     ghost use Rattle.shared_work.specs.queue.Entries.{entry_of};
 
-    ghost Value = { List work.Entry };
+    ghost Value = { List work.WorkEntry };
 
     ghost view = { λ e. entry_of e.bundle };
 }

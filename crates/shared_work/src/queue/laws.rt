@@ -1,4 +1,4 @@
-//! What holds of the shared work after every schedule of its steps, about the definitions alone.
+//! Theorems about the shared work after every schedule of its steps, about the definitions alone.
 
 ghost use Rattle.std.specs.Prelude.{◌≡◌, ℕ, List, length, map};
 ghost use Rattle.line_model.specs.declared.interface.Interface.{Interface};
@@ -8,9 +8,9 @@ ghost use Rattle.line_model.specs.pieces.Plans.{plan, value, channel_totals};
 ghost use Rattle.line_model.specs.work.Book.{totals_of};
 ghost use Rattle.line_model.specs.work.Work.{Move, WorkState, at_start, Leads, Always, IsPrefixOf, StandsOnce, IsSettled, AllPosted};
 
-/// However the steps of all threads fall, the pieces fed are the first ones of the plan, and each of them is in the
-/// queue, or held by one worker, or posted, and stands there once. Where all workers have their end and hold nothing,
-/// all of them were posted; where these are the whole plan of a trace, the totals of the posts are the observer's.
+/// In every order of the steps of all threads, the pieces fed are the first ones of the plan, and each of them is once
+/// in the queue, or held by one worker, or posted. Where all workers have their end and hold nothing, all of them were
+/// posted; where these are the whole plan of a trace, the totals of the posts are the observer's.
 pub fn schedule()
     ensures prefix { Always (λ pieces s. IsPrefixOf pieces s.fed) }
     ensures once { Always (λ pieces s. StandsOnce s) }

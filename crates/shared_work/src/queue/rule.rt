@@ -1,16 +1,16 @@
 //! The rule of the queue: what it holds, and what each pass knows.
-use crate::queue::entry::Entry;
+use crate::queue::entry::QueueEntry;
 use crossbeam_queue::protocol::{Join, Lesson, Outcome, Protocol, Split};
 use line_model::piece::{Piece, Plan};
 use std::alloc::Allocator;
 use std::collections::LinkedList;
 use std::marker::PhantomData;
 
-/// What a pass did, by numbers. No value of it is made.
+/// What a pass did, by numbers. No value of this type is made.
 pub struct Record {
-    /// It is the feeder's.
+    /// Whether it is the feeder's.
     pub feeds: bool,
-    /// It is a worker's, and was not joined.
+    /// Whether it is a worker's, and was not joined.
     pub works: bool,
     /// How many pieces were fed; of a worker, once it has its end.
     pub fed: u64,
@@ -22,14 +22,14 @@ pub struct Record {
     pub done: u64,
     /// The numbers of the pieces that were taken.
     pub taken: LinkedList<u32>,
-    /// It had its end.
+    /// Whether it had its end.
     pub finished: bool,
-    /// Of the feeder's: how many pieces were fed, as the worker told that was joined last, if it had its end.
-    pub told: u64,
+    /// Of the feeder's: how many pieces were fed, by the record of the worker joined last, if it had its end.
+    pub known_fed: u64,
 }
 
-/// What a pass knows. No value of it is made.
-pub struct Notes {
+/// What a pass knows. No value of this type is made.
+pub struct QueueNotes {
     /// What it did, by numbers.
     pub record_of: Record,
     /// Of the feeder's: the pieces that were fed, in order.
@@ -38,13 +38,13 @@ pub struct Notes {
     pub known: LinkedList<Piece>,
 }
 
-/// The rule: the queue holds the plan's pieces that were fed and not taken, in order, and then ends; and each piece that
-/// stands in it or that a pass knows was fed. An entry has one piece or more, or is an end.
+/// The rule: the queue holds the plan's pieces that were fed and not taken, in order, and then ends; and each piece in
+/// it, or that a pass knows of, was fed. An entry has one piece or more, or is an end.
 pub struct PlanOrder<P> {
     plan: PhantomData<P>,
 }
 
-impl<P: Plan, A: Allocator> Protocol<Entry<A>, Notes> for PlanOrder<P> {
+impl<P: Plan, A: Allocator> Protocol<QueueEntry<A>, QueueNotes> for PlanOrder<P> {
     ghost use Rattle.std.specs.Prelude.{[]};
     ghost use Rattle.shared_work.specs.queue.Rule.{feeder};
     ghost use Rattle.shared_work.specs.queue.Known.{AreBundled, notes};
@@ -57,7 +57,7 @@ impl<P: Plan, A: Allocator> Protocol<Entry<A>, Notes> for PlanOrder<P> {
 /// A new worker's pass is split from the feeder's.
 pub struct Worker;
 
-impl Split<Notes> for Worker {
+impl Split<QueueNotes> for Worker {
     ghost use Rattle.std.specs.Prelude.{[], false};
     ghost use Rattle.shared_work.specs.queue.Rule.{after_split, worker};
     ghost use Rattle.shared_work.specs.queue.Known.{notes};
@@ -67,37 +67,37 @@ impl Split<Notes> for Worker {
     ghost right = { λ v. notes (worker [] false 0) [] [] };
 }
 
-impl Join<Notes> for Worker {
+impl Join<QueueNotes> for Worker {
     ghost use Rattle.std.specs.Prelude.{[]};
-    ghost use Rattle.shared_work.specs.queue.Rule.{after_join, nobody};
+    ghost use Rattle.shared_work.specs.queue.Rule.{after_join, nothing_done};
     ghost use Rattle.shared_work.specs.queue.Known.{notes};
 
     ghost both = { λ v w. notes (after_join v.record_of w.record_of) v.fed v.known };
 
-    ghost spent = { notes nobody [] [] };
+    ghost spent = { notes nothing_done [] [] };
 }
 
 /// A witness is split from a pass, and knows what that one knows.
 pub struct Witnessing;
 
-impl Split<Notes> for Witnessing {
+impl Split<QueueNotes> for Witnessing {
     ghost use Rattle.std.specs.Prelude.{[]};
-    ghost use Rattle.shared_work.specs.queue.Rule.{nobody};
+    ghost use Rattle.shared_work.specs.queue.Rule.{nothing_done};
     ghost use Rattle.shared_work.specs.queue.Known.{notes};
 
     ghost left = { λ v. v };
 
-    ghost right = { λ v. notes nobody [] v.known };
+    ghost right = { λ v. notes nothing_done [] v.known };
 }
 
-impl Join<Notes> for Witnessing {
+impl Join<QueueNotes> for Witnessing {
     ghost use Rattle.std.specs.Prelude.{[]};
-    ghost use Rattle.shared_work.specs.queue.Rule.{nobody};
+    ghost use Rattle.shared_work.specs.queue.Rule.{nothing_done};
     ghost use Rattle.shared_work.specs.queue.Known.{with_witness, notes};
 
     ghost both = { with_witness };
 
-    ghost spent = { notes nobody [] [] };
+    ghost spent = { notes nothing_done [] [] };
 }
 
 /// The step that feeds a bundle of pieces.
@@ -105,13 +105,13 @@ pub struct FeedsBundle<P> {
     plan: PhantomData<P>,
 }
 
-impl<P: Plan, A: Allocator> Outcome<Entry<A>, Notes> for FeedsBundle<P> {
+impl<P: Plan, A: Allocator> Outcome<QueueEntry<A>, QueueNotes> for FeedsBundle<P> {
     ghost use Rattle.shared_work.specs.queue.Known.{FedBundle};
 
     ghost then = { FedBundle };
 }
 
-impl<P: Plan, A: Allocator> Lesson<Entry<A>, Notes> for FeedsBundle<P> {
+impl<P: Plan, A: Allocator> Lesson<QueueEntry<A>, QueueNotes> for FeedsBundle<P> {
     ghost use Rattle.shared_work.specs.queue.Rule.{AreInQueue};
 
     ghost fact = { λ v. AreInQueue P.pieces v.record_of };
@@ -122,47 +122,47 @@ pub struct FeedsEnd<P> {
     plan: PhantomData<P>,
 }
 
-impl<P: Plan, A: Allocator> Outcome<Entry<A>, Notes> for FeedsEnd<P> {
+impl<P: Plan, A: Allocator> Outcome<QueueEntry<A>, QueueNotes> for FeedsEnd<P> {
     ghost use Rattle.shared_work.specs.queue.Known.{FedEnd};
 
     ghost then = { FedEnd };
 }
 
-impl<P: Plan, A: Allocator> Lesson<Entry<A>, Notes> for FeedsEnd<P> {
+impl<P: Plan, A: Allocator> Lesson<QueueEntry<A>, QueueNotes> for FeedsEnd<P> {
     ghost use Rattle.shared_work.specs.queue.Rule.{AreInQueue};
 
     ghost fact = { λ v. AreInQueue P.pieces v.record_of };
 }
 
-/// The step that takes what stands at the front.
+/// The step that removes the first entry.
 pub struct Takes<P> {
     plan: PhantomData<P>,
 }
 
-impl<P: Plan, A: Allocator> Outcome<Entry<A>, Notes> for Takes<P> {
+impl<P: Plan, A: Allocator> Outcome<QueueEntry<A>, QueueNotes> for Takes<P> {
     ghost use Rattle.shared_work.specs.queue.Known.{TookAll};
 
     ghost then = { TookAll P.pieces };
 }
 
-impl<P: Plan, A: Allocator> Lesson<Entry<A>, Notes> for Takes<P> {
+impl<P: Plan, A: Allocator> Lesson<QueueEntry<A>, QueueNotes> for Takes<P> {
     ghost fact = { λ v items. Unit {0} };
 }
 
-/// What the feeder knows once a pass was joined: what that one told, and what all took.
-pub struct Account;
+/// What the feeder knows once a pass was joined: what that one knew, and what all took.
+pub struct QueueAccount;
 
-impl<A: Allocator> Lesson<Entry<A>, Notes> for Account {
+impl<A: Allocator> Lesson<QueueEntry<A>, QueueNotes> for QueueAccount {
     ghost use Rattle.std.specs.Prelude.{◌≡◌};
     ghost use Rattle.shared_work.specs.queue.Rule.{IsAccounted};
 
-    ghost fact = { λ v items. (v.record_of.told ≡ v.record_of.fed) × IsAccounted v.record_of };
+    ghost fact = { λ v items. (v.record_of.known_fed ≡ v.record_of.fed) × IsAccounted v.record_of };
 }
 
 /// What the feeder knows once a witness is confirmed: each piece of the witness was fed.
 pub struct Confirmation;
 
-impl<A: Allocator> Lesson<Entry<A>, Notes> for Confirmation {
+impl<A: Allocator> Lesson<QueueEntry<A>, QueueNotes> for Confirmation {
     ghost use Rattle.shared_work.specs.queue.Known.{IsConfirmed};
 
     ghost fact = { λ v items. IsConfirmed v };

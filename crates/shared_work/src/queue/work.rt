@@ -3,11 +3,12 @@ ghost use Rattle.std.specs.Prelude.{◌≡◌, ◌+◌, ◌<◌, ◌≤◌, [], 
 ghost use Rattle.crossbeam_queue.specs.Fifo.{Held};
 ghost use Rattle.line_model.specs.work.Book.{IsPlanned};
 ghost use Rattle.shared_work.specs.queue.Known.{IsFed};
-ghost use Rattle.shared_work.specs.queue.Rule.{feeder, worker, after_split, after_join, AreInQueue, ArePlanned, IsAccounted, IsTold};
+ghost use Rattle.shared_work.specs.queue.Rule.{feeder, worker, after_split, after_join, AreInQueue, ArePlanned, IsAccounted, KnowsAll};
 
-use crate::queue::entry::{Bundle, Entry};
+use crate::queue::entry::{Bundle, QueueEntry};
 use crate::queue::rule::{
-    Account, Confirmation, FeedsBundle, FeedsEnd, Notes, PlanOrder, Takes, Witnessing, Worker,
+    Confirmation, FeedsBundle, FeedsEnd, PlanOrder, QueueAccount, QueueNotes, Takes, Witnessing,
+    Worker,
 };
 use crate::queue::witness::Witness;
 use crossbeam_queue::{ArrayQueue, Pass, RuledArrayQueue};
@@ -17,13 +18,14 @@ use std::alloc::{Allocator, Global};
 use std::marker::Model;
 use std::sync::Wait;
 
-/// No more bundles are freed in one call.
+/// The most bundles that one call frees.
 const MOST_FREED: usize = 4096;
 
-/// A queue of bundles of pieces, and the way back of those that were run. Contracts see which queue it is and how much it holds.
+/// A queue of bundles of pieces, and one of those that were run, on their way back. Contracts see which queue it is and
+/// its capacity.
 #[derive(Drop)]
 pub struct Work<P: Plan, A: Allocator = Global> {
-    queue: RuledArrayQueue<Entry<A>, Notes, PlanOrder<P>, A>,
+    queue: RuledArrayQueue<QueueEntry<A>, QueueNotes, PlanOrder<P>, A>,
     used: ArrayQueue<Bundle<A>, A>,
 }
 
@@ -39,7 +41,7 @@ impl<P: Plan, A: Allocator> Model for Work<P, A> {
 /// The pass of the thread that feeds. It has no bytes.
 #[derive(Drop)]
 pub struct FeederPass<A: Allocator = Global> {
-    pass: Pass<Entry<A>, Notes>,
+    pass: Pass<QueueEntry<A>, QueueNotes>,
 }
 
 impl<A: Allocator> Model for FeederPass<A> {
@@ -57,7 +59,7 @@ impl<A: Allocator> Model for FeederPass<A> {
 /// The pass of a worker. It has no bytes.
 #[derive(Drop)]
 pub struct WorkerPass<A: Allocator = Global> {
-    pass: Pass<Entry<A>, Notes>,
+    pass: Pass<QueueEntry<A>, QueueNotes>,
 }
 
 impl<A: Allocator> Model for WorkerPass<A> {
@@ -78,7 +80,7 @@ impl<A: Allocator> Model for WorkerPass<A> {
 pub enum Taken<A: Allocator = Global> {
     /// A bundle, whose pieces are the plan's of their ids.
     Got(Bundle<A>),
-    /// An end: the pass takes no more.
+    /// An end: the pass removes no more.
     Finish,
     /// Nothing was taken; the pass is as it was.
     Empty,
@@ -87,7 +89,7 @@ pub enum Taken<A: Allocator = Global> {
 impl<P: Plan, A: Allocator> Work<P, A> {
     ghost use Rattle.shared_work.specs.queue.Takes.{AddsTaken, IsTaken, WasDrained};
 
-    /// An empty queue that holds so many entries, and the feeder's pass; or want of memory.
+    /// Returns an empty queue of `capacity` entries, and the feeder's pass. Fails only when memory is refused.
     pub fn new(alloc: A, capacity: usize) -> Result<(Work<P, A>, FeederPass<A>), Fault>
     where
         A: Clone,
@@ -105,14 +107,13 @@ impl<P: Plan, A: Allocator> Work<P, A> {
         }
     }
 
-    /// Hands a bundle that was run back to the thread that fed it. Where as many wait already as the queue holds, it is
-    /// freed at once.
+    /// Hands a bundle that was run back to the thread that fed it, or frees it where the way back is full.
     pub fn give_back<R: Wait>(&self, rt: &R, bundle: Bundle<A>) {
         drop(self.used.push(rt, bundle));
     }
 
-    /// Frees the bundles that were handed back, and says how many. The thread that made their pieces does this: where one
-    /// thread takes memory and others free it, all of them wait for the lock of the allocator.
+    /// Frees the bundles that were handed back, and returns how many. The thread that made their pieces does this:
+    /// where one thread allocates memory and others free it, all of them wait for the lock of the allocator.
     pub fn free_used<R: Wait>(&self, rt: &R) -> usize
         ensures { result ≤ 4096 }
     {
@@ -125,7 +126,7 @@ impl<P: Plan, A: Allocator> Work<P, A> {
         MOST_FREED
     }
 
-    /// A worker's pass, which has taken nothing.
+    /// Returns a worker's pass, which has taken nothing.
     pub fn split(&self, pass: &mut FeederPass<A>) -> WorkerPass<A>
         requires { pass.old.queue ≡ self.now.queue }
         ensures queue { (pass.new.queue ≡ pass.old.queue) × (result.queue ≡ pass.old.queue) }
@@ -137,8 +138,8 @@ impl<P: Plan, A: Allocator> Work<P, A> {
         WorkerPass { pass }
     }
 
-    /// Feeds the plan's next piece. It comes back only if the queue was full at one moment of the call, and the pass is
-    /// then as it was.
+    /// Feeds the plan's next piece. Returns it only if the queue was full at one moment of the call; the pass is then
+    /// as it was.
     pub fn feed<R: Wait>(
         &self,
         rt: &R,
@@ -168,8 +169,8 @@ impl<P: Plan, A: Allocator> Work<P, A> {
         }
     }
 
-    /// Feeds the plan's next pieces as a bundle, which a worker takes whole. It comes back only if the queue was full at
-    /// one moment of the call, and the pass is then as it was.
+    /// Feeds the plan's next pieces as a bundle, which one worker removes. Returns it only if the queue was full at one
+    /// moment of the call; the pass is then as it was.
     pub fn feed_bundle<R: Wait>(
         &self,
         rt: &R,
@@ -192,7 +193,7 @@ impl<P: Plan, A: Allocator> Work<P, A> {
         ensures full { OnErr result (Held self.now.capacity
             (AreInQueue P.pieces pass.old.record_of)) }
     {
-        let entry = Entry {
+        let entry = QueueEntry {
             bundle: Some(bundle),
         };
         match self
@@ -201,15 +202,16 @@ impl<P: Plan, A: Allocator> Work<P, A> {
         {
             Ok(()) => Ok(()),
             Err(
-                Entry {
+                QueueEntry {
                     bundle: Some(bundle),
                 },
             ) => Err(bundle),
-            Err(Entry { bundle: None }) => unreachable!(),
+            Err(QueueEntry { bundle: None }) => unreachable!(),
         }
     }
 
-    /// Feeds an end, of which each worker needs one. Refused only if the queue was full at one moment of the call.
+    /// Feeds an end, of which each worker needs one. Fails only if the queue was full at one moment of the call; the
+    /// pass is then as it was.
     pub fn feed_end<R: Wait>(&self, rt: &R, pass: &mut FeederPass<A>) -> Result<(), ()>
         requires queue { pass.old.queue ≡ self.now.queue }
         ensures queue { pass.new.queue ≡ pass.old.queue }
@@ -223,16 +225,17 @@ impl<P: Plan, A: Allocator> Work<P, A> {
     {
         match self
             .queue
-            .push_as::<FeedsEnd<P>, R>(rt, &mut pass.pass, Entry { bundle: None })
+            .push_as::<FeedsEnd<P>, R>(rt, &mut pass.pass, QueueEntry { bundle: None })
         {
             Ok(()) => Ok(()),
             Err(_) => Err(()),
         }
     }
 
-    /// Takes a bundle, whose pieces are the plan's of their ids and go into the record of the pass, or an end, after which
-    /// the pass takes no more. Returns `Finish` only if at one moment of the call each piece that had been fed was taken,
-    /// and ends alone stood in the queue; the record then has how many were fed. `Empty` leaves the record as it was.
+    /// Removes a bundle, whose pieces are the plan's of their ids and go into the record of the pass, or an end, after
+    /// which the pass removes no more. Returns `Finish` only if at one moment of the call each piece that had been fed
+    /// was taken, and only ends were in the queue; the record then has how many were fed. `Empty` leaves the record as
+    /// it was.
     pub fn take<R: Wait>(&self, rt: &R, pass: &mut WorkerPass<A>) -> Taken<A>
         requires queue { pass.old.queue ≡ self.now.queue }
         requires unfinished { pass.old.record_of.finished ≡ false }
@@ -243,31 +246,31 @@ impl<P: Plan, A: Allocator> Work<P, A> {
     {
         match self.queue.pop_as::<Takes<P>, R>(rt, &mut pass.pass) {
             Some(
-                Entry {
+                QueueEntry {
                     bundle: Some(bundle),
                 },
             ) => Taken::Got(bundle),
-            Some(Entry { bundle: None }) => Taken::Finish,
+            Some(QueueEntry { bundle: None }) => Taken::Finish,
             None => Taken::Empty,
         }
     }
 
-    /// Takes in what a worker took. A worker that had its end knows how many pieces the feeder has fed. Where no pass is
-    /// out any more, and one had its end, each piece that was fed was taken, once.
+    /// Adds what a worker took to the record. A worker that had its end knows how many pieces the feeder has fed. Where
+    /// each pass is back, and one had its end, each piece that was fed was taken, once.
     pub fn join(&self, pass: &mut FeederPass<A>, other: WorkerPass<A>)
         requires { (pass.old.queue ≡ self.now.queue) × (other.queue ≡ self.now.queue) }
         ensures queue { pass.new.queue ≡ pass.old.queue }
         ensures joined { pass.new.record_of ≡ after_join pass.old.record_of other.record_of }
-        ensures told { IsTold pass.old.record_of other.record_of }
+        ensures known_fed { KnowsAll pass.old.record_of other.record_of }
         ensures all { IsAccounted pass.new.record_of }
         ensures pieces { pass.new.pieces ≡ pass.old.pieces }
     {
         let WorkerPass { pass: other } = other;
         self.queue.absorb::<Worker>(&mut pass.pass, other);
-        self.queue.learn_as::<Account>(&mut pass.pass);
+        self.queue.learn_as::<QueueAccount>(&mut pass.pass);
     }
 
-    /// A witness that knows of no piece.
+    /// Returns a witness that knows of no piece.
     pub fn witness(&self, pass: &mut FeederPass<A>) -> Witness<A>
         requires { pass.old.queue ≡ self.now.queue }
         ensures same { pass.new ≡ pass.old }
@@ -277,7 +280,7 @@ impl<P: Plan, A: Allocator> Work<P, A> {
         Witness { pass }
     }
 
-    /// A witness of the pieces that a worker took.
+    /// Returns a witness of the pieces that a worker took.
     pub fn witness_of(&self, pass: &mut WorkerPass<A>) -> Witness<A>
         requires { pass.old.queue ≡ self.now.queue }
         ensures same { pass.new ≡ pass.old }
@@ -288,7 +291,7 @@ impl<P: Plan, A: Allocator> Work<P, A> {
         }
     }
 
-    /// One witness takes in what another knows.
+    /// Adds what another witness knows.
     pub fn learn(&self, witness: &mut Witness<A>, other: Witness<A>)
         requires { (witness.old.queue ≡ self.now.queue) × (other.queue ≡ self.now.queue) }
         ensures queue { witness.new.queue ≡ witness.old.queue }
@@ -298,8 +301,8 @@ impl<P: Plan, A: Allocator> Work<P, A> {
         self.queue.absorb::<Witnessing>(&mut witness.pass, other);
     }
 
-    /// Each piece that a witness knows of was fed, and stands at its id among those that were. They are as many as the
-    /// record of the feeder says.
+    /// Ensures that each piece that a witness knows of was fed, and is at its id among those that were fed. The record
+    /// of the feeder has their number.
     pub fn confirm(&self, pass: FeederPass<A>, witness: Witness<A>)
         requires { (pass.queue ≡ self.now.queue) × (witness.queue ≡ self.now.queue) }
         ensures fed { All (IsFed pass.pieces) witness.pieces }

@@ -1,6 +1,6 @@
 //! Pieces of epochs that begin or end in a gap.
 
-use crate::channels::{INTERFACE, Line, items, piece_of};
+use crate::channels::{Line, items, piece_of};
 use channel_machine::channel::PackedChannel;
 use channel_run::run::run_piece;
 use line_model::event::How;
@@ -13,6 +13,7 @@ use line_model::state::Side;
 use std::alloc::{Allocator, Global};
 use std::process::Abort;
 use std::test::Fail;
+use tests_devices::interfaces::PLAIN;
 
 /// A call that comes up, and data whose P(S) is not the next one.
 const ROWS: [Line; 3] = [
@@ -23,7 +24,7 @@ const ROWS: [Line; 3] = [
 
 /// The report of the rows in an epoch that begins so, and ends with row 20.
 fn report_of(alloc: Global, start: EpochStart, missed: bool) -> Result<PieceReport, Fail> {
-    let mut piece = piece_of(alloc, &INTERFACE, 1, &ROWS, None)?;
+    let mut piece = piece_of(alloc, &PLAIN, 1, &ROWS, None)?;
     piece.start = start;
     piece.end = Some(PieceEnd { row: 20, missed });
     Ok(run_piece::<Global, PackedChannel>(alloc, &piece)?)
@@ -80,7 +81,8 @@ fn seen_of(report: &PieceReport) -> (usize, u64, Option<u32>, Option<How>) {
     (report.findings.len(), report.octets, ended, how)
 }
 
-/// An epoch that begins adrift accuses nobody, and a restart that was missed ends a call in a gap where all channels had one.
+/// An epoch that begins adrift accuses no side, and a restart that was missed ends a call in a gap where all channels
+/// had one.
 pub fn check_epochs(rt: &impl Abort, alloc: Global) -> Result<(), Fail> {
     let adrift = seen_of(&report_of(alloc, EpochStart::Drifting(false), false)?);
     assert!(rt; adrift == (0, 1, Some(20), Some(How::Restart)));

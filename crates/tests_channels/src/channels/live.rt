@@ -1,10 +1,10 @@
-//! Channels that take their rows as they come.
+//! Channels that read their rows as they come.
 
 ghost use Rattle.line_model.specs.basics.Records as records;
-ghost use Rattle.channel_run.specs.Live.{StandsFor};
+ghost use Rattle.channel_run.specs.Live.{Represents};
 
 use crate::calls::{ASKED, first_settings};
-use crate::channels::{CUT_PAIRS, Found, INTERFACE, findings_are, piece_of};
+use crate::channels::{CUT_PAIRS, Found, findings_are, piece_of};
 use channel_machine::channel::PlainChannel;
 use channel_run::live::LiveChannel;
 use channel_run::run::Channel;
@@ -16,18 +16,20 @@ use line_model::piece::{Piece, PieceReport};
 use line_model::state::{Side, StateName};
 use std::alloc::{Allocator, Global};
 use std::test::Fail;
+use tests_devices::interfaces::PLAIN;
 
-/// What is told after a row: the packet of the finding on it, and how many findings, calls and octets there are so far.
-type Told = (Option<u32>, usize, usize, u64);
+/// What is reported after a row: the packet of the finding on it, and how many findings, calls and octets there are so
+/// far.
+type TakenRow = (Option<u32>, usize, usize, u64);
 
-/// What is told after a row, on which this was found.
-fn told_of<A: Allocator + Copy, C: Channel<A>>(
+/// What is reported after a row, on which this was found.
+fn taken_row<A: Allocator + Copy, C: Channel<A>>(
     live: &LiveChannel<A, C>,
     alloc: A,
     id: u32,
     finding: Option<Finding>,
-) -> Result<Told, Fault>
-    requires stands { (p : records.Piece) × StandsFor C.interface_of C.number_of C.stands_for live.now p }
+) -> Result<TakenRow, Fault>
+    requires stands { (p : records.Piece) × Represents C.interface_of C.number_of C.represents live.now p }
 {
     let report = live.report(alloc, id)?;
     let packet = finding.map(|finding| finding.packet);
@@ -39,12 +41,12 @@ fn told_of<A: Allocator + Copy, C: Channel<A>>(
     ))
 }
 
-/// What is told of a piece at its end; and after each of its rows. A list of events is lent.
+/// What is reported of a piece at its end; and after each of its rows. A list of events is lent.
 fn followed<A: Allocator + Copy, C: Channel<A>>(
     alloc: A,
     piece: &Piece<A>,
     events: &mut Vec<Event, A>,
-    told: &mut Vec<Told, A>,
+    seen: &mut Vec<TakenRow, A>,
 ) -> Result<PieceReport<A>, Fault> {
     let mut live = LiveChannel::<A, C>::fresh(
         alloc,
@@ -55,13 +57,13 @@ fn followed<A: Allocator + Copy, C: Channel<A>>(
     )?;
     for item in piece.rows() {
         let taken = live.take(&item, events)?;
-        told.push(told_of(&live, alloc, piece.id, taken.finding)?)?;
+        seen.push(taken_row(&live, alloc, piece.id, taken.finding)?)?;
     }
     live.end(piece.id, piece.end)
 }
 
-/// What is told after each row of the call.
-const BY_ROW: [Told; 7] = [
+/// What is reported after each row of the call.
+const BY_ROW: [TakenRow; 7] = [
     (None, 0, 1, 0),
     (None, 0, 1, 0),
     (Some(3), 1, 1, 2),
@@ -71,18 +73,18 @@ const BY_ROW: [Told; 7] = [
     (None, 2, 1, 13),
 ];
 
-/// What is told of a piece at its end; and after each of its rows.
-fn follow(alloc: Global, piece: &Piece, told: &mut Vec<Told>) -> Result<PieceReport, Fault> {
+/// What is reported of a piece at its end; and after each of its rows.
+fn follow(alloc: Global, piece: &Piece, seen: &mut Vec<TakenRow>) -> Result<PieceReport, Fault> {
     let mut events = Vec::new(alloc);
-    followed::<Global, PlainChannel>(alloc, piece, &mut events, told)
+    followed::<Global, PlainChannel>(alloc, piece, &mut events, seen)
 }
 
 /// Follows the call to the restart that ends it.
-fn follow_call(alloc: Global, told: &mut Vec<Told>) -> Result<PieceReport, Fail> {
-    let mut piece = piece_of(alloc, &INTERFACE, 1, &CUT_PAIRS, Some(8))?;
+fn follow_call(alloc: Global, seen: &mut Vec<TakenRow>) -> Result<PieceReport, Fail> {
+    let mut piece = piece_of(alloc, &PLAIN, 1, &CUT_PAIRS, Some(8))?;
     piece.id = 5;
     piece.epoch = 2;
-    Ok(follow(alloc, &piece, told)?)
+    Ok(follow(alloc, &piece, seen)?)
 }
 
 /// The findings of two rows.
@@ -109,10 +111,10 @@ fn ends(calls: &[CallRecord]) -> Option<(Option<u32>, Option<u32>, Option<How>)>
 
 /// A PAD call, its messages and their faults, and a restart.
 #[test]
-fn each_row_is_told_at_once(rt: HostRuntime) -> Result<(), Fail> {
-    let mut told = Vec::new(rt.alloc());
-    let report = follow_call(rt.alloc(), &mut told)?;
-    assert!(rt; told.as_slice() == BY_ROW.as_slice());
+fn each_row_is_reported_at_once(rt: HostRuntime) -> Result<(), Fail> {
+    let mut seen = Vec::new(rt.alloc());
+    let report = follow_call(rt.alloc(), &mut seen)?;
+    assert!(rt; seen.as_slice() == BY_ROW.as_slice());
     assert!(rt; is_right(&report));
     Ok(())
 }

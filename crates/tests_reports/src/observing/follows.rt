@@ -14,7 +14,7 @@ use std::alloc::{Allocator, Global};
 use std::process::Abort;
 use tests_devices::{CutSink, Cuts};
 
-/// Takes what a sink takes, and counts how often it was asked.
+/// Accepts what a sink accepts, and counts how often it was asked.
 #[derive(Drop)]
 struct Counted {
     sink: CutSink,
@@ -55,7 +55,7 @@ struct End {
     seen: Seen,
 }
 
-/// Sees what a sink took, or how often it was asked.
+/// Checks what a sink accepted, or how often it was asked.
 fn look(rt: &impl Abort, sink: &Counted, seen: Seen) {
     match seen {
         Seen::Taken(bytes) => same_bytes(rt, sink.sink.taken.as_slice(), bytes),
@@ -63,15 +63,15 @@ fn look(rt: &impl Abort, sink: &Counted, seen: Seen) {
     }
 }
 
-/// Feeds a chunk, and sees why it is refused, if it is.
+/// Feeds a chunk, and checks why it is refused, if it is.
 fn check_fed<A: Allocator + Copy, C: Channel<A>, K: Sink>(
     rt: &impl Abort,
     trace: &mut Follower<A, C>,
     sink: &mut K,
     step: &Step,
 )
-    requires fed { IsFed C.interface_of C.number_of C.stands_for trace.old }
-    ensures fed { IsFed C.interface_of C.number_of C.stands_for trace.new }
+    requires fed { IsFed C.interface_of C.number_of C.represents trace.old }
+    ensures fed { IsFed C.interface_of C.number_of C.represents trace.new }
 {
     let answer = trace.feed(step.chunk, sink).err();
     same_fault(rt, answer, step.fault);
@@ -84,8 +84,8 @@ fn play_steps<A: Allocator + Copy, C: Channel<A>>(
     sink: &mut Counted,
     steps: &[Step],
 )
-    requires fed { IsFed C.interface_of C.number_of C.stands_for trace.old }
-    ensures fed { IsFed C.interface_of C.number_of C.stands_for trace.new }
+    requires fed { IsFed C.interface_of C.number_of C.represents trace.old }
+    ensures fed { IsFed C.interface_of C.number_of C.represents trace.new }
 {
     for step in steps {
         check_fed(rt, trace, sink, step);
@@ -93,7 +93,7 @@ fn play_steps<A: Allocator + Copy, C: Channel<A>>(
     }
 }
 
-/// Sees why a trace that has ended is refused, or how many findings it has.
+/// Checks why a trace that has ended is refused, or how many findings it has.
 fn check_ended(rt: &impl Abort, answer: Result<Summary, Fault>, end: &End) {
     same_fault(rt, answer.err(), end.fault);
     if let Ok(summary) = answer {
@@ -113,7 +113,7 @@ fn play_into(
     trace.end(sink, &mut Uncounted::none())
 }
 
-/// Plays steps with a follower of which nothing was fed, whose sink takes so many writes, and ends it.
+/// Plays steps with a follower of which nothing was fed, whose sink accepts `good_writes` writes, and ends it.
 fn play(rt: &impl Abort, alloc: Global, good_writes: usize, steps: &[Step], end: &End) {
     let cuts = Cuts {
         good_writes,

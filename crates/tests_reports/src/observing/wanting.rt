@@ -1,8 +1,8 @@
-//! Traces that grow for want of memory.
+//! Traces that grow while memory is refused.
 
 ghost use Rattle.live_report.specs.Lives.{IsFed};
 
-use crate::observing::{Wanted, agree, check, check_fed, same_fault, told};
+use crate::observing::{Wanted, agree, check, check_fed, got, same_fault};
 use channel_machine::channel::PlainChannel;
 use channel_run::run::Channel;
 use line_model::fault::Fault;
@@ -37,7 +37,7 @@ const REPORT: &[u8] = b"F 7 T p1 20\n\
     P 1 2\n\
     Z 11 2 2 7 3\n";
 
-/// What a trace tells, of which a growth was refused or none was.
+/// What a trace reports, of which a growth was refused or none was.
 fn wanted(refused: bool) -> Wanted {
     if refused {
         Err(Fault::Memory)
@@ -51,8 +51,8 @@ fn feed_all<A: Allocator + Copy, C: Channel<A>>(
     trace: &mut Live<A, C>,
     chunks: &[&[u8]],
 ) -> Result<(), Fault>
-    requires fed { IsFed C.interface_of C.number_of C.stands_for trace.old }
-    ensures fed { IsFed C.interface_of C.number_of C.stands_for trace.new }
+    requires fed { IsFed C.interface_of C.number_of C.represents trace.old }
+    ensures fed { IsFed C.interface_of C.number_of C.represents trace.new }
 {
     for chunk in chunks {
         if let Err(fault) = trace.feed(chunk) {
@@ -65,8 +65,8 @@ fn feed_all<A: Allocator + Copy, C: Channel<A>>(
 /// The most growths that these tests look for.
 const GROWTHS: u64 = 10_000;
 
-/// Refuses one growth of a report, and sees that nothing is written, that no block is kept and that the next report is
-/// right. Answers whether there was such a growth.
+/// Refuses one growth of a report, and checks that nothing is written, that no block is kept and that the next report
+/// is right. Returns whether there was such a growth.
 fn check_growth<A: Allocator + Copy, C: Channel<A>>(
     rt: &impl Abort,
     alloc: Global,
@@ -74,11 +74,11 @@ fn check_growth<A: Allocator + Copy, C: Channel<A>>(
     trace: &Live<A, C>,
     good: u64,
 ) -> bool
-    requires fed { IsFed C.interface_of C.number_of C.stands_for trace.now }
+    requires fed { IsFed C.interface_of C.number_of C.represents trace.now }
 {
     let held = heap.held();
     heap.refuse_one(good);
-    let answer = told(alloc, trace);
+    let answer = got(alloc, trace);
     let refused = good < heap.asked();
     heap.grant_all();
     assert!(rt; heap.held() == held);
@@ -94,7 +94,7 @@ fn growths_of_a_report<A: Allocator + Copy, C: Channel<A>>(
     heap: &Scarce<Global>,
     trace: &Live<A, C>,
 ) -> u64
-    requires fed { IsFed C.interface_of C.number_of C.stands_for trace.now }
+    requires fed { IsFed C.interface_of C.number_of C.represents trace.now }
 {
     for good in 0..GROWTHS {
         if !check_growth(rt, alloc, heap, trace, good) {
@@ -104,15 +104,15 @@ fn growths_of_a_report<A: Allocator + Copy, C: Channel<A>>(
     GROWTHS
 }
 
-/// Sees what a trace tells once it was fed, and that one that wanted memory wants it from then on.
-fn check_told<A: Allocator + Copy, C: Channel<A>>(
+/// Checks what a trace reports once it was fed, and that one that was out of memory is so from then on.
+fn check_got<A: Allocator + Copy, C: Channel<A>>(
     rt: &impl Abort,
     alloc: Global,
     trace: &mut Live<A, C>,
     fault: Option<Fault>,
     refused: bool,
 )
-    requires fed { IsFed C.interface_of C.number_of C.stands_for trace.old }
+    requires fed { IsFed C.interface_of C.number_of C.represents trace.old }
 {
     let wanted = wanted(refused);
     same_fault(rt, fault, wanted.err());
@@ -122,7 +122,7 @@ fn check_told<A: Allocator + Copy, C: Channel<A>>(
     check(rt, alloc, trace, wanted);
 }
 
-/// Refuses the growths of a trace that is fed, from one on. Answers whether there was such a growth.
+/// Refuses the growths of a trace that is fed, from one on. Returns whether there was such a growth.
 fn check_feeding<A: Allocator + Copy, C: Channel<A>>(
     rt: &impl Abort,
     alloc: Global,
@@ -130,13 +130,13 @@ fn check_feeding<A: Allocator + Copy, C: Channel<A>>(
     trace: &mut Live<A, C>,
     good: u64,
 ) -> bool
-    requires fed { IsFed C.interface_of C.number_of C.stands_for trace.old }
+    requires fed { IsFed C.interface_of C.number_of C.represents trace.old }
 {
     heap.refuse_from(good);
     let fault = feed_all(trace, CHUNKS.as_slice()).err();
     let refused = good < heap.asked();
     heap.grant_all();
-    check_told(rt, alloc, trace, fault, refused);
+    check_got(rt, alloc, trace, fault, refused);
     refused
 }
 
@@ -149,7 +149,7 @@ enum Growths {
     OfTraces,
 }
 
-/// Refuses growths of a trace. Answers how many there are, once one was asked for that there is not.
+/// Refuses growths of a trace. Returns how many there are, once one was asked for that there is not.
 fn check_trace<A: Allocator + Copy, C: Channel<A>>(
     rt: &impl Abort,
     alloc: Global,
@@ -158,7 +158,7 @@ fn check_trace<A: Allocator + Copy, C: Channel<A>>(
     growths: Growths,
     good: u64,
 ) -> Option<u64>
-    requires fed { IsFed C.interface_of C.number_of C.stands_for trace.old }
+    requires fed { IsFed C.interface_of C.number_of C.represents trace.old }
 {
     match growths {
         Growths::OfReports => {
@@ -209,11 +209,11 @@ fn check_growths(rt: &impl Abort, alloc: Global, growths: Growths) {
 }
 
 #[test]
-fn a_report_that_wants_memory_leaves_the_trace_as_it_was(rt: HostRuntime) {
+fn a_report_out_of_memory_leaves_the_trace_as_it_was(rt: HostRuntime) {
     check_growths(&rt, rt.alloc(), Growths::OfReports)
 }
 
 #[test]
-fn a_trace_that_wanted_memory_wants_it_from_then_on(rt: HostRuntime) {
+fn a_trace_out_of_memory_stays_so(rt: HostRuntime) {
     check_growths(&rt, rt.alloc(), Growths::OfTraces)
 }

@@ -156,7 +156,7 @@ fn all_channels(alloc: Global) -> Result<Vec<PieceReport>, AllocError> {
     Ok(reports)
 }
 
-/// Sees that gaps are counted apart from packets.
+/// Checks that gaps are counted apart from packets.
 pub fn check_counts(rt: &impl Abort, alloc: Global) -> Result<(), Fault> {
     let rows = RowCounts {
         packets: 12,

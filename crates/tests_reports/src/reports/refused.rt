@@ -11,10 +11,7 @@ use report_merge::row_counts::RowCounts;
 use std::alloc::{AllocError, Global};
 use std::process::Abort;
 use std::test::Fail;
-use tests_devices::scarce::Scarce;
-
-/// The most growths that this test looks for.
-const GROWTHS: u64 = 1000;
+use tests_devices::scarce::{Scarce, refuse_each};
 
 /// A finding of the DTE.
 fn finding(packet: u32) -> Finding {
@@ -66,7 +63,7 @@ fn two(
     Ok(reports)
 }
 
-/// What two pieces merge to is right: want of memory where a growth was refused, else both findings and calls.
+/// What two pieces merge to is right: out of memory where a growth was refused, else both findings and calls.
 fn is_right(merged: Result<Report<&Scarce<Global>>, Fault>, refused: bool) -> bool {
     match merged {
         Ok(report) => !refused && report.findings.len() == 2 && report.calls.len() == 2,
@@ -74,12 +71,13 @@ fn is_right(merged: Result<Report<&Scarce<Global>>, Fault>, refused: bool) -> bo
     }
 }
 
-/// It holds where the growth after so many is refused.
+/// It holds where the growth after `good` is refused.
 fn holds_at(rt: &impl Abort, holds: bool, good: u64) {
     assert!(rt; holds, "at {good}");
 }
 
-/// Refuses one growth of a merge, and sees that it answers want of memory. Answers whether there was such a growth.
+/// Refuses one growth of a merge, and sees that it is out of memory. Returns whether there was such a
+/// growth.
 fn check_growth(rt: &impl Abort, heap: &Scarce<Global>, good: u64) -> Result<bool, AllocError> {
     let reports = two(heap)?;
     heap.refuse_one(good);
@@ -91,25 +89,14 @@ fn check_growth(rt: &impl Abort, heap: &Scarce<Global>, good: u64) -> Result<boo
     let refused = good < heap.asked();
     heap.grant_all();
     holds_at(rt, is_right(merged, refused), good);
+    holds_at(rt, heap.held() == 0, good);
     Ok(refused)
-}
-
-/// How many growths a merge has, each of which is refused in turn. It keeps no block.
-fn growths(rt: &impl Abort, heap: &Scarce<Global>) -> Result<u64, AllocError> {
-    for good in 0..GROWTHS {
-        let refused = check_growth(rt, heap, good)?;
-        holds_at(rt, heap.held() == 0, good);
-        if !refused {
-            return Ok(good);
-        }
-    }
-    Ok(GROWTHS)
 }
 
 #[test]
 fn each_growth_of_a_merge_may_be_refused(rt: HostRuntime) -> Result<(), Fail> {
     let heap = Scarce::new(rt.alloc());
-    let growths = growths(&rt, &heap)?;
-    assert!(&rt; 0 < growths && growths < GROWTHS);
+    let all_refused = refuse_each(|good| check_growth(&rt, &heap, good))?;
+    assert!(rt; all_refused);
     Ok(())
 }

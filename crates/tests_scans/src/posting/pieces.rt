@@ -3,7 +3,6 @@
 ghost use Rattle.std.specs.Prelude.{◌≡◌};
 
 use line_model::fault::Fault;
-use line_model::interface::Interface;
 use line_model::piece::Piece;
 use line_model::row::Row;
 use line_model::state::Side;
@@ -14,22 +13,11 @@ use std::alloc::Global;
 use std::marker::Brand;
 use std::sync::Wait;
 use std::time::Clock;
+use tests_devices::interfaces::PLAIN;
 use workers::{Feed, feed_piece};
 
 /// How many pieces there are: two in each epoch.
 pub(super) const PIECES: u32 = 100;
-
-const PLAIN: Interface = Interface {
-    modulus: 8,
-    window: 2,
-    size: 128,
-    pvc: 0,
-    incoming: 0,
-    two_way: 4,
-    svc: 4,
-    join: false,
-    gaps: false,
-};
 
 /// The rows of an epoch: a call on channel 1 with two data packets, and a third that is outside the window; a call on
 /// channel 2 with a data packet; a restart.

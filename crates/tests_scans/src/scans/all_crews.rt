@@ -11,7 +11,7 @@ use std::thread::Threads;
 use std::time::Clock;
 use tests_devices::Cuts;
 use trace_scan::gate::OpenGate;
-use trace_scan::threaded::Scan;
+use trace_scan::threaded::ScanOutcome;
 
 /// How many workers, over a queue of how many pieces.
 const CREWS: [(usize, usize); 6] = [(1, 1), (1, 64), (2, 1), (2, 64), (64, 1), (64, 64)];
@@ -19,8 +19,8 @@ const CREWS: [(usize, usize); 6] = [(1, 1), (1, 64), (2, 1), (2, 64), (64, 1), (
 /// How many bytes a source gives at once: each read that ends a line is a block.
 const BLOCK_STEPS: &[usize] = &[1, 7, 64, 1 << 18];
 
-/// Scans in blocks, and how many bytes their sources give at once. Scans by 64 workers take most of the time, so there are
-/// few.
+/// Scans in blocks, and how many bytes their sources give at once. Scans by 64 workers use most of the time, so there
+/// are few.
 const IN_BLOCKS: [(Way, &[usize]); 8] = [
     (Way::InBlocks(1, 1), BLOCK_STEPS),
     (Way::InBlocks(1, 64), BLOCK_STEPS),
@@ -50,7 +50,7 @@ fn channel_findings(report: &[u8]) -> u64 {
 }
 
 /// The totals of a scan by workers, which are those of its report.
-fn totals_of(rt: &impl Abort, scan: &Scan, worked: &Worked) -> Totals {
+fn totals_of(rt: &impl Abort, scan: &ScanOutcome, worked: &Worked) -> Totals {
     let totals = scan.totals;
     same_number(rt, totals.octets, scan.summary.octets, worked.name);
     same_number(rt, totals.segments, scan.summary.segments, worked.name);
@@ -63,8 +63,8 @@ fn totals_of(rt: &impl Abort, scan: &Scan, worked: &Worked) -> Totals {
     totals
 }
 
-/// The totals of a scan by workers, if the trace is not refused. Sees what was answered and written.
-fn totals_told(rt: &impl Abort, scanned: Scanned, worked: &Worked, cuts: Cuts) -> Option<Totals> {
+/// The totals of a scan by workers, if the trace is not refused. Checks what was answered and written.
+fn agreed_totals(rt: &impl Abort, scanned: Scanned, worked: &Worked, cuts: Cuts) -> Option<Totals> {
     let totals = match &scanned.answer {
         Ok(scan) => Some(totals_of(rt, scan, worked)),
         Err(_) => None,
@@ -75,7 +75,7 @@ fn totals_told(rt: &impl Abort, scanned: Scanned, worked: &Worked, cuts: Cuts) -
     totals
 }
 
-/// Scans a trace from a source that gives so many bytes at once, and sees what is answered and written.
+/// Scans a trace from a source that gives `step` bytes at once, and checks what is returned and written.
 fn check_way<R: Threads + Wait + Clock + Sync + Abort>(
     rt: &R,
     alloc: Global,
@@ -85,7 +85,7 @@ fn check_way<R: Threads + Wait + Clock + Sync + Abort>(
 ) -> Option<Totals> {
     let cuts = Cuts::of_steps(step, step);
     let scanned = scan_through(rt, alloc, alloc, &OpenGate, way, worked.text, cuts);
-    totals_told(rt, scanned, worked, cuts)
+    agreed_totals(rt, scanned, worked, cuts)
 }
 
 /// Scans a trace by a crew in steps of these sizes: it counts the same each time.

@@ -5,7 +5,7 @@ use crate::scans::following::check_followed;
 use crate::scans::growing::check_growing;
 use crate::scans::runs::{Outcome, Way, scan};
 use crate::scans::worked::long::{LONG_TRACES, LongTrace};
-use crate::scans::worked::{Table, Worked, traces};
+use crate::scans::worked::{TABLES, Worked, traces};
 use line_model::fault::Fault;
 use std::alloc::Global;
 use std::process::Abort;
@@ -27,7 +27,7 @@ pub fn same_bytes(rt: &impl Abort, bytes: &[u8], wanted: &[u8], name: &str, cuts
     );
 }
 
-/// Sees that a number is the one that is wanted.
+/// Sees that a number is the one that is expected.
 pub fn same_number(rt: &impl Abort, number: u64, wanted: u64, name: &str) {
     assert_eq!(rt; number, wanted, "{name}");
 }
@@ -43,7 +43,7 @@ pub fn agree_on_fault(rt: &impl Abort, outcome: &Outcome, worked: &Worked, cuts:
     );
 }
 
-/// Sees that the sink took what the trace tells.
+/// Sees that the sink accepted what the trace reports.
 pub fn agree_on_report(rt: &impl Abort, outcome: &Outcome, worked: &Worked, cuts: Cuts) {
     same_bytes(
         rt,
@@ -67,7 +67,7 @@ pub fn check<R: Threads + Wait + Clock + Sync + Abort>(
     agree_on_report(rt, &outcome, worked, cuts);
 }
 
-/// Scans a trace in steps of any size, from a source that fails once so many bytes were given.
+/// Scans a trace in steps of any size, from a source that fails once `good_bytes` bytes were given.
 pub fn check_bytes<R: Threads + Wait + Clock + Sync + Abort>(
     rt: &R,
     alloc: Global,
@@ -84,7 +84,7 @@ pub fn check_bytes<R: Threads + Wait + Clock + Sync + Abort>(
     }
 }
 
-/// How a table of traces is tested.
+/// How the worked traces are tested.
 #[derive(Clone, Copy)]
 pub enum Test {
     Alone,
@@ -110,18 +110,6 @@ fn check_trace<R: Threads + Wait + Clock + Sync + Abort>(
     }
 }
 
-/// Tests the traces of a table.
-fn check_table<R: Threads + Wait + Clock + Sync + Abort>(
-    rt: &R,
-    alloc: Global,
-    test: Test,
-    table: Table,
-) {
-    for worked in traces(table) {
-        check_trace(rt, alloc, test, worked);
-    }
-}
-
 /// Tests a trace that is too long to be written out.
 fn check_long_trace<R: Threads + Wait + Clock + Sync + Abort>(
     rt: &R,
@@ -133,35 +121,26 @@ fn check_long_trace<R: Threads + Wait + Clock + Sync + Abort>(
     check_trace(rt, alloc, test, &long.worked(text.as_slice()));
 }
 
-/// Tests the traces that are too long to be written out.
-fn check_long_traces<R: Threads + Wait + Clock + Sync + Abort>(rt: &R, alloc: Global, test: Test) {
+/// Tests all worked traces.
+pub fn check_all_traces<R: Threads + Wait + Clock + Sync + Abort>(
+    rt: &R,
+    alloc: Global,
+    test: Test,
+) {
+    for table in TABLES {
+        for worked in traces(table) {
+            check_trace(rt, alloc, test, worked);
+        }
+    }
     for long in &LONG_TRACES {
         check_long_trace(rt, alloc, test, long);
     }
 }
 
-/// Tests all worked traces.
-pub fn check_tables<R: Threads + Wait + Clock + Sync + Abort>(rt: &R, alloc: Global, test: Test) {
-    for table in [
-        Table::Channels,
-        Table::Epochs,
-        Table::Gaps,
-        Table::Messages,
-        Table::Refused,
-    ] {
-        check_table(rt, alloc, test, table);
-    }
-    check_long_traces(rt, alloc, test);
-}
+/// How many bytes a source gives before it fails, why the scan is refused then, and what was written before.
+pub type Stop = (usize, Fault, &'static [u8]);
 
-/// Where a source fails, by what the scan is refused then, and what was written before.
-pub struct Stop {
-    pub good_bytes: usize,
-    pub fault: Fault,
-    pub taken: &'static [u8],
-}
-
-/// Scans a text whose source fails at one of several bytes.
+/// Scans a trace text whose source fails at one of several bytes.
 pub fn check_stops<R: Threads + Wait + Clock + Sync + Abort>(
     rt: &R,
     alloc: Global,
@@ -169,18 +148,18 @@ pub fn check_stops<R: Threads + Wait + Clock + Sync + Abort>(
     text: &[u8],
     stops: &[Stop],
 ) {
-    for stop in stops {
+    for (good_bytes, fault, report) in stops {
         let worked = Worked {
             name: "source that fails",
             text,
-            fault: Some(stop.fault),
-            report: stop.taken,
+            fault: Some(*fault),
+            report: *report,
         };
-        check_bytes(rt, alloc, way, &worked, stop.good_bytes);
+        check_bytes(rt, alloc, way, &worked, *good_bytes);
     }
 }
 
-/// What a trace tells whose sink takes so many bytes and no more.
+/// What a trace reports whose sink accepts `bytes` bytes and no more.
 fn cut_off<'a>(worked: &Worked<'a>, bytes: usize) -> Worked<'a> {
     let (fault, report) = if bytes < worked.report.len() {
         (Some(Fault::Write), &worked.report[..bytes])
@@ -195,7 +174,7 @@ fn cut_off<'a>(worked: &Worked<'a>, bytes: usize) -> Worked<'a> {
     }
 }
 
-/// Has the sink fail at each of its calls in turn, of which each before took a byte, and at none.
+/// Has the sink fail at each of its calls in turn, of which each before accepted a byte, and at none.
 pub fn check_writes<R: Threads + Wait + Clock + Sync + Abort>(
     rt: &R,
     alloc: Global,

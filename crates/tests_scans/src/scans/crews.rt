@@ -2,10 +2,10 @@
 
 use crate::scans::NO_ROWS;
 use crate::scans::checks::{
-    Stop, Test, check, check_stops, check_tables, check_writes, same_bytes, same_number,
+    Stop, Test, check, check_all_traces, check_stops, check_writes, same_bytes, same_number,
 };
-use crate::scans::runs::{NONE, Scanned, Way, scan_through};
-use crate::scans::worked::{Table, Worked, trace};
+use crate::scans::runs::{Scanned, Way, scan_through};
+use crate::scans::worked::{Worked, trace};
 use line_model::fault::{Fault, Kind};
 use line_model::totals::Totals;
 use std::alloc::Global;
@@ -14,12 +14,13 @@ use std::sync::Wait;
 use std::thread::Threads;
 use std::time::Clock;
 use tests_devices::Cuts;
+use tests_devices::totals::NONE;
 use trace_scan::gate::OpenGate;
-use trace_scan::threaded::Scan;
+use trace_scan::threaded::ScanOutcome;
 
 #[test]
 fn worked_traces_are_reported_by_any_number_of_workers(rt: HostRuntime) {
-    check_tables(&rt, rt.alloc(), Test::ByCrews)
+    check_all_traces(&rt, rt.alloc(), Test::ByCrews)
 }
 
 /// What the workers of a scan must have found.
@@ -51,7 +52,7 @@ fn agree_on_shares(rt: &impl Abort, shares: &[Totals], wanted: &[(usize, Totals)
 }
 
 /// Sees what the workers of a scan found.
-fn agree_on_scan(rt: &impl Abort, scan: &Scan, work: &Work) {
+fn agree_on_scan(rt: &impl Abort, scan: &ScanOutcome, work: &Work) {
     assert!(rt; scan.totals == work.totals, "{} workers", work.workers);
     same_number(rt, scan.shares.len() as u64, work.workers as u64, "shares");
     agree_on_shares(rt, scan.shares.as_slice(), work.shares);
@@ -67,7 +68,7 @@ pub fn agree(rt: &impl Abort, scanned: &Scanned, work: &Work, report: &[u8]) {
     }
 }
 
-/// Scans a trace over a queue of so many pieces, and sees what the workers found.
+/// Scans a trace over a queue of `capacity` pieces, and sees what the workers found.
 fn check_work<R: Threads + Wait + Clock + Sync + Abort>(
     rt: &R,
     alloc: Global,
@@ -81,7 +82,7 @@ fn check_work<R: Threads + Wait + Clock + Sync + Abort>(
     agree(rt, &scanned, work, worked.report);
 }
 
-/// The totals of so many pieces that have a finding each.
+/// The totals of `pieces` pieces that have a finding each.
 pub const fn findings(pieces: u64) -> Totals {
     Totals {
         posts: pieces,
@@ -93,7 +94,7 @@ pub const fn findings(pieces: u64) -> Totals {
 
 /// Scans one piece by many workers, of which one has it.
 fn check_one_piece<R: Threads + Wait + Clock + Sync + Abort>(rt: &R, alloc: Global) {
-    let worked = trace(rt, Table::Epochs, "one-piece");
+    let worked = trace(rt, "one-piece");
     let work = Work {
         workers: 64,
         totals: findings(1),
@@ -123,7 +124,7 @@ fn a_trace_without_rows_leaves_all_shares_empty(rt: HostRuntime) {
     check_no_rows(&rt, rt.alloc())
 }
 
-/// Has the source fail after so many calls, each of one byte and each of sixteen.
+/// Has the source fail after each number of calls, each of one byte and each of sixteen.
 fn check_calls<R: Threads + Wait + Clock + Sync + Abort>(rt: &R, alloc: Global, refused: &Worked) {
     for (good_bytes, step) in [
         (0, 1),
@@ -146,7 +147,7 @@ fn check_calls<R: Threads + Wait + Clock + Sync + Abort>(rt: &R, alloc: Global, 
 }
 
 fn check_failing_source<R: Threads + Wait + Clock + Sync + Abort>(rt: &R, alloc: Global) {
-    let worked = trace(rt, Table::Epochs, "three-epochs");
+    let worked = trace(rt, "three-epochs");
     let refused = Worked {
         name: worked.name,
         text: worked.text,
@@ -157,40 +158,20 @@ fn check_failing_source<R: Threads + Wait + Clock + Sync + Abort>(rt: &R, alloc:
 }
 
 #[test]
-fn a_failing_source_is_told_with_workers(rt: HostRuntime) {
+fn a_failing_source_is_reported_with_workers(rt: HostRuntime) {
     check_failing_source(&rt, rt.alloc())
 }
 
-/// A text whose second row has the number of the first.
+/// A trace text whose second row has the number of the first.
 const NUMBER_TWICE: &[u8] = b"X25 1 MOD 8 WIN 2 SIZE 128 PVC 0 SVC 4\n5 T -\n5 T -\n6 T -\n";
 
 /// Where the source of that text fails.
 const STOPS: [Stop; 5] = [
-    Stop {
-        good_bytes: 0,
-        fault: Fault::Read,
-        taken: b"",
-    },
-    Stop {
-        good_bytes: 39,
-        fault: Fault::Read,
-        taken: b"",
-    },
-    Stop {
-        good_bytes: 50,
-        fault: Fault::Read,
-        taken: b"",
-    },
-    Stop {
-        good_bytes: 51,
-        fault: Fault::Trace(3, Kind::Number),
-        taken: b"",
-    },
-    Stop {
-        good_bytes: 52,
-        fault: Fault::Trace(3, Kind::Number),
-        taken: b"",
-    },
+    (0, Fault::Read, b""),
+    (39, Fault::Read, b""),
+    (50, Fault::Read, b""),
+    (51, Fault::Trace(3, Kind::Number), b""),
+    (52, Fault::Trace(3, Kind::Number), b""),
 ];
 
 #[test]
@@ -205,7 +186,7 @@ fn a_failing_source_hides_no_faulty_line_from_workers(rt: HostRuntime) {
 }
 
 fn check_failing_sink<R: Threads + Wait + Clock + Sync + Abort>(rt: &R, alloc: Global) {
-    let worked = trace(rt, Table::Epochs, "three-epochs");
+    let worked = trace(rt, "three-epochs");
     check_writes(rt, alloc, Way::Crew(2, 64), worked, 16);
 }
 

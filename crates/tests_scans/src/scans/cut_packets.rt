@@ -1,7 +1,7 @@
 //! Packets of each type, cut to each of their lengths: by both scans, and by both machines of a logical channel.
 
 use crate::scans::checks::same_bytes;
-use crate::scans::machines::{BothMachines, Tally};
+use crate::scans::machines::{Agreement, BothMachines};
 use crate::scans::runs::{Way, outcome_of, scan, scan_through};
 use std::alloc::{AllocError, Global};
 use std::process::Abort;
@@ -13,7 +13,7 @@ use tests_devices::Cuts;
 /// Channel 0, a permanent circuit, a virtual channel, and one that is not assigned.
 const CHANNELS: [u8; 4] = [0, 1, 2, 9];
 
-/// What stands behind the type: two addresses of a digit, a facility and user data, where the packet is of a call.
+/// What follows the type: two addresses of a digit, a facility and user data, where the packet is of a call.
 const BODY: [u8; 7] = [0x11, 0x12, 0x02, 0x01, 0x00, 0x01, 0xc0];
 
 /// A kind of interface, and the format identifier of its packets.
@@ -60,7 +60,7 @@ fn push_row(
     text.extend_from_slice(b"\n")
 }
 
-/// Adds a packet of a type on a channel, cut to each of its lengths, from a side; answers the number of the next row.
+/// Adds a packet of a type on a channel, cut to each of its lengths, from a side; returns the number of the next row.
 fn push_cuts(
     text: &mut Vec<u8>,
     alloc: Global,
@@ -118,7 +118,7 @@ fn check_types<R: Threads + Wait + Clock + Sync + Abort>(
     let cuts = Cuts::of_steps(65_536, 65_536);
     let alone = scan(rt, alloc, Way::Alone, text.as_slice(), cuts);
     assert!(rt; alone.answer.is_ok(), "refused");
-    let tally = Tally::new();
+    let tally = Agreement::new();
     let gate = BothMachines { tally: &tally };
     let crew = scan_through(
         rt,

@@ -1,4 +1,4 @@
-//! Scans whose source or sink fails, in one thread and by two workers, which answer and write the same, also in blocks.
+//! Scans whose source or sink fails, in one thread and by two workers, which return and write the same, also in blocks.
 
 use crate::scans::checks::{check, check_writes};
 use crate::scans::runs::Way;
@@ -28,8 +28,8 @@ fn lines_in(bytes: &[u8]) -> usize {
     lines
 }
 
-/// The fault of a text, if the line that has it has ended in the bytes that were given, else that of a source that
-/// fails.
+/// The fault of a trace text, if the line that has it has ended in the bytes that were given, else that of a source
+/// that fails.
 fn fault_of(worked: &Worked, given: usize) -> Fault {
     let lines = lines_in(&worked.text[..given.min(worked.text.len())]);
     match worked.fault {
@@ -38,7 +38,7 @@ fn fault_of(worked: &Worked, given: usize) -> Fault {
     }
 }
 
-/// Has the source fail after so many calls.
+/// Has the source fail after `calls` calls.
 fn check_call<R: Threads + Wait + Clock + Sync + Abort>(
     rt: &R,
     alloc: Global,
@@ -61,7 +61,7 @@ fn check_call<R: Threads + Wait + Clock + Sync + Abort>(
     }
 }
 
-/// Has the source fail at each of its calls in turn, the one that would tell the end too.
+/// Has the source fail at each of its calls in turn, the one that would return the end too.
 fn check_source<R: Threads + Wait + Clock + Sync + Abort>(rt: &R, alloc: Global, worked: &Worked) {
     for calls in 0..=worked.text.len() / STEP {
         check_call(rt, alloc, worked, calls);
@@ -69,19 +69,19 @@ fn check_source<R: Threads + Wait + Clock + Sync + Abort>(rt: &R, alloc: Global,
 }
 
 /// Worked traces whose devices fail.
-const TRACES: [(Table, &str); 6] = [
-    (Table::Messages, "pad-setting-said"),
-    (Table::Messages, "pad-pairs-cut"),
-    (Table::Messages, "reset-drops-begun-message"),
-    (Table::Epochs, "three-epochs"),
-    (Table::Channels, "call-formats"),
-    (Table::Channels, "addresses-reverse-charging"),
+const TRACES: [&str; 6] = [
+    "pad-setting-said",
+    "pad-pairs-cut",
+    "reset-drops-begun-message",
+    "three-epochs",
+    "call-formats",
+    "addresses-reverse-charging",
 ];
 
 /// Has both devices fail.
 fn check_devices<R: Threads + Wait + Clock + Sync + Abort>(rt: &R, alloc: Global) {
-    for (table, name) in TRACES {
-        let worked = trace(rt, table, name);
+    for name in TRACES {
+        let worked = trace(rt, name);
         check_source(rt, alloc, worked);
         for way in WAYS {
             check_writes(rt, alloc, way, worked, usize::MAX);

@@ -1,87 +1,56 @@
-//! Scans with workers that want memory before the source is asked.
+//! Scans with workers that are out of memory before the source is asked.
 
 use crate::scans::NO_ROWS;
 use crate::scans::checks::same_number;
+use crate::scans::paced_source::{Pace, PacedSource};
 use crate::scans::runs::{Outcome, Way, outcome_of, scan_from};
-use line_model::device::{CHUNK, Source};
+use line_model::device::CHUNK;
 use line_model::fault::Fault;
-use line_model::history::{Count, History};
 use std::alloc::Global;
 use std::process::Abort;
 use std::sync::Wait;
 use std::thread::Threads;
 use std::time::Clock;
-use streams::room_source::RoomSource;
 use tests_devices::Cuts;
 use tests_devices::scarce::Scarce;
 use trace_scan::gate::OpenGate;
 
-/// Gives a text, and notes how many growths were asked for before it was asked itself.
+/// Notes how many growths were asked for before the first read.
 #[derive(Drop)]
-struct NotingSource<'a> {
-    rest: &'a [u8],
-    latest: &'a [u8],
-    before: History,
-    calls: Count,
+struct Noting<'a> {
     heap: &'a Scarce<Global>,
-    /// None where it was not asked.
+    /// None where nothing was read.
     growths_before: Option<u64>,
 }
 
-impl Source for NotingSource<'_> {
-    ghost use Rattle.std.specs.Prelude.{Some};
-
-    ghost left = { λ s. Some s.rest.now };
-
-    ghost before = { λ s. Some s.before.bytes };
-
-    ghost last_given = { λ s. s.latest.now };
-
-    ghost calls = { λ s. s.calls };
-
-    ghost failures = { λ s. 0 };
-
-    fn read(&mut self) -> Result<(), ()> {
-        self.before = History::of(self.rest);
-        self.calls.add_one();
+impl Pace for Noting<'_> {
+    fn next_read(&mut self, _rest: &[u8]) -> usize {
         if self.growths_before.is_none() {
             self.growths_before = Some(self.heap.asked());
         }
-        let (front, back) = self.rest.split_at(self.rest.len().min(CHUNK));
-        self.latest = front;
-        self.rest = back;
-        Ok(())
-    }
-
-    fn latest(&self) -> &[u8] {
-        self.latest
+        CHUNK
     }
 }
 
-impl RoomSource for NotingSource<'_> {}
-
-/// What a scan answered and wrote, and how many growths were asked for before the source was, if it was.
+/// What a scan returned and wrote, and how many growths were asked for before the source was, if it was.
 #[derive(Drop)]
 struct Noted {
     outcome: Outcome,
     growths_before: Option<u64>,
 }
 
-/// Scans a text with workers.
+/// Scans a trace text with workers.
 fn scan_noting<R: Threads + Wait + Clock + Sync>(
     rt: &R,
     heap: &Scarce<Global>,
     alloc: Global,
     way: Way,
 ) -> Noted {
-    let mut source = NotingSource {
-        rest: NO_ROWS.text,
-        latest: b"",
-        before: History::new(),
-        calls: Count::new(),
+    let noting = Noting {
         heap,
         growths_before: None,
     };
+    let mut source = PacedSource::new(NO_ROWS.text, noting);
     let scanned = scan_from(
         rt,
         heap,
@@ -93,11 +62,11 @@ fn scan_noting<R: Threads + Wait + Clock + Sync>(
     );
     Noted {
         outcome: outcome_of(scanned),
-        growths_before: source.growths_before,
+        growths_before: source.pace.growths_before,
     }
 }
 
-/// Scans a text with workers, with one growth refused after so many.
+/// Scans a trace text with workers, with one growth refused after `good`.
 fn scan_wanting<R: Threads + Wait + Clock + Sync>(
     rt: &R,
     heap: &Scarce<Global>,
@@ -119,8 +88,8 @@ fn check_growth<R: Threads + Wait + Clock + Sync + Abort>(
 ) {
     let noted = scan_wanting(rt, heap, alloc, way, good);
     let fault = noted.outcome.answer.err();
-    let told = fault == Some(Fault::Memory) || fault == Some(Fault::Start);
-    assert!(rt; told, "growth {good}");
+    let got = fault == Some(Fault::Memory) || fault == Some(Fault::Start);
+    assert!(rt; got, "growth {good}");
     assert!(rt; noted.growths_before.is_none(), "growth {good}");
     assert!(rt; noted.outcome.taken.is_empty(), "growth {good}");
     same_number(rt, heap.held(), 0, "blocks");
@@ -138,14 +107,16 @@ fn check_crew<R: Threads + Wait + Clock + Sync + Abort>(rt: &R, alloc: Global, w
     }
 }
 
-fn check_crews<R: Threads + Wait + Clock + Sync + Abort>(rt: &R, alloc: Global) {
-    check_crew(rt, alloc, Way::Crew(1, 64));
-    check_crew(rt, alloc, Way::Crew(2, 64));
-    check_crew(rt, alloc, Way::Crew(64, 64));
-    check_crew(rt, alloc, Way::InBlocks(2, 64));
-}
+const CREWS: [Way; 4] = [
+    Way::Crew(1, 64),
+    Way::Crew(2, 64),
+    Way::Crew(64, 64),
+    Way::InBlocks(2, 64),
+];
 
 #[test]
 fn a_source_is_not_asked_where_a_crew_wanted_memory(rt: HostRuntime) {
-    check_crews(&rt, rt.alloc())
+    for way in CREWS {
+        check_crew(&rt, rt.alloc(), way);
+    }
 }

@@ -1,7 +1,7 @@
 //! The scan that follows a trace, over the devices of the tests.
 
 use crate::scans::checks::{
-    STEPS, Stop, Test, agree_on_fault, agree_on_report, check, check_stops, check_tables,
+    STEPS, Stop, Test, agree_on_fault, agree_on_report, check, check_all_traces, check_stops,
     check_writes,
 };
 use crate::scans::runs::{Way, scan};
@@ -32,7 +32,7 @@ pub fn check_followed<R: Threads + Wait + Clock + Sync + Abort>(
 
 #[test]
 fn followed_traces_end_with_their_reports(rt: HostRuntime) {
-    check_tables(&rt, rt.alloc(), Test::Followed)
+    check_all_traces(&rt, rt.alloc(), Test::Followed)
 }
 
 /// A header and two rows of six bytes.
@@ -40,26 +40,10 @@ const TWO_ROWS: &[u8] = b"X25 1 MOD 8 WIN 2 SIZE 128 PVC 0 SVC 4\n1 T -\n2 T -\n
 
 /// Where the source of those rows fails: a header has 39 bytes.
 const STOPS: [Stop; 4] = [
-    Stop {
-        good_bytes: 44,
-        fault: Fault::Read,
-        taken: b"",
-    },
-    Stop {
-        good_bytes: 45,
-        fault: Fault::Read,
-        taken: b"F 1 T - 38\n",
-    },
-    Stop {
-        good_bytes: 50,
-        fault: Fault::Read,
-        taken: b"F 1 T - 38\n",
-    },
-    Stop {
-        good_bytes: 51,
-        fault: Fault::Read,
-        taken: b"F 1 T - 38\nF 2 T - 38\n",
-    },
+    (44, Fault::Read, b""),
+    (45, Fault::Read, b"F 1 T - 38\n"),
+    (50, Fault::Read, b"F 1 T - 38\n"),
+    (51, Fault::Read, b"F 1 T - 38\nF 2 T - 38\n"),
 ];
 
 #[test]
@@ -80,7 +64,7 @@ fn a_failing_sink_has_the_first_bytes(rt: HostRuntime) {
     check_writes(&rt, rt.alloc(), Way::Following, &OPEN_ROWS, 1)
 }
 
-/// A finding before a faulty line, into a sink that takes nothing.
+/// A finding before a faulty line, into a sink that accepts nothing.
 const UNWRITTEN: Worked = Worked {
     name: "finding that is not taken, then no side",
     text: b"X25 1 MOD 8 WIN 2 SIZE 128 PVC 0 SVC 4\n1 T -\n2 X -\n",
@@ -89,7 +73,7 @@ const UNWRITTEN: Worked = Worked {
 };
 
 #[test]
-fn a_faulty_line_is_told_where_the_sink_fails_too(rt: HostRuntime) {
+fn a_faulty_line_is_returned_where_the_sink_fails_too(rt: HostRuntime) {
     let cuts = Cuts {
         good_writes: 0,
         ..Cuts::of_steps(usize::MAX, usize::MAX)

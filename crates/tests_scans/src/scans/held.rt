@@ -1,13 +1,11 @@
 //! Scans whose workers are held until others came, and whose reader waits for the workers.
 
 use crate::scans::crews::{Work, agree, findings};
-use crate::scans::line_source::length_of_lines;
 use crate::scans::meeting::check_meetings;
+use crate::scans::paced_source::{Pace, PacedSource, length_of_lines};
 use crate::scans::runs::{Scanned, Way, scan_from, scan_through};
-use crate::scans::worked::{Table, trace};
-use line_model::device::{CHUNK, Source};
+use crate::scans::worked::trace;
 use line_model::fault::Fault;
-use line_model::history::{Count, History};
 use line_model::piece::{Piece, PieceReport};
 use line_model::totals::Totals;
 use std::alloc::{Allocator, Global};
@@ -20,7 +18,6 @@ use std::test::Fail;
 use std::thread::Threads;
 use std::time::Clock;
 use std::{array, thread};
-use streams::room_source::RoomSource;
 use tests_devices::Cuts;
 use trace_scan::gate::OpenGate;
 use workers::Gate;
@@ -31,7 +28,7 @@ const PIECES: usize = 12;
 /// No hold takes more turns.
 const TURNS: u32 = 100_000_000;
 
-/// A hold lets the other threads run once in so many turns.
+/// A hold lets the other threads run once in this number of turns.
 const TURNS_OF_ONE_YIELD: u32 = 8;
 
 /// How often each piece was entered, and whether a hold ended before the pieces came that it waited for.
@@ -56,7 +53,7 @@ impl Record {
         times.fetch_add(1, SeqCst);
     }
 
-    /// Whether each piece was entered so many times, and no other.
+    /// Whether each piece was entered `wanted` times, and no other.
     fn has_each(&self, wanted: u64) -> bool {
         for times in self.times.iter() {
             if times.load(SeqCst) != wanted {
@@ -128,12 +125,7 @@ impl Gate for Holding<'_> {
 fn check_three_epochs(rt: &impl Abort, scanned: &Scanned, record: &Record, work: &Work) {
     assert!(rt; !record.is_late(), "a piece was held for {TURNS} turns");
     assert!(rt; record.has_each(1));
-    agree(
-        rt,
-        scanned,
-        work,
-        trace(rt, Table::Epochs, "three-epochs").report,
-    );
+    agree(rt, scanned, work, trace(rt, "three-epochs").report);
 }
 
 /// Two pieces each, which two workers run side by side.
@@ -150,7 +142,7 @@ fn check_crew<R: Threads + Wait + Clock + Sync + Abort>(
     groups: &[&[usize]],
     work: &Work,
 ) {
-    let text = trace(rt, Table::Epochs, "three-epochs").text;
+    let text = trace(rt, "three-epochs").text;
     let record = Record::new();
     let gate = Holding {
         record: &record,
@@ -161,7 +153,7 @@ fn check_crew<R: Threads + Wait + Clock + Sync + Abort>(
     check_three_epochs(rt, &scanned, &record, work);
 }
 
-/// Has so many workers run the twelve pieces, those of a group side by side.
+/// Has `workers` workers run the twelve pieces, those of a group side by side.
 fn check_side_by_side<R: Threads + Wait + Clock + Sync + Abort>(
     rt: &R,
     alloc: Global,
@@ -187,13 +179,9 @@ fn pieces_of_a_short_trace_are_run_side_by_side_by_1_2_4_and_64_workers(rt: Host
     check_side_by_side(&rt, alloc, &FOUR, 64, &[]);
 }
 
-/// Gives three epochs, a line a call. Before row 7 it waits until the pieces of the first epoch were entered.
+/// Each read gives a line. Before row 7 it waits until the pieces of the first epoch were entered.
 #[derive(Drop)]
-struct WaitingSource<'a> {
-    rest: &'a [u8],
-    latest: &'a [u8],
-    before: History,
-    calls: Count,
+struct Waiting<'a> {
     record: &'a Record,
     /// Whether no piece was entered when row 5 was asked for.
     none_at_row_5: bool,
@@ -201,51 +189,26 @@ struct WaitingSource<'a> {
     four_at_row_7: bool,
 }
 
-impl Source for WaitingSource<'_> {
-    ghost use Rattle.std.specs.Prelude.{Some};
-
-    ghost left = { λ s. Some s.rest.now };
-
-    ghost before = { λ s. Some s.before.bytes };
-
-    ghost last_given = { λ s. s.latest.now };
-
-    ghost calls = { λ s. s.calls };
-
-    ghost failures = { λ s. 0 };
-
-    fn read(&mut self) -> Result<(), ()> {
-        self.before = History::of(self.rest);
-        self.calls.add_one();
-        if self.rest.starts_with(b"5 ") {
+impl Pace for Waiting<'_> {
+    fn next_read(&mut self, rest: &[u8]) -> usize {
+        if rest.starts_with(b"5 ") {
             self.none_at_row_5 = self.record.has_each(0);
         }
-        if self.rest.starts_with(b"7 ") {
+        if rest.starts_with(b"7 ") {
             self.four_at_row_7 = self.record.wait_for(&[0, 1, 2, 3]);
         }
-        let most = self.rest.len().min(CHUNK);
-        let n = most.min(length_of_lines(self.rest, 1).max(1));
-        let (front, back) = self.rest.split_at(n);
-        self.latest = front;
-        self.rest = back;
-        Ok(())
-    }
-
-    fn latest(&self) -> &[u8] {
-        self.latest
+        length_of_lines(rest, 1)
     }
 }
-
-impl RoomSource for WaitingSource<'_> {}
 
 /// Scans what a source gives that waits, and sees what it saw of the pieces.
 fn check_waiting<R: Threads + Wait + Clock + Sync + Abort>(
     rt: &R,
     alloc: Global,
-    source: &mut WaitingSource<'_>,
+    source: &mut PacedSource<'_, Waiting<'_>>,
 ) -> Scanned {
     let gate = Holding {
-        record: source.record,
+        record: source.pace.record,
         groups: &[],
     };
     let scanned = scan_from(
@@ -257,8 +220,8 @@ fn check_waiting<R: Threads + Wait + Clock + Sync + Abort>(
         source,
         Cuts::of_steps(1, 7),
     );
-    assert!(rt; source.none_at_row_5);
-    assert!(rt; source.four_at_row_7);
+    assert!(rt; source.pace.none_at_row_5);
+    assert!(rt; source.pace.four_at_row_7);
     scanned
 }
 
@@ -267,15 +230,12 @@ fn scan_waiting<R: Threads + Wait + Clock + Sync + Abort>(
     alloc: Global,
     record: &Record,
 ) -> Scanned {
-    let mut source = WaitingSource {
-        rest: trace(rt, Table::Epochs, "three-epochs").text,
-        latest: b"",
-        before: History::new(),
-        calls: Count::new(),
+    let waiting = Waiting {
         record,
         none_at_row_5: false,
         four_at_row_7: false,
     };
+    let mut source = PacedSource::new(trace(rt, "three-epochs").text, waiting);
     check_waiting(rt, alloc, &mut source)
 }
 

@@ -15,12 +15,12 @@ use std::sync::Wait;
 use std::thread::Threads;
 use std::time::Clock;
 use streams::room_source::RoomSource;
-use trace_scan::block_queues::{BlockQueues, BlockSizes};
-use trace_scan::blocks::TraceText;
-use trace_scan::feeding::{Read, ReadingTask};
+use trace_reading::block_queues::{BlockQueues, BlockSizes};
+use trace_reading::blocks::TraceText;
+use trace_reading::feeding::{Read, ReadingTask};
+use trace_reading::room::Room;
 use trace_scan::gate::BlockGate;
-use trace_scan::room::Room;
-use trace_scan::threaded::Scan;
+use trace_scan::threaded::ScanOutcome;
 use workers::{Crew, Gate, Gathered, Worked, work_through};
 
 /// Each read of the source that ends a line is a block.
@@ -38,7 +38,7 @@ pub struct Parts<A: Allocator> {
 
 impl<A: Allocator + Copy> Parts<A> {
     /// Writes the report.
-    pub fn write<K: Sink>(self, alloc: A, sink: &mut K) -> Result<Scan<A>, Fault> {
+    pub fn write<K: Sink>(self, alloc: A, sink: &mut K) -> Result<ScanOutcome<A>, Fault> {
         let Read {
             interface_findings,
             counts,
@@ -52,7 +52,7 @@ impl<A: Allocator + Copy> Parts<A> {
         } = self.gathered;
         let report = merge(alloc, reports, interface_findings, counts, pieces)?;
         write_report(&report, sink)?;
-        Ok(Scan {
+        Ok(ScanOutcome {
             summary: report.summary,
             totals,
             shares,
@@ -60,7 +60,7 @@ impl<A: Allocator + Copy> Parts<A> {
     }
 }
 
-/// Reads a text by a crew whose gate may read the blocks of these queues.
+/// Reads a trace text by a crew whose gate may read the blocks of these queues.
 pub fn read_in_blocks<
     P: Plan + TraceText + Send + Sync,
     A: Allocator + Copy + Send + Sync,
@@ -95,7 +95,7 @@ pub fn read_in_blocks<
     }
 }
 
-/// Scans a text by a crew. Each read of the source that ends a line is a block.
+/// Scans a trace text by a crew. Each read of the source that ends a line is a block.
 pub fn scan_in_blocks<
     P: Plan + TraceText + Send + Sync,
     A: Allocator + Copy + Send + Sync,
@@ -103,7 +103,13 @@ pub fn scan_in_blocks<
     K: Sink,
     G: Gate,
     R: Threads + Wait + Clock + Sync,
->(rt: &R, alloc: A, source: &mut S, sink: &mut K, crew: Crew<'_, G>) -> Result<Scan<A>, Fault>
+>(
+    rt: &R,
+    alloc: A,
+    source: &mut S,
+    sink: &mut K,
+    crew: Crew<'_, G>,
+) -> Result<ScanOutcome<A>, Fault>
     requires text { P.text ≡ S.left source.old }
     requires plan { P.pieces ≡ option_map trace_plan P.text }
     requires workers { (0 < crew.workers) × (crew.workers ≤ 64) }

@@ -20,14 +20,14 @@ use workers::Gate;
 
 /// How many pieces were run by both machines, and of how many their reports differ.
 #[derive(Drop)]
-pub struct Tally {
+pub struct Agreement {
     pieces: AtomicU64,
     differing: AtomicU64,
 }
 
-impl Tally {
-    pub fn new() -> Tally {
-        Tally {
+impl Agreement {
+    pub fn new() -> Agreement {
+        Agreement {
             pieces: AtomicU64::new(0),
             differing: AtomicU64::new(0),
         }
@@ -42,7 +42,7 @@ impl Tally {
 /// Runs each piece by both machines.
 #[derive(Drop)]
 pub struct BothMachines<'a> {
-    pub tally: &'a Tally,
+    pub tally: &'a Agreement,
 }
 
 impl Gate for BothMachines<'_> {
@@ -108,7 +108,7 @@ fn same_counts<A: Allocator>(one: &CallRecord<A>, other: &CallRecord<A>) -> bool
 fn check_machines<R: Threads + Wait + Clock + Sync + Abort>(
     rt: &R,
     alloc: Global,
-    tally: &Tally,
+    tally: &Agreement,
     worked: &Worked,
 ) {
     let gate = BothMachines { tally };
@@ -121,7 +121,7 @@ fn check_machines<R: Threads + Wait + Clock + Sync + Abort>(
 fn check_long_machines<R: Threads + Wait + Clock + Sync + Abort>(
     rt: &R,
     alloc: Global,
-    tally: &Tally,
+    tally: &Agreement,
     long: &LongTrace,
 ) {
     let text = long.text(rt, alloc);
@@ -130,7 +130,7 @@ fn check_long_machines<R: Threads + Wait + Clock + Sync + Abort>(
 
 /// Runs the pieces of all worked traces, and says how many there are.
 fn check_all_machines<R: Threads + Wait + Clock + Sync + Abort>(rt: &R, alloc: Global) -> u64 {
-    let tally = Tally::new();
+    let tally = Agreement::new();
     for table in [Table::Channels, Table::Epochs, Table::Gaps, Table::Messages] {
         for worked in traces(table) {
             check_machines(rt, alloc, &tally, worked);

@@ -7,12 +7,10 @@ ghost use Rattle.line_model.specs.traces.Traces.{trace_plan};
 use crate::scans::checks::{same_bytes, same_number};
 use crate::scans::held::Record;
 use crate::scans::in_blocks::{EACH_READ, Parts, read_in_blocks};
-use crate::scans::line_source::length_of_lines;
+use crate::scans::paced_source::{Pace, PacedSource, length_of_lines};
 use crate::scans::runs::{Way, scan};
-use crate::scans::worked::{Table, trace};
-use line_model::device::{CHUNK, Source};
+use crate::scans::worked::trace;
 use line_model::fault::Fault;
-use line_model::history::{Count, History};
 use line_model::piece::{Piece, PieceReport, Plan};
 use std::alloc::{Allocator, Global};
 use std::marker::Brand;
@@ -23,11 +21,10 @@ use std::sync::atomic::{AtomicBool, AtomicU64};
 use std::test::Fail;
 use std::thread::Threads;
 use std::time::Clock;
-use streams::room_source::RoomSource;
 use tests_devices::scarce::Scarce;
 use tests_devices::{CutSink, Cuts};
-use trace_scan::block_queues::BlockQueues;
-use trace_scan::blocks::TraceText;
+use trace_reading::block_queues::BlockQueues;
+use trace_reading::blocks::TraceText;
 use trace_scan::gate::{BlockGate, OpenGate};
 use workers::{Crew, Gate};
 
@@ -96,7 +93,7 @@ impl<'a> Meeting<'a> {
     }
 
     /// Whether the source waits for a block that was not read yet.
-    fn wants_block(&self) -> bool {
+    fn needs_block(&self) -> bool {
         self.waits.load(SeqCst) && !self.record.has(self.helpers.blocks)
     }
 
@@ -149,7 +146,7 @@ impl<G: Gate> Gate for MeetingGate<'_, '_, G> {
     }
 
     fn help<R: Wait>(&self, rt: &R) -> bool {
-        if !self.meeting.wants_block() {
+        if !self.meeting.needs_block() {
             return false;
         }
         self.meeting.begin_block();
@@ -162,63 +159,30 @@ impl<G: Gate> Gate for MeetingGate<'_, '_, G> {
     }
 }
 
-/// Gives a line a call. Before the last one it waits.
+/// Each read gives a line. Before the last one it waits.
 #[derive(Drop)]
-struct MeetingSource<'a> {
-    rest: &'a [u8],
-    latest: &'a [u8],
-    before: History,
-    calls: Count,
+struct BeforeTheLast<'a> {
     meeting: &'a Meeting<'a>,
 }
 
-impl Source for MeetingSource<'_> {
-    ghost use Rattle.std.specs.Prelude.{Some};
-
-    ghost left = { λ s. Some s.rest.now };
-
-    ghost before = { λ s. Some s.before.bytes };
-
-    ghost last_given = { λ s. s.latest.now };
-
-    ghost calls = { λ s. s.calls };
-
-    ghost failures = { λ s. 0 };
-
-    fn read(&mut self) -> Result<(), ()> {
-        self.before = History::of(self.rest);
-        self.calls.add_one();
-        let most = self.rest.len().min(CHUNK);
-        let n = most.min(length_of_lines(self.rest, 1).max(1));
-        let (front, back) = self.rest.split_at(n);
-        if back.is_empty() && !front.is_empty() {
+impl Pace for BeforeTheLast<'_> {
+    fn next_read(&mut self, rest: &[u8]) -> usize {
+        let length = length_of_lines(rest, 1);
+        if length == rest.len() && !rest.is_empty() {
             self.meeting.wait();
         }
-        self.latest = front;
-        self.rest = back;
-        Ok(())
-    }
-
-    fn latest(&self) -> &[u8] {
-        self.latest
+        length
     }
 }
 
-impl RoomSource for MeetingSource<'_> {}
-
-/// Reads a text by the workers of a meeting.
-fn read_meeting<
-    'm,
-    P: Plan + TraceText + Send + Sync,
-    S: RoomSource,
-    R: Threads + Wait + Clock + Sync,
->(
+/// Reads a trace text by the workers of a meeting.
+fn read_meeting<'m, P: Plan + TraceText + Send + Sync, R: Threads + Wait + Clock + Sync>(
     rt: &R,
     meeting: &'m Meeting<'m>,
-    source: &mut S,
+    source: &mut PacedSource<'m, BeforeTheLast<'m>>,
     queues: &BlockQueues<P, &'m Scarce<Global>>,
 ) -> Result<Parts<&'m Scarce<Global>>, Fault>
-    requires text { P.text ≡ S.left source.old }
+    requires text { P.text ≡ Some source.old.rest.now }
     requires plan { P.pieces ≡ option_map trace_plan P.text }
 {
     let by_blocks = BlockGate {
@@ -237,7 +201,7 @@ fn read_meeting<
     read_in_blocks(rt, meeting.heap, source, queues, crew)
 }
 
-/// Scans a text whose source and workers meet, and writes the report.
+/// Scans a trace text whose source and workers meet, and writes the report.
 fn scan_meeting<'m, P: Plan + TraceText + Send + Sync, R: Threads + Wait + Clock + Sync>(
     rt: &R,
     meeting: &'m Meeting<'m>,
@@ -247,13 +211,7 @@ fn scan_meeting<'m, P: Plan + TraceText + Send + Sync, R: Threads + Wait + Clock
     requires text { P.text ≡ Some text.now }
     requires plan { P.pieces ≡ Some (trace_plan text.now) }
 {
-    let mut source = MeetingSource {
-        rest: text,
-        latest: b"",
-        before: History::new(),
-        calls: Count::new(),
-        meeting,
-    };
+    let mut source = PacedSource::new(text, BeforeTheLast { meeting });
     let queues = BlockQueues::<P, &Scarce<Global>>::new(meeting.heap, EACH_READ)?;
     let parts = read_meeting(rt, meeting, &mut source, &queues)?;
     parts.write(meeting.heap, sink)?;
@@ -277,7 +235,7 @@ fn agree(rt: &impl Abort, meeting: &Meeting<'_>) {
     assert_eq!(rt; refused, !has_memory, "{workers} workers");
 }
 
-/// Scans a text whose source waits for some workers: the report is that of the scan of one thread.
+/// Scans a trace text whose source waits for some workers: the report is that of the scan of one thread.
 fn check_helpers<R: Threads + Wait + Clock + Sync + Abort>(
     rt: &R,
     alloc: Global,
@@ -299,7 +257,7 @@ fn check_helpers<R: Threads + Wait + Clock + Sync + Abort>(
 /// Three epochs, and more rows than there may be blocks out.
 fn long_text(rt: &impl Abort, alloc: Global) -> Result<Vec<u8>, Fail> {
     let mut text = Vec::new(alloc);
-    text.extend_from_slice(trace(rt, Table::Epochs, "three-epochs").text)?;
+    text.extend_from_slice(trace(rt, "three-epochs").text)?;
     for number in 17..50 {
         let row = format!(in alloc; "{number} T 100100AA\n")?;
         text.extend_from_slice(row.as_bytes())?;
@@ -307,7 +265,7 @@ fn long_text(rt: &impl Abort, alloc: Global) -> Result<Vec<u8>, Fail> {
     Ok(text)
 }
 
-/// Scans a text whose source waits for workers that read blocks of it.
+/// Scans a trace text whose source waits for workers that read blocks of it.
 pub fn check_meetings<R: Threads + Wait + Clock + Sync + Abort>(
     rt: &R,
     alloc: Global,

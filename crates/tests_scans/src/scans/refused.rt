@@ -3,7 +3,7 @@
 use crate::scans::checks::{same_bytes, same_number};
 use crate::scans::runs::{Outcome, Way, scan_in};
 use crate::scans::worked::long::LONG_TRACES;
-use crate::scans::worked::{Table, Worked, trace};
+use crate::scans::worked::{Worked, trace};
 use line_model::fault::Fault;
 use std::alloc::Global;
 use std::process::Abort;
@@ -16,9 +16,9 @@ use tests_devices::scarce::Scarce;
 /// The most growths that these tests look for.
 const GROWTHS: u64 = 10_000;
 
-/// Whether a scan may say so that a growth was refused. Where nothing was read yet, a thread of a crew may be told as
-/// refused.
-fn tells_want(way: Way, fault: Option<Fault>) -> bool {
+/// Whether a scan may say so that a growth was refused. Where nothing was read yet, a thread of a crew may be reported
+/// as refused.
+fn may_refuse(way: Way, fault: Option<Fault>) -> bool {
     match fault {
         Some(Fault::Memory) => true,
         Some(Fault::Start) => way.has_workers(),
@@ -29,8 +29,8 @@ fn tells_want(way: Way, fault: Option<Fault>) -> bool {
 /// Sees that a scan with a growth that was refused wrote nothing, and that another wrote the report.
 fn agree(rt: &impl Abort, way: Way, outcome: &Outcome, worked: &Worked, refused: bool, good: u64) {
     if refused {
-        let told = tells_want(way, outcome.answer.err());
-        assert!(rt; told, "{} at {good}", worked.name);
+        let got = may_refuse(way, outcome.answer.err());
+        assert!(rt; got, "{} at {good}", worked.name);
     }
     let report = if refused { b"" } else { worked.report };
     same_bytes(
@@ -49,7 +49,7 @@ fn goes_on(way: Way, outcome: &Outcome) -> bool {
 }
 
 /// Refuses one growth of a scan, and sees that nothing is written and no block is kept: so all workers were joined.
-/// Answers whether there was such a growth.
+/// Returns whether there was such a growth.
 fn check_growth<R: Threads + Wait + Clock + Sync + Abort>(
     rt: &R,
     alloc: Global,
@@ -98,18 +98,18 @@ fn check<R: Threads + Wait + Clock + Sync + Abort>(
 }
 
 /// Worked traces whose growths are refused.
-const TRACES: [(Table, &str); 5] = [
-    (Table::Messages, "pad-setting-said"),
-    (Table::Messages, "reset-drops-begun-message"),
-    (Table::Epochs, "three-epochs"),
-    (Table::Channels, "call-formats"),
-    (Table::Channels, "addresses-reverse-charging"),
+const TRACES: [&str; 5] = [
+    "pad-setting-said",
+    "reset-drops-begun-message",
+    "three-epochs",
+    "call-formats",
+    "addresses-reverse-charging",
 ];
 
 /// Refuses each growth of scans of worked traces.
 pub fn check_traces<R: Threads + Wait + Clock + Sync + Abort>(rt: &R, alloc: Global, way: Way) {
-    for (table, name) in TRACES {
-        check(rt, alloc, way, trace(rt, table, name));
+    for name in TRACES {
+        check(rt, alloc, way, trace(rt, name));
     }
 }
 

@@ -3,7 +3,7 @@
 use crate::scans::in_blocks::scan_in_blocks;
 use line_model::device::Sink;
 use line_model::fault::Fault;
-use line_model::totals::{Summary, Totals};
+use line_model::totals::Summary;
 use live_report::uncounted::Uncounted;
 use std::alloc::{Allocator, Global};
 use std::marker::Brand;
@@ -11,15 +11,17 @@ use std::sync::Wait;
 use std::thread::Threads;
 use std::time::Clock;
 use streams::room_source::RoomSource;
+use tests_devices::totals::NONE;
 use tests_devices::{CutSink, CutSource, Cuts};
 use trace_scan::following::follow;
 use trace_scan::gate::OpenGate;
 use trace_scan::scan::scan_alone;
-use trace_scan::threaded::{Scan, scan_with};
+use trace_scan::threaded::{ScanOutcome, scan_with};
 use workers::{Crew, Gate};
 
-/// How a text is scanned: in one thread, as it grows, or by so many workers over a queue of so many pieces. In blocks the
-/// workers read each part of the text that the source gives and that ends a line; else only parts of many lines.
+/// How a trace text is scanned: in one thread, as it grows, or by a number of workers over a queue of a number of
+/// pieces. In blocks the workers read each part of the text that the source gives and that ends a line; else only parts
+/// of many lines.
 #[derive(Clone, Copy)]
 pub enum Way {
     Alone,
@@ -35,31 +37,26 @@ impl Way {
     }
 }
 
-/// The totals of no pieces.
-pub const NONE: Totals = Totals {
-    posts: 0,
-    findings: 0,
-    octets: 0,
-    segments: 0,
-};
-
-/// What a scan answered, and what its sink took. No worker has a share of a scan in one thread.
+/// What a scan returned, and what its sink accepted. No worker has a share of a scan in one thread.
 #[derive(Drop)]
 pub struct Scanned<A: Allocator = Global> {
-    pub answer: Result<Scan<A>, Fault>,
+    pub answer: Result<ScanOutcome<A>, Fault>,
     pub taken: Vec<u8>,
 }
 
-/// The last line of a report or why there is none, and what the sink took.
+/// The last line of a report or why there is none, and what the sink accepted.
 #[derive(Drop)]
 pub struct Outcome {
     pub answer: Result<Summary, Fault>,
     pub taken: Vec<u8>,
 }
 
-/// What a scan answers of which no worker has a share.
-fn unshared<A: Allocator>(heap: A, answer: Result<Summary, Fault>) -> Result<Scan<A>, Fault> {
-    Ok(Scan {
+/// What a scan returns of which no worker has a share.
+fn unshared<A: Allocator>(
+    heap: A,
+    answer: Result<Summary, Fault>,
+) -> Result<ScanOutcome<A>, Fault> {
+    Ok(ScanOutcome {
         summary: answer?,
         totals: NONE,
         shares: Vec::new(heap),
@@ -72,7 +69,14 @@ fn scan_by<
     K: Sink,
     G: Gate,
     R: Threads + Wait + Clock + Sync,
->(rt: &R, heap: A, gate: &G, way: Way, source: &mut S, sink: &mut K) -> Result<Scan<A>, Fault> {
+>(
+    rt: &R,
+    heap: A,
+    gate: &G,
+    way: Way,
+    source: &mut S,
+    sink: &mut K,
+) -> Result<ScanOutcome<A>, Fault> {
     match way {
         Way::Alone => unshared(heap, scan_alone(heap, source, sink, &mut Uncounted::none())),
         Way::Following => unshared(heap, follow(heap, source, sink, &mut Uncounted::none())),
@@ -111,7 +115,7 @@ pub fn scan_from<
     }
 }
 
-/// Scans a text with a heap of its own and through any gate, into a sink of another heap.
+/// Scans a trace text with a heap of its own and through any gate, into a sink of another heap.
 pub fn scan_through<A: Allocator + Copy + Send + Sync, G: Gate, R: Threads + Wait + Clock + Sync>(
     rt: &R,
     heap: A,
@@ -140,7 +144,7 @@ pub fn outcome_of<A: Allocator>(scanned: Scanned<A>) -> Outcome {
     }
 }
 
-/// Scans a text with a heap of its own, into a sink of another.
+/// Scans a trace text with a heap of its own, into a sink of another.
 pub fn scan_in<A: Allocator + Copy + Send + Sync, R: Threads + Wait + Clock + Sync>(
     rt: &R,
     heap: A,
@@ -152,7 +156,7 @@ pub fn scan_in<A: Allocator + Copy + Send + Sync, R: Threads + Wait + Clock + Sy
     outcome_of(scan_through(rt, heap, alloc, &OpenGate, way, text, cuts))
 }
 
-/// Scans a text.
+/// Scans a trace text.
 pub fn scan<R: Threads + Wait + Clock + Sync>(
     rt: &R,
     alloc: Global,

@@ -1,7 +1,7 @@
 //! Texts whose lines stand first, in the middle and last in a block, by blocks of any number of lines.
 
-use crate::scans::checks::{Test, check_tables, same_number};
-use crate::scans::line_source::{LineSource, length_of_lines};
+use crate::scans::checks::{Test, check_all_traces, same_number};
+use crate::scans::paced_source::{Lines, PacedSource, length_of_lines};
 use crate::scans::runs::{Outcome, Way, outcome_of, scan, scan_from};
 use line_model::fault::{Fault, Kind};
 use std::alloc::{AllocError, Global};
@@ -18,14 +18,14 @@ const HEADER: &str = "X25 1 MOD 8 WIN 2 SIZE 128 PVC 0 SVC 4\n";
 /// How many workers.
 const CREWS: [usize; 3] = [1, 2, 4];
 
-/// What a scan by blocks answered and wrote, and what its source was not asked for.
+/// What a scan by blocks returned and wrote, and what its source was not asked for.
 #[derive(Drop)]
 struct InBlocks<'a> {
     outcome: Outcome,
     unasked: &'a [u8],
 }
 
-/// Scans a text of which the source gives so many lines at once: they are a block, once the header was read.
+/// Scans a trace text of which the source gives `lines` lines at once: they are a block, once the header was read.
 fn scan_lines<'a, R: Threads + Wait + Clock + Sync>(
     rt: &R,
     alloc: Global,
@@ -33,7 +33,7 @@ fn scan_lines<'a, R: Threads + Wait + Clock + Sync>(
     lines: usize,
     workers: usize,
 ) -> InBlocks<'a> {
-    let mut source = LineSource::new(text, lines);
+    let mut source = PacedSource::new(text, Lines { count: lines });
     let way = Way::InBlocks(workers, 4);
     let scanned = scan_from(rt, alloc, alloc, &OpenGate, way, &mut source, Cuts::none());
     InBlocks {
@@ -71,7 +71,7 @@ const ROWS: [(&str, &str); 6] = [
     ),
 ];
 
-/// Scans rows by blocks of so many lines: it answers and writes what the scan of one thread does.
+/// Scans rows by blocks of `lines` lines: it returns and writes what the scan of one thread does.
 fn check_lines<R: Threads + Wait + Clock + Sync + Abort>(
     rt: &R,
     alloc: Global,
@@ -104,7 +104,7 @@ fn check_rows<R: Threads + Wait + Clock + Sync + Abort>(
 /// How many rows of channels stand between restarts: after one some rows stand in order, and those after them by channel.
 const RUNS: [u32; 4] = [127, 128, 129, 300];
 
-/// A text of rows on four channels, with a restart after each run of them.
+/// A trace text of rows on four channels, with a restart after each run of them.
 fn text_of_runs(alloc: Global) -> Result<Vec<u8>, AllocError> {
     let mut text = Vec::new(alloc);
     text.extend_from_slice(HEADER.as_bytes())?;
@@ -133,10 +133,10 @@ fn check_runs<R: Threads + Wait + Clock + Sync + Abort>(rt: &R, alloc: Global) -
     Ok(())
 }
 
-/// How many rows a text has of which one is faulty.
+/// How many rows a trace text has of which one is faulty.
 const ALL_ROWS: u32 = 12;
 
-/// What stands in the place of a row, with its number less so much, and the rule that it breaks.
+/// What stands in the place of a row, with its number less by this, and the rule that it breaks.
 const FAULTY_ROWS: [(u32, &str, Kind); 5] = [
     (1, " T 100100\n", Kind::Number),
     (2, " T 100100\n", Kind::Number),
@@ -145,7 +145,7 @@ const FAULTY_ROWS: [(u32, &str, Kind); 5] = [
     (0, " T\n", Kind::LineForm),
 ];
 
-/// A text whose row of this index, from 0, is faulty.
+/// A trace text whose row of this index, from 0, is faulty.
 fn faulty_text(
     alloc: Global,
     at: u32,
@@ -165,7 +165,7 @@ fn faulty_text(
     Ok(text)
 }
 
-/// Scans a text by blocks of so many lines: it is refused by a line, whatever was read after it.
+/// Scans a trace text by blocks of `lines` lines: it is refused by a line, whatever was read after it.
 fn check_fault<R: Threads + Wait + Clock + Sync + Abort>(
     rt: &R,
     alloc: Global,
@@ -181,8 +181,8 @@ fn check_fault<R: Threads + Wait + Clock + Sync + Abort>(
     }
 }
 
-/// Scans a text of which the source gives few bytes at once. It is refused by a line, and nothing is asked for after the
-/// read that gave that line.
+/// Scans a trace text of which the source gives few bytes at once. It is refused by a line, and nothing is asked for
+/// after the read that gave that line.
 fn check_slow<R: Threads + Wait + Clock + Sync + Abort>(
     rt: &R,
     alloc: Global,
@@ -192,7 +192,7 @@ fn check_slow<R: Threads + Wait + Clock + Sync + Abort>(
 ) {
     let given = (line as usize).div_ceil(lines.max(1)).saturating_mul(lines);
     let left = text.len().saturating_sub(length_of_lines(text, given));
-    let mut source = LineSource::new(text, lines);
+    let mut source = PacedSource::new(text, Lines { count: lines });
     let way = Way::Crew(2, 4);
     let scanned = scan_from(rt, alloc, alloc, &OpenGate, way, &mut source, Cuts::none());
     let fault = outcome_of(scanned).answer.err();
@@ -205,8 +205,8 @@ fn check_slow<R: Threads + Wait + Clock + Sync + Abort>(
     );
 }
 
-/// Scans a text by blocks from a source that fails after so many bytes: it is refused by its faulty line if that was
-/// given, and else by the source.
+/// Scans a trace text by blocks from a source that fails after `good` bytes: it is refused by its faulty line if that
+/// was given, and else by the source.
 fn check_failure<R: Threads + Wait + Clock + Sync + Abort>(
     rt: &R,
     alloc: Global,
@@ -256,7 +256,7 @@ fn check_faults<R: Threads + Wait + Clock + Sync + Abort>(
     Ok(())
 }
 
-/// Scans a text of two faulty rows by blocks of any number of lines: the first one is told.
+/// Scans a trace text of two faulty rows by blocks of any number of lines: the first one is reported.
 fn check_two_faults<R: Threads + Wait + Clock + Sync + Abort>(
     rt: &R,
     alloc: Global,
@@ -274,7 +274,7 @@ fn check_two_faults<R: Threads + Wait + Clock + Sync + Abort>(
 
 #[test]
 fn texts_are_reported_and_refused_in_blocks_of_any_size(rt: HostRuntime) -> Result<(), Fail> {
-    check_tables(&rt, rt.alloc(), Test::InBlocks);
+    check_all_traces(&rt, rt.alloc(), Test::InBlocks);
     for (name, rows) in ROWS {
         check_rows(&rt, rt.alloc(), (name, rows))?;
     }

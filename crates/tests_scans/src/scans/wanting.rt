@@ -1,9 +1,9 @@
-//! Scans whose workers want memory.
+//! Scans whose workers are out of memory.
 
 use crate::scans::checks::{agree_on_fault, agree_on_report};
 use crate::scans::runs::{Way, outcome_of, scan_through};
 use crate::scans::worked::long::repeated_text;
-use crate::scans::worked::{Table, Worked, trace};
+use crate::scans::worked::{Worked, trace};
 use line_model::fault::{Fault, Kind};
 use line_model::piece::{Piece, PieceReport};
 use std::alloc::{Allocator, Global};
@@ -37,7 +37,7 @@ impl Gate for Wanting {
     }
 }
 
-/// Scans a text of which a worker wants memory for the piece of this id, and sees that nothing is written.
+/// Scans a trace text of which a worker is out of memory for the piece of this id, and sees that nothing is written.
 fn check_piece<R: Threads + Wait + Clock + Sync + Abort>(
     rt: &R,
     alloc: Global,
@@ -52,7 +52,7 @@ fn check_piece<R: Threads + Wait + Clock + Sync + Abort>(
     agree_on_report(rt, &outcome, refused, cuts);
 }
 
-/// What is told of a text that is refused so.
+/// What is reported of a trace text that is refused so.
 fn refusal(text: &[u8], fault: Fault) -> Worked<'_> {
     Worked {
         name: "three-epochs with a worker that wants memory",
@@ -64,7 +64,7 @@ fn refusal(text: &[u8], fault: Fault) -> Worked<'_> {
 
 /// Wants memory for the first piece, for one in the middle and for the last, also where the sink would fail.
 fn check_pieces<R: Threads + Wait + Clock + Sync + Abort>(rt: &R, alloc: Global, way: Way) {
-    let refused = refusal(trace(rt, Table::Epochs, "three-epochs").text, Fault::Memory);
+    let refused = refusal(trace(rt, "three-epochs").text, Fault::Memory);
     let whole = Cuts::of_steps(7, 7);
     let unwritten = Cuts {
         good_writes: 0,
@@ -76,20 +76,22 @@ fn check_pieces<R: Threads + Wait + Clock + Sync + Abort>(rt: &R, alloc: Global,
     }
 }
 
-fn check_crews<R: Threads + Wait + Clock + Sync + Abort>(rt: &R, alloc: Global) {
-    check_pieces(rt, alloc, Way::Crew(1, 1));
-    check_pieces(rt, alloc, Way::Crew(2, 64));
-    check_pieces(rt, alloc, Way::Crew(2, 1));
-    check_pieces(rt, alloc, Way::Crew(64, 64));
-    check_pieces(rt, alloc, Way::InBlocks(2, 64));
-}
+const CREWS: [Way; 5] = [
+    Way::Crew(1, 1),
+    Way::Crew(2, 64),
+    Way::Crew(2, 1),
+    Way::Crew(64, 64),
+    Way::InBlocks(2, 64),
+];
 
 #[test]
-fn a_worker_that_wants_memory_is_told(rt: HostRuntime) {
-    check_crews(&rt, rt.alloc())
+fn a_worker_out_of_memory_is_reported(rt: HostRuntime) {
+    for way in CREWS {
+        check_pieces(&rt, rt.alloc(), way);
+    }
 }
 
-/// Scans a text with a faulty line, once from a source that fails before that line.
+/// Scans a trace text with a faulty line, once from a source that fails before that line.
 fn check_faulty_line<R: Threads + Wait + Clock + Sync + Abort>(rt: &R, alloc: Global, text: &[u8]) {
     let faulty = refusal(text, Fault::Trace(18, Kind::Number));
     let unread = refusal(text, Fault::Read);
@@ -103,12 +105,12 @@ fn check_faulty_line<R: Threads + Wait + Clock + Sync + Abort>(rt: &R, alloc: Gl
 }
 
 fn check_number_twice<R: Threads + Wait + Clock + Sync + Abort>(rt: &R, alloc: Global) {
-    let worked = trace(rt, Table::Epochs, "three-epochs");
+    let worked = trace(rt, "three-epochs");
     let text = repeated_text(rt, alloc, worked.text, b"16 T -", 1);
     check_faulty_line(rt, alloc, text.as_slice());
 }
 
 #[test]
-fn a_faulty_line_stands_before_a_worker_that_wants_memory(rt: HostRuntime) {
+fn a_faulty_line_stands_before_a_worker_out_of_memory(rt: HostRuntime) {
     check_number_twice(&rt, rt.alloc())
 }

@@ -1,11 +1,11 @@
-//! Worked traces, with what a scan answers and writes.
+//! Worked traces, with what a scan returns and writes.
 
-pub mod channels;
-pub mod epochs;
-pub mod gaps;
+mod channels;
+mod epochs;
+mod gaps;
 pub mod long;
-pub mod messages;
-pub mod refused;
+mod messages;
+mod refused;
 
 use crate::scans::worked::channels::CHANNELS;
 use crate::scans::worked::epochs::EPOCHS;
@@ -35,6 +35,15 @@ pub enum Table {
     Refused,
 }
 
+/// All tables.
+pub const TABLES: [Table; 5] = [
+    Table::Channels,
+    Table::Epochs,
+    Table::Gaps,
+    Table::Messages,
+    Table::Refused,
+];
+
 /// The traces of a table.
 pub fn traces(table: Table) -> &'static [Worked<'static>] {
     match table {
@@ -47,10 +56,12 @@ pub fn traces(table: Table) -> &'static [Worked<'static>] {
 }
 
 /// The trace of this name.
-pub fn trace(rt: &impl Abort, table: Table, name: &str) -> &'static Worked<'static> {
-    for worked in traces(table) {
-        if worked.name == name {
-            return worked;
+pub fn trace(rt: &impl Abort, name: &str) -> &'static Worked<'static> {
+    for table in TABLES {
+        for worked in traces(table) {
+            if worked.name == name {
+                return worked;
+            }
         }
     }
     panic!(rt; "there is no trace {name}")

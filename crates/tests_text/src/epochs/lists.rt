@@ -1,6 +1,6 @@
 //! Rows that are cut apart, in lists that are used again.
 
-use crate::epochs::{EPOCH, PLAIN, rows_of};
+use crate::epochs::{EPOCH, rows_of};
 use line_model::row::Row;
 use packet_decode::decode::decode;
 use restart_epochs::block_cut::BlockCutter;
@@ -8,6 +8,7 @@ use restart_epochs::restart::Restart;
 use restart_epochs::rows_by_channel::RowsByChannel;
 use std::alloc::Global;
 use std::test::Fail;
+use tests_devices::interfaces::PLAIN;
 use tests_devices::scarce::Scarce;
 
 /// Cuts rows, and returns the lists that it used.

@@ -1,19 +1,17 @@
 //! Cutting whose growths are refused.
 
 use crate::checks::holds_at;
-use crate::epochs::{EPOCH, PLAIN, rows_of};
+use crate::epochs::{EPOCH, rows_of};
 use line_model::fault::Fault;
 use restart_epochs::cut::cut;
 use std::alloc::Global;
 use std::process::Abort;
 use std::test::Fail;
 use std::thread::Threads;
-use tests_devices::scarce::Scarce;
+use tests_devices::interfaces::PLAIN;
+use tests_devices::scarce::{Scarce, refuse_each};
 
-/// The most growths that this test looks for.
-const GROWTHS: u64 = 1000;
-
-/// Cuts an epoch, with one growth refused after so many: how many pieces there are, and whether one was refused.
+/// Cuts an epoch, with one growth refused after `good`: how many pieces there are, and whether one was refused.
 fn cut_with(
     rt: &(impl Threads + Sync),
     heap: &Scarce<Global>,
@@ -40,20 +38,10 @@ fn check_growth(
     Ok(refused)
 }
 
-/// How many growths a cut has, each of which is refused in turn.
-fn growths(rt: &(impl Abort + Threads + Sync), heap: &Scarce<Global>) -> Result<u64, Fail> {
-    for good in 0..GROWTHS {
-        if !check_growth(rt, heap, good)? {
-            return Ok(good);
-        }
-    }
-    Ok(GROWTHS)
-}
-
 #[test]
 fn each_growth_of_a_cut_may_be_refused(rt: HostRuntime) -> Result<(), Fail> {
     let heap = Scarce::new(rt.alloc());
-    let growths = growths(&rt, &heap)?;
-    assert!(rt; 0 < growths && growths < GROWTHS);
+    let all_refused = refuse_each(|good| check_growth(&rt, &heap, good))?;
+    assert!(rt; all_refused);
     Ok(())
 }

@@ -14,7 +14,7 @@ use trace_text::lines::block::BlockSpan;
 /// How many bytes a block has at most, where its first line is no longer.
 const SIZES: [usize; 4] = [1, 7, 64, 1 << 18];
 
-/// Appends the rows of some bytes that are read apart. `None`: they are no block.
+/// Appends the rows of some bytes that are read apart. `None`: they are not a block.
 fn read_apart(
     alloc: Global,
     interface: &Interface,
@@ -32,7 +32,7 @@ fn read_apart(
     lines.end_block(first)
 }
 
-/// Appends the rows of the next bytes of a text, which are read apart and passed. `false`: they are to be fed.
+/// Appends the rows of the next bytes of a trace text, which are read apart and passed. `false`: they are to be fed.
 fn pass(
     alloc: Global,
     lines: &mut Lines<Global>,
@@ -53,7 +53,7 @@ fn pass(
     Ok(true)
 }
 
-/// Passes the next bytes of a text, or feeds them.
+/// Passes the next bytes of a trace text, or feeds them.
 fn take(
     alloc: Global,
     lines: &mut Lines<Global>,
@@ -66,7 +66,7 @@ fn take(
     lines.feed(bytes, rows)
 }
 
-/// How many of the first bytes of a text are its first line and those after it that end within so many bytes.
+/// How many of the first bytes of a trace text are its first line and those after it that end within `size` bytes.
 fn block_size(text: &[u8], size: usize) -> usize {
     let mut whole = 0;
     for (at, byte) in text.iter().enumerate() {
@@ -77,8 +77,8 @@ fn block_size(text: &[u8], size: usize) -> usize {
     if whole == 0 { text.len() } else { whole }
 }
 
-/// What a text answers of which blocks of so many bytes are read apart, and how many rows it has. The first part of it has
-/// so many bytes, and is fed.
+/// The result of a trace text of which blocks of `size` bytes are read apart, and how many rows it has. The first part
+/// of it has `begun` bytes, and is fed.
 fn read_blocks(
     alloc: Global,
     text: &[u8],
@@ -103,7 +103,7 @@ fn read_blocks(
     (answer, rows.len())
 }
 
-/// A text that is read in blocks after any first part answers as one that is fed.
+/// A trace text that is read in blocks after any first part has the result of one that is fed.
 fn check_blocks(rt: &impl Abort, alloc: Global, text: &[u8]) {
     let wanted = read_counted(alloc, text, text.len());
     for size in SIZES {
@@ -126,7 +126,7 @@ fn blocks_of_a_text_answer_as_the_text(rt: HostRuntime) -> Result<(), Fail> {
     Ok(())
 }
 
-/// The rows of a text, bytes after them, and whether these are passed.
+/// The rows of a trace text, bytes after them, and whether these are passed.
 const SEAMS: [(&[u8], &[u8], bool); 14] = [
     (b"", b"1 T -\n2 N -\n", true),
     (b"1 T -\n", b"2 T -\n", true),
@@ -148,7 +148,7 @@ const SEAMS: [(&[u8], &[u8], bool); 14] = [
     (b"1 T -\n", b"2 T -\n3 T -\n4 T 1\n", false),
 ];
 
-/// Passes a block after a text, and a row after it whose number is the last one.
+/// Passes a block after a trace text, and a row after it whose number is the last one.
 fn check_seam(
     rt: &impl Abort,
     alloc: Global,
@@ -158,10 +158,10 @@ fn check_seam(
 ) -> Result<(), Fail> {
     let text = with_header(alloc, rows)?;
     let mut lines = Lines::new(alloc);
-    let mut told = Vec::new(alloc);
-    lines.feed(&text, &mut told)?;
+    let mut shown = Vec::new(alloc);
+    lines.feed(&text, &mut shown)?;
     let ended = lines.ended_lines();
-    let passed = pass(alloc, &mut lines, block, &mut told)?;
+    let passed = pass(alloc, &mut lines, block, &mut shown)?;
     holds_for(rt, passed == passes, block);
     if !passed {
         holds_for(rt, lines.ended_lines() == ended, block);

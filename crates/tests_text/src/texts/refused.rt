@@ -12,7 +12,7 @@ use trace_text::lines::Lines;
 /// The most growths that this test looks for.
 const GROWTHS: u64 = 1000;
 
-/// Reads a text whose chunks end in the midst of lines.
+/// Reads a trace text whose chunks end in the midst of lines.
 fn feed<A: Allocator + Copy>(lines: &mut Lines<A>, rows: &mut Vec<Row<A>, A>) -> Result<(), Fault> {
     lines.feed(HEADER, rows)?;
     lines.feed(b"1 T 10010B0000\n2 N 1001", rows)?;
@@ -30,8 +30,8 @@ fn say_further<A: Allocator + Copy>(
     (answer, lines.end(rows).err())
 }
 
-/// What a reader said to the text and further is right: where a growth was refused, it wants memory from then on; else there
-/// are three rows.
+/// What a reader said to the text and further is right: where a growth was refused, it is out of memory from then on;
+/// else there are three rows.
 fn is_right(
     refused: bool,
     answer: Result<(), Fault>,
@@ -45,8 +45,8 @@ fn is_right(
     }
 }
 
-/// Refuses the growths of a reader from one on, and sees that it answers want of memory from then on. Answers whether
-/// there was such a growth, and whether all was right.
+/// Refuses the growths of a reader from one on, and checks that it is out of memory from then on. Returns whether there
+/// was such a growth, and whether all was right.
 fn refuse_growth(heap: &Scarce<Global>, good: u64) -> (bool, bool) {
     let mut lines = Lines::new(heap);
     let mut rows = Vec::new(heap);
@@ -72,7 +72,7 @@ fn growths(rt: &impl Abort, heap: &Scarce<Global>) -> u64 {
 }
 
 #[test]
-fn a_reader_that_wanted_memory_wants_it_from_then_on(rt: HostRuntime) {
+fn a_reader_out_of_memory_stays_so(rt: HostRuntime) {
     let heap = Scarce::new(rt.alloc());
     let growths = growths(&rt, &heap);
     assert!(rt; 0 < growths && growths < GROWTHS);

@@ -50,18 +50,18 @@ fn tell_lines(
     alloc: Global,
     text: &[u8],
     size: usize,
-    told: &mut Vec<u8, Global>,
+    shown: &mut Vec<u8, Global>,
 ) -> Result<(), Fault> {
     let mut lines = Lines::new(alloc);
     let mut row = blank(alloc);
-    take_ended(&mut lines, &mut row, HEADER, told)?;
+    take_ended(&mut lines, &mut row, HEADER, shown)?;
     let mut rest = text;
     for _ in 0..text.len() {
         let (chunk, more) = rest.split_at(size.min(rest.len()));
-        take_ended(&mut lines, &mut row, chunk, told)?;
+        take_ended(&mut lines, &mut row, chunk, shown)?;
         rest = more;
     }
-    take_last(lines, &mut row, told)
+    take_last(lines, &mut row, shown)
 }
 
 /// Lines say the same in one chunk and byte by byte.

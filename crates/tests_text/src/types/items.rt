@@ -9,7 +9,7 @@ use line_model::state::Side;
 use std::alloc::Global;
 use std::test::Fail;
 
-/// What a row says: its number, its side, its packet, how many octets it has, and those that say more.
+/// A row: its number, its side, its packet, its length, and the octets that are kept.
 type Line = (u32, Side, Packet, usize, &'static [u8]);
 
 /// A call request on channel 1.
@@ -36,7 +36,7 @@ const ACCEPTED: Line = (
     b"\x10\x01\x0f",
 );
 
-/// Data with Q 0, of which no octet says more.
+/// Data with Q 0, of which no octet is kept.
 const DATA: Line = (
     9,
     Side::T,
@@ -114,8 +114,8 @@ fn copied(alloc: Global, items: &mut Items) -> Result<Items, Fail> {
     Ok(copy)
 }
 
-/// The rows of a piece: so many lines in a part, the others up to the last in another part of the same list, and the last
-/// one pushed.
+/// The rows of a piece: `count` lines in a part, the others up to the last in another part of the same list, and the
+/// last one pushed.
 fn in_parts(alloc: Global, count: usize) -> Result<PieceItems, Fail> {
     let (mut list, mut last) = (Items::new(alloc), Items::new(alloc));
     push_all(&mut list, &LINES[..4])?;

@@ -5,7 +5,7 @@ ghost use Rattle.annotated_trace.specs.declared.rows.Rows.TheVariants.{All};
 
 use crate::annotations::{Answer, annotated_by};
 use annotated_trace::describer::Describer;
-use annotated_trace::notes::{Notes, Words};
+use annotated_trace::notes::{NoteWords, Notes};
 use annotated_trace::page::ClosingPage;
 use annotated_trace::rows::Rows;
 use line_model::fault::Fault;
@@ -39,7 +39,7 @@ const TIMES: usize = 300;
 /// The most growths and calls of a sink that these tests look for.
 const MOST: usize = 10_000;
 
-/// Says an empty comment of each line; after the last one a line that is longer than a line may be, and so many more.
+/// Says an empty comment of each line; after the last one a line that is longer than a line may be, and `times` more.
 #[derive(Drop)]
 struct Wordy {
     times: usize,
@@ -65,7 +65,7 @@ impl<A: Allocator + Copy, O: TraceObserver<A>> Describer<A, O> for Wordy {
         &mut self,
         _trace: &O,
         _finding: &Finding,
-        _words: &mut Words<A>,
+        _words: &mut NoteWords<A>,
     ) -> Result<(), AllocError> {
         Ok(())
     }
@@ -81,7 +81,7 @@ impl<A: Allocator + Copy, O: TraceObserver<A>> Describer<A, O> for Wordy {
     }
 }
 
-/// Adds words to a text so many times.
+/// Adds words to a text `times` times.
 fn push_again(text: &mut String, words: &str, times: usize) -> Result<(), AllocError> {
     for _ in 0..times {
         text.push_str(words)?;
@@ -100,18 +100,18 @@ fn whole(alloc: Global, times: usize) -> Result<String, AllocError> {
 }
 
 impl Answer {
-    /// The sink took all of a text and nothing else.
+    /// The sink accepted all of a text and nothing else.
     fn is_whole(&self, text: &str) -> bool {
         self.fault.is_none() && self.bytes.as_slice() == text.as_bytes()
     }
 
-    /// It was refused so, and the sink took a first part of a text.
+    /// It was refused so, and the sink accepted a first part of a text.
     fn is_part(&self, fault: Fault, text: &str) -> bool {
         self.fault == Some(fault) && text.as_bytes().starts_with(self.bytes.as_slice())
     }
 }
 
-/// The annotation of the trace, with so many lines behind the first one of its closing.
+/// The annotation of the trace, with `times` lines behind the first one of its closing.
 fn annotated<A: Allocator + Copy>(heap: A, alloc: Global, cuts: Cuts, times: usize) -> Answer {
     let describer = Wordy { times };
     annotated_by(heap, alloc, LINES.as_bytes(), cuts, describer)
@@ -122,7 +122,7 @@ fn holds_for(rt: &impl Abort, holds: bool, number: usize) {
     assert!(rt; holds, "for {number}");
 }
 
-/// Fails the sink at the call after so many good ones, and answers whether it has failed.
+/// Fails the sink at the call after `good` good ones, and returns whether it has failed.
 fn check_failure(rt: &impl Abort, alloc: Global, wanted: &str, step: usize, good: usize) -> bool {
     let cuts = Cuts {
         good_writes: good,
@@ -159,7 +159,8 @@ fn is_right(alloc: Global, answer: &Answer, refused: bool) -> Result<bool, Alloc
     }
 }
 
-/// Refuses the growths from one on, and sees that nothing of the closing was written. Answers whether there was such a growth.
+/// Refuses the growths from one on, and sees that nothing of the closing was written. Returns whether there was such a
+/// growth.
 fn check_growth(
     rt: &impl Abort,
     alloc: Global,
@@ -195,7 +196,7 @@ fn where_memory_runs_out_nothing_of_the_closing_is_written(rt: HostRuntime) -> R
     Ok(())
 }
 
-/// How many growths an annotation has with so many lines in its closing.
+/// How many growths an annotation has with `times` lines in its closing.
 fn growths(alloc: Global, times: usize) -> u64 {
     let heap = Scarce::new(alloc);
     let _ = annotated(&heap, alloc, Cuts::of_steps(7, 7), times);

@@ -24,10 +24,10 @@ use tests_devices::{CutSink, CutSource, Cuts};
 pub struct Ran {
     pub status: u8,
     pub taken: Vec<u8, Global>,
-    pub told: Vec<u8, Global>,
+    pub errors_taken: Vec<u8, Global>,
 }
 
-/// Nothing has this name.
+/// There is no file of this name.
 fn missing() -> OpenRefusal
     ensures { IsByItsReason result }
 {
@@ -112,7 +112,7 @@ impl Input for CutInput<'_> {
     }
 }
 
-/// A sink that cuts and fails, and does not say why.
+/// A sink that cuts and fails, without a reason.
 #[derive(Drop)]
 struct CutOutput {
     sink: CutSink,
@@ -157,7 +157,7 @@ pub fn run<R: Threads + Wait + Clock + Sync>(
     Ran {
         status,
         taken: sink.sink.taken,
-        told: errors.taken,
+        errors_taken: errors.taken,
     }
 }
 
@@ -204,7 +204,7 @@ pub fn run_in_memory<R: Threads + Wait + Clock + Sync>(
     file: &NamedText<'_>,
 ) -> Ran {
     let mut taken = Vec::new(alloc);
-    let mut told = Vec::new(alloc);
+    let mut errors_taken = Vec::new(alloc);
     let mut shown = Vec::new(alloc);
     let mut source = FileInput::new(
         alloc,
@@ -214,7 +214,7 @@ pub fn run_in_memory<R: Threads + Wait + Clock + Sync>(
         Progress::new(&mut shown, false),
     );
     let mut sink = WriteSink::new(&mut taken);
-    let mut errors = WriteSink::new(&mut told);
+    let mut errors = WriteSink::new(&mut errors_taken);
     let status = program(rt, alloc, words, &mut source, &mut sink, &mut errors);
     drop(source);
     drop(sink);
@@ -222,6 +222,6 @@ pub fn run_in_memory<R: Threads + Wait + Clock + Sync>(
     Ran {
         status,
         taken,
-        told,
+        errors_taken,
     }
 }

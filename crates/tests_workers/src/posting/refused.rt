@@ -37,7 +37,7 @@ fn is_whole(back: &PieceReport<&Scarce<Global>>, id: u32) -> bool {
         && back.findings.as_slice() == [FINDING].as_slice()
 }
 
-/// The report of this id that came back for want of memory, if one did.
+/// The report of this id that came back because memory was refused, if one did.
 fn back_for_memory<'a, R: Abort>(
     rt: &R,
     answer: Result<(), (PieceReport<&'a Scarce<Global>>, Fault)>,
@@ -52,7 +52,7 @@ fn back_for_memory<'a, R: Abort>(
     }
 }
 
-/// Posts a report, with one growth refused after so many. Answers what came back, and whether one was refused.
+/// Posts a report, with one growth refused after `good`. Returns what came back, and whether one was refused.
 fn post_with<'a, R: Wait + Abort, L: Ledgers>(
     rt: &R,
     heap: &'a Scarce<Global>,
@@ -69,7 +69,7 @@ fn post_with<'a, R: Wait + Abort, L: Ledgers>(
     (back_for_memory(rt, answer, id), refused)
 }
 
-/// Posts a report, with one growth refused after so many. Answers what came back: where none did, no growth was refused,
+/// Posts a report, with one growth refused after `good`. Returns what came back: where none did, no growth was refused,
 /// and else the share has what it had, and a look sees all that it had.
 fn post_refused<'a, R: Wait + Abort, L: Ledgers>(
     rt: &R,
@@ -89,7 +89,8 @@ fn post_refused<'a, R: Wait + Abort, L: Ledgers>(
     back
 }
 
-/// Posts a report again and again, with each growth refused in turn, until it is taken. Answers how often it came back.
+/// Posts a report again and again, with each growth refused in turn, until it is accepted. Returns how often it came
+/// back.
 fn post_until_taken<'a, R: Wait + Abort, L: Ledgers>(
     rt: &R,
     heap: &'a Scarce<Global>,
@@ -107,7 +108,7 @@ fn post_until_taken<'a, R: Wait + Abort, L: Ledgers>(
     GROWTHS
 }
 
-/// Posts the report of an id, which comes back for each growth of its post. Answers how often it came back.
+/// Posts the report of an id, which comes back for each growth of its post. Returns how often it came back.
 fn post_id<'a, R: Wait + Abort, L: Ledgers>(
     rt: &R,
     heap: &'a Scarce<Global>,
@@ -127,7 +128,7 @@ fn post_id<'a, R: Wait + Abort, L: Ledgers>(
     Ok(came_back)
 }
 
-/// Posts all reports. Answers how often one came back.
+/// Posts all reports. Returns how often one came back.
 fn post_each<'a, R: Wait + Abort, L: Ledgers>(
     rt: &R,
     heap: &'a Scarce<Global>,
@@ -196,7 +197,7 @@ fn play<R: Wait + Abort>(rt: &R, heap: &Scarce<Global>) -> Result<(), Fail> {
 }
 
 #[test]
-fn a_post_that_wants_memory_gives_its_report_back(rt: HostRuntime) -> Result<(), Fail> {
+fn a_post_out_of_memory_gives_its_report_back(rt: HostRuntime) -> Result<(), Fail> {
     let heap = Scarce::new(rt.alloc());
     play(&rt, &heap)?;
     assert_eq!(rt; heap.held(), 0);

@@ -9,9 +9,9 @@ use std::test::Fail;
 /// What a share does.
 #[derive(Clone, Copy)]
 pub(super) enum Step {
-    /// The reports of these pieces are taken, each with one finding and no octets.
+    /// The reports of these pieces are accepted, each with one finding and no octets.
     PostsEach(&'static [u32]),
-    /// A report is taken.
+    /// A report is accepted.
     Posts(Post),
     /// A report comes back, since one of its id was posted.
     PostsAgain(Post),
@@ -36,7 +36,7 @@ pub(super) struct Scenario {
     pub(super) in_any_order: bool,
 }
 
-/// The totals of the report that was taken.
+/// The totals of the report that was accepted.
 const ONCE: Totals = Totals {
     posts: 1,
     findings: 1,
@@ -44,7 +44,7 @@ const ONCE: Totals = Totals {
     segments: 2,
 };
 
-/// A report that is taken, and one of its id that comes back.
+/// A report that is accepted, and one of its id that comes back.
 const POSTED_TWICE: Scenario = Scenario {
     rounds: &[Round {
         first: &[

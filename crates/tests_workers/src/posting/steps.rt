@@ -2,7 +2,6 @@
 
 ghost use Rattle.std.specs.Prelude.{◌≡◌};
 
-use crate::pieces::sees_all;
 use crate::posting::scenarios::{Round, Scenario, Step};
 use crate::posting::{Post, report, totals_are, two_shares};
 use line_model::fault::Fault;
@@ -16,8 +15,9 @@ use std::sync::Wait;
 use std::test::Fail;
 use std::thread;
 use std::thread::Threads;
+use tests_devices::totals::sees_all;
 
-/// Posts a report, and looks. No number that is seen is below that of the share.
+/// Posts a report, and looks at the totals. No number that is seen is below that of the share.
 fn post_one<R: Wait + Abort, L: Ledgers>(
     rt: &R,
     locked_posts: &LockedPosts<Brand, L>,
@@ -89,7 +89,7 @@ fn take_step<R: Wait + Abort, L: Ledgers>(
     Ok(())
 }
 
-/// Takes steps by a share, one behind the other.
+/// Takes steps by a share, one after the other.
 fn take_steps<R: Wait + Abort, L: Ledgers>(
     rt: &R,
     alloc: Global,

@@ -75,10 +75,10 @@ fn of_one<R: Threads + Wait + Clock + Sync>(rt: &R, batch: Batch) -> Option<(u64
     ))
 }
 
-/// An epoch, and so many pieces of it, each of so many rows.
+/// An epoch, how many pieces of it there are, and how many rows each of them has.
 type Run = (u32, u32, u16);
 
-/// Appends the next piece, of an epoch with so many rows.
+/// Appends the next piece, of an epoch with `rows` rows.
 fn add_piece(alloc: Global, pieces: &mut Vec<Piece>, epoch: u32, rows: u16) -> Result<(), Fail>
     ensures { ArePlanned None 0 pieces.old.items → OnOk result (ArePlanned None 0 pieces.new.items) }
 {
@@ -111,7 +111,7 @@ fn pieces_of(alloc: Global, runs: &[Run]) -> Result<Vec<Piece>, Fail>
     Ok(pieces)
 }
 
-/// What a worker took: how many pieces, in how many bundles, and whether they came in the order of their ids and no
+/// What a worker received: how many pieces, in how many bundles, and whether they came in the order of their ids and no
 /// bundle of two pieces or more had over 500 rows.
 #[derive(Clone, Copy, PartialEq, Debug)]
 struct Seen {
@@ -159,7 +159,7 @@ fn take_all<R: Wait>(rt: &R, work: &Work<Brand>, mut pass: WorkerPass) -> Seen
     unreachable!()
 }
 
-/// What one worker takes of a list that was fed at once.
+/// What one worker receives of a list that was fed at once.
 fn taken_of<R: Wait + Clock>(rt: &R, alloc: Global, runs: &[Run]) -> Result<Seen, Fail> {
     let (work, mut feeder) = Work::<Brand>::new(alloc, 1024)?;
     let pass = work.split(&mut feeder);

@@ -16,7 +16,7 @@ use std::thread::Threads;
 use std::time::Clock;
 use workers::{Crew, Gate, Gathered, work_through};
 
-/// Runs pieces without rows. It helps so many times, and counts how often it is asked to.
+/// Runs pieces without rows. It helps `times` times, and counts how often it is asked to.
 #[derive(Drop)]
 struct Helping {
     times: u64,
@@ -55,7 +55,7 @@ fn has_each_once(gathered: &Gathered<Global, BundleReport>) -> bool {
     gathered.totals.posts == PIECES as u64
 }
 
-/// Has so many workers run the twelve pieces by a gate that helps so many times. A worker asks before each piece and
+/// Has `workers` workers run the twelve pieces by a gate that helps `times` times. A worker asks before each piece and
 /// before its end.
 fn check_helping<R: Threads + Wait + Clock + Sync + Abort>(
     rt: &R,

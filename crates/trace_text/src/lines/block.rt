@@ -5,7 +5,7 @@ ghost use Rattle.line_model.specs.basics.Records as records;
 ghost use Rattle.line_model.specs.declared.interface.Interface.{Interface as AnyInterface};
 ghost use Rattle.line_model.specs.text.Text.{early_rows};
 ghost use Rattle.trace_text.specs.Blocks.{HasPassed, IsAtRows, IsBlock, IsHeading, IsSpanOf, first_number, may_pass};
-ghost use Rattle.trace_text.specs.StandsFor.{StandsFor};
+ghost use Rattle.trace_text.specs.Represents.{Represents};
 
 use crate::lines::{Lines, TEXT_LIMIT};
 use line_model::interface::Interface;
@@ -31,7 +31,7 @@ pub struct BlockSpan {
 }
 
 impl<A: Allocator> Lines<A> {
-    /// A reader that has read a header of this interface, and no row. It takes no memory.
+    /// Returns a reader that has read a header of this interface, and no row. It needs no memory.
     pub fn at_rows(alloc: A, interface: &Interface) -> Self
         ensures { IsAtRows interface.now result }
     {
@@ -45,11 +45,11 @@ impl<A: Allocator> Lines<A> {
         }
     }
 
-    /// What was read since `at_rows`, as a block whose first row has this number, or 0 where it has no row. `None`: a line
-    /// is begun.
+    /// Returns what was read since `at_rows`, as a block whose first row has this number, or 0 where it has no row.
+    /// `None` where a line is begun.
     pub fn end_block(&self, first: u32) -> Option<BlockSpan>
         ensures span { (i : AnyInterface) (heading : List ℕ) (block : List ℕ) → IsHeading i heading
-            → StandsFor self.now (heading ++ block)
+            → Represents self.now (heading ++ block)
             → first ≡ first_number (early_rows (heading ++ block))
             → IfSome result (λ span. IsBlock i block (early_rows (heading ++ block))
             × IsSpanOf block (early_rows (heading ++ block)) span) }
@@ -66,7 +66,7 @@ impl<A: Allocator> Lines<A> {
         })
     }
 
-    /// Whether it may go past a block.
+    /// Returns whether it may pass a block.
     fn may_pass(&self, span: &BlockSpan) -> bool
         ensures { result ≡ may_pass self.now span.now }
     {
@@ -77,15 +77,15 @@ impl<A: Allocator> Lines<A> {
         follows && span.lines <= span.bytes && span.bytes <= TEXT_LIMIT - self.start
     }
 
-    /// Goes past a block that was read elsewhere, and says whether it did. It does where no line is begun, the numbers of
-    /// the rows rise, and the text has room for the block. Else nothing has changed, and the block is to be read here.
+    /// Passes a block that was read elsewhere, and returns whether it did: where no line is begun, the numbers of the
+    /// rows rise, and the text has room for the block. Otherwise nothing has changed, and the block is to be fed.
     pub fn pass_block(&mut self, span: &BlockSpan) -> bool
-        // Of any text that it stands for, and any block with these rows: it stands for the text with the block.
+        // Of any text that it represents, and any block with these rows: it represents the text with the block.
         ensures passed { (i : AnyInterface) (text : List ℕ) (block : List ℕ) (rows : List records.Row)
-            → result ≡ true → StandsFor self.old text → self.old.interface ≡ Some i
+            → result ≡ true → Represents self.old text → self.old.interface ≡ Some i
             → IsBlock i block rows → IsSpanOf block rows span.now
             → HasPassed self.old self.new text block rows }
-        ensures told { result ≡ may_pass self.old span.now }
+        ensures shown { result ≡ may_pass self.old span.now }
         ensures same { result ≡ false → self.new ≡ self.old }
     {
         if !self.may_pass(span) {

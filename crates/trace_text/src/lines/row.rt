@@ -4,7 +4,7 @@ ghost use Rattle.std.specs.Prelude.{◌≡◌, [], None, true, false, length};
 ghost use Rattle.hex.specs.Hex.{IsBytes};
 ghost use Rattle.line_model.specs.basics.Records as records;
 ghost use Rattle.trace_text.specs.RowTexts.{row_text};
-ghost use Rattle.trace_text.specs.StandsFor.{TakesRow};
+ghost use Rattle.trace_text.specs.Represents.{TakesRow};
 
 use crate::lines::{Lines, size_fault};
 use crate::number::{LARGEST_NUMBER, digit_count};
@@ -12,8 +12,8 @@ use crate::row_line::OCTET_LIMIT;
 use std::alloc::Allocator;
 
 impl<A: Allocator> Lines<A> {
-    /// Fast path: goes past the line that writes a row of so many octets, 1 to 4,200, as if it was read. `false`: nothing
-    /// has changed, and the line is to be fed.
+    /// Fast path: passes the line of a row of `octets` octets, 1 to 4,200, as if it was read. Returns `false` where it
+    /// does not; nothing has changed then, and the line is to be fed.
     #[inline(always)]
     pub fn pass_row(&mut self, number: u32, octets: usize) -> bool
         ensures passed { (row : records.Row) → row.gap ≡ None → row.number ≡ number

@@ -1,5 +1,5 @@
 use Rattle.std.proofs.Common.{subst, true}
-use Rattle.annotated_trace.specs.Marking.{IsToldRightly}
+use Rattle.annotated_trace.specs.Marking.{IsPickedRightly}
 use Rattle.annotated_trace.proofs.CommentLemmas.{notes_and_marks}
 use Rattle.annotated_trace.proofs.commenting.append_comments.Goals as goal
 use Rattle.trace_text.proofs.FeedLemmas.{on_ok}
@@ -8,7 +8,7 @@ pub returns-in_ok-append_to-in-true-default-clause-comments : goal.returns-in_ok
 returns-in_ok-append_to-in-true-default-clause-comments g c before line text d rows s lines =
     on_ok c.append_marks.result _ _ c.append_marks.ensures.marks (λ h. (
       true,
-      subst (λ choice. IsToldRightly choice before line true) rows
-          (subst (IsToldRightly (g.D.Describer.rows c.args.describer.now) before line) c.in-true-default.is-0 (c.in_ok-told.ensures.told before line text d s lines)),
-      notes_and_marks c.args.choice _ c.args.out.now.items c.append_to.new.out.items c.append_marks.new.out.items _ c.in_ok-append_to-in-true-default.ensures.ok c.append_to.ensures.notes (c.in_ok-told.ensures.said c.in-true-default.is-0) h,
+      subst (λ choice. IsPickedRightly choice before line true) rows
+          (subst (IsPickedRightly (g.D.Describer.rows c.args.describer.now) before line) c.in-true-default.is-0 (c.in_ok-picked.ensures.picked before line text d s lines)),
+      notes_and_marks c.args.choice _ c.args.out.now.items c.append_to.new.out.items c.append_marks.new.out.items _ c.in_ok-append_to-in-true-default.ensures.ok c.append_to.ensures.notes (c.in_ok-picked.ensures.said c.in-true-default.is-0) h,
     ))

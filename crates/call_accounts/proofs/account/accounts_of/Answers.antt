@@ -3,7 +3,7 @@ use Rattle.std.specs.Prelude.{IfErr}
 use Rattle.std.proofs.lemmas.Result.{IfOk-from_err, err_from_is_err_and}
 use Rattle.std.proofs.Common.{◌∙◌, ap, sum_by, arith, ◌≡◌, sym, subst}
 use Rattle.std.proofs.lemmas.List.Sorted.{sum_by-IsPermutation}
-use Rattle.call_accounts.specs.declared.account.Entry.{Entry}
+use Rattle.call_accounts.specs.declared.account.AccountEntry.{AccountEntry}
 use Rattle.call_accounts.specs.Entries.{summed}
 use Rattle.call_accounts.proofs.AccountLemmas.{summed-accounts, segments-entries}
 use Rattle.call_accounts.proofs.account.accounts_of.Goals as goal
@@ -12,8 +12,8 @@ pub added_up-requires : goal.added_up-requires
 added_up-requires g c =
     let own = c.in_ok-entries.ensures in
     let segments =
-    ap (sum_by (λ (e : Entry). e.segments)) c.deref.ensures.value
-    ∙ sum_by-IsPermutation (λ (e : Entry). e.segments) _ _ c.by_address-entries.ensures.permutation
+    ap (sum_by (λ (e : AccountEntry). e.segments)) c.deref.ensures.value
+    ∙ sum_by-IsPermutation (λ (e : AccountEntry). e.segments) _ _ c.by_address-entries.ensures.permutation
     ∙ segments-entries c.args.calls.now c.in_ok-entries.field-0.items own.entries in
     record { few_segments = omega (arith, segments, c.requires.few_segments) }
 

@@ -1,7 +1,7 @@
 use Rattle.std.proofs.Common.{◌≡◌, ◌∙◌, ap, map}
 use Rattle.std.proofs.lemmas.List.{take_all}
 use Rattle.std.proofs.lemmas.Result.{IfOk-from_err}
-use Rattle.call_accounts.specs.declared.account.Entry.{Entry}
+use Rattle.call_accounts.specs.declared.account.AccountEntry.{AccountEntry}
 use Rattle.call_accounts.specs.Entries.{IsRanked, account_of_call, account_of_entry}
 use Rattle.call_accounts.proofs.EntryLemmas.{all_more, entries_more}
 use Rattle.call_accounts.proofs.account.entries.Goals as goal
@@ -27,7 +27,7 @@ returns-in_err-push-clause-ranked g c = IfOk-from_err _ _ c.from_residual-in_err
 pub loop-call-preserved : goal.loop-call-preserved
 loop-call-preserved g c =
     let call = c.call-item.result in
-    let own : Entry = record { rank = c.rank.result; address = c.copied.result; segments = c.call.inside.segments } in
+    let own : AccountEntry = record { rank = c.rank.result; address = c.copied.result; segments = c.call.inside.segments } in
     let paid = c.copied.ensures ∙ c.payer-address.ensures in
     let same : account_of_entry own ≡ account_of_call call = λ j. record { address = paid j; calls = 1; segments = ap (λ r. r.segments) c.call.view_is j } in
     record {

@@ -1,7 +1,7 @@
 use Rattle.std.proofs.Common.{◌≡◌, ◌∙◌, ◌++◌, ap, arith, false}
 use Rattle.std.specs.Prelude.{map, flat_map}
 use Rattle.pad.specs.Effects.{asked_one}
-use Rattle.pad.specs.Told.{set_events, set_events_by}
+use Rattle.pad.specs.MessageEvents.{set_events, set_events_by}
 use Rattle.channel_machine.specs.Events.{event_at}
 use Rattle.channel_machine.proofs.PairCounts.{few_pairs}
 use Rattle.channel_machine.proofs.Settings.{asked_all}

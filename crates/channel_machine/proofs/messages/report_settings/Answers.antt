@@ -1,6 +1,6 @@
 use Rattle.std.proofs.Common.{◌++◌, ◌∙◌, sym, ap, arith, true}
 use Rattle.std.specs.Prelude.{map}
-use Rattle.pad.specs.Told.{set_events}
+use Rattle.pad.specs.MessageEvents.{set_events}
 use Rattle.channel_machine.specs.Events.{event_at}
 use Rattle.channel_machine.proofs.PairCounts.{few_pairs}
 use Rattle.channel_machine.proofs.Settings.{indicated_all}

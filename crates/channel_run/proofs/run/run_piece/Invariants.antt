@@ -1,9 +1,9 @@
 use Rattle.std.proofs.Common.{◌≡◌, ◌++◌}
-use Rattle.channel_run.specs.Live.{StandsFor}
+use Rattle.channel_run.specs.Live.{Represents}
 use Rattle.channel_run.proofs.run.run_piece.Given as goal
 
 abbrev pub invariant-loop-item : goal.invariant-loop-item
 invariant-loop-item g l = record {
-  stands : StandsFor g.C.Channel.interface_of g.C.Channel.number_of g.C.Channel.stands_for l.live (record l.piece { items = l.yielded });
+  stands : Represents g.C.Channel.interface_of g.C.Channel.number_of g.C.Channel.represents l.live (record l.piece { items = l.yielded });
   left : l.piece.items ≡ l.yielded ++ l.item-iterator;
 }

@@ -4,22 +4,21 @@ use Rattle.std.specs.Prelude.{OnOk, IfErr}
 use Rattle.line_model.specs.basics.Device.{with_more}
 use Rattle.json_lines.specs.Json.{json_text}
 use Rattle.command_line.specs.Program.{IsReportStatus, lag_by}
-use Rattle.command_line.proofs.JsonLemmas.{none_failed, reported_json, scanned_afresh, told_back}
+use Rattle.command_line.proofs.JsonLemmas.{none_failed, reported_json, scanned_afresh, given_back}
 use Rattle.command_line.proofs.StatusLemmas.{other_any}
 use Rattle.command_line.proofs.json.scan_to.Goals as goal
 
-pub returns-in-Ok-clause-told : goal.returns-in-Ok-clause-told
-returns-in-Ok-clause-told g c text told =
-    let taken = c.scan-scanned.new.sink.lines.told.bytes in
+pub returns-in-Ok-clause-shown : goal.returns-in-Ok-clause-shown
+returns-in-Ok-clause-shown g c text shown =
+    let taken = c.scan-scanned.new.sink.lines.given.bytes in
     let failures = length c.scan-scanned.new.sink.lines.refused.bytes in
     let back = c.give_back in
-    told_back (lag_by c.args.options.alone) c.args.options.follow text _ _ _ (g.K.Sink.taken c.finish-lent.result.0.sink.now) _ (g.K.Sink.failures c.finish-lent.result.0.sink.now) _ _ _ back.ensures.taken back.ensures.failures
+    given_back (lag_by c.args.options.alone) c.args.options.follow text _ _ _ (g.K.Sink.taken c.finish-lent.result.0.sink.now) _ (g.K.Sink.failures c.finish-lent.result.0.sink.now) _ _ _ back.ensures.taken back.ensures.failures
     (record {
-      told = taken;
+      given = taken;
       failures = failures;
       plain = c.scan-scanned.result;
-      scanned = scanned_afresh (lag_by c.args.options.alone) c.args.options.follow text _ _ _ _ _ failures c.scan-scanned.result c.new-json.ensures.taken c.new-json.ensures.failures
-          (λ plain. c.scan-scanned.ensures.status plain text told) (λ follow. c.scan-scanned.ensures.followed follow text told);
+      scanned = scanned_afresh (lag_by c.args.options.alone) c.args.options.follow text _ _ _ _ _ failures c.scan-scanned.result c.new-json.ensures.taken c.new-json.ensures.failures (c.scan-scanned.ensures.status text shown);
       objects = inl (
         none_failed failures c.finish-lent.result.1 _ c.in-Ok.is c.finish-lent.ensures.refused,
         refl,
@@ -27,43 +26,41 @@ returns-in-Ok-clause-told g c text told =
       );
     })
 
-pub returns-in-Err-clause-told : goal.returns-in-Err-clause-told
-returns-in-Err-clause-told g c text told =
-    let taken = c.scan-scanned.new.sink.lines.told.bytes in
+pub returns-in-Err-clause-shown : goal.returns-in-Err-clause-shown
+returns-in-Err-clause-shown g c text shown =
+    let taken = c.scan-scanned.new.sink.lines.given.bytes in
     let failures = length c.scan-scanned.new.sink.lines.refused.bytes in
     let part = c.finish-lent.ensures.part taken refl in
     let failed = subst (λ r. IfErr r (λ fault. (fault ≡ Write) × (g.B.Origin.before.1 < g.K.Sink.failures c.finish-lent.result.0.sink.now))) c.in-Err.is c.finish-lent.ensures.failed in
     let back = c.give_back-in-Err in
-    told_back (lag_by c.args.options.alone) c.args.options.follow text _ _ _ (g.K.Sink.taken c.finish-lent.result.0.sink.now) _ (g.K.Sink.failures c.finish-lent.result.0.sink.now) _ _ _ back.ensures.taken back.ensures.failures
+    given_back (lag_by c.args.options.alone) c.args.options.follow text _ _ _ (g.K.Sink.taken c.finish-lent.result.0.sink.now) _ (g.K.Sink.failures c.finish-lent.result.0.sink.now) _ _ _ back.ensures.taken back.ensures.failures
     (record {
-      told = taken;
+      given = taken;
       failures = failures;
       plain = c.scan-scanned.result;
-      scanned = scanned_afresh (lag_by c.args.options.alone) c.args.options.follow text _ _ _ _ _ failures c.scan-scanned.result c.new-json.ensures.taken c.new-json.ensures.failures
-          (λ plain. c.scan-scanned.ensures.status plain text told) (λ follow. c.scan-scanned.ensures.followed follow text told);
+      scanned = scanned_afresh (lag_by c.args.options.alone) c.args.options.follow text _ _ _ _ _ failures c.scan-scanned.result c.new-json.ensures.taken c.new-json.ensures.failures (c.scan-scanned.ensures.status text shown);
       objects = inr (c.if-scanned-eq-OTHER_FAULT.true, (λ well. omega (arith, failed.1, well)), record { front = part.0; rest = part.1; whole = part.2; taken = part.3 });
     })
 
-pub returns-in-Err-2-clause-told : goal.returns-in-Err-2-clause-told
-returns-in-Err-2-clause-told g c text told =
-    let taken = c.scan-scanned.new.sink.lines.told.bytes in
+pub returns-in-Err-2-clause-shown : goal.returns-in-Err-2-clause-shown
+returns-in-Err-2-clause-shown g c text shown =
+    let taken = c.scan-scanned.new.sink.lines.given.bytes in
     let failures = length c.scan-scanned.new.sink.lines.refused.bytes in
     let part = c.finish-lent.ensures.part taken refl in
     let failed = subst (λ r. IfErr r (λ fault. (fault ≡ Write) × (g.B.Origin.before.1 < g.K.Sink.failures c.finish-lent.result.0.sink.now))) c.in-Err-2.is c.finish-lent.ensures.failed in
     let back = c.give_back-in-Err-2 in
-    told_back (lag_by c.args.options.alone) c.args.options.follow text _ _ _ (g.K.Sink.taken c.finish-lent.result.0.sink.now) _ (g.K.Sink.failures c.finish-lent.result.0.sink.now) _ _ _ back.ensures.taken back.ensures.failures
+    given_back (lag_by c.args.options.alone) c.args.options.follow text _ _ _ (g.K.Sink.taken c.finish-lent.result.0.sink.now) _ (g.K.Sink.failures c.finish-lent.result.0.sink.now) _ _ _ back.ensures.taken back.ensures.failures
     (record {
-      told = taken;
+      given = taken;
       failures = failures;
       plain = c.scan-scanned.result;
-      scanned = scanned_afresh (lag_by c.args.options.alone) c.args.options.follow text _ _ _ _ _ failures c.scan-scanned.result c.new-json.ensures.taken c.new-json.ensures.failures
-          (λ plain. c.scan-scanned.ensures.status plain text told) (λ follow. c.scan-scanned.ensures.followed follow text told);
+      scanned = scanned_afresh (lag_by c.args.options.alone) c.args.options.follow text _ _ _ _ _ failures c.scan-scanned.result c.new-json.ensures.taken c.new-json.ensures.failures (c.scan-scanned.ensures.status text shown);
       objects = inr (c.refuse_write-status.ensures, (λ well. omega (arith, failed.1, well)), record { front = part.0; rest = part.1; whole = part.2; taken = part.3 });
     })
 
 pub returns-in-Ok-clause-reported : goal.returns-in-Ok-clause-reported
 returns-in-Ok-clause-reported g c =
-    let taken = c.scan-scanned.new.sink.lines.told.bytes in
+    let taken = c.scan-scanned.new.sink.lines.given.bytes in
     reported_json taken g.B.Origin.before.0 (g.K.Sink.taken c.give_back.result.now) c.scan-scanned.result
     (subst (λ b. IsReportStatus false b (Some taken) c.scan-scanned.result) c.new-json.ensures.taken c.scan-scanned.ensures.reported)
     (c.give_back.ensures.taken ∙ subst (λ r. OnOk r (g.K.Sink.taken c.finish-lent.result.0.sink.now ≡ with_more g.B.Origin.before.0 (json_text taken))) c.in-Ok.is (c.finish-lent.ensures.ok taken refl))

@@ -5,5 +5,5 @@ use Rattle.command_line.proofs.options.command.Goals as goal
 
 pub returns : goal.returns
 returns c =
-    IfOk-weaker c.with_asking.result _ _ (λ told added. added
+    IfOk-weaker c.with_asking.result _ _ (λ shown added. added
     ∙ ap with_asking (c.in_ok-writing.ensures ∙ ap with_writing (c.in_ok-scanning.ensures ∙ ap with_scanning c.plain.ensures))) c.with_asking.ensures

@@ -16,21 +16,21 @@ is_plain = refl
 
 pub returns-in-Ok-clause-kinds : goal.returns-in-Ok-clause-kinds
 returns-in-Ok-clause-kinds c =
-    let told : app_of c.in_ok-command.command ≡ command = c.in_ok-command.ensures in
-    sym (ap (λ app. fault_of app (map (λ word. word.now) c.args.words.now)) told) ∙ c.in-Ok.ensures.kinds (ap is_simple_and_free told ∙ is_free)
+    let command_is : app_of c.in_ok-command.command ≡ command = c.in_ok-command.ensures in
+    sym (ap (λ app. fault_of app (map (λ word. word.now) c.args.words.now)) command_is) ∙ c.in-Ok.ensures.kinds (ap is_simple_and_free command_is ∙ is_free)
 
 pub returns-in-Err-clause-kinds : goal.returns-in-Err-clause-kinds
 returns-in-Err-clause-kinds c =
-    let told : app_of c.in_ok-command.command ≡ command = c.in_ok-command.ensures in
-    subst (λ app. HasKind (fault_of app (map (λ word. word.now) c.args.words.now)) c.in-Err.error) told (c.in-Err.ensures.kinds (ap is_simple_and_free told ∙ is_free))
+    let command_is : app_of c.in_ok-command.command ≡ command = c.in_ok-command.ensures in
+    subst (λ app. HasKind (fault_of app (map (λ word. word.now) c.args.words.now)) c.in-Err.error) command_is (c.in-Err.ensures.kinds (ap is_simple_and_free command_is ∙ is_free))
 
 -- the first value of an argument is that of the words
 value_of : (c : Joined-matches) → (id : List ℕ) → first_value (found_of c.in-Ok.matches) id ≡ first_of id (matches_of command (map (λ word. word.now) c.args.words.now))
 value_of c id =
-    let told : app_of c.in_ok-command.command ≡ command = c.in_ok-command.ensures in
-    let rows = (c.in-Ok.ensures.matches (ap is_simple told ∙ is_plain)).0 in
+    let command_is : app_of c.in_ok-command.command ≡ command = c.in_ok-command.ensures in
+    let rows = (c.in-Ok.ensures.matches (ap is_simple command_is ∙ is_plain)).0 in
     first_value-rows (found_of c.in-Ok.matches) id
-    ∙ ap (first_of id) (rows ∙ ap (λ app. matches_of app (map (λ word. word.now) c.args.words.now)) told)
+    ∙ ap (first_of id) (rows ∙ ap (λ app. matches_of app (map (λ word. word.now) c.args.words.now)) command_is)
 
 pub returns-in-Ok-clause-workers : goal.returns-in-Ok-clause-workers
 returns-in-Ok-clause-workers c = subst (λ asked. HasWorkers asked c.options_in.result.workers) (value_of c (codes "workers")) c.options_in.ensures.workers

@@ -5,7 +5,7 @@ use Rattle.command_line.proofs.options.with_writing.Goals as goal
 
 pub returns : goal.returns
 returns c =
-    IfOk-weaker c.arg-7.result _ _ (λ told added. added.shape c.flag-5.ensures.local
+    IfOk-weaker c.arg-7.result _ _ (λ shown added. added.shape c.flag-5.ensures.local
     ∙ ap₂ with_rule (c.in_ok-arg-6.ensures.shape c.call.ensures.local
     ∙ ap₂ with_rule (c.in_ok-arg-5.ensures.shape c.channel.ensures.local
     ∙ ap₂ with_rule (c.in_ok-arg-4.ensures.shape c.flag-4.ensures.local

@@ -9,21 +9,21 @@ use Rattle.command_line.specs.Explaining.{IsAnswered}
 use Rattle.command_line.specs.Notes.{notes_refused, refused_in, refuses_notes}
 use Rattle.command_line.specs.Options.{AreAskedRows, AreRowsBy, annotates, annotates_by, as_json, command, follows, lists_calls, named_trace, prints_rows}
 use Rattle.command_line.specs.Printing.{IsPrintAnswer, is_refused, printing_of, table_form, table_of}
-use Rattle.command_line.specs.declared.options.Form.TheVariants.{Comments, Objects}
+use Rattle.command_line.specs.declared.options.OutputForm.TheVariants.{Comments, Objects}
 use Rattle.command_line.specs.declared.options.Printing.{Printing}
 use Rattle.command_line.specs.Trying.{IsTryAnswer, cannot_try}
 use Rattle.command_line.proofs.FaultLemmas.{says_of}
 use Rattle.command_line.proofs.TryLemmas.{annotating}
-use Rattle.command_line.specs.Program.{IsReportStatus, IsTold, IsUnread, lag_by, trace_of}
+use Rattle.command_line.specs.Program.{IsReportStatus, IsStatusOf, IsUnread, lag_by, trace_of}
 use Rattle.command_line.proofs.program.program.Given.{Over}
 use Rattle.command_line.proofs.program.program.Goals as goal
 
--- what is told of a trace of this name
-Tells : (g : Over) → (c : goal.After-run g) → (is_alone json followed : Bool) → (name : Option (List ℕ)) → Type 0
-Tells g c is_alone json followed name =
+-- what is printed of a trace of this name
+StatusOfNamed : (g : Over) → (c : goal.After-run g) → (is_alone json followed : Bool) → (name : Option (List ℕ)) → Type 0
+StatusOfNamed g c is_alone json followed name =
     IsUnread c.args.source.now c.run.new.source c.args.sink.now c.run.new.sink c.run.result
     ⊎ ((text : List ℕ) → trace_of name (g.S.Source.left c.args.source.now) (g.S.Input.named c.args.source.now) ≡ Some text →
-    IsTold (lag_by is_alone) json followed text (g.S.Source.left c.run.new.source) (g.S.Source.before c.run.new.source) (g.K.Sink.taken c.args.sink.now) (g.K.Sink.taken c.run.new.sink)
+    IsStatusOf (lag_by is_alone) json followed text (g.S.Source.left c.run.new.source) (g.S.Source.before c.run.new.source) (g.K.Sink.taken c.args.sink.now) (g.K.Sink.taken c.run.new.sink)
     (g.K.Sink.failures c.run.new.sink ≡ g.K.Sink.failures c.args.sink.now) c.run.result)
 
 -- what the options say of an annotation
@@ -57,11 +57,11 @@ none_named flag (Some channel) call h = absurd (true≢false h)
 as_objects : (words : List (List ℕ)) (calls json objects : Bool) (asked : Option Rows) (P : Printing → Type 0) → calls ≡ false → AsksFor words asked → objects ≡ true → IfSome (printing_of (table_of calls json) objects asked) P
     → (rows : Rows) × AreAskedRows words rows × P (record { form = Objects; rows = rows })
 unfolding AsksFor
-as_objects words false json true None P unlisted h told p =
+as_objects words false json true None P unlisted h shown p =
     (All, none_named (first_of (codes "annotate") (matches_of command words)) (first_of (codes "channel") (matches_of command words)) (first_of (codes "call") (matches_of command words)) h, p)
-as_objects words false json true (Some rows) P unlisted h told p = (rows, h.1, p)
-as_objects words false json false asked P unlisted h told p = absurd (true≢false (sym told))
-as_objects words true json objects asked P unlisted h told p = absurd (true≢false unlisted)
+as_objects words false json true (Some rows) P unlisted h shown p = (rows, h.1, p)
+as_objects words false json false asked P unlisted h shown p = absurd (true≢false (sym shown))
+as_objects words true json objects asked P unlisted h shown p = absurd (true≢false unlisted)
 
 -- what the table of calls can't be asked for with
 table_refusal : (json comments others : Bool) → is_refused (table_form json) json comments others ≡ others
@@ -81,17 +81,17 @@ same_refusal g c =
     let asked = annotating words c.in-Ok.options.annotate c.in-Ok.ensures.annotate in
     λ t. refuses_notes (c.in-Ok.ensures.notes t) (((c.in-Ok.ensures.rows t || asked t) || c.in-Ok.ensures.calls t) || c.in-Ok.ensures.try_headers t) (c.in-Ok.ensures.crew t) (c.in-Ok.ensures.alone t) (c.in-Ok.ensures.follow t)
 
-pub returns-in-Ok-clause-told : goal.returns-in-Ok-clause-told
-unfolding Tells AsksFor
-returns-in-Ok-clause-told g c right unasked untried unannotated plain unlisted allowed =
+pub returns-in-Ok-clause-shown : goal.returns-in-Ok-clause-shown
+unfolding StatusOfNamed AsksFor
+returns-in-Ok-clause-shown g c right unasked untried unannotated plain unlisted allowed =
     let words : List (List ℕ) = map (λ word. word.now) c.args.words.now in
     let none = none_printed words c.in-Ok.options.calls c.in-Ok.options.json c.in-Ok.options.rows c.in-Ok.options.annotate (c.in-Ok.ensures.calls ∙ unlisted) c.in-Ok.ensures.annotate unannotated (c.in-Ok.ensures.rows ∙ plain) in
-    subst (λ is_alone. Tells g c is_alone (as_json words) (follows words) (named_trace words)) c.in-Ok.ensures.alone
-    (subst (λ json. Tells g c c.in-Ok.options.alone json (follows words) (named_trace words)) c.in-Ok.ensures.json
-    (subst (λ followed. Tells g c c.in-Ok.options.alone c.in-Ok.options.json followed (named_trace words)) c.in-Ok.ensures.follow
-    (subst (λ name. Tells g c c.in-Ok.options.alone c.in-Ok.options.json c.in-Ok.options.follow name) c.in-Ok.ensures.trace (c.run.ensures.told (c.in-Ok.ensures.explain ∙ unasked) (c.in-Ok.ensures.try_headers ∙ untried) (same_refusal g c ∙ allowed) none))))
+    subst (λ is_alone. StatusOfNamed g c is_alone (as_json words) (follows words) (named_trace words)) c.in-Ok.ensures.alone
+    (subst (λ json. StatusOfNamed g c c.in-Ok.options.alone json (follows words) (named_trace words)) c.in-Ok.ensures.json
+    (subst (λ followed. StatusOfNamed g c c.in-Ok.options.alone c.in-Ok.options.json followed (named_trace words)) c.in-Ok.ensures.follow
+    (subst (λ name. StatusOfNamed g c c.in-Ok.options.alone c.in-Ok.options.json c.in-Ok.options.follow name) c.in-Ok.ensures.trace (c.run.ensures.shown (c.in-Ok.ensures.explain ∙ unasked) (c.in-Ok.ensures.try_headers ∙ untried) (same_refusal g c ∙ allowed) none))))
 
--- what is answered where rows of a trace of this name are printed
+-- what is returned where rows of a trace of this name are printed
 Prints : (g : Over) → (c : goal.After-run g) → (refused : Bool) → (name : Option (List ℕ)) → Printing → Type 0
 Prints g c refused name printing =
     IsPrintAnswer refused printing c.args.source.now c.run.new.source c.args.sink.now c.run.new.sink
@@ -130,7 +130,7 @@ returns-in-Ok-clause-calls g c right unasked untried asked allowed =
     (subst (λ refused. Prints g c refused (named_trace words) (table c.in-Ok.options.json)) (refusal ∙ same)
     (subst (λ named. Prints g c (is_refused (table_form c.in-Ok.options.json) c.in-Ok.options.json c.in-Ok.options.comments (cannot_list c.in-Ok.options.follow c.in-Ok.options.rows (is_some c.in-Ok.options.annotate))) named (table c.in-Ok.options.json)) c.in-Ok.ensures.trace of)))
 
--- what is answered where headers are tried on a trace of this name
+-- what is returned where headers are tried on a trace of this name
 Tries : (g : Over) → (c : goal.After-run g) → (refused : Bool) → (name : Option (List ℕ)) → Type 0
 Tries g c refused name =
     IsTryAnswer refused c.args.source.now c.run.new.source c.args.sink.now c.run.new.sink

@@ -5,11 +5,11 @@ use Rattle.command_line.proofs.FaultLemmas.{says_of}
 use Rattle.command_line.proofs.StatusLemmas.{other_any}
 use Rattle.command_line.proofs.program.scan_trace.Goals as goal
 
-pub returns-in-Ok-clause-told : goal.returns-in-Ok-clause-told
-returns-in-Ok-clause-told g c = inr (λ text given. c.scan_in_form.ensures.told text (c.in-Ok.ensures.opened ∙ given))
+pub returns-in-Ok-clause-shown : goal.returns-in-Ok-clause-shown
+returns-in-Ok-clause-shown g c = inr (λ text given. c.scan_in_form.ensures.shown text (c.in-Ok.ensures.opened ∙ given))
 
-pub returns-in-Err-clause-told : goal.returns-in-Err-clause-told
-returns-in-Err-clause-told g c = inl (record { unasked = c.in-Err.ensures.refused; unwritten = refl; other = c.in-Err.ensures.status })
+pub returns-in-Err-clause-shown : goal.returns-in-Err-clause-shown
+returns-in-Err-clause-shown g c = inl (record { unasked = c.in-Err.ensures.refused; unwritten = refl; other = c.in-Err.ensures.status })
 
 pub returns-in-Ok-clause-said : goal.returns-in-Ok-clause-said
 returns-in-Ok-clause-said g c two =

@@ -4,14 +4,14 @@ use Rattle.command_line.proofs.TryLemmas.{refused_try, tried_status}
 use Rattle.command_line.proofs.trying.run_try.Goals as goal
 
 pub returns-in-Ok-clause-status : goal.returns-in-Ok-clause-status
-returns-in-Ok-clause-status g c text told =
+returns-in-Ok-clause-status g c text shown =
     tried_status text (g.S.Source.left c.try_headers.new.source) (g.S.Source.before c.try_headers.new.source) (g.K.Sink.taken c.args.sink.now) (g.K.Sink.taken c.try_headers.new.sink) _ c.in-Ok.findings c.tried_status.result
-    (c.in-Ok.ensures.tried text (c.show_progress.ensures.left ∙ told)) c.tried_status.ensures
+    (c.in-Ok.ensures.tried text (c.show_progress.ensures.left ∙ shown)) c.tried_status.ensures
 
 pub returns-in-Err-clause-status : goal.returns-in-Err-clause-status
-returns-in-Err-clause-status g c text told =
+returns-in-Err-clause-status g c text shown =
     refused_try text (g.S.Source.left c.try_headers.new.source) (g.S.Source.before c.try_headers.new.source) (g.K.Sink.taken c.args.sink.now) (g.K.Sink.taken c.try_headers.new.sink) _ c.in-Err.fault c.refuse_scan.result
-    (c.in-Err.ensures.refused text (c.show_progress.ensures.left ∙ told)) (λ ne. ap g.K.Sink.taken (c.in-Err.ensures.unwritten ne)) (λ e. c.in-Err.ensures.part text (c.show_progress.ensures.left ∙ told) (ap Err e))
+    (c.in-Err.ensures.refused text (c.show_progress.ensures.left ∙ shown)) (λ ne. ap g.K.Sink.taken (c.in-Err.ensures.unwritten ne)) (λ e. c.in-Err.ensures.part text (c.show_progress.ensures.left ∙ shown) (ap Err e))
     (λ e well. omega (arith, c.in-Err.ensures.write_failed (ap Err e), well)) c.refuse_scan.ensures.status
 
 pub returns-in-Err-clause-range : goal.returns-in-Err-clause-range

@@ -7,7 +7,7 @@ use Rattle.line_model.specs.declared.finding.Finding.{Finding}
 use Rattle.trace_text.proofs.SourceLemmas.{passed_on}
 use Rattle.line_model.specs.packets.Says.{items_of}
 use Rattle.trace_text.specs.Progress.{bytes_fed}
-use Rattle.trace_text.specs.StandsFor.{IsFaultOf, ReadsChunk}
+use Rattle.trace_text.specs.Represents.{IsFaultOf, ReadsChunk}
 use Rattle.live_report.specs.Found.{IsFoundBy, IsFoundUpTo, found_at}
 use Rattle.live_report.proofs.FollowLemmas.{fed_few}
 use Rattle.live_report.proofs.FoundLemmas.{at_most_one}
@@ -20,7 +20,7 @@ loop-rest-init g c = record {
   size = refl;
   limit = fed_few c.args.lines.now c.requires.1 c.requires.2.reads;
   keeps = refl;
-  course = λ i text w. course_begun g.C.Channel.interface_of g.C.Channel.number_of g.C.Channel.stands_for i text c.args.chunk.now c.args.lines.now c.args.observer.now c.args.found.now.items c.args.rows.now.last w;
+  course = λ i text w. course_begun g.C.Channel.interface_of g.C.Channel.number_of g.C.Channel.represents i text c.args.chunk.now c.args.lines.now c.args.observer.now c.args.found.now.items c.args.rows.now.last w;
 }
 
 pub take-requires : goal.take-requires
@@ -53,7 +53,7 @@ loop-rest-preserved g c =
       keeps = c.in_ok-take.ensures.keeps ∙ c.loop-rest.invariant.keeps;
       course = λ i text w.
           let course = c.loop-rest.invariant.course i text w in
-          course_kept (course_row g.C.Channel.interface_of g.C.Channel.number_of g.C.Channel.stands_for i text c.args.chunk.now c.loop-rest.rest.now c.in-Some.after.now c.args.rows.now.last c.loop-rest.rows.last c.next_row.new.row c.loop-rest.lines c.next_row.new.self c.loop-rest.observer c.take.new.self
+          course_kept (course_row g.C.Channel.interface_of g.C.Channel.number_of g.C.Channel.represents i text c.args.chunk.now c.loop-rest.rest.now c.in-Some.after.now c.args.rows.now.last c.loop-rest.rows.last c.next_row.new.row c.loop-rest.lines c.next_row.new.self c.loop-rest.observer c.take.new.self
           c.args.found.now.items c.loop-rest.found.items c.append_finding.new.findings.items (option_to_list finding)
           course row (c.in_ok-after.ensures.header (text ++ course.read) course.observing.reads)
           (c.in_ok-take.ensures.stands i (items_of i (early_rows (text ++ course.read))) course.observing.observes
@@ -66,38 +66,38 @@ pub returns-in_default-clause-observes : goal.returns-in_default-clause-observes
 returns-in_default-clause-observes g c i text w =
     let course = c.loop-rest.invariant.course i text w in
     let end : ReadsChunk c.loop-rest.lines c.next_row.new.self c.loop-rest.rest.now = rw c.in_default.is at c.in_ok-after.ensures.ok in
-    course_end g.C.Channel.interface_of g.C.Channel.number_of g.C.Channel.stands_for i text c.args.chunk.now c.loop-rest.rest.now c.loop-rest.lines c.next_row.new.self c.loop-rest.observer _ _ _ _ course end
+    course_end g.C.Channel.interface_of g.C.Channel.number_of g.C.Channel.represents i text c.args.chunk.now c.loop-rest.rest.now c.loop-rest.lines c.next_row.new.self c.loop-rest.observer _ _ _ _ course end
     (c.in_ok-after.ensures.header (text ++ course.read) course.observing.reads)
 
 pub returns-in_default-clause-found : goal.returns-in_default-clause-found
 returns-in_default-clause-found g c i text w =
     let course = c.loop-rest.invariant.course i text w in
     let end : ReadsChunk c.loop-rest.lines c.next_row.new.self c.loop-rest.rest.now = rw c.in_default.is at c.in_ok-after.ensures.ok in
-    course_found g.C.Channel.interface_of g.C.Channel.number_of g.C.Channel.stands_for i text c.args.chunk.now c.loop-rest.rest.now c.loop-rest.lines c.next_row.new.self c.loop-rest.observer _ _ _ _ course end
+    course_found g.C.Channel.interface_of g.C.Channel.number_of g.C.Channel.represents i text c.args.chunk.now c.loop-rest.rest.now c.loop-rest.lines c.next_row.new.self c.loop-rest.observer _ _ _ _ course end
 
 pub returns-in_default-clause-last : goal.returns-in_default-clause-last
 returns-in_default-clause-last g c i text w keeps =
     let course = c.loop-rest.invariant.course i text w in
     let end : ReadsChunk c.loop-rest.lines c.next_row.new.self c.loop-rest.rest.now = rw c.in_default.is at c.in_ok-after.ensures.ok in
-    course_last g.C.Channel.interface_of g.C.Channel.number_of g.C.Channel.stands_for i text c.args.chunk.now c.loop-rest.rest.now c.loop-rest.lines c.next_row.new.self c.loop-rest.observer _ _ _ _ course end (c.loop-rest.invariant.keeps ∙ keeps)
+    course_last g.C.Channel.interface_of g.C.Channel.number_of g.C.Channel.represents i text c.args.chunk.now c.loop-rest.rest.now c.loop-rest.lines c.next_row.new.self c.loop-rest.observer _ _ _ _ course end (c.loop-rest.invariant.keeps ∙ keeps)
 
 pub returns-clause-observes : goal.returns-clause-observes
 returns-clause-observes g c i text w =
-    (course_done g.C.Channel.interface_of g.C.Channel.number_of g.C.Channel.stands_for i text c.args.chunk.now c.loop-rest.rest.now c.loop-rest.lines c.loop-rest.observer _ _ _ _ (c.loop-rest.invariant.course i text w) (eqb-true _ 0 (sym c.is_empty.ensures ∙ c.loop-rest-test.false))).0
+    (course_done g.C.Channel.interface_of g.C.Channel.number_of g.C.Channel.represents i text c.args.chunk.now c.loop-rest.rest.now c.loop-rest.lines c.loop-rest.observer _ _ _ _ (c.loop-rest.invariant.course i text w) (eqb-true _ 0 (sym c.is_empty.ensures ∙ c.loop-rest-test.false))).0
 
 pub returns-clause-found : goal.returns-clause-found
 returns-clause-found g c i text w =
-    (course_done g.C.Channel.interface_of g.C.Channel.number_of g.C.Channel.stands_for i text c.args.chunk.now c.loop-rest.rest.now c.loop-rest.lines c.loop-rest.observer _ _ _ _ (c.loop-rest.invariant.course i text w) (eqb-true _ 0 (sym c.is_empty.ensures ∙ c.loop-rest-test.false))).1
+    (course_done g.C.Channel.interface_of g.C.Channel.number_of g.C.Channel.represents i text c.args.chunk.now c.loop-rest.rest.now c.loop-rest.lines c.loop-rest.observer _ _ _ _ (c.loop-rest.invariant.course i text w) (eqb-true _ 0 (sym c.is_empty.ensures ∙ c.loop-rest-test.false))).1
 
 pub returns-clause-last : goal.returns-clause-last
 returns-clause-last g c i text w keeps =
-    (course_done g.C.Channel.interface_of g.C.Channel.number_of g.C.Channel.stands_for i text c.args.chunk.now c.loop-rest.rest.now c.loop-rest.lines c.loop-rest.observer _ _ _ _ (c.loop-rest.invariant.course i text w) (eqb-true _ 0 (sym c.is_empty.ensures ∙ c.loop-rest-test.false))).2 (c.loop-rest.invariant.keeps ∙ keeps)
+    (course_done g.C.Channel.interface_of g.C.Channel.number_of g.C.Channel.represents i text c.args.chunk.now c.loop-rest.rest.now c.loop-rest.lines c.loop-rest.observer _ _ _ _ (c.loop-rest.invariant.course i text w) (eqb-true _ 0 (sym c.is_empty.ensures ∙ c.loop-rest-test.false))).2 (c.loop-rest.invariant.keeps ∙ keeps)
 
 pub returns-in_err-after-clause-refused : goal.returns-in_err-after-clause-refused
 returns-in_err-after-clause-refused g c i text w =
     let course = c.loop-rest.invariant.course i text w in
     passed_on c.from_residual.result c.in_err-after.field-0.0 _ c.from_residual.ensures.1
-    (subst (λ x. IsFaultOf (early x) c.in_err-after.field-0.0) (course_text g.C.Channel.interface_of g.C.Channel.number_of g.C.Channel.stands_for i text c.args.chunk.now c.loop-rest.rest.now c.loop-rest.lines c.loop-rest.observer _ _ _ _ course)
+    (subst (λ x. IsFaultOf (early x) c.in_err-after.field-0.0) (course_text g.C.Channel.interface_of g.C.Channel.number_of g.C.Channel.represents i text c.args.chunk.now c.loop-rest.rest.now c.loop-rest.lines c.loop-rest.observer _ _ _ _ course)
     (c.in_err-after.ensures.refused (text ++ course.read) course.observing.reads))
 
 pub returns-in_err-after-clause-found : goal.returns-in_err-after-clause-found
@@ -105,7 +105,7 @@ returns-in_err-after-clause-found g c i text w =
     let course = c.loop-rest.invariant.course i text w in
     let p = err_from_is_err_and c.from_residual.result c.from_residual.ensures.1 in
     subst (λ r. IsFoundBy r c.args.found.now.items c.loop-rest.found.items (found_at i text) (found_at i (text ++ c.args.chunk.now))) (sym (p.1 ∙ ap (λ f. Err f) p.2))
-    (course_refused g.C.Channel.interface_of g.C.Channel.number_of g.C.Channel.stands_for i text c.args.chunk.now c.loop-rest.rest.now c.loop-rest.lines c.loop-rest.observer _ _ _ _ c.in_err-after.field-0.0 course
+    (course_refused g.C.Channel.interface_of g.C.Channel.number_of g.C.Channel.represents i text c.args.chunk.now c.loop-rest.rest.now c.loop-rest.lines c.loop-rest.observer _ _ _ _ c.in_err-after.field-0.0 course
     (c.in_err-after.ensures.known (text ++ course.read) course.observing.reads))
 
 pub returns-in_err-take-clause-found : goal.returns-in_err-take-clause-found
@@ -113,7 +113,7 @@ returns-in_err-take-clause-found g c i text w =
     let p = err_from_is_err_and c.from_residual-in_err-take.result c.from_residual-in_err-take.ensures.1 in
     let memory : c.from_residual-in_err-take.result ≡ Err Memory = p.1 ∙ ap (λ f. Err f) (p.2 ∙ c.in_err-take.ensures.memory) in
     subst (λ r. IsFoundBy r c.args.found.now.items c.loop-rest.found.items (found_at i text) (found_at i (text ++ c.args.chunk.now))) (sym memory)
-    (course_stopped g.C.Channel.interface_of g.C.Channel.number_of g.C.Channel.stands_for i text c.args.chunk.now c.loop-rest.rest.now c.loop-rest.lines c.loop-rest.observer _ _ _ _ (c.loop-rest.invariant.course i text w))
+    (course_stopped g.C.Channel.interface_of g.C.Channel.number_of g.C.Channel.represents i text c.args.chunk.now c.loop-rest.rest.now c.loop-rest.lines c.loop-rest.observer _ _ _ _ (c.loop-rest.invariant.course i text w))
 
 pub returns-in_err-append_finding-clause-found : goal.returns-in_err-append_finding-clause-found
 returns-in_err-append_finding-clause-found g c i text w =
@@ -121,4 +121,4 @@ returns-in_err-append_finding-clause-found g c i text w =
     let memory : c.from_residual-in_err-append_finding.result ≡ Err Memory = p.1 ∙ ap (λ f. Err f) p.2 in
     subst (λ r. IsFoundBy r c.args.found.now.items c.append_finding.new.findings.items (found_at i text) (found_at i (text ++ c.args.chunk.now))) (sym memory)
     (subst (λ l. IsFoundUpTo Memory c.args.found.now.items l (found_at i text) (found_at i (text ++ c.args.chunk.now))) (sym c.in_err-append_finding.ensures.refused)
-    (course_stopped g.C.Channel.interface_of g.C.Channel.number_of g.C.Channel.stands_for i text c.args.chunk.now c.loop-rest.rest.now c.loop-rest.lines c.loop-rest.observer _ _ _ _ (c.loop-rest.invariant.course i text w)))
+    (course_stopped g.C.Channel.interface_of g.C.Channel.number_of g.C.Channel.represents i text c.args.chunk.now c.loop-rest.rest.now c.loop-rest.lines c.loop-rest.observer _ _ _ _ (c.loop-rest.invariant.course i text w)))

@@ -11,8 +11,8 @@ invariant-loop-rest g l = record {
   size : bytes_fed l.lines + length l.rest ≡ bytes_fed l.fn.lines + length l.chunk;
   limit : bytes_fed l.lines ≤ 2 ^ 30;
   keeps : l.observer.keeps_rows ≡ l.fn.observer.keeps_rows;
-  course : (i : Interface) (text : List ℕ) → IsObserving g.C.Channel.interface_of g.C.Channel.number_of g.C.Channel.stands_for i text l.fn.lines l.fn.observer
-      → Course g.C.Channel.interface_of g.C.Channel.number_of g.C.Channel.stands_for i text l.chunk l.lines l.observer l.rest l.fn.found.items l.found.items l.fn.rows.last l.rows.last;
+  course : (i : Interface) (text : List ℕ) → IsObserving g.C.Channel.interface_of g.C.Channel.number_of g.C.Channel.represents i text l.fn.lines l.fn.observer
+      → Course g.C.Channel.interface_of g.C.Channel.number_of g.C.Channel.represents i text l.chunk l.lines l.observer l.rest l.fn.found.items l.found.items l.fn.rows.last l.rows.last;
 }
 
 abbrev pub decreases-loop-rest : goal.decreases-loop-rest

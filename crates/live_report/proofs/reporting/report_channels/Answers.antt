@@ -3,8 +3,8 @@ use Rattle.line_model.specs.pieces.Plans.{value}
 use Rattle.restart_epochs.specs.Cutting.{items_out}
 use Rattle.restart_epochs.specs.OpenRows.{rows_of}
 use Rattle.report_merge.specs.Gathered.{gathered}
-use Rattle.live_report.specs.Lanes.{begun_piece, ended_piece}
-use Rattle.live_report.proofs.GapLemmas.{worth_so_far}
+use Rattle.live_report.specs.OpenChannels.{begun_piece, ended_piece}
+use Rattle.live_report.proofs.GapLemmas.{value_so_far}
 use Rattle.live_report.proofs.ReportingLemmas.{reporting_none, reporting_more, reporting_all, reported_open}
 use Rattle.live_report.proofs.reporting.report_channels.Goals as goal
 
@@ -15,7 +15,7 @@ report-requires g c =
     record {
       stands = (
         begun_piece room.0 k (rows_of room.1 k),
-        (reported_open g.C.Channel.interface_of g.C.Channel.number_of g.C.Channel.stands_for room.0 room.1 k c.args.lanes.now.table c.in-Some-get.entry.now room.3 c.in-Some-get.ensures).1.live,
+        (reported_open g.C.Channel.interface_of g.C.Channel.number_of g.C.Channel.represents room.0 room.1 k c.args.open_channels.now.table c.in-Some-get.entry.now room.3 c.in-Some-get.ensures).1.live,
       );
     }
 
@@ -28,13 +28,13 @@ loop-channel-preserved-in-Continue-branch-2 g c =
       reporting = λ e rows first f l is.
           let k = c.in-Some.channel.now in
           let was = c.loop-channel.invariant.reporting e rows first f l is in
-          let entry = reported_open g.C.Channel.interface_of g.C.Channel.number_of g.C.Channel.stands_for e rows k c.args.lanes.now.table c.in-Some-get.entry.now f c.in-Some-get.ensures in
-          let worth =
+          let entry = reported_open g.C.Channel.interface_of g.C.Channel.number_of g.C.Channel.represents e rows k c.args.open_channels.now.table c.in-Some-get.entry.now f c.in-Some-get.ensures in
+          let value_is =
           c.in_ok-report.ensures.value (begun_piece e k (rows_of rows k)) entry.1.live
-          ∙ sym (worth_so_far c.args.lanes.now.gap (ended_piece c.pieces.result e None k (rows_of rows k)))
-          ∙ ap (λ n. value (ended_piece n e None k (items_out c.args.lanes.now.gap rows k))) (c.pieces.ensures ∙ ap (λ p. p.pieces) was.2) in (
+          ∙ sym (value_so_far c.args.open_channels.now.gap (ended_piece c.pieces.result e None k (rows_of rows k)))
+          ∙ ap (λ n. value (ended_piece n e None k (items_out c.args.open_channels.now.gap rows k))) (c.pieces.ensures ∙ ap (λ p. p.pieces) was.2) in (
             was.0 ++ c.in_ok-report.report ∷ [],
-            reporting_more e c.args.lanes.now.gap rows first was.0 c.loop-channel.channel-iterator k c.next.new.self c.in_ok-report.report was.1 next worth,
+            reporting_more e c.args.open_channels.now.gap rows first was.0 c.loop-channel.channel-iterator k c.next.new.self c.in_ok-report.report was.1 next value_is,
             c.in_ok-add.ensures.added was.0 was.2,
           );
     }
@@ -44,13 +44,13 @@ loop-channel-init g c =
     let all = c.into_iter-channel-iterator.ensures.into_iter_gives.0 ∙ c.channels-channel-items.ensures in
     record {
       pieces = omega (arith, c.requires.pieces, ap (λ ks. length ks) all);
-      reporting = λ e rows first f l is. (first, reporting_none e c.args.lanes.now.gap rows first c.into_iter-channel-iterator.result l (all ∙ f.channels), is);
+      reporting = λ e rows first f l is. (first, reporting_none e c.args.open_channels.now.gap rows first c.into_iter-channel-iterator.result l (all ∙ f.channels), is);
     }
 
 pub returns-clause-values : goal.returns-clause-values
 returns-clause-values g c e rows first f pieces l is =
     let was = c.loop-channel.invariant.reporting e rows first f l is in
-    was.2 ∙ ap gathered (reporting_all e c.args.lanes.now.gap rows first was.0 c.loop-channel.channel-iterator was.1 c.in-None.ensures.steps.0)
+    was.2 ∙ ap gathered (reporting_all e c.args.open_channels.now.gap rows first was.0 c.loop-channel.channel-iterator was.1 c.in-None.ensures.steps.0)
 
 pub add-requires : goal.add-requires
 add-requires g c =

@@ -4,7 +4,7 @@ use Rattle.report_merge.specs.Seen.{is_among}
 use Rattle.report_merge.proofs.Doubles.{refused_from, missing_from, whole_from}
 use Rattle.report_merge.proofs.judge.judge.Goals as goal
 
--- a mark is the answer whether its place stands among the ids
+-- a mark says whether its place is among the ids
 marks : (read items : List Bool) (ids : List ℕ) → read ≡ items → ((k : ℕ) → slice_index_or items k false ≡ is_among k ids) → (k : ℕ) → is_among k ids ≡ slice_index_or read k false
 marks read items ids same seen k = sym (ap (λ l. slice_index_or l k false) same ∙ seen k)
 

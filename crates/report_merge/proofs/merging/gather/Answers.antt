@@ -12,7 +12,7 @@ use Rattle.report_merge.proofs.merging.gather.Goals as goal
 pub loop-some-preserved : goal.loop-some-preserved
 loop-some-preserved g c =
     let before = c.loop-some.yielded in
-    moved _ _ _ c.in_ok-lists.ensures (subst (λ (ps : List PieceReport). AreGathered ps (joined c.loop-some.lists c.into_parts.result)) (flat_map_more g.T.Reports.reports [] before c.in-Some.some)
+    moved _ _ _ c.in_ok-lists-2.ensures (subst (λ (ps : List PieceReport). AreGathered ps (joined c.loop-some.lists c.into_parts.result)) (flat_map_more g.T.Reports.reports [] before c.in-Some.some)
     (both _ _ _ _ c.loop-some.invariant c.into_parts.ensures))
 
 pub returns : goal.returns

@@ -15,7 +15,7 @@ use Rattle.line_model.specs.observer.Report.{gaps_among, gaps_of}
 use Rattle.line_model.specs.packets.Says.{item_of, items_of}
 use Rattle.line_model.specs.pieces.Plans.{plan, line_findings}
 use Rattle.line_model.specs.basics.Records.{Row, Item, Piece}
-use Rattle.restart_epochs.specs.Cutting.{given_of, StandsFor, IsCounted}
+use Rattle.restart_epochs.specs.Cutting.{given_of, Represents, IsCounted}
 use Rattle.restart_epochs.proofs.Decoded.{packets, said, said-beside, said-more, said_by, next_is}
 use Rattle.restart_epochs.proofs.Growth.{ends_nothing, given_pieces}
 use Rattle.restart_epochs.proofs.Whole.{MayCome, all_may_come, rest_may_come}
@@ -85,7 +85,7 @@ loop-row-preserved g c =
     let says = said_by i c.in-Some.row c.in-Some.packet _ c.item.ensures next.0 in
     let after : before ++ c.item.result ∷ [] ≡ said i (c.loop-row.yielded ++ (c.in-Some.row, c.in-Some.packet) ∷ []) = ap (λ x. before ++ x ∷ []) says ∙ more in
     record {
-      stands = subst (λ rs. StandsFor i rs c.push.new.self) after (c.in_ok-push.ensures.stands i before inv.stands);
+      stands = subst (λ rs. Represents i rs c.push.new.self) after (c.in_ok-push.ensures.stands i before inv.stands);
       given = subst (λ rs. c.push.new.out.items ≡ given_of i rs) after (c.in_ok-push.ensures.given i before [] inv.stands inv.given);
       left = rest_may_come i c.loop-row.cutter c.push.new.self c.in-Some.row rest left (subst (λ (x : Item). IsCounted x c.loop-row.cutter c.push.new.self) says c.in_ok-push.ensures.counted);
       decoded = next.1;

@@ -25,7 +25,7 @@ pub into_piece-requires : goal.into_piece-requires
 into_piece-requires g c =
     let e = c.args.epoch in
     let channel = c.in-Some.channel.now in
-    record { piece = subst (λ rows. IsPiece e.interface channel (with_gap e.gap rows)) (sym c.in_ok-lane.ensures) (c.requires.pieces channel) }
+    record { piece = subst (λ rows. IsPiece e.interface channel (with_gap e.gap rows)) (sym c.in_ok-open_channel.ensures) (c.requires.pieces channel) }
 
 pub loop-channel-preserved : goal.loop-channel-preserved
 loop-channel-preserved g c =
@@ -34,14 +34,14 @@ loop-channel-preserved g c =
     record {
       ids = omega (arith, inv.ids, ap (λ (l : List ℕ). length l) c.in-Some.ensures.steps);
       copied = next_piece e.interface e.number e.start e.end e.gap c.args.epoch_rows.now c.loop-channel.id _ _ _ c.loop-channel.pieces.items _ _ _
-          c.in-Some.ensures.steps c.in_ok-lane.ensures (c.in_ok-push.ensures.items ∙ ap (λ p. c.loop-channel.pieces.items ++ p ∷ []) c.into_piece.ensures) inv.copied;
+          c.in-Some.ensures.steps c.in_ok-open_channel.ensures (c.in_ok-push.ensures.items ∙ ap (λ p. c.loop-channel.pieces.items ++ p ∷ []) c.into_piece.ensures) inv.copied;
     }
 
-pub returns-in_err-lane-clause-copied : goal.returns-in_err-lane-clause-copied
-returns-in_err-lane-clause-copied g c = IfOk-from_err _ _ c.from_residual.ensures.0
+pub returns-in_err-open_channel-clause-copied : goal.returns-in_err-open_channel-clause-copied
+returns-in_err-open_channel-clause-copied g c = IfOk-from_err _ _ c.from_residual.ensures.0
 
-pub returns-in_err-lane-clause-memory : goal.returns-in_err-lane-clause-memory
-returns-in_err-lane-clause-memory g c =
+pub returns-in_err-open_channel-clause-memory : goal.returns-in_err-open_channel-clause-memory
+returns-in_err-open_channel-clause-memory g c =
     let p = err_from_is_err_and c.from_residual.result c.from_residual.ensures.1 in
     subst (λ r. IfErr r (λ f. f ≡ Memory)) (sym p.1) p.2
 

@@ -13,7 +13,7 @@ struct Run {
     times: usize,
 }
 
-/// A text of some runs and what stands behind them.
+/// A trace text of some runs and what follows them.
 #[derive(Drop)]
 pub struct LongTrace {
     name: &'static str,
@@ -37,7 +37,7 @@ fn write_repeated(
     Ok(())
 }
 
-/// Writes runs, and what stands behind them.
+/// Writes runs, and what follows them.
 fn write_runs(text: &mut Vec<u8>, runs: &[Run], end: &[u8]) -> Result<(), AllocError> {
     for run in runs {
         write_repeated(

@@ -1,15 +1,14 @@
 use Rattle.std.proofs.Common.{◌≡◌, ◌<◌, OnOk, refl, subst, sym, ap}
 use Rattle.std.specs.Prelude.{IfSome}
 use Rattle.std.proofs.lemmas.Result.{IfOk-from_err}
-use Rattle.trace_text.specs.StandsFor.{IsTextFault}
+use Rattle.trace_text.specs.Represents.{IsTextFault}
 use Rattle.trace_text.proofs.SourceLemmas.{passed_on, same_fault}
-use Rattle.trace_scan.proofs.Courses.{refused_by}
+use Rattle.trace_text.proofs.Refused.{refused_by}
 use Rattle.line_model.specs.traces.Traces.{trace_report}
-use Rattle.live_report.specs.Reports.{IsTaken}
+use Rattle.live_report.specs.Reports.{IsTaken, IsScanFault}
 use Rattle.live_report.specs.Uncounted.{trace_uncounted}
 use Rattle.line_model.specs.declared.fault.Fault.TheVariants.{Write}
-use Rattle.trace_scan.specs.Scan.{IsScanFault}
-use Rattle.trace_scan.proofs.ScanLemmas.{end_kinds, end_of_text, end_part, end_refused, nothing_taken, walk_kept, walk_kept_end, walk_kinds, walk_reported, walk_taken, walk_unwritten}
+use Rattle.live_report.proofs.ScanLemmas.{end_kinds, end_of_text, end_part, end_refused, nothing_taken, walk_kept, walk_kept_end, walk_kinds, walk_reported, walk_taken, walk_unwritten}
 use Rattle.trace_scan.proofs.scan.scan_alone.Goals as goal
 
 pub read_to_end-requires-clause-nothing : goal.read_to_end-requires-clause-nothing
@@ -27,9 +26,9 @@ end-requires g c =
     record { fed = record { fed = λ running. (text, fed); kinds = subst (λ o. IfSome o IsTextFault) (sym fed.running) tt } }
 
 pub returns-clause-reported : goal.returns-clause-reported
-returns-clause-reported g c text told =
+returns-clause-reported g c text shown =
     let w = c.in_ok-read_to_end.ensures.whole in
-    walk_reported g.K.Sink.taken c.args.sink.now c.read_to_end.new.out (g.K.Sink.taken c.end.new.sink) text w.text c.end.result w.fed.1 (w.source text told).0 (c.end.ensures.reported w.text w.fed.0)
+    walk_reported g.K.Sink.taken c.args.sink.now c.read_to_end.new.out (g.K.Sink.taken c.end.new.sink) text w.text c.end.result w.fed.1 (w.source text shown).0 (c.end.ensures.reported w.text w.fed.0)
 
 pub returns-clause-of_text : goal.returns-clause-of_text
 returns-clause-of_text g c =
@@ -38,9 +37,9 @@ returns-clause-of_text g c =
     (walk_reported g.K.Sink.taken c.args.sink.now c.read_to_end.new.out (g.K.Sink.taken c.end.new.sink) w.text w.text c.end.result w.fed.1 refl (c.end.ensures.reported w.text w.fed.0))
 
 pub returns-clause-refused : goal.returns-clause-refused
-returns-clause-refused g c text told =
+returns-clause-refused g c text shown =
     let w = c.in_ok-read_to_end.ensures.whole in
-    end_refused c.end.result (g.S.Source.left c.args.source.now) (g.S.Source.left c.read_to_end.new.source) (g.S.Source.before c.read_to_end.new.source) _ text w told (c.end.ensures.refused w.text w.fed.0)
+    end_refused c.end.result (g.S.Source.left c.args.source.now) (g.S.Source.left c.read_to_end.new.source) (g.S.Source.before c.read_to_end.new.source) _ text w shown (c.end.ensures.refused w.text w.fed.0)
 
 pub returns-clause-kinds : goal.returns-clause-kinds
 returns-clause-kinds g c = end_kinds c.end.result c.end.ensures.kinds
@@ -53,9 +52,9 @@ pub returns-clause-unwritten : goal.returns-clause-unwritten
 returns-clause-unwritten g c = walk_kept_end c.args.sink.now c.read_to_end.new.out c.end.new.sink c.end.result c.in_ok-read_to_end.ensures.whole.fed.1 c.end.ensures.unwritten
 
 pub returns-clause-taken : goal.returns-clause-taken
-returns-clause-taken g c text told =
+returns-clause-taken g c text shown =
     let w = c.in_ok-read_to_end.ensures.whole in
-    walk_taken g.K.Sink.taken c.args.sink.now c.read_to_end.new.out (g.K.Sink.taken c.end.new.sink) text w.text c.end.result w.fed.1 (w.source text told).0 (c.end.ensures.taken w.text w.fed.0)
+    walk_taken g.K.Sink.taken c.args.sink.now c.read_to_end.new.out (g.K.Sink.taken c.end.new.sink) text w.text c.end.result w.fed.1 (w.source text shown).0 (c.end.ensures.taken w.text w.fed.0)
 
 pub returns-clause-part : goal.returns-clause-part
 returns-clause-part g c e =
@@ -69,16 +68,16 @@ returns-clause-called g c = c.read_to_end.ensures.called
 -- ---- where reading was refused
 
 pub returns-in_err-read_to_end-clause-reported : goal.returns-in_err-read_to_end-clause-reported
-returns-in_err-read_to_end-clause-reported g c text told = IfOk-from_err _ _ c.from_residual.ensures.0
+returns-in_err-read_to_end-clause-reported g c text shown = IfOk-from_err _ _ c.from_residual.ensures.0
 
 pub returns-in_err-read_to_end-clause-of_text : goal.returns-in_err-read_to_end-clause-of_text
 returns-in_err-read_to_end-clause-of_text g c = IfOk-from_err _ _ c.from_residual.ensures.0
 
 pub returns-in_err-read_to_end-clause-refused : goal.returns-in_err-read_to_end-clause-refused
-returns-in_err-read_to_end-clause-refused g c text told =
+returns-in_err-read_to_end-clause-refused g c text shown =
     let fault = c.in_err-read_to_end.field-0.0 in
     passed_on c.from_residual.result fault _ c.from_residual.ensures.1
-    (refused_by (g.S.Source.left c.args.source.now) (g.S.Source.left c.read_to_end.new.source) (g.S.Source.before c.read_to_end.new.source) _ _ fault text c.in_err-read_to_end.ensures.stopped (λ why. why.0) told)
+    (refused_by (g.S.Source.left c.args.source.now) (g.S.Source.left c.read_to_end.new.source) (g.S.Source.before c.read_to_end.new.source) _ _ fault text c.in_err-read_to_end.ensures.stopped (λ why. why.0) shown)
 
 pub returns-in_err-read_to_end-clause-kinds : goal.returns-in_err-read_to_end-clause-kinds
 returns-in_err-read_to_end-clause-kinds g c =
@@ -105,7 +104,7 @@ returns-in_err-read_to_end-clause-unwritten g c =
     passed_on c.from_residual.result fault _ c.from_residual.ensures.1 (λ n. walk_kept _ _ u.fed u.last fault (λ fed. fed.1) u.why)
 
 pub returns-in_err-read_to_end-clause-taken : goal.returns-in_err-read_to_end-clause-taken
-returns-in_err-read_to_end-clause-taken g c text told =
+returns-in_err-read_to_end-clause-taken g c text shown =
     let fault = c.in_err-read_to_end.field-0.0 in
     let u = c.in_err-read_to_end.ensures.stopped in
     passed_on c.from_residual.result fault (IsTaken (g.K.Sink.taken c.args.sink.now) (g.K.Sink.taken c.read_to_end.new.out) (trace_report text)) c.from_residual.ensures.1
@@ -115,9 +114,9 @@ pub returns-in_err-read_to_end-clause-called : goal.returns-in_err-read_to_end-c
 returns-in_err-read_to_end-clause-called g c = c.read_to_end.ensures.called
 
 pub returns-clause-uncounted : goal.returns-clause-uncounted
-returns-clause-uncounted g c text told =
+returns-clause-uncounted g c text shown =
     let w = c.in_ok-read_to_end.ensures.whole in
-    subst (λ x. OnOk c.end.result (c.end.new.uncounted ≡ trace_uncounted x)) (sym (w.source text told).0) (c.end.ensures.uncounted w.text w.fed.0)
+    subst (λ x. OnOk c.end.result (c.end.new.uncounted ≡ trace_uncounted x)) (sym (w.source text shown).0) (c.end.ensures.uncounted w.text w.fed.0)
 
 pub returns-in_err-read_to_end-clause-uncounted : goal.returns-in_err-read_to_end-clause-uncounted
-returns-in_err-read_to_end-clause-uncounted g c text told = IfOk-from_err _ _ c.from_residual.ensures.0
+returns-in_err-read_to_end-clause-uncounted g c text shown = IfOk-from_err _ _ c.from_residual.ensures.0

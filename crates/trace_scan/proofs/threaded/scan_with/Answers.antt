@@ -5,45 +5,45 @@ use Rattle.trace_text.proofs.SourceLemmas.{passed_on, same_fault}
 use Rattle.line_model.specs.packets.Says.{items_of}
 use Rattle.line_model.specs.text.Text.{rows}
 use Rattle.live_report.proofs.ReportLemmas.{reported_by, taken_by}
-use Rattle.trace_scan.proofs.ScanLemmas.{memory_refused, report_is, write_refused}
+use Rattle.live_report.proofs.ScanLemmas.{memory_refused, report_is, write_refused}
 use Rattle.trace_scan.proofs.ThreadedLemmas.{memory_worked, of_walk, part_taken, runs_are, stop_no_write, stop_worked, totals_are, write_worked}
 use Rattle.line_model.specs.declared.fault.Fault.{Fault}
 use Rattle.line_model.specs.declared.fault.Fault.TheVariants.{Memory, Write}
-use Rattle.trace_scan.specs.Readings.{in_flight}
+use Rattle.trace_reading.specs.Readings.{in_flight}
 use Rattle.trace_scan.specs.Threaded.{IsStopFault}
 use Rattle.trace_scan.proofs.threaded.scan_with.Given.{Over}
 use Rattle.line_model.specs.traces.Traces.{trace_plan}
 use Rattle.trace_scan.proofs.threaded.scan_with.Goals as goal
 
 pub returns-in_err-report-clause-refused : goal.returns-in_err-report-clause-refused
-returns-in_err-report-clause-refused g c text told =
-    let read = c.in_ok-parts.ensures.parts.told text told in
+returns-in_err-report-clause-refused g c text shown =
+    let read = c.in_ok-parts.ensures.parts.shown text shown in
     passed_on c.from_residual-in_err-report.result c.in_err-report.field-0.0 _ c.from_residual-in_err-report.ensures.1
     (memory_refused in_flight text (g.S.Source.left c.work_on_trace.new.source) (g.S.Source.before c.work_on_trace.new.source) c.in_err-report.field-0.0
     (c.in_err-report.ensures.plan c.in_ok-parts.parts.read.interface (items_of c.in_ok-parts.parts.read.interface (rows text)) (of_walk (option_map trace_plan (g.S.Source.left c.args.source.now)) (g.G.Gate.ran c.args.gate.now) c.args.workers text c.in_ok-parts.ensures.parts.fed c.in_ok-parts.parts.read c.in_ok-parts.parts.gathered read.0 c.in_ok-parts.ensures.parts.whole)) read.1 read.2 read.0.sound)
 
 pub returns-clause-reported : goal.returns-clause-reported
-returns-clause-reported g c text told =
-    let read = (c.in_ok-parts.ensures.parts.told text told).0 in
+returns-clause-reported g c text shown =
+    let read = (c.in_ok-parts.ensures.parts.shown text shown).0 in
     let is = report_is text c.in_ok-parts.parts.read.interface c.in_ok-report.report read.sound read.header
     (c.in_ok-report.ensures.report c.in_ok-parts.parts.read.interface (items_of c.in_ok-parts.parts.read.interface (rows text)) (of_walk (option_map trace_plan (g.S.Source.left c.args.source.now)) (g.G.Gate.ran c.args.gate.now) c.args.workers text c.in_ok-parts.ensures.parts.fed c.in_ok-parts.parts.read c.in_ok-parts.parts.gathered read c.in_ok-parts.ensures.parts.whole)) in
     let reported = reported_by text c.in_ok-report.report (g.K.Sink.taken c.args.sink.now) (g.K.Sink.taken c.write_report.new.sink) is c.in_ok-write_report.ensures.ok in
     record { sound = reported.sound; taken = reported.taken; counted = ap (λ r. r.summary) c.report.view_is ∙ reported.counted }
 
 pub returns-clause-totals : goal.returns-clause-totals
-returns-clause-totals g c text told =
+returns-clause-totals g c text shown =
     totals_are (option_map trace_plan (g.S.Source.left c.args.source.now)) (g.G.Gate.ran c.args.gate.now) c.args.workers text c.in_ok-parts.ensures.parts.fed c.in_ok-parts.parts.read c.in_ok-parts.parts.gathered
-    (c.in_ok-parts.ensures.parts.told text told).0 c.in_ok-parts.ensures.parts.whole
+    (c.in_ok-parts.ensures.parts.shown text shown).0 c.in_ok-parts.ensures.parts.whole
 
 pub returns-in_err-write_report-clause-refused : goal.returns-in_err-write_report-clause-refused
-returns-in_err-write_report-clause-refused g c text told =
-    let read = c.in_ok-parts.ensures.parts.told text told in
+returns-in_err-write_report-clause-refused g c text shown =
+    let read = c.in_ok-parts.ensures.parts.shown text shown in
     passed_on c.from_residual-in_err-write_report.result c.in_err-write_report.field-0.0 _ c.from_residual-in_err-write_report.ensures.1
     (write_refused in_flight text (g.S.Source.left c.work_on_trace.new.source) (g.S.Source.before c.work_on_trace.new.source) c.in_err-write_report.field-0.0 c.in_err-write_report.ensures.write read.1 read.2 read.0.sound)
 
 pub returns-in_err-write_report-clause-taken : goal.returns-in_err-write_report-clause-taken
-returns-in_err-write_report-clause-taken g c text told =
-    let read = (c.in_ok-parts.ensures.parts.told text told).0 in
+returns-in_err-write_report-clause-taken g c text shown =
+    let read = (c.in_ok-parts.ensures.parts.shown text shown).0 in
     let is = report_is text c.in_ok-parts.parts.read.interface c.in_ok-report.report read.sound read.header
     (c.in_ok-report.ensures.report c.in_ok-parts.parts.read.interface (items_of c.in_ok-parts.parts.read.interface (rows text)) (of_walk (option_map trace_plan (g.S.Source.left c.args.source.now)) (g.G.Gate.ran c.args.gate.now) c.args.workers text c.in_ok-parts.ensures.parts.fed c.in_ok-parts.parts.read c.in_ok-parts.parts.gathered read c.in_ok-parts.ensures.parts.whole)) in
     passed_on c.from_residual-in_err-write_report.result c.in_err-write_report.field-0.0 _ c.from_residual-in_err-write_report.ensures.1
@@ -52,18 +52,18 @@ returns-in_err-write_report-clause-taken g c text told =
 pub returns-in_err-parts-clause-kinds : goal.returns-in_err-parts-clause-kinds
 returns-in_err-parts-clause-kinds g c = passed_on c.from_residual.result c.in_err-parts.field-0.0 _ c.from_residual.ensures.1 (stop_worked c.in_err-parts.field-0.0 c.in_err-parts.ensures.stopped.kinds)
 
--- the merge was refused for want of memory
-merge_wants : (g : Over) (c : goal.After-drop-shares g) → c.in_err-report.field-0.0 ≡ Memory
-merge_wants g c =
+-- the merge ran out of memory
+merge_needs : (g : Over) (c : goal.After-drop-shares g) → c.in_err-report.field-0.0 ≡ Memory
+merge_needs g c =
     let read = c.in_ok-parts.ensures.parts.of_text in
     c.in_err-report.ensures.plan c.in_ok-parts.parts.read.interface (items_of c.in_ok-parts.parts.read.interface (rows read.0))
     (of_walk (option_map trace_plan (g.S.Source.left c.args.source.now)) (g.G.Gate.ran c.args.gate.now) c.args.workers read.0 c.in_ok-parts.ensures.parts.fed c.in_ok-parts.parts.read c.in_ok-parts.parts.gathered read.1 c.in_ok-parts.ensures.parts.whole)
 
 pub returns-in_err-report-clause-kinds : goal.returns-in_err-report-clause-kinds
-returns-in_err-report-clause-kinds g c = passed_on c.from_residual-in_err-report.result c.in_err-report.field-0.0 _ c.from_residual-in_err-report.ensures.1 (memory_worked c.in_err-report.field-0.0 (merge_wants g c))
+returns-in_err-report-clause-kinds g c = passed_on c.from_residual-in_err-report.result c.in_err-report.field-0.0 _ c.from_residual-in_err-report.ensures.1 (memory_worked c.in_err-report.field-0.0 (merge_needs g c))
 
 pub returns-in_err-report-clause-part : goal.returns-in_err-report-clause-part
-returns-in_err-report-clause-part g c e = absurd (stop_no_write {T = Fault} c.in_err-report.field-0.0 (subst IsStopFault (sym (merge_wants g c)) tt) (ap (λ f. Err f) (same_fault c.from_residual-in_err-report.result c.in_err-report.field-0.0 Write c.from_residual-in_err-report.ensures.1 e)))
+returns-in_err-report-clause-part g c e = absurd (stop_no_write {T = Fault} c.in_err-report.field-0.0 (subst IsStopFault (sym (merge_needs g c)) tt) (ap (λ f. Err f) (same_fault c.from_residual-in_err-report.result c.in_err-report.field-0.0 Write c.from_residual-in_err-report.ensures.1 e)))
 
 pub returns-in_err-parts-clause-part : goal.returns-in_err-parts-clause-part
 returns-in_err-parts-clause-part g c e = absurd (stop_no_write {T = Fault} c.in_err-parts.field-0.0 c.in_err-parts.ensures.stopped.kinds (ap (λ f. Err f) (same_fault c.from_residual.result c.in_err-parts.field-0.0 Write c.from_residual.ensures.1 e)))
@@ -105,10 +105,10 @@ pub returns-clause-unasked : goal.returns-clause-unasked
 returns-clause-unasked g c = c.work_on_trace.ensures.unasked
 
 pub returns-in_err-parts-clause-reported : goal.returns-in_err-parts-clause-reported
-returns-in_err-parts-clause-reported g c text told = IfOk-from_err _ _ c.from_residual.ensures.0
+returns-in_err-parts-clause-reported g c text shown = IfOk-from_err _ _ c.from_residual.ensures.0
 
 pub returns-in_err-parts-clause-totals : goal.returns-in_err-parts-clause-totals
-returns-in_err-parts-clause-totals g c text told = IfOk-from_err _ _ c.from_residual.ensures.0
+returns-in_err-parts-clause-totals g c text shown = IfOk-from_err _ _ c.from_residual.ensures.0
 
 pub returns-in_err-parts-clause-of_text : goal.returns-in_err-parts-clause-of_text
 returns-in_err-parts-clause-of_text g c = IfOk-from_err _ _ c.from_residual.ensures.0
@@ -117,10 +117,10 @@ pub returns-in_err-parts-clause-shares : goal.returns-in_err-parts-clause-shares
 returns-in_err-parts-clause-shares g c = IfOk-from_err _ _ c.from_residual.ensures.0
 
 pub returns-in_err-report-clause-reported : goal.returns-in_err-report-clause-reported
-returns-in_err-report-clause-reported g c text told = IfOk-from_err _ _ c.from_residual-in_err-report.ensures.0
+returns-in_err-report-clause-reported g c text shown = IfOk-from_err _ _ c.from_residual-in_err-report.ensures.0
 
 pub returns-in_err-report-clause-totals : goal.returns-in_err-report-clause-totals
-returns-in_err-report-clause-totals g c text told = IfOk-from_err _ _ c.from_residual-in_err-report.ensures.0
+returns-in_err-report-clause-totals g c text shown = IfOk-from_err _ _ c.from_residual-in_err-report.ensures.0
 
 pub returns-in_err-report-clause-of_text : goal.returns-in_err-report-clause-of_text
 returns-in_err-report-clause-of_text g c = IfOk-from_err _ _ c.from_residual-in_err-report.ensures.0
@@ -129,10 +129,10 @@ pub returns-in_err-report-clause-shares : goal.returns-in_err-report-clause-shar
 returns-in_err-report-clause-shares g c = IfOk-from_err _ _ c.from_residual-in_err-report.ensures.0
 
 pub returns-in_err-write_report-clause-reported : goal.returns-in_err-write_report-clause-reported
-returns-in_err-write_report-clause-reported g c text told = IfOk-from_err _ _ c.from_residual-in_err-write_report.ensures.0
+returns-in_err-write_report-clause-reported g c text shown = IfOk-from_err _ _ c.from_residual-in_err-write_report.ensures.0
 
 pub returns-in_err-write_report-clause-totals : goal.returns-in_err-write_report-clause-totals
-returns-in_err-write_report-clause-totals g c text told = IfOk-from_err _ _ c.from_residual-in_err-write_report.ensures.0
+returns-in_err-write_report-clause-totals g c text shown = IfOk-from_err _ _ c.from_residual-in_err-write_report.ensures.0
 
 pub returns-in_err-write_report-clause-of_text : goal.returns-in_err-write_report-clause-of_text
 returns-in_err-write_report-clause-of_text g c = IfOk-from_err _ _ c.from_residual-in_err-write_report.ensures.0
@@ -141,6 +141,6 @@ pub returns-in_err-write_report-clause-shares : goal.returns-in_err-write_report
 returns-in_err-write_report-clause-shares g c = IfOk-from_err _ _ c.from_residual-in_err-write_report.ensures.0
 
 pub returns-clause-runs : goal.returns-clause-runs
-returns-clause-runs g c text told =
+returns-clause-runs g c text shown =
     runs_are (option_map trace_plan (g.S.Source.left c.args.source.now)) (g.G.Gate.ran c.args.gate.now) c.args.workers text c.in_ok-parts.ensures.parts.fed c.in_ok-parts.parts.read c.in_ok-parts.parts.gathered
-    (c.in_ok-parts.ensures.parts.told text told).0 c.in_ok-parts.ensures.parts.whole
+    (c.in_ok-parts.ensures.parts.shown text shown).0 c.in_ok-parts.ensures.parts.whole

@@ -2,7 +2,7 @@ use Rattle.std.proofs.Common.{◌∙◌, ◌++◌, sym, subst, ap}
 use Rattle.std.specs.Prelude.{IfErr}
 use Rattle.std.proofs.lemmas.Result.{err_from_is_err_and}
 use Rattle.line_model.specs.text.Text.{early}
-use Rattle.trace_text.specs.StandsFor.{IsFaultOf, IsTextFault}
+use Rattle.trace_text.specs.Represents.{IsFaultOf, IsTextFault}
 use Rattle.line_model.proofs.TextLemmas.{begun-more, ended-more}
 use Rattle.annotated_trace.proofs.printing.TracePrinter.begin.Goals as goal
 

@@ -10,15 +10,15 @@ use Rattle.annotated_trace.proofs.printing.TracePrinter.close.Goals as goal
 
 pub returns-clause-printed : goal.returns-clause-printed
 returns-clause-printed g c choice text before s none h =
-    all_closed (IsPrintOf (g.P.Printer.form choice) []) (g.P.Printer.closing choice) text before (g.K.Sink.taken c.args.sink.now) (g.K.Sink.taken c.send_closing.new.sink) c.args.self.held.items c.in_ok-report.report c.send_closing.result none h (c.in_ok-report.ensures.told text s.trace.0)
+    all_closed (IsPrintOf (g.P.Printer.form choice) []) (g.P.Printer.closing choice) text before (g.K.Sink.taken c.args.sink.now) (g.K.Sink.taken c.send_closing.new.sink) c.args.self.held.items c.in_ok-report.report c.send_closing.result none h (c.in_ok-report.ensures.report_is text s.trace.0)
     (subst (λ k. OnOk c.send_closing.result (HasTaken (g.P.Printer.closing k c.in_ok-report.report) (with_more (g.K.Sink.taken c.args.sink.now) c.args.self.held.items) (g.K.Sink.taken c.send_closing.new.sink))) s.trace.2 c.send_closing.ensures.ok) c.send_closing.ensures.sums
 
 pub returns-clause-refused : goal.returns-clause-refused
-returns-clause-refused g c choice text s = write_refused c.send_closing.result text (c.in_ok-report.ensures.told text s.trace.0).sound c.send_closing.ensures.write
+returns-clause-refused g c choice text s = write_refused c.send_closing.result text (c.in_ok-report.ensures.report_is text s.trace.0).sound c.send_closing.ensures.write
 
 pub returns-clause-taken : goal.returns-clause-taken
 returns-clause-taken g c choice text before s none h w =
-    first_closed (IsPrintOf (g.P.Printer.form choice) []) (g.P.Printer.closing choice) text before (g.K.Sink.taken c.args.sink.now) (g.K.Sink.taken c.send_closing.new.sink) c.args.self.held.items c.in_ok-report.report none h (c.in_ok-report.ensures.told text s.trace.0)
+    first_closed (IsPrintOf (g.P.Printer.form choice) []) (g.P.Printer.closing choice) text before (g.K.Sink.taken c.args.sink.now) (g.K.Sink.taken c.send_closing.new.sink) c.args.self.held.items c.in_ok-report.report none h (c.in_ok-report.ensures.report_is text s.trace.0)
     (subst (λ k. StopsClosing (g.P.Printer.closing k c.in_ok-report.report) c.args.self.held.items (g.K.Sink.taken c.args.sink.now) (g.K.Sink.taken c.send_closing.new.sink)) s.trace.2 (write_cause c.send_closing.result Write _ c.send_closing.ensures.part w))
 
 pub returns-clause-not_written : goal.returns-clause-not_written

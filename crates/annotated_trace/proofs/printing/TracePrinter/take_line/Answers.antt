@@ -14,7 +14,7 @@ returns-clause-fed g c choice text front s k one =
     let found = sym (ap found_in lines) ∙ c.in_ok-feed.ensures.found text s.trace.0 in
     record {
       trace = (
-        subst (λ w. g.O.TraceObserver.stands_for w (text ++ end)) (sym c.print_line.ensures.trace) read,
+        subst (λ w. g.O.TraceObserver.represents w (text ++ end)) (sym c.print_line.ensures.trace) read,
         subst (g.P.Printer.printed c.print_line.new.self.printer) (sym lines) (c.in_ok-print_line.ensures.printed (ended_lines text) l (text ++ end) s.trace.1 read lines found (whole_line text front end c.args.self.now.begun.items k s.begun)),
         c.print_line.ensures.rows ∙ s.trace.2,
       );

@@ -1,4 +1,4 @@
-use Rattle.std.proofs.Common.{◌∙◌, sym, refl, [], ◌∷◌}
+use Rattle.std.proofs.Common.{◌∙◌, sym, refl}
 use Rattle.call_accounts.specs.SoFar.{IsOf}
 use Rattle.call_accounts.proofs.SoFarLemmas.{all_more, counted_within, data_lengths, data_within, stays_none, within_opens_none}
 use Rattle.call_accounts.proofs.so_far.CallsSoFar.add_data.Goals as goal

@@ -8,8 +8,8 @@ use Rattle.data_transfer.specs.Assembly.{unqualified}
 use Rattle.channel_machine.specs.Transfers.{counted_in_force}
 use Rattle.channel_machine.specs.Channels.{Known, known, Stands}
 use Rattle.channel_machine.proofs.Counting.{answered_err}
-use Rattle.channel_machine.proofs.Hearing.{in_force, accepted, alike_of, unlike, untold_is, without_q}
-use Rattle.channel_machine.proofs.Taking.{judged_data, passes_heard}
+use Rattle.channel_machine.proofs.AcceptingData.{in_force, accepted, alike_of, unlike, no_message_is, without_q}
+use Rattle.channel_machine.proofs.Taking.{judged_data, passes_accepted}
 use Rattle.channel_machine.proofs.channel.StatusChannel.accept_unqualified.Goals as goal
 
 pub returns-in-Err-clause-judged : goal.returns-in-Err-clause-judged
@@ -45,7 +45,7 @@ returns-then-not-is_alike-clause-judged g c k q s =
     c.self.view_is (ap (λ (u : Item). u.side) c.item.view_is) c.user_data_length-length.ensures c.requires.said c.requires.unqualified (
       sym (unlike c.in_default.field-0 old.terms.interface old.transfer after.flow x p counts k st.transfer
           (in_force (Unit {0}) (Ok c.in_default.field-0) old.terms.interface old.transfer after.flow k x h.send h.receive st.transfer (c.in_default.ensures.counts (counts_of k) st.transfer.flow))
-          (alike_of i.assembler x p k.heard st.transfer.sequences ∙ sym c.is_alike.ensures ∙ c.if-not-is_alike.true) q),
+          (alike_of i.assembler x p k.accepted st.transfer.sequences ∙ sym c.is_alike.ensures ∙ c.if-not-is_alike.true) q),
       sym c.self.view_is,
     )
 
@@ -79,11 +79,11 @@ returns-clause-judged g c k q s =
     let p : AcceptedData = unqualified x h.more h.delivery c.user_data_length-length.result in
     let counts = counted_in_force old.terms.interface x h.send h.receive k in
     let new : Known = known i.channel after c.put_unqualified.new.self i.settings in
-    let put = c.put_unqualified.ensures.put k.heard st.transfer.sequences in
+    let put = c.put_unqualified.ensures.put k.accepted st.transfer.sequences in
     let (v, is, transfer) = accepted c.in_default-data.field-0 old.terms.interface old.transfer new.transfer k x h.send h.receive p None st.transfer refl
     (in_force (Unit {0}) (Ok c.in_default-data.field-0) old.terms.interface old.transfer after.flow k x h.send h.receive st.transfer (c.in_default-data.ensures.counts (counts_of k) st.transfer.flow))
-    put.0 (untold_is old.terms.interface k x p (without_q (is_pad_call k) false refl))
+    put.0 (no_message_is old.terms.interface k x p (without_q (is_pad_call k) false refl))
     c.data-2.ensures.rest.modulus c.data-2.ensures.rest.windows put.1 c.put_unqualified.ensures.sizes st.transfer.settings in
     judged_data (Ok c.user_data_length-length.result) (λ y n. Data y n ∷ []) old c.args.self.now new x q r h c.user_data_length-length.result k
     c.self.view_is (ap (λ (u : Item). u.side) c.item.view_is) c.user_data_length-length.ensures c.requires.said c.requires.unqualified
-    (passes_heard old new x q p None v counts k (ap (λ t. known i.channel t c.put_unqualified.new.self i.settings) c.data-2.ensures.rest.rest) st is transfer)
+    (passes_accepted old new x q p None v counts k (ap (λ t. known i.channel t c.put_unqualified.new.self i.settings) c.data-2.ensures.rest.rest) st is transfer)

@@ -4,7 +4,7 @@ use Rattle.std.proofs.Math.Seq.{drop-nil}
 use Rattle.line_model.specs.basics.Records.{Item}
 use Rattle.line_model.specs.packets.Formats.{size_in_force}
 use Rattle.line_model.specs.channels.Channels.{AcceptedData}
-use Rattle.line_model.specs.channels.ChannelStep.{heard_of}
+use Rattle.line_model.specs.channels.ChannelStep.{accepted_of}
 use Rattle.line_model.specs.channels.Gaps.{Doubts}
 use Rattle.line_model.specs.channels.GapStep.{may_be_category_a}
 use Rattle.line_model.specs.packets.Classes.{header_length}
@@ -22,7 +22,7 @@ returns-clause-puts g c k hs st continued =
     let i = p.terms.interface in
     let h = c.args.header.now in
     let s : InDoubt = c.args.settled.now in
-    let q : AcceptedData = heard_of i r h in
+    let q : AcceptedData = accepted_of i r h in
     let x = c.args.side in
     let hidden = c.is_hidden.ensures ∙ ap (λ (d : Doubts). d.hidden) c.doubts.ensures in
     let size : c.size-size.result ≡ size_in_force i k x =

@@ -1,9 +1,9 @@
-use Rattle.std.proofs.Common.{◌≡◌, refl, sym, ◌∙◌, ap, subst, Bool, false, [], ◌++◌, Some, None, Ok}
+use Rattle.std.proofs.Common.{◌≡◌, refl, sym, ◌∙◌, ap, subst, false, [], ◌++◌, Some, None, Ok}
 use Rattle.std.specs.Prelude.{IfOk, map}
 use Rattle.line_model.specs.declared.packet.DataHeader.{DataHeader}
 use Rattle.line_model.specs.basics.Records.{Item}
 use Rattle.line_model.specs.packets.Says.{header_in}
-use Rattle.line_model.specs.channels.ChannelStep.{heard_of}
+use Rattle.line_model.specs.channels.ChannelStep.{accepted_of}
 use Rattle.line_model.specs.channels.GapStep.{SettledOutcome, completed_for_data, data_in_doubt}
 use Rattle.packet_decode.proofs.SaidPackets.{data_said}
 use Rattle.channel_machine.specs.Channels.{Stands}
@@ -51,15 +51,15 @@ returns-then-header-clause-does g c k st =
     let held = c.args.settled.now in
     let es = c.args.events.now.items in
     let h : DataHeader = c.in-Some.header in
-    let judged : IsDataJudged (Ok c.in-Ok.flow) i held.doubts j.side h (heard_of i r h) k = c.in-Ok.ensures.judged k (heard_of i r h) refl st in
+    let judged : IsDataJudged (Ok c.in-Ok.flow) i held.doubts j.side h (accepted_of i r h) k = c.in-Ok.ensures.judged k (accepted_of i r h) refl st in
     let d = completed_for_data i.modulus held.doubts j.side h k in
     let rest : Stands p (at_rest d) = subst (λ e. Stands p e) (sym (rest_for_data i.modulus held.doubts j.side h k)) st.rest in
     let header : header_in r.packet ≡ Some h = sym (c.header_of.ensures ∙ ap (λ (x : Item). header_in x.packet) c.item.view_is) ∙ c.in-Some.is in
-    let added = c.in_ok-is_category_a.ensures.adds d (continued_by i held.doubts j.side h k) rest (continues i held j.side h (heard_of i r h) k st.numbers st.sequences judged.1) in
+    let added = c.in_ok-is_category_a.ensures.adds d (continued_by i held.doubts j.side h k) rest (continues i held j.side h (accepted_of i r h) k st.numbers st.sequences judged.1) in
     none_apart j.origin r.side p p c.accept.new.self es c.add_settled.new.events.items _
     (subst (λ o. SettledDoes j.origin p p c.accept.new.self es c.add_settled.new.events.items (data_in_doubt i j.state r o held.doubts k)) (sym header)
     (subst (λ (o : SettledOutcome). SettledDoes j.origin p p c.accept.new.self es c.add_settled.new.events.items o) (of_row i j.state r h held.doubts j.side k c.requires.side)
-    (accepts j.origin p held c.add_settled.new.settled c.accept.new.self es c.add_settled.new.events.items j.side j.state h (heard_of i r h) _ c.in-Ok.flow k st c.requires.in_d1 (sym c.requires.side)
+    (accepts j.origin p held c.add_settled.new.settled c.accept.new.self es c.add_settled.new.events.items j.side j.state h (accepted_of i r h) _ c.in-Ok.flow k st c.requires.in_d1 (sym c.requires.side)
     judged c.in-Ok.ensures.widest c.in-Ok.ensures.modulus c.accept.ensures added)))
 
 pub returns-clause-does : goal.returns-clause-does
@@ -71,18 +71,18 @@ returns-clause-does g c k st =
     let held = c.args.settled.now in
     let es = c.args.events.now.items in
     let h : DataHeader = c.in-Some.header in
-    let judged : IsDataJudged (Ok c.in-Ok.flow) i held.doubts j.side h (heard_of i r h) k = c.in-Ok.ensures.judged k (heard_of i r h) refl st in
+    let judged : IsDataJudged (Ok c.in-Ok.flow) i held.doubts j.side h (accepted_of i r h) k = c.in-Ok.ensures.judged k (accepted_of i r h) refl st in
     let d = completed_for_data i.modulus held.doubts j.side h k in
     let rest : Stands p (at_rest d) = subst (λ e. Stands p e) (sym (rest_for_data i.modulus held.doubts j.side h k)) st.rest in
     let header : header_in r.packet ≡ Some h = sym (c.header_of.ensures ∙ ap (λ (x : Item). header_in x.packet) c.item.view_is) ∙ c.in-Some.is in
-    let puts = c.in_ok-is_category_a-2.ensures.puts d (continued_by i held.doubts j.side h k) rest (continues i held j.side h (heard_of i r h) k st.numbers st.sequences judged.1) in
-    let added = added_apart j.origin i j.side held c.add_unqualified.new.settled es _ (continued_by i held.doubts j.side h k) (heard_of i r h) d c.if-header.false puts in
-    let length : c.user_data_length.result ≡ (heard_of i r h).length = c.user_data_length.ensures in
-    let after = es ++ map (event_at j.origin) (data_of j.side (Some (heard_of i r h).length)) in
+    let puts = c.in_ok-is_category_a-2.ensures.puts d (continued_by i held.doubts j.side h k) rest (continues i held j.side h (accepted_of i r h) k st.numbers st.sequences judged.1) in
+    let added = added_apart j.origin i j.side held c.add_unqualified.new.settled es _ (continued_by i held.doubts j.side h k) (accepted_of i r h) d c.if-header.false puts in
+    let length : c.user_data_length.result ≡ (accepted_of i r h).length = c.user_data_length.ensures in
+    let after = es ++ map (event_at j.origin) (data_of j.side (Some (accepted_of i r h).length)) in
     subst (λ o. SettledDoes j.origin p p c.accept-2.new.self es (es ++ map (event_at j.origin) (data_of r.side (Some c.user_data_length.result))) (data_in_doubt i j.state r o held.doubts k)) (sym header)
     (subst (λ l. SettledDoes j.origin p p c.accept-2.new.self es l (data_in_doubt i j.state r (Some h) held.doubts k)) (λ z. es ++ map (event_at j.origin) (data_of (c.requires.side z) (Some (sym length z))))
     (subst (λ (o : SettledOutcome). SettledDoes j.origin p p c.accept-2.new.self es after o) (of_row i j.state r h held.doubts j.side k c.requires.side)
-    (accepts j.origin p held c.add_unqualified.new.settled c.accept-2.new.self es after j.side j.state h (heard_of i r h) _ c.in-Ok.flow k st c.requires.in_d1 (sym c.requires.side)
+    (accepts j.origin p held c.add_unqualified.new.settled c.accept-2.new.self es after j.side j.state h (accepted_of i r h) _ c.in-Ok.flow k st c.requires.in_d1 (sym c.requires.side)
     judged c.in-Ok.ensures.widest c.in-Ok.ensures.modulus c.accept-2.ensures added)))
 
 pub returns-in-Err-clause-does : goal.returns-in-Err-clause-does
@@ -97,5 +97,5 @@ returns-in-Err-clause-does g c k st =
     settled_listed c.fail_settled.result c.listed.result j.origin r.side p c.fail_settled.new.self c.fail_settled.new.settled c.args.events.now.items c.fail_settled.new.events.items _ c.listed.ensures
     (subst (λ o. IfOk c.fail_settled.result (λ _. SettledDoes j.origin p c.fail_settled.new.self c.fail_settled.new.settled c.args.events.now.items c.fail_settled.new.events.items (data_in_doubt i j.state r o held.doubts k))) (sym header)
     (subst (λ (o : SettledOutcome). IfOk c.fail_settled.result (λ _. SettledDoes j.origin p c.fail_settled.new.self c.fail_settled.new.settled c.args.events.now.items c.fail_settled.new.events.items o))
-    (sym (c.in-Err.ensures.judged k (heard_of i r h) refl st j.state) ∙ of_row i j.state r h held.doubts j.side k c.requires.side)
+    (sym (c.in-Err.ensures.judged k (accepted_of i r h) refl st j.state) ∙ of_row i j.state r h held.doubts j.side k c.requires.side)
     (c.fail_settled.ensures.does k st)))

@@ -23,7 +23,7 @@ returns-in-None-clause-does g c k s =
 pub returns-in-Some-clause-does : goal.returns-in-Some-clause-does
 returns-in-Some-clause-does g c k s =
     let terms_are : agreed_of c.terms-terms.result ≡ c.args.self.now.terms = c.terms-terms.ensures ∙ ap (λ (o : Known). o.terms) c.self.view_is in
-    let bare : Channel = record k { opening = None; accepting = None; told = [] } in
+    let bare : Channel = record k { opening = None; accepting = None; pad_messages = [] } in
     let done : Does c.args.origin c.args.self.now c.enter-in-Some.new.self c.args.events.now.items c.push_reserved.new.self.items (ended c.args.how (entering c.args.to c.args.owed k)) =
     record {
       interface = c.enter-in-Some.ensures.interface ∙ c.new.ensures.interface ∙ ap (λ t. t.interface) terms_are;

@@ -5,7 +5,7 @@ use Rattle.line_model.specs.packets.Classes.{header_length}
 use Rattle.channel_machine.specs.Channels.{Known}
 use Rattle.channel_machine.specs.Transfers.{counted_in_force, packet}
 use Rattle.channel_machine.proofs.SaidData.{qualified_is, rest_of, whole_octets}
-use Rattle.channel_machine.proofs.Taking.{data_is, heard_by}
+use Rattle.channel_machine.proofs.Taking.{data_is, accepted_by}
 use Rattle.channel_machine.proofs.channel.StatusChannel.handle_qualified.Goals as goal
 
 pub returns-in-None-clause-does : goal.returns-in-None-clause-does
@@ -23,6 +23,6 @@ returns-in-None-clause-does g c k s =
     (subst (λ (x : Item). header_length i ≤ length x.octets) (sym c.item.view_is) (whole_octets i r h c.requires.said c.requires.qualified))
     ∙ ap (λ (x : Item). drop (header_length i) x.octets) c.item.view_is in
     let step = data_is i judgement.state r h (packet x h ys) x k c.requires.side (qualified_is i r h x ys c.requires.said c.requires.qualified c.requires.side octets) in
-    heard_by judgement.origin c.args.self.now c.accept_data.new.self c.args.events.now.items c.accept_data.new.events.items
+    accepted_by judgement.origin c.args.self.now c.accept_data.new.self c.args.events.now.items c.accept_data.new.events.items
     x judgement.state (packet x h ys) (counted_in_force i x h.send h.receive k) k (data_step i judgement.state r (Some h) k)
-    c.in_ok-code.ensures.rest s step _ c.in-None.is (c.in_ok-code.ensures.heard k s)
+    c.in_ok-code.ensures.rest s step _ c.in-None.is (c.in_ok-code.ensures.accepted_data k s)

@@ -17,7 +17,7 @@ returns-clause-stands g c = λ p of_interface of_channel of_epoch of_start no_it
   channel = sym of_channel;
   epoch = sym of_epoch;
   machine =
-      subst (g.C.Channel.stands_for c.fresh.result)
+      subst (g.C.Channel.represents c.fresh.result)
       (λ j. channel_after (sym of_interface j) (sym of_channel j) (fresh_at (sym of_interface j) (sym of_start j) (sym of_epoch j) (sym of_channel j)) (sym no_items j)) c.fresh.ensures.stands;
   counted =
       subst (λ (l : List Item). Counts c.in_ok-new.field-0 p.epoch p.channel (map event_of (piece_value (x25 p.interface) p.epoch p.channel (fresh_at p.interface p.start p.epoch p.channel) l None)))

@@ -1,7 +1,7 @@
 use Rattle.std.proofs.Common.{◌∙◌, ℕ, sym, subst}
 use Rattle.std.proofs.lemmas.Result.{IfOk-weaker}
 use Rattle.line_model.specs.pieces.Plans.{piece_events}
-use Rattle.channel_run.specs.Tally.{Counts, worth}
+use Rattle.channel_run.specs.Tally.{Counts, piece_result}
 use Rattle.channel_run.specs.Live.{so_far}
 use Rattle.channel_run.proofs.LiveLemmas.{piece_within}
 use Rattle.channel_run.proofs.live.LiveChannel.report.Goals as goal
@@ -21,8 +21,8 @@ report-requires g c =
 pub returns : goal.returns
 returns g c = record {
   value = IfOk-weaker c.report.result _ _
-      (λ report told p s.
-      told (piece_events (so_far p)) (subst (λ (w : ℕ × ℕ). Counts c.args.self.now.tally w.0 w.1 (piece_events (so_far p))) (λ j. (sym s.epoch j, sym s.channel j)) s.counted)
-      ∙ (λ j. worth c.args.id (s.epoch j) (s.channel j) (piece_events (so_far p)))) c.report.ensures.worth;
+      (λ report counts p s.
+      counts (piece_events (so_far p)) (subst (λ (w : ℕ × ℕ). Counts c.args.self.now.tally w.0 w.1 (piece_events (so_far p))) (λ j. (sym s.epoch j, sym s.channel j)) s.counted)
+      ∙ (λ j. piece_result c.args.id (s.epoch j) (s.channel j) (piece_events (so_far p)))) c.report.ensures.piece_result;
   memory = c.report.ensures.memory;
 }

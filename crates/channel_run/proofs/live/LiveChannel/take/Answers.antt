@@ -67,7 +67,7 @@ returns-in-Some-clause-stands g c = λ p s small.
       channel = s.channel;
       epoch = s.epoch;
       machine =
-          subst (g.C.Channel.stands_for c.advance.new.self)
+          subst (g.C.Channel.represents c.advance.new.self)
           ((λ j. (row_step (s.interface j) (s.number j) before item).after) ∙ sym (channel_more p.interface p.channel (fresh_at p.interface p.start p.epoch p.channel) p.items item)) (step.stands before s.machine);
       counted = subst counts (sym (piece_more p item)) (subst (λ (l : List Event). counts (es ++ l)) (sym events) counted);
     }
@@ -104,7 +104,7 @@ returns-in_ok-finding-in-None-clause-stands g c = λ p s small.
       channel = s.channel;
       epoch = s.epoch;
       machine =
-          subst (g.C.Channel.stands_for c.advance.new.self)
+          subst (g.C.Channel.represents c.advance.new.self)
           ((λ j. (row_step (s.interface j) (s.number j) before item).after) ∙ sym (channel_more p.interface p.channel (fresh_at p.interface p.start p.epoch p.channel) p.items item)) (step.stands before s.machine);
       counted = subst counts (sym (piece_more p item)) counted;
     }

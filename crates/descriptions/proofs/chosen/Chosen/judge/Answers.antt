@@ -5,16 +5,16 @@ use Rattle.annotated_trace.specs.Rows.{chooses, is_of_call}
 use Rattle.descriptions.proofs.ChoiceLemmas.{some_one}
 use Rattle.descriptions.proofs.chosen.Chosen.judge.Goals as goal
 
-pub returns-in_default-clause-told : goal.returns-in_default-clause-told
-returns-in_default-clause-told g c i before r f number walked = absurd (some_one c.last_row.result (λ l. IsJudgedRow i before r l.now c.args.observer.now.events.items) (c.last_row.ensures i before r walked) c.in_default.not-Some)
+pub returns-in_default-clause-picked : goal.returns-in_default-clause-picked
+returns-in_default-clause-picked g c i before r f number walked = absurd (some_one c.last_row.result (λ l. IsJudgedRow i before r l.now c.args.observer.now.events.items) (c.last_row.ensures i before r walked) c.in_default.not-Some)
 
 pub returns-in_default-clause-follows : goal.returns-in_default-clause-follows
 returns-in_default-clause-follows g c i before r f walked = absurd (some_one c.last_row.result (λ l. IsJudgedRow i before r l.now c.args.observer.now.events.items) (c.last_row.ensures i before r walked) c.in_default.not-Some)
 
-pub returns-clause-told : goal.returns-clause-told
-returns-clause-told g c i before r f number walked =
+pub returns-clause-picked : goal.returns-clause-picked
+returns-clause-picked g c i before r f number walked =
     let last = subst (λ o. MatchOption o ⊥ (λ l. IsJudgedRow i before r l.now c.args.observer.now.events.items)) c.in-Some.is (c.last_row.ensures i before r walked) in
-    c.chooses.ensures ∙ (λ t. chooses c.args.self.now.rows (last.packet t) ((c.judge_call-of_call.ensures.told i before r f walked.0 last ∙ ap (is_of_call i before r) number) t))
+    c.chooses.ensures ∙ (λ t. chooses c.args.self.now.rows (last.packet t) ((c.judge_call-of_call.ensures.of_call i before r f walked.0 last ∙ ap (is_of_call i before r) number) t))
 
 pub returns-clause-follows : goal.returns-clause-follows
 returns-clause-follows g c i before r f walked =

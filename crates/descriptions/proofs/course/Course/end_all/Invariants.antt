@@ -1,5 +1,5 @@
 use Rattle.std.proofs.Common.{length}
 use Rattle.descriptions.proofs.course.Course.end_all.Given as goal
 
-abbrev pub decreases-loop-lane : goal.decreases-loop-lane
-decreases-loop-lane g l = length l.self.lanes.channels
+abbrev pub decreases-loop-known : goal.decreases-loop-known
+decreases-loop-known g l = length l.self.known_channels.channels

@@ -6,7 +6,7 @@ use Rattle.json_lines.proofs.lines.JsonLines.take.Goals as goal
 pub loop-byte-preserved : goal.loop-byte-preserved
 loop-byte-preserved g c =
     let t = c.loop-byte.invariant in (
-      c.take_byte.ensures.told ∙ grind (arith, common_steps),
+      c.take_byte.ensures.given ∙ grind (arith, common_steps),
       c.take_byte.ensures.refused ∙ t.1,
       λ before w. c.take_byte.ensures.goes before (t.2 before w),
     )

@@ -2,47 +2,47 @@ use Rattle.std.proofs.Common.{◌++◌, List, ap, length, arith, subst, sym}
 use Rattle.std.specs.Prelude.{IfSome}
 use Rattle.std.proofs.lemmas.Result.{IfErr-weaker}
 use Rattle.trace_text.proofs.SourceLemmas.{passed_on}
-use Rattle.trace_text.specs.StandsFor.{IsTextFault}
+use Rattle.trace_text.specs.Represents.{IsTextFault}
 use Rattle.live_report.specs.Reports.{IsReportFault}
 use Rattle.line_model.specs.declared.finding.Finding.{Finding}
 use Rattle.live_report.specs.Found.{found}
-use Rattle.live_report.proofs.FollowLemmas.{always, fed_few, found_length, text_report, told_all, told_first}
+use Rattle.live_report.proofs.FollowLemmas.{always, fed_few, found_length, text_report, written_all, written_first}
 use Rattle.live_report.proofs.follow.Follower.write_found.Goals as goal
 
 pub overflow_add-self : goal.overflow_add-self
 overflow_add-self g c =
     let s = c.requires.1 in
-    let told = s.few in
+    let findings_written = s.few in
     let fed = fed_few c.args.self.now.live.lines c.requires.0 s.live.reads in
     let few = c.feed-read.ensures.few s.live.running in
-    omega (arith, told, fed, few, ap (λ (xs : List Finding). length xs) c.found-found.ensures, c.type_inv.chunk)
+    omega (arith, findings_written, fed, few, ap (λ (xs : List Finding). length xs) c.found-found.ensures, c.type_inv.chunk)
 
 pub returns-clause-stands : goal.returns-clause-stands
 returns-clause-stands g c text s =
-    let told = s.few in
+    let findings_written = s.few in
     let few = c.feed-read.ensures.few s.live.running in
     let count = ap (λ (xs : List Finding). length xs) c.found-found.ensures in
     let more = found_length c.feed-read.new.self.found.items (found text) (found (text ++ c.args.chunk.now)) (c.in_ok-read.ensures.found text s.live) in
     always c.write_findings-written.result _ (record {
       live = c.in_ok-read.ensures.stands text s.live;
       running = s.running;
-      told = omega (arith, s.told, count, more);
-      few = omega (arith, told, few, count, c.in_ok-read.ensures.size);
+      findings_written = omega (arith, s.findings_written, count, more);
+      few = omega (arith, findings_written, few, count, c.in_ok-read.ensures.size);
     })
 
-pub returns-clause-told : goal.returns-clause-told
-returns-clause-told g c text before s has =
-    told_all c.write_findings-written.result before (g.K.Sink.taken c.args.sink.now) (g.K.Sink.taken c.write_findings-written.new.sink) text (text ++ c.args.chunk.now) c.found-found.result.now c.feed-read.new.self.found.items c.found-found.ensures has
+pub returns-clause-findings_written : goal.returns-clause-findings_written
+returns-clause-findings_written g c text before s has =
+    written_all c.write_findings-written.result before (g.K.Sink.taken c.args.sink.now) (g.K.Sink.taken c.write_findings-written.new.sink) text (text ++ c.args.chunk.now) c.found-found.result.now c.feed-read.new.self.found.items c.found-found.ensures has
     (c.in_ok-read.ensures.found text s.live) c.write_findings-written.ensures.ok
 
 pub returns-clause-taken : goal.returns-clause-taken
 returns-clause-taken g c text before s has =
-    told_first c.feed-read.result c.write_findings-written.result before (g.K.Sink.taken c.args.sink.now) (g.K.Sink.taken c.write_findings-written.new.sink) text (text ++ c.args.chunk.now) c.found-found.result.now c.feed-read.new.self.found.items c.found-found.ensures has
+    written_first c.feed-read.result c.write_findings-written.result before (g.K.Sink.taken c.args.sink.now) (g.K.Sink.taken c.write_findings-written.new.sink) text (text ++ c.args.chunk.now) c.found-found.result.now c.feed-read.new.self.found.items c.found-found.ensures has
     (c.feed-read.ensures.found text s.live) c.write_findings-written.ensures.ok c.write_findings-written.ensures.part
 
 pub returns-in_err-read-clause-taken : goal.returns-in_err-read-clause-taken
 returns-in_err-read-clause-taken g c text before s has =
-    told_first c.feed-read.result c.write_findings-written.result before (g.K.Sink.taken c.args.sink.now) (g.K.Sink.taken c.write_findings-written.new.sink) text (text ++ c.args.chunk.now) c.found-found.result.now c.feed-read.new.self.found.items c.found-found.ensures has
+    written_first c.feed-read.result c.write_findings-written.result before (g.K.Sink.taken c.args.sink.now) (g.K.Sink.taken c.write_findings-written.new.sink) text (text ++ c.args.chunk.now) c.found-found.result.now c.feed-read.new.self.found.items c.found-found.ensures has
     (c.feed-read.ensures.found text s.live) c.write_findings-written.ensures.ok c.write_findings-written.ensures.part
 
 pub feed-read-requires : goal.feed-read-requires

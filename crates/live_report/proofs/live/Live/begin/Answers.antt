@@ -6,7 +6,7 @@ use Rattle.line_model.specs.declared.fault.Fault.TheVariants.{Memory}
 use Rattle.line_model.specs.declared.finding.Finding.{Finding}
 use Rattle.std.proofs.lemmas.Result.{err_from_is_err_and}
 use Rattle.trace_text.proofs.SourceLemmas.{passed_on}
-use Rattle.trace_text.specs.StandsFor.{IsFaultOf, IsTextFault, ReadsChunk}
+use Rattle.trace_text.specs.Represents.{IsFaultOf, IsTextFault, ReadsChunk}
 use Rattle.live_report.specs.Found.{HasFound, IsFoundBy, IsFoundUpTo, found, found_at}
 use Rattle.live_report.specs.Lives.{IsLastRow, IsObserving}
 use Rattle.live_report.proofs.FoundLemmas.{at_most_one, found_next, found_unheaded, found_up_to}
@@ -16,7 +16,7 @@ use Rattle.live_report.proofs.live.Live.begin.Goals as goal
 
 pub returns-in_err-rest-clause-found : goal.returns-in_err-rest-clause-found
 returns-in_err-rest-clause-found g c text s =
-    let none = nothing_seen g.C.Channel.interface_of g.C.Channel.number_of g.C.Channel.stands_for c.args.self.now text s c.requires.bare in
+    let none = nothing_seen g.C.Channel.interface_of g.C.Channel.number_of g.C.Channel.represents c.args.self.now text s c.requires.bare in
     let p = err_from_is_err_and c.from_residual.result c.from_residual.ensures.1 in
     let is : c.from_residual.result ≡ Err c.in_err-rest.field-0.0 = p.1 ∙ ap (λ f. Err f) p.2 in
     subst (λ r. IsFoundBy r c.args.self.now.found.items c.args.self.now.found.items (found text) (found (text ++ c.args.chunk.now))) (sym is)
@@ -24,13 +24,13 @@ returns-in_err-rest-clause-found g c text s =
 
 pub returns-in-None-clause-found : goal.returns-in-None-clause-found
 returns-in-None-clause-found g c text s =
-    let none = nothing_seen g.C.Channel.interface_of g.C.Channel.number_of g.C.Channel.stands_for c.args.self.now text s c.requires.bare in
+    let none = nothing_seen g.C.Channel.interface_of g.C.Channel.number_of g.C.Channel.represents c.args.self.now text s c.requires.bare in
     let end : ReadsChunk c.args.self.now.lines c.next_row.new.self c.args.chunk.now = rw c.in-None.is at c.in_ok-rest.ensures.ok in
     found_no_row c.args.self.now.lines c.next_row.new.self text c.args.chunk.now c.args.self.now.found.items s.reads none end
 
 pub returns-in_err-first-clause-found : goal.returns-in_err-first-clause-found
 returns-in_err-first-clause-found g c text s =
-    let none = nothing_seen g.C.Channel.interface_of g.C.Channel.number_of g.C.Channel.stands_for c.args.self.now text s c.requires.bare in
+    let none = nothing_seen g.C.Channel.interface_of g.C.Channel.number_of g.C.Channel.represents c.args.self.now text s c.requires.bare in
     let p = err_from_is_err_and c.from_residual-in_err-first.result c.from_residual-in_err-first.ensures.1 in
     let memory : c.from_residual-in_err-first.result ≡ Err Memory = p.1 ∙ ap (λ f. Err f) (p.2 ∙ c.in_err-first.ensures.memory) in
     subst (λ r. IsFoundBy r c.args.self.now.found.items c.args.self.now.found.items (found text) (found (text ++ c.args.chunk.now))) (sym memory)
@@ -44,7 +44,7 @@ returns-in_err-append_finding-clause-refused g c text s =
 
 pub returns-in_err-append_finding-clause-found : goal.returns-in_err-append_finding-clause-found
 returns-in_err-append_finding-clause-found g c text s =
-    let none = nothing_seen g.C.Channel.interface_of g.C.Channel.number_of g.C.Channel.stands_for c.args.self.now text s c.requires.bare in
+    let none = nothing_seen g.C.Channel.interface_of g.C.Channel.number_of g.C.Channel.represents c.args.self.now text s c.requires.bare in
     let p = err_from_is_err_and c.from_residual-in_err-append_finding.result c.from_residual-in_err-append_finding.ensures.1 in
     let memory : c.from_residual-in_err-append_finding.result ≡ Err Memory = p.1 ∙ ap (λ f. Err f) p.2 in
     subst (λ r. IsFoundBy r c.args.self.now.found.items c.append_finding.new.findings.items (found text) (found (text ++ c.args.chunk.now))) (sym memory)
@@ -53,27 +53,27 @@ returns-in_err-append_finding-clause-found g c text s =
 pub take-requires : goal.take-requires
 take-requires g c =
     let room = c.requires.fed in
-    let none = nothing_seen g.C.Channel.interface_of g.C.Channel.number_of g.C.Channel.stands_for c.args.self.now room.0 room.1 c.requires.bare in
+    let none = nothing_seen g.C.Channel.interface_of g.C.Channel.number_of g.C.Channel.represents c.args.self.now room.0 room.1 c.requires.bare in
     let row : ReadsRow c.args.self.now.lines c.next_row.new.self c.args.chunk.now c.in-Some.rest.now c.next_row.new.row = rw c.in-Some.is at c.in_ok-rest.ensures.ok in
     record { room = (c.in-Some-interface.interface, [], c.new-observer.ensures.walked, first_rows c.in-Some-interface.interface c.args.self.now.lines c.next_row.new.self room.0 c.args.chunk.now c.in-Some.rest.now c.next_row.new.row room.1.reads none row (c.in-Some-interface.ensures.kept ∙ ap (λ v. v.lines.interface) c.self.view_is)) }
 
 pub observe_chunk-requires : goal.observe_chunk-requires
 observe_chunk-requires g c =
     let room = c.requires.fed in
-    let none = nothing_seen g.C.Channel.interface_of g.C.Channel.number_of g.C.Channel.stands_for c.args.self.now room.0 room.1 c.requires.bare in
+    let none = nothing_seen g.C.Channel.interface_of g.C.Channel.number_of g.C.Channel.represents c.args.self.now room.0 room.1 c.requires.bare in
     let row : ReadsRow c.args.self.now.lines c.next_row.new.self c.args.chunk.now c.in-Some.rest.now c.next_row.new.row = rw c.in-Some.is at c.in_ok-rest.ensures.ok in
-    let observed = first_observed g.C.Channel.interface_of g.C.Channel.number_of g.C.Channel.stands_for c.in-Some-interface.interface room.0 c.args.chunk.now c.in-Some.rest.now c.next_row.new.row c.args.self.now.lines c.next_row.new.self c.take.new.self room.1.reads none row (c.in-Some-interface.ensures.kept ∙ ap (λ v. v.lines.interface) c.self.view_is)
+    let observed = first_observed g.C.Channel.interface_of g.C.Channel.number_of g.C.Channel.represents c.in-Some-interface.interface room.0 c.args.chunk.now c.in-Some.rest.now c.next_row.new.row c.args.self.now.lines c.next_row.new.self c.take.new.self room.1.reads none row (c.in-Some-interface.ensures.kept ∙ ap (λ v. v.lines.interface) c.self.view_is)
     (c.in_ok-first.ensures.stands c.in-Some-interface.interface [] c.new-observer.ensures.walked (first_rows c.in-Some-interface.interface c.args.self.now.lines c.next_row.new.self room.0 c.args.chunk.now c.in-Some.rest.now c.next_row.new.row room.1.reads none row (c.in-Some-interface.ensures.kept ∙ ap (λ v. v.lines.interface) c.self.view_is))) in
     (c.in-Some-interface.interface, room.0 ++ row.1.taken, observed)
 
 pub returns-clause-stands : goal.returns-clause-stands
 returns-clause-stands g c text s =
-    let none = nothing_seen g.C.Channel.interface_of g.C.Channel.number_of g.C.Channel.stands_for c.args.self.now text s c.requires.bare in
+    let none = nothing_seen g.C.Channel.interface_of g.C.Channel.number_of g.C.Channel.represents c.args.self.now text s c.requires.bare in
     let row : ReadsRow c.args.self.now.lines c.next_row.new.self c.args.chunk.now c.in-Some.rest.now c.next_row.new.row = rw c.in-Some.is at c.in_ok-rest.ensures.ok in
-    let observed = first_observed g.C.Channel.interface_of g.C.Channel.number_of g.C.Channel.stands_for c.in-Some-interface.interface text c.args.chunk.now c.in-Some.rest.now c.next_row.new.row c.args.self.now.lines c.next_row.new.self c.take.new.self s.reads none row (c.in-Some-interface.ensures.kept ∙ ap (λ v. v.lines.interface) c.self.view_is)
+    let observed = first_observed g.C.Channel.interface_of g.C.Channel.number_of g.C.Channel.represents c.in-Some-interface.interface text c.args.chunk.now c.in-Some.rest.now c.next_row.new.row c.args.self.now.lines c.next_row.new.self c.take.new.self s.reads none row (c.in-Some-interface.ensures.kept ∙ ap (λ v. v.lines.interface) c.self.view_is)
     (c.in_ok-first.ensures.stands c.in-Some-interface.interface [] c.new-observer.ensures.walked (first_rows c.in-Some-interface.interface c.args.self.now.lines c.next_row.new.self text c.args.chunk.now c.in-Some.rest.now c.next_row.new.row s.reads none row (c.in-Some-interface.ensures.kept ∙ ap (λ v. v.lines.interface) c.self.view_is))) in
-    stands_observing g.C.Channel.interface_of g.C.Channel.number_of g.C.Channel.stands_for c.in-Some-interface.interface _ (text ++ c.args.chunk.now) c.observe_chunk.new.observer
-    (subst (λ x. IsObserving g.C.Channel.interface_of g.C.Channel.number_of g.C.Channel.stands_for c.in-Some-interface.interface x c.observe_chunk.new.lines c.observe_chunk.new.observer) (chunk_text c.args.self.now.lines c.next_row.new.self text c.args.chunk.now c.in-Some.rest.now c.next_row.new.row row)
+    stands_observing g.C.Channel.interface_of g.C.Channel.number_of g.C.Channel.represents c.in-Some-interface.interface _ (text ++ c.args.chunk.now) c.observe_chunk.new.observer
+    (subst (λ x. IsObserving g.C.Channel.interface_of g.C.Channel.number_of g.C.Channel.represents c.in-Some-interface.interface x c.observe_chunk.new.lines c.observe_chunk.new.observer) (chunk_text c.args.self.now.lines c.next_row.new.self text c.args.chunk.now c.in-Some.rest.now c.next_row.new.row row)
     (c.in_ok-observe_chunk.ensures.observes c.in-Some-interface.interface (text ++ row.1.taken) observed)) refl s.running (c.in_ok-observe_chunk.ensures.keeps ∙ c.in_ok-first.ensures.keeps ∙ c.new-observer.ensures.keeps ∙ ap (λ v. v.keeps_rows) c.self.view_is)
     (λ keeps. subst (λ x. IsLastRow (early_rows x) c.observe_chunk.new.rows.last) (chunk_text c.args.self.now.lines c.next_row.new.self text c.args.chunk.now c.in-Some.rest.now c.next_row.new.row row)
     (c.in_ok-observe_chunk.ensures.last c.in-Some-interface.interface (text ++ row.1.taken) observed (c.in_ok-first.ensures.keeps ∙ c.new-observer.ensures.keeps ∙ ap (λ v. v.keeps_rows) c.self.view_is ∙ keeps)
@@ -81,9 +81,9 @@ returns-clause-stands g c text s =
 
 pub returns-in_err-observe_chunk-clause-refused : goal.returns-in_err-observe_chunk-clause-refused
 returns-in_err-observe_chunk-clause-refused g c text s =
-    let none = nothing_seen g.C.Channel.interface_of g.C.Channel.number_of g.C.Channel.stands_for c.args.self.now text s c.requires.bare in
+    let none = nothing_seen g.C.Channel.interface_of g.C.Channel.number_of g.C.Channel.represents c.args.self.now text s c.requires.bare in
     let row : ReadsRow c.args.self.now.lines c.next_row.new.self c.args.chunk.now c.in-Some.rest.now c.next_row.new.row = rw c.in-Some.is at c.in_ok-rest.ensures.ok in
-    let observed = first_observed g.C.Channel.interface_of g.C.Channel.number_of g.C.Channel.stands_for c.in-Some-interface.interface text c.args.chunk.now c.in-Some.rest.now c.next_row.new.row c.args.self.now.lines c.next_row.new.self c.take.new.self s.reads none row (c.in-Some-interface.ensures.kept ∙ ap (λ v. v.lines.interface) c.self.view_is)
+    let observed = first_observed g.C.Channel.interface_of g.C.Channel.number_of g.C.Channel.represents c.in-Some-interface.interface text c.args.chunk.now c.in-Some.rest.now c.next_row.new.row c.args.self.now.lines c.next_row.new.self c.take.new.self s.reads none row (c.in-Some-interface.ensures.kept ∙ ap (λ v. v.lines.interface) c.self.view_is)
     (c.in_ok-first.ensures.stands c.in-Some-interface.interface [] c.new-observer.ensures.walked (first_rows c.in-Some-interface.interface c.args.self.now.lines c.next_row.new.self text c.args.chunk.now c.in-Some.rest.now c.next_row.new.row s.reads none row (c.in-Some-interface.ensures.kept ∙ ap (λ v. v.lines.interface) c.self.view_is))) in
     passed_on c.from_residual-in_err-observe_chunk.result c.in_err-observe_chunk.field-0.0 _ c.from_residual-in_err-observe_chunk.ensures.1
     (subst (λ x. IsFaultOf (early x) c.in_err-observe_chunk.field-0.0) (chunk_text c.args.self.now.lines c.next_row.new.self text c.args.chunk.now c.in-Some.rest.now c.next_row.new.row row)
@@ -91,12 +91,12 @@ returns-in_err-observe_chunk-clause-refused g c text s =
 
 pub returns-clause-found : goal.returns-clause-found
 returns-clause-found g c text s =
-    let none = nothing_seen g.C.Channel.interface_of g.C.Channel.number_of g.C.Channel.stands_for c.args.self.now text s c.requires.bare in
+    let none = nothing_seen g.C.Channel.interface_of g.C.Channel.number_of g.C.Channel.represents c.args.self.now text s c.requires.bare in
     let row : ReadsRow c.args.self.now.lines c.next_row.new.self c.args.chunk.now c.in-Some.rest.now c.next_row.new.row = rw c.in-Some.is at c.in_ok-rest.ensures.ok in
     let i = c.in-Some-interface.interface in
     let given = text ++ row.1.taken in
     let sound = first_rows i c.args.self.now.lines c.next_row.new.self text c.args.chunk.now c.in-Some.rest.now c.next_row.new.row s.reads none row (c.in-Some-interface.ensures.kept ∙ ap (λ v. v.lines.interface) c.self.view_is) in
-    let observed = first_observed g.C.Channel.interface_of g.C.Channel.number_of g.C.Channel.stands_for i text c.args.chunk.now c.in-Some.rest.now c.next_row.new.row c.args.self.now.lines c.next_row.new.self c.take.new.self s.reads none row (c.in-Some-interface.ensures.kept ∙ ap (λ v. v.lines.interface) c.self.view_is)
+    let observed = first_observed g.C.Channel.interface_of g.C.Channel.number_of g.C.Channel.represents i text c.args.chunk.now c.in-Some.rest.now c.next_row.new.row c.args.self.now.lines c.next_row.new.self c.take.new.self s.reads none row (c.in-Some-interface.ensures.kept ∙ ap (λ v. v.lines.interface) c.self.view_is)
     (c.in_ok-first.ensures.stands i [] c.new-observer.ensures.walked sound) in
     let headed = found_headed c.next_row.new.self given c.in-Some.rest.now i observed.reads observed.header in
     let all = chunk_text c.args.self.now.lines c.next_row.new.self text c.args.chunk.now c.in-Some.rest.now c.next_row.new.row row in
@@ -109,12 +109,12 @@ returns-clause-found g c text s =
 
 pub returns-in_err-observe_chunk-clause-found : goal.returns-in_err-observe_chunk-clause-found
 returns-in_err-observe_chunk-clause-found g c text s =
-    let none = nothing_seen g.C.Channel.interface_of g.C.Channel.number_of g.C.Channel.stands_for c.args.self.now text s c.requires.bare in
+    let none = nothing_seen g.C.Channel.interface_of g.C.Channel.number_of g.C.Channel.represents c.args.self.now text s c.requires.bare in
     let row : ReadsRow c.args.self.now.lines c.next_row.new.self c.args.chunk.now c.in-Some.rest.now c.next_row.new.row = rw c.in-Some.is at c.in_ok-rest.ensures.ok in
     let i = c.in-Some-interface.interface in
     let given = text ++ row.1.taken in
     let sound = first_rows i c.args.self.now.lines c.next_row.new.self text c.args.chunk.now c.in-Some.rest.now c.next_row.new.row s.reads none row (c.in-Some-interface.ensures.kept ∙ ap (λ v. v.lines.interface) c.self.view_is) in
-    let observed = first_observed g.C.Channel.interface_of g.C.Channel.number_of g.C.Channel.stands_for i text c.args.chunk.now c.in-Some.rest.now c.next_row.new.row c.args.self.now.lines c.next_row.new.self c.take.new.self s.reads none row (c.in-Some-interface.ensures.kept ∙ ap (λ v. v.lines.interface) c.self.view_is)
+    let observed = first_observed g.C.Channel.interface_of g.C.Channel.number_of g.C.Channel.represents i text c.args.chunk.now c.in-Some.rest.now c.next_row.new.row c.args.self.now.lines c.next_row.new.self c.take.new.self s.reads none row (c.in-Some-interface.ensures.kept ∙ ap (λ v. v.lines.interface) c.self.view_is)
     (c.in_ok-first.ensures.stands i [] c.new-observer.ensures.walked sound) in
     let headed = found_headed c.next_row.new.self given c.in-Some.rest.now i observed.reads observed.header in
     let all = chunk_text c.args.self.now.lines c.next_row.new.self text c.args.chunk.now c.in-Some.rest.now c.next_row.new.row row in

@@ -11,11 +11,11 @@ use Rattle.live_report.proofs.live.Live.end.Goals as goal
 
 pub returns-clause-reported : goal.returns-clause-reported
 returns-clause-reported g c text s =
-    let told = reported_by text c.in_ok-report.report (g.K.Sink.taken c.args.sink.now) (g.K.Sink.taken c.write_report.new.sink) (c.in_ok-report.ensures.told text s) c.in_ok-write_report.ensures.ok in
-    record { sound = told.sound; taken = told.taken; counted = ap (λ r. r.summary) c.report.view_is ∙ told.counted }
+    let report_is = reported_by text c.in_ok-report.report (g.K.Sink.taken c.args.sink.now) (g.K.Sink.taken c.write_report.new.sink) (c.in_ok-report.ensures.report_is text s) c.in_ok-write_report.ensures.ok in
+    record { sound = report_is.sound; taken = report_is.taken; counted = ap (λ r. r.summary) c.report.view_is ∙ report_is.counted }
 
 pub returns-in_err-write_report-clause-taken : goal.returns-in_err-write_report-clause-taken
-returns-in_err-write_report-clause-taken g c text s = passed_on c.from_residual-in_err-write_report.result c.in_err-write_report.field-0.0 _ c.from_residual-in_err-write_report.ensures.1 (taken_by text c.in_ok-report.report (g.K.Sink.taken c.args.sink.now) (g.K.Sink.taken c.write_report.new.sink) c.in_err-write_report.field-0.0 (c.in_ok-report.ensures.told text s) c.in_err-write_report.ensures.write c.in_err-write_report.ensures.part)
+returns-in_err-write_report-clause-taken g c text s = passed_on c.from_residual-in_err-write_report.result c.in_err-write_report.field-0.0 _ c.from_residual-in_err-write_report.ensures.1 (taken_by text c.in_ok-report.report (g.K.Sink.taken c.args.sink.now) (g.K.Sink.taken c.write_report.new.sink) c.in_err-write_report.field-0.0 (c.in_ok-report.ensures.report_is text s) c.in_err-write_report.ensures.write c.in_err-write_report.ensures.part)
 
 pub returns-clause-write_failed : goal.returns-clause-write_failed
 returns-clause-write_failed g c e = absurd (no_fault Summary _ Write e)
@@ -24,7 +24,7 @@ pub returns-clause-again : goal.returns-clause-again
 returns-clause-again g c fault r = absurd (no_fault _ c.in_ok-report.report fault (c.in_ok-report.ensures.again fault r))
 
 pub returns-in_err-write_report-clause-refused : goal.returns-in_err-write_report-clause-refused
-returns-in_err-write_report-clause-refused g c text s = passed_on c.from_residual-in_err-write_report.result c.in_err-write_report.field-0.0 _ c.from_residual-in_err-write_report.ensures.1 (subst (IsRefusal text) (sym c.in_err-write_report.ensures.write) (c.in_ok-report.ensures.told text s).sound)
+returns-in_err-write_report-clause-refused g c text s = passed_on c.from_residual-in_err-write_report.result c.in_err-write_report.field-0.0 _ c.from_residual-in_err-write_report.ensures.1 (subst (IsRefusal text) (sym c.in_err-write_report.ensures.write) (c.in_ok-report.ensures.report_is text s).sound)
 
 pub returns-in_err-write_report-clause-kinds : goal.returns-in_err-write_report-clause-kinds
 returns-in_err-write_report-clause-kinds g c = passed_on c.from_residual-in_err-write_report.result c.in_err-write_report.field-0.0 _ c.from_residual-in_err-write_report.ensures.1 (subst IsReportFault (sym c.in_err-write_report.ensures.write) tt)

@@ -1,6 +1,6 @@
 use Rattle.std.proofs.Common.{◌∙◌, ◌++◌, ap, arith, length, subst, sym}
 use Rattle.std.specs.Prelude.{IfSome}
-use Rattle.trace_text.specs.StandsFor.{IsTextFault}
+use Rattle.trace_text.specs.Represents.{IsTextFault}
 use Rattle.live_report.specs.Found.{IsFoundBy, found}
 use Rattle.live_report.proofs.LiveLemmas.{fault_of, ok_by, on_sound}
 use Rattle.live_report.proofs.live.Live.feed.Goals as goal

@@ -2,7 +2,7 @@ use Rattle.std.proofs.Common.{None, ◌∙◌, ◌++◌, ap, subst, sym}
 use Rattle.std.specs.Prelude.{IfSome}
 use Rattle.std.specs.Result.{result_err}
 use Rattle.trace_text.specs.RowTexts.{row_text}
-use Rattle.trace_text.specs.StandsFor.{IsTextFault}
+use Rattle.trace_text.specs.Represents.{IsTextFault}
 use Rattle.live_report.specs.Found.{HasFound, found}
 use Rattle.live_report.specs.Lives.{WasFed}
 use Rattle.live_report.proofs.LiveLemmas.{fault_of, fed_on}
@@ -24,16 +24,16 @@ returns-clause-fed g c = record {
 }
 
 pub returns-clause-taken : goal.returns-clause-taken
-returns-clause-taken g c text s told =
-    let w = c.take_packet-taken.ensures.taken text (record { reads = s.reads; running = s.running; observed = s.observed; keeps = s.keeps; last = s.last }) told in
-    record { reads = w.reads; running = c.err-self.ensures.value ∙ ap result_err told; observed = w.observed; keeps = w.keeps; last = w.last }
+returns-clause-taken g c text s report_is =
+    let w = c.take_packet-taken.ensures.taken text (record { reads = s.reads; running = s.running; observed = s.observed; keeps = s.keeps; last = s.last }) report_is in
+    record { reads = w.reads; running = c.err-self.ensures.value ∙ ap result_err report_is; observed = w.observed; keeps = w.keeps; last = w.last }
 
 pub returns-clause-passed : goal.returns-clause-passed
-returns-clause-passed g c text s told =
-    let w = c.take_packet-taken.ensures.passed text (record { reads = s.reads; running = s.running; observed = s.observed; keeps = s.keeps; last = s.last }) told in
-    record { reads = w.reads; running = c.err-self.ensures.value ∙ ap result_err told; observed = w.observed; keeps = w.keeps; last = w.last }
+returns-clause-passed g c text s report_is =
+    let w = c.take_packet-taken.ensures.passed text (record { reads = s.reads; running = s.running; observed = s.observed; keeps = s.keeps; last = s.last }) report_is in
+    record { reads = w.reads; running = c.err-self.ensures.value ∙ ap result_err report_is; observed = w.observed; keeps = w.keeps; last = w.last }
 
 pub returns-clause-found : goal.returns-clause-found
-returns-clause-found g c text s told =
+returns-clause-found g c text s report_is =
     subst (λ l. HasFound l c.take_packet-taken.new.self.found.items (found text) (found (text ++ (row_text (record { number = c.args.number; side = c.args.side; octets = c.args.octets.now; gap = None }))))) c.clear.ensures.items
-    (c.take_packet-taken.ensures.found text (record { reads = s.reads; running = s.running; observed = s.observed; keeps = s.keeps; last = s.last }) told)
+    (c.take_packet-taken.ensures.found text (record { reads = s.reads; running = s.running; observed = s.observed; keeps = s.keeps; last = s.last }) report_is)

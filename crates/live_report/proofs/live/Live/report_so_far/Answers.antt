@@ -2,31 +2,31 @@ use Rattle.std.proofs.Common.{◌∙◌, ap, subst, sym}
 use Rattle.line_model.specs.packets.Says.{items_of}
 use Rattle.line_model.specs.text.Text.{early_rows, fault}
 use Rattle.trace_text.specs.EndedPart.{ended_part}
-use Rattle.trace_text.specs.StandsFor.{IsFaultOf, StandsFor as IsReaderOf}
+use Rattle.trace_text.specs.Represents.{IsFaultOf, Represents as IsReaderOf}
 use Rattle.trace_text.proofs.EndedLemmas.{part-header, part-rows}
 use Rattle.live_report.specs.Reports.{IsMissing}
 use Rattle.live_report.proofs.LiveLemmas.{nothing_seen, observing_of}
-use Rattle.live_report.proofs.ReportLemmas.{memory_only, told_at}
+use Rattle.live_report.proofs.ReportLemmas.{memory_only, reported_at}
 use Rattle.live_report.proofs.live.Live.report_so_far.Goals as goal
 
 pub report-requires : goal.report-requires
 report-requires g c =
     let room = c.requires.fed.fed c.in_default.is in
-    let seen = observing_of g.C.Channel.interface_of g.C.Channel.number_of g.C.Channel.stands_for c.args.self.now room.0 c.in-Some-observer.observer room.1 (sym (ap (λ v. v.observer) c.self.view_is) ∙ c.in-Some-observer.is) in
+    let seen = observing_of g.C.Channel.interface_of g.C.Channel.number_of g.C.Channel.represents c.args.self.now room.0 c.in-Some-observer.observer room.1 (sym (ap (λ v. v.observer) c.self.view_is) ∙ c.in-Some-observer.is) in
     record { room = (seen.0, items_of seen.0 (early_rows room.0), seen.1.observes) }
 
-pub returns-in-Some-observer-clause-told : goal.returns-in-Some-observer-clause-told
-returns-in-Some-observer-clause-told g c text s =
-    let seen = observing_of g.C.Channel.interface_of g.C.Channel.number_of g.C.Channel.stands_for c.args.self.now text c.in-Some-observer.observer s (sym (ap (λ v. v.observer) c.self.view_is) ∙ c.in-Some-observer.is) in
+pub returns-in-Some-observer-clause-report_is : goal.returns-in-Some-observer-clause-report_is
+returns-in-Some-observer-clause-report_is g c text s =
+    let seen = observing_of g.C.Channel.interface_of g.C.Channel.number_of g.C.Channel.represents c.args.self.now text c.in-Some-observer.observer s (sym (ap (λ v. v.observer) c.self.view_is) ∙ c.in-Some-observer.is) in
     let part = part-header c.args.self.now.lines text seen.0 s.reads seen.1.header in
-    told_at (ended_part text) seen.0 (items_of seen.0 (early_rows text)) c.report.result (c.report.ensures.report seen.0 (items_of seen.0 (early_rows text)) seen.1.observes) part.0 part.1
+    reported_at (ended_part text) seen.0 (items_of seen.0 (early_rows text)) c.report.result (c.report.ensures.report seen.0 (items_of seen.0 (early_rows text)) seen.1.observes) part.0 part.1
     (ap (items_of seen.0) (part-rows c.args.self.now.lines text s.reads))
 
-pub returns-in-None-clause-told : goal.returns-in-None-clause-told
-returns-in-None-clause-told g c text s =
-    let none = nothing_seen g.C.Channel.interface_of g.C.Channel.number_of g.C.Channel.stands_for c.args.self.now text s (sym (ap (λ v. v.observer) c.self.view_is) ∙ c.in-None.is) in
+pub returns-in-None-clause-report_is : goal.returns-in-None-clause-report_is
+returns-in-None-clause-report_is g c text s =
+    let none = nothing_seen g.C.Channel.interface_of g.C.Channel.number_of g.C.Channel.represents c.args.self.now text s (sym (ap (λ v. v.observer) c.self.view_is) ∙ c.in-None.is) in
     let part = c.in_ok-interface.ensures.ok text (subst (λ reader. IsReaderOf reader text) (sym (ap (λ v. v.lines) c.self.view_is)) s.reads) in
-    told_at (ended_part text) c.in_ok-interface.interface _ c.end.result (c.end.ensures.report c.in_ok-interface.interface _ c.new.ensures.walked) part.0 part.1
+    reported_at (ended_part text) c.in_ok-interface.interface _ c.end.result (c.end.ensures.report c.in_ok-interface.interface _ c.new.ensures.walked) part.0 part.1
     (ap (items_of c.in_ok-interface.interface) (part-rows c.args.self.now.lines text s.reads ∙ none))
 
 pub returns-in-None-clause-refused : goal.returns-in-None-clause-refused

@@ -1,4 +1,4 @@
 use Rattle.live_report.proofs.live_observer.LiveTraceObserver.whole.Goals as goal
 
-pub returns-clause-told : goal.returns-clause-told
-returns-clause-told g c text s = c.whole.ensures.told text s.0
+pub returns-clause-report_is : goal.returns-clause-report_is
+returns-clause-report_is g c text s = c.whole.ensures.report_is text s.0

@@ -1,6 +1,6 @@
 use Rattle.std.proofs.Common.{refl, sym, ◌∙◌, ap, true, false}
 use Rattle.pad.specs.Concerns.{concern_of}
-use Rattle.pad.proofs.Applied.{free_fault, is_free, telling, telling_fault, setting, set_faulted, reading, nothing, unasked}
+use Rattle.pad.proofs.Applied.{free_fault, is_free, indicating, indicating_fault, setting, set_faulted, reading, nothing, unasked}
 use Rattle.pad.proofs.Walked.{indicated_all}
 use Rattle.pad.proofs.settings.Settings.apply.Goals as goal
 
@@ -17,7 +17,7 @@ returns-in-Reads-clause-stands c ts h =
 pub returns-in-Sets-clause-stands : goal.returns-in-Sets-clause-stands
 returns-in-Sets-clause-stands c ts h =
     setting c.args.self.now _ ts c.args.from c.args.message.now.code c.args.message.now.pairs.now h c.args.message.now.well_formed
-    (ap (λ b. concern_of b c.args.message.now.code) (sym c.is_own.ensures) ∙ sym c.in-Sets.ensures) c.set.ensures.pad c.set.ensures.asked c.set.ensures.tells
+    (ap (λ b. concern_of b c.args.message.now.code) (sym c.is_own.ensures) ∙ sym c.in-Sets.ensures) c.set.ensures.pad c.set.ensures.asked c.set.ensures.has_entries
 
 pub returns-in-Sets-clause-fault : goal.returns-in-Sets-clause-fault
 returns-in-Sets-clause-fault c ts h =
@@ -26,9 +26,9 @@ returns-in-Sets-clause-fault c ts h =
 
 pub returns-else-not-self-clause-stands : goal.returns-else-not-self-clause-stands
 returns-else-not-self-clause-stands c ts h =
-    telling c.args.self.now _ ts c.args.from c.args.message.now.code c.args.message.now.pairs.now h c.args.message.now.well_formed
-    (ap (λ b. concern_of b c.args.message.now.code) (sym c.is_own.ensures) ∙ sym c.in-Tells.ensures) c.if-not-self.false c.indicate.ensures.pad c.indicate.ensures.asked
-    (indicated_all c.args.self.now c.indicate.new.self c.args.message.now.pairs.now c.new.result c.new.ensures c.indicate.ensures.tells)
+    indicating c.args.self.now _ ts c.args.from c.args.message.now.code c.args.message.now.pairs.now h c.args.message.now.well_formed
+    (ap (λ b. concern_of b c.args.message.now.code) (sym c.is_own.ensures) ∙ sym c.in-Indicates.ensures) c.if-not-self.false c.indicate.ensures.pad c.indicate.ensures.asked
+    (indicated_all c.args.self.now c.indicate.new.self c.args.message.now.pairs.now c.new.result c.new.ensures c.indicate.ensures.has_entries)
 
 pub returns-in-Nothing-clause-fault : goal.returns-in-Nothing-clause-fault
 returns-in-Nothing-clause-fault c ts h =
@@ -41,14 +41,14 @@ returns-in-Reads-clause-fault c ts h =
 pub returns-then-not-self-clause-stands : goal.returns-then-not-self-clause-stands
 returns-then-not-self-clause-stands c ts h =
     unasked c.args.self.now ts c.args.from c.args.message.now.code c.args.message.now.pairs.now h c.args.message.now.well_formed
-    (ap (λ b. concern_of b c.args.message.now.code) (sym c.is_own.ensures) ∙ sym c.in-Tells.ensures) c.if-not-self.true
+    (ap (λ b. concern_of b c.args.message.now.code) (sym c.is_own.ensures) ∙ sym c.in-Indicates.ensures) c.if-not-self.true
 
 pub returns-then-not-self-clause-fault : goal.returns-then-not-self-clause-fault
 returns-then-not-self-clause-fault c ts h =
-    telling_fault c.args.self.now ts c.args.from c.args.message.now.code c.args.message.now.pairs.now false h c.args.message.now.well_formed
-    (ap (λ b. concern_of b c.args.message.now.code) (sym c.is_own.ensures) ∙ sym c.in-Tells.ensures) c.if-not-self.true
+    indicating_fault c.args.self.now ts c.args.from c.args.message.now.code c.args.message.now.pairs.now false h c.args.message.now.well_formed
+    (ap (λ b. concern_of b c.args.message.now.code) (sym c.is_own.ensures) ∙ sym c.in-Indicates.ensures) c.if-not-self.true
 
 pub returns-else-not-self-clause-fault : goal.returns-else-not-self-clause-fault
 returns-else-not-self-clause-fault c ts h =
-    telling_fault c.args.self.now ts c.args.from c.args.message.now.code c.args.message.now.pairs.now true h c.args.message.now.well_formed
-    (ap (λ b. concern_of b c.args.message.now.code) (sym c.is_own.ensures) ∙ sym c.in-Tells.ensures) c.if-not-self.false
+    indicating_fault c.args.self.now ts c.args.from c.args.message.now.code c.args.message.now.pairs.now true h c.args.message.now.well_formed
+    (ap (λ b. concern_of b c.args.message.now.code) (sym c.is_own.ensures) ∙ sym c.in-Indicates.ensures) c.if-not-self.false

@@ -10,8 +10,8 @@ pub loop-pair-preserved : goal.loop-pair-preserved
 loop-pair-preserved c =
     let took = c.ask_one.ensures in
     walked_one asked_one c.args.self.now c.loop-pair.self _ (shown c.in-Some.pair) c.loop-pair.pair-iterator c.next.new.self c.args.pairs c.loop-pair.invariant
-    c.in-Some.ensures.steps took.pad took.asked took.tells
+    c.in-Some.ensures.steps took.pad took.asked took.has_entries
 
-pub returns-clause-tells : goal.returns-clause-tells
-returns-clause-tells c =
+pub returns-clause-has_entries : goal.returns-clause-has_entries
+returns-clause-has_entries c =
     walked_all asked_one c.args.self.now c.loop-pair.self c.loop-pair.pair-iterator c.args.pairs c.loop-pair.invariant c.in-None.ensures.steps.0

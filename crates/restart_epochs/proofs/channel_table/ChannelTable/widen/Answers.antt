@@ -1,14 +1,14 @@
 use Rattle.std.proofs.lemmas.Result.{IfOk-from_err}
 use Rattle.std.proofs.Common.{◌∙◌, ap, refl, map, None}
 use Rattle.std.specs.Option.{option_map}
-use Rattle.restart_epochs.specs.OpenLanes.{lane_at}
-use Rattle.restart_epochs.proofs.OpenLaneLemmas.{open-empty}
+use Rattle.restart_epochs.specs.ChannelTables.{open_channel_at}
+use Rattle.restart_epochs.proofs.ChannelRowsLemmas.{open-empty}
 use Rattle.restart_epochs.proofs.channel_table.ChannelTable.widen.Goals as goal
 
 pub loop-self-preserved : goal.loop-self-preserved
 loop-self-preserved g c = record {
-  values = λ k. ap (λ lanes. lane_at (map (λ o. option_map (λ b. b.value) o) lanes) k) c.in_ok-push.ensures.items
-      ∙ open-empty (λ o. option_map (λ b. b.value) o) c.loop-self.self-inside.lanes.items None k refl ∙ c.loop-self.invariant.values k;
+  values = λ k. ap (λ open_channels. open_channel_at (map (λ o. option_map (λ b. b.value) o) open_channels) k) c.in_ok-push.ensures.items
+      ∙ open-empty (λ o. option_map (λ b. b.value) o) c.loop-self.self-inside.open_channels.items None k refl ∙ c.loop-self.invariant.values k;
   channels = c.loop-self.invariant.channels;
 }
 

@@ -4,7 +4,7 @@ use Rattle.std.proofs.Common.{◌≡◌, ◌∙◌, ap, subst, refl, ◌-◌, Bo
 use Rattle.line_model.specs.basics.Records.{Piece}
 use Rattle.line_model.specs.observer.Report.{gaps_among, gaps_of}
 use Rattle.restart_epochs.specs.Cutting.{given_of, items_out, open_pieces, IsCutting}
-use Rattle.restart_epochs.proofs.Bounds.{lane_piece}
+use Rattle.restart_epochs.proofs.Bounds.{channel_piece}
 use Rattle.restart_epochs.proofs.Peeks.{all_out, open_piece}
 use Rattle.restart_epochs.proofs.Pushes.{rest_open, out-length}
 use Rattle.restart_epochs.proofs.cutter.Cutter.end.Goals as goal
@@ -12,7 +12,7 @@ use Rattle.restart_epochs.proofs.cutter.Cutter.end.Goals as goal
 pub append_pieces-requires-clause-pieces : goal.append_pieces-requires-clause-pieces
 append_pieces-requires-clause-pieces g c k =
     let e = c.open_epoch-epoch.ensures in
-    let piece = lane_piece c.args.self k (subst IsCutting c.self.view_is c.self.invariant) in
+    let piece = channel_piece c.args.self k (subst IsCutting c.self.view_is c.self.invariant) in
     open_piece c.args.self c.open_epoch-epoch.result _ k e.interface e.gap (ap (λ v. v.open_rows) c.self.view_is) piece
 
 pub returns-clause-pieces : goal.returns-clause-pieces

@@ -1,13 +1,13 @@
 use Rattle.std.proofs.Common.{◌≡◌, ap, subst}
 use Rattle.std.specs.Prelude.{IfOk}
 use Rattle.restart_epochs.specs.Cutting.{IsCutting}
-use Rattle.restart_epochs.proofs.Bounds.{lane_piece}
+use Rattle.restart_epochs.proofs.Bounds.{channel_piece}
 use Rattle.restart_epochs.proofs.Peeks.{all_peeked, epoch_pieces, open_piece}
 use Rattle.restart_epochs.proofs.cutter.Cutter.peek.Goals as goal
 
 pub copy_pieces-requires-clause-pieces : goal.copy_pieces-requires-clause-pieces
 copy_pieces-requires-clause-pieces g c k =
-    let piece = lane_piece c.args.self.now k (subst IsCutting c.self.view_is c.self.invariant) in
+    let piece = channel_piece c.args.self.now k (subst IsCutting c.self.view_is c.self.invariant) in
     open_piece c.args.self.now c.open_epoch.result _ k c.open_epoch.ensures.interface c.open_epoch.ensures.gap (ap (λ v. v.open_rows) c.self.view_is) piece
 
 pub returns-clause-pieces : goal.returns-clause-pieces

@@ -2,13 +2,13 @@ use Rattle.std.proofs.Common.{ap, subst, sym, ◌+◌}
 use Rattle.line_model.specs.declared.interface.Interface.{Interface}
 use Rattle.line_model.specs.basics.Bounds.{IsPiece}
 use Rattle.restart_epochs.specs.Cutting.{items_out, IsCutting}
-use Rattle.restart_epochs.proofs.Bounds.{lane_piece}
+use Rattle.restart_epochs.proofs.Bounds.{channel_piece}
 use Rattle.restart_epochs.specs.Walks.{IsStep}
 use Rattle.restart_epochs.proofs.Taken.{pushed_by, taken_bounds, taken_by}
 use Rattle.restart_epochs.proofs.cutter.Cutter.push.Goals as goal
 
 pub turn-requires-clause-pieces : goal.turn-requires-clause-pieces
-turn-requires-clause-pieces g c k = subst (λ (i : Interface). IsPiece i k (items_out c.self.inside.pieces.gap c.self.inside.pieces.rows k)) (sym c.in_ok-step.ensures.same.interface) (lane_piece _ k c.self.invariant)
+turn-requires-clause-pieces g c k = subst (λ (i : Interface). IsPiece i k (items_out c.self.inside.pieces.gap c.self.inside.pieces.rows k)) (sym c.in_ok-step.ensures.same.interface) (channel_piece _ k c.self.invariant)
 
 pub invariant_of-self-2 : goal.invariant_of-self-2
 invariant_of-self-2 g c =

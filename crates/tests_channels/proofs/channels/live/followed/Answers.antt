@@ -18,8 +18,8 @@ take-requires g c =
     let room = next_item p.interface p.channel p.items c.loop-item.yielded _ c.next.new.self c.in-Some.item whole c.loop-item.invariant.left c.in-Some.ensures.steps in
     record { room = (record p { items = c.loop-item.yielded }, c.loop-item.invariant.stands, room) }
 
-pub told_of-requires : goal.told_of-requires
-told_of-requires g c =
+pub taken_row-requires : goal.taken_row-requires
+taken_row-requires g c =
     let p = c.args.piece.now in
     let whole : IsPiece p.interface p.channel p.items = subst (λ q. IsPiece q.interface q.channel q.items) c.piece.view_is c.piece.invariant in
     let room = next_item p.interface p.channel p.items c.loop-item.yielded _ c.next.new.self c.in-Some.item whole c.loop-item.invariant.left c.in-Some.ensures.steps in

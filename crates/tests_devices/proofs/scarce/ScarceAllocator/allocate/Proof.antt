@@ -1,4 +1,4 @@
--- It asks the supply, and either refuses or answers what the inner allocator answers. Assumes `Logic`.
+-- It asks the supply, and either refuses or returns what the inner allocator returns. Assumes `Logic`.
 use Rattle.std.proofs.Common.{◌≡◌, ℕ, ◌+◌, ◌^◌, ◌<◌, Bool, true, false, List, [], ◌∷◌, Ok, Err, refl, w64, Bor}
 use seplogic.Ra.Ura.{Ura}
 use mir.Syntax.{Ty, Args, Fn, a_type, dnil, dcons}

@@ -7,12 +7,12 @@ feed-requires g c = let was = c.requires.fed in record { fed = fed_of g.C.Channe
 pub returns-clause-fed : goal.returns-clause-fed
 returns-clause-fed g c first start text was =
     follow_fed g.C.Channel c.feed.result (g.K.Sink.taken start) (g.K.Sink.taken c.args.sink.now) (g.K.Sink.taken c.feed.new.sink) (g.K.Sink.failures start) (g.K.Sink.failures c.args.sink.now) (g.K.Sink.failures c.feed.new.sink) text c.args.chunk.now c.args.self.now.follower
-    c.feed.new.self was (c.feed.ensures.stands text was.stands) (c.feed.ensures.told text (g.K.Sink.taken start) was.stands was.told) c.feed.ensures.rising
+    c.feed.new.self was (c.feed.ensures.stands text was.stands) (c.feed.ensures.findings_written text (g.K.Sink.taken start) was.stands was.shown) c.feed.ensures.rising
 
 pub returns-clause-refused : goal.returns-clause-refused
 returns-clause-refused g c first start text was =
     follow_refused c.feed.result (g.K.Sink.taken start) (g.K.Sink.taken c.feed.new.sink) (g.K.Sink.failures start) (g.K.Sink.failures c.args.sink.now) (g.K.Sink.failures c.feed.new.sink) text c.args.chunk.now was.rising c.feed.ensures.rising
-    (c.feed.ensures.refused text was.stands) (c.feed.ensures.taken text (g.K.Sink.taken start) was.stands was.told) (c.feed.ensures.at_line text (g.K.Sink.taken start) was.stands was.told) c.feed.ensures.kinds (c.feed.ensures.write_failed text was.stands)
+    (c.feed.ensures.refused text was.stands) (c.feed.ensures.taken text (g.K.Sink.taken start) was.stands was.shown) (c.feed.ensures.at_line text (g.K.Sink.taken start) was.stands was.shown) c.feed.ensures.kinds (c.feed.ensures.write_failed text was.stands)
 
 pub returns-clause-kinds : goal.returns-clause-kinds
 returns-clause-kinds g c = follow_reads c.feed.result c.feed.ensures.kinds

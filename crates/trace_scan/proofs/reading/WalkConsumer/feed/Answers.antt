@@ -1,7 +1,7 @@
 use Rattle.std.proofs.Common.{sym, subst}
 use Rattle.std.specs.Prelude.{IfSome}
-use Rattle.trace_text.specs.StandsFor.{IsTextFault}
-use Rattle.trace_scan.proofs.ScanLemmas.{walked_more, walk_refused, walk_reads}
+use Rattle.trace_text.specs.Represents.{IsTextFault}
+use Rattle.live_report.proofs.ScanLemmas.{walked_more, walk_refused, walk_reads}
 use Rattle.trace_scan.proofs.reading.WalkConsumer.feed.Goals as goal
 
 pub feed-requires : goal.feed-requires

@@ -1,12 +1,12 @@
 use Rattle.trace_text.specs.Progress.{Progress}
 use Rattle.std.proofs.Common.{Err, ◌++◌, ◌∙◌, sym, ap}
 use Rattle.line_model.specs.text.Text.{early_rows}
-use Rattle.trace_text.proofs.RefusalLemmas.{told-of, is-running}
+use Rattle.trace_text.proofs.RefusalLemmas.{appended-of, is-running}
 use Rattle.trace_text.proofs.lines.Lines.feed.Goals as goal
 
-pub returns-in-Err-clause-told : goal.returns-in-Err-clause-told
-returns-in-Err-clause-told g c text rows s e =
-    told-of {T = Unit {0}} (Err c.in-Err.fault) c.args.out.now.items c.feed_rows.new.out.items rows (early_rows text) (early_rows (text ++ c.args.chunk.now)) (c.in-Err.ensures.appended text s) e
+pub returns-in-Err-clause-rows_appended : goal.returns-in-Err-clause-rows_appended
+returns-in-Err-clause-rows_appended g c text rows s e =
+    appended-of {T = Unit {0}} (Err c.in-Err.fault) c.args.out.now.items c.feed_rows.new.out.items rows (early_rows text) (early_rows (text ++ c.args.chunk.now)) (c.in-Err.ensures.appended text s) e
 
 pub returns-in-Some-clause-refused : goal.returns-in-Some-clause-refused
 returns-in-Some-clause-refused g c text s = absurd (is-running c.args.self.now text c.in-Some.fault s (ap (λ (p : Progress). p.refused) (sym c.self.view_is) ∙ c.in-Some.is))
@@ -14,8 +14,8 @@ returns-in-Some-clause-refused g c text s = absurd (is-running c.args.self.now t
 pub returns-in-Some-clause-appended : goal.returns-in-Some-clause-appended
 returns-in-Some-clause-appended g c text s = absurd (is-running c.args.self.now text c.in-Some.fault s (ap (λ (p : Progress). p.refused) (sym c.self.view_is) ∙ c.in-Some.is))
 
-pub returns-in-Some-clause-told : goal.returns-in-Some-clause-told
-returns-in-Some-clause-told g c text rows s e = absurd (is-running c.args.self.now text c.in-Some.fault s (ap (λ (p : Progress). p.refused) (sym c.self.view_is) ∙ c.in-Some.is))
+pub returns-in-Some-clause-rows_appended : goal.returns-in-Some-clause-rows_appended
+returns-in-Some-clause-rows_appended g c text rows s e = absurd (is-running c.args.self.now text c.in-Some.fault s (ap (λ (p : Progress). p.refused) (sym c.self.view_is) ∙ c.in-Some.is))
 
 pub returns-in-Some-clause-header : goal.returns-in-Some-clause-header
 returns-in-Some-clause-header g c text s = absurd (is-running c.args.self.now text c.in-Some.fault s (ap (λ (p : Progress). p.refused) (sym c.self.view_is) ∙ c.in-Some.is))

@@ -5,7 +5,7 @@ use Rattle.line_model.specs.text.Text.{early, early_head}
 use Rattle.line_model.specs.declared.fault.Fault.TheVariants.{Memory}
 use Rattle.line_model.specs.basics.Records.{Row}
 use Rattle.trace_text.specs.Reads.{kept_row, whole_row}
-use Rattle.trace_text.specs.StandsFor.{IsFaultOf, ReadsChunk, TakesRow}
+use Rattle.trace_text.specs.Represents.{IsFaultOf, ReadsChunk, TakesRow}
 use Rattle.trace_text.proofs.ChunkLemmas.{all-fed, fed-head, fed-more, fed-no-memory, fed-none, fed-refused, whole_chunk}
 use Rattle.trace_text.proofs.RefusalLemmas.{head_stopped}
 use Rattle.trace_text.proofs.lines.Lines.feed_rows.Goals as goal

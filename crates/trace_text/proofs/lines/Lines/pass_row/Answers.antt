@@ -5,7 +5,7 @@ use Rattle.std.proofs.lemmas.Bool.{eqb-true}
 use Rattle.line_model.proofs.TextLemmas.{size_kind-none}
 use Rattle.trace_text.specs.Progress.{Progress}
 use Rattle.trace_text.specs.RowTexts.{row_text}
-use Rattle.trace_text.specs.StandsFor.{TakesRow}
+use Rattle.trace_text.specs.Represents.{TakesRow}
 use Rattle.trace_text.specs.Steps.{after_line}
 use Rattle.trace_text.proofs.RowTextLemmas.{passes_row}
 use Rattle.trace_text.proofs.StepLemmas.{is_missing}
@@ -17,7 +17,7 @@ next_line-requires g c =
     omega (arith, (size_kind-none c.self.inside.start 1 (c.digit_count.result + 3 + 2 * c.args.octets) fits).1)
 
 pub returns-clause-passed : goal.returns-clause-passed
-returns-clause-passed g c row plain number size bytes told =
+returns-clause-passed g c row plain number size bytes shown =
     let fits = sym c.size_fault.ensures ∙ is_missing c.size_fault.result (sym c.if-is_some-2.ensures) in
     let none : length c.self.inside.begun.items ≡ 0 = let none : vec_len c.self.inside.begun ≡ 0 = eqb-true (vec_len c.self.inside.begun) 0 (sym c.if-not-is_empty.ensures) in
     omega (arith, none, c.self.inside.begun.ok) in

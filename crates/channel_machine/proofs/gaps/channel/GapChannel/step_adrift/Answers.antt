@@ -9,7 +9,7 @@ use Rattle.line_model.specs.packets.Facilities.{fields_of}
 use Rattle.line_model.specs.channels.Channels.{is_permanent}
 use Rattle.line_model.specs.channels.ChannelStep.{ending, entering}
 use Rattle.line_model.specs.channels.Gaps as gaps
-use Rattle.line_model.specs.channels.Gaps.{WhileAdrift, drifting}
+use Rattle.line_model.specs.channels.Gaps.{drifting}
 use Rattle.line_model.specs.channels.GapStep.{GapOutcome, adrift_acceptance, adrift_call, adrift_entry, adrift_fault, adrift_reset, cleared_by, confirmed_clear, owed_after, resetting_state, with_certainty}
 use Rattle.packet_decode.specs.Shown.{shown}
 use Rattle.channel_machine.specs.Contents.{AreOf}

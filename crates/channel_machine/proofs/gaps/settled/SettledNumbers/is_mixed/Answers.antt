@@ -11,11 +11,11 @@ pub returns-then-is_known : goal.returns-then-is_known
 returns-then-is_known g c i k p same ss =
     let s : InDoubt = c.args.self.now in
     let x = c.args.side in
-    mixed c.is_alike.result c.is_known.result s x c.args.qualified p (may_be_begun s.doubts.hidden (size_in_force i k x) x k.heard) c.is_known.ensures c.if-is_known.true (ss x) same
+    mixed c.is_alike.result c.is_known.result s x c.args.qualified p (may_be_begun s.doubts.hidden (size_in_force i k x) x k.accepted) c.is_known.ensures c.if-is_known.true (ss x) same
     (c.is_alike.ensures ∙ ap (λ (t : InDoubt). is_like (begun_on t.assembler x).qualified c.args.qualified) c.self.view_is)
 
 pub returns-else-is_known : goal.returns-else-is_known
 returns-else-is_known g c i k p same ss =
     let s : InDoubt = c.args.self.now in
     let x = c.args.side in
-    not_mixed c.is_known.result s x p (may_be_begun s.doubts.hidden (size_in_force i k x) x k.heard) c.is_known.ensures c.if-is_known.false
+    not_mixed c.is_known.result s x p (may_be_begun s.doubts.hidden (size_in_force i k x) x k.accepted) c.is_known.ensures c.if-is_known.false

@@ -1,7 +1,7 @@
 use Rattle.std.proofs.Common.{◌≡◌, ◌∷◌, ◌+◌, ◌++◌, [], Ok, Err, length, sym, ap, ◌∙◌, subst, rules}
 use Rattle.crossbeam_queue.specs.Fifo.{Held}
 use Rattle.crossbeam_queue.specs.Passes.{ruled_capacity}
-use Rattle.line_model.specs.work.Work.Entry.{finish}
+use Rattle.line_model.specs.work.Work.WorkEntry.{finish}
 use Rattle.shared_work.specs.queue.Entries.{jobs}
 use Rattle.shared_work.specs.queue.Rule.{feeder, ArePlanned, AreInQueue}
 use Rattle.shared_work.proofs.Bundles.{bundle_pushed, bundles_line, bundle_fed, jobs_again, no_jobs}

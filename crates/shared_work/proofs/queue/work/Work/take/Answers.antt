@@ -1,6 +1,6 @@
 use Rattle.std.proofs.Common.{◌≡◌, ◌∷◌, ◌++◌, ◌∙◌, [], ap, subst, None, Some, true, append-nil, rules}
 use Rattle.line_model.specs.work.Work.{numbers_of}
-use Rattle.line_model.specs.work.Work.Entry.{finish}
+use Rattle.line_model.specs.work.Work.WorkEntry.{finish}
 use Rattle.shared_work.specs.queue.Entries.{jobs}
 use Rattle.shared_work.specs.queue.Rule.{worker, TookEntry}
 use Rattle.shared_work.proofs.Moves.{at_an_end}

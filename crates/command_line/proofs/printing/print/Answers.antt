@@ -1,0 +1,17 @@
+use Rattle.std.proofs.Common.{◌≡◌, subst, sym}
+use Rattle.std.specs.Prelude.{IfErr, IfOk}
+use Rattle.command_line.specs.Printing.{PrintsRows, PrintsTo, StopsRows, StopsTo}
+use Rattle.command_line.specs.declared.options.OutputForm.{OutputForm}
+use Rattle.command_line.proofs.printing.print.Goals as goal
+
+pub returns-in-Objects-clause-printed : goal.returns-in-Objects-clause-printed
+returns-in-Objects-clause-printed g c =
+    subst (λ (form : OutputForm). IfOk c.print_trace.result (PrintsTo g.S.Source g.K.Sink (record { form = form; rows = c.args.printing.rows }) c.args.source.now c.print_trace.new.source c.args.sink.now c.print_trace.new.sink)) (sym c.in-Objects.is)
+    (subst (λ rows. IfOk c.print_trace.result (PrintsRows rows (g.S.Source.left c.args.source.now) (g.S.Source.left c.print_trace.new.source) (g.S.Source.before c.print_trace.new.source)
+    (g.K.Sink.taken c.args.sink.now) (g.K.Sink.taken c.print_trace.new.sink))) c.new-rows.ensures c.print_trace.ensures.printed)
+
+pub returns-in-Objects-clause-stopped : goal.returns-in-Objects-clause-stopped
+returns-in-Objects-clause-stopped g c =
+    subst (λ (form : OutputForm). IfErr c.print_trace.result (StopsTo g.S.Source g.K.Sink (record { form = form; rows = c.args.printing.rows }) c.args.source.now c.print_trace.new.source c.args.sink.now c.print_trace.new.sink)) (sym c.in-Objects.is)
+    (subst (λ rows. IfErr c.print_trace.result (StopsRows rows (g.S.Source.left c.args.source.now) (g.S.Source.left c.print_trace.new.source) (g.S.Source.before c.print_trace.new.source)
+    (g.K.Sink.taken c.args.sink.now) (g.K.Sink.taken c.print_trace.new.sink) (g.K.Sink.failures c.print_trace.new.sink ≡ g.K.Sink.failures c.args.sink.now))) c.new-rows.ensures c.print_trace.ensures.stopped)

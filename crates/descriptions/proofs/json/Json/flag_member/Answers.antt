@@ -1,0 +1,5 @@
+use Rattle.descriptions.proofs.MemberLemmas.{member_put}
+use Rattle.descriptions.proofs.json.Json.flag_member.Goals as goal
+
+pub returns : goal.returns
+returns g c = member_put c.member.ensures c.flag.ensures

@@ -1,0 +1,6 @@
+pub mod Headers
+pub mod Watched
+pub mod Reactions
+pub mod Tried
+pub mod Trials
+pub mod TriedLines

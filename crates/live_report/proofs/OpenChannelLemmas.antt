@@ -1,0 +1,49 @@
+-- The open channel is removed from the table, reads a row, and is put back.
+use Rattle.std.proofs.Common.{◌≡◌, ◌∙◌, sym, ap, subst, refl, ℕ, Bool, true, false, eqb, List, [], ◌∷◌, ◌++◌, Some, None}
+use Rattle.std.specs.BTreeSet.{insert_key}
+use Rattle.std.specs.Ordering.{nat_cmp}
+use Rattle.std.proofs.lemmas.Bool.{eqb-true, eqb-false}
+use Rattle.line_model.specs.declared.interface.Interface.{Interface}
+use Rattle.line_model.specs.basics.Records.{Item, Piece}
+use Rattle.line_model.specs.channels.Gaps.{GapChannel}
+use Rattle.line_model.specs.pieces.Plan.{has_some}
+use Rattle.restart_epochs.specs.OpenRows.{OpenRows, last_number, rows_of, with_channel, with_gap, HasMore}
+use Rattle.restart_epochs.specs.ChannelTables.{ChannelTables, value_at, HasTaken, HasListed, HasPut}
+use Rattle.channel_run.specs.Live.{Represents as IsLive}
+use Rattle.live_report.specs.OpenChannels.{OpenEpoch, begun_piece, OpenChannelFor, OpenChannelsFor, IsOutFor, OpenFor}
+use Rattle.live_report.specs.declared.open_channels.OpenChannel.{OpenChannel}
+
+has_more : (items : List Item) (item : Item) → has_some (items ++ item ∷ []) ≡ true
+has_more [] item = refl
+has_more (x ∷ xs) item = refl
+
+pub out_none : {A C : Type 0} → (I : C → Interface) (N : C → ℕ) (S : C → GapChannel → Type 0) (e : OpenEpoch) (k : ℕ) (rows : OpenRows) (before middle after : ChannelTables (OpenChannel A C)) (entry : OpenChannel A C)
+    → OpenChannelsFor I N S e rows before → HasTaken k None before middle → HasListed k middle after
+    → ((p : Piece) → p.interface ≡ e.interface → p.channel ≡ k → p.epoch ≡ e.number → p.start ≡ e.start → p.items ≡ [] → IsLive I N S entry.live p) → entry.last ≡ 0
+    → IsOutFor I N S e k rows entry after
+out_none I N S e k rows before middle after entry f t l fresh zero =
+    let empty : rows_of rows k ≡ [] = subst (OpenChannelFor I N S (begun_piece e k (rows_of rows k))) (sym t.value) (f.each k) in
+    record {
+      stands = record { live = fresh (begun_piece e k (rows_of rows k)) refl refl refl refl empty; last = zero ∙ ap last_number (sym empty) };
+      others = λ j ne. subst (OpenChannelFor I N S (begun_piece e j (rows_of rows j))) (sym (l.values j ∙ t.others j ne)) (f.each j);
+      channels = l.channels ∙ ap (λ ks. insert_key nat_cmp ks k) (t.channels ∙ f.channels) ∙ ap (λ items. with_channel items k rows.channels) (sym empty);
+    }
+
+pub put_back : {A C : Type 0} → (I : C → Interface) (N : C → ℕ) (S : C → GapChannel → Type 0) (e : OpenEpoch) (gap k : ℕ) (rows more : OpenRows) (item : Item) (before after : ChannelTables (OpenChannel A C)) (entry stepped : OpenChannel A C)
+    → IsOutFor I N S e k rows entry before → OpenFor I N S stepped (begun_piece e k (with_gap gap (rows_of rows k) ++ item ∷ [])) → HasPut k stepped before after → HasMore gap k item rows more
+    → OpenChannelsFor I N S e more after
+put_back I N S e gap k rows more item before after entry stepped out stands put has = record {
+  channels = put.channels ∙ out.channels ∙ sym has.channels;
+  each = λ j. at j (eqb j k) refl;
+}
+  where
+    at_k : OpenChannelFor I N S (begun_piece e k (rows_of more k)) (value_at after k)
+    at_k = subst (λ o. OpenChannelFor I N S (begun_piece e k (rows_of more k)) o) (sym put.value)
+        (subst (λ items. OpenChannelFor I N S (begun_piece e k items) (Some stepped)) (sym has.row) (has_more (with_gap gap (rows_of rows k)) item, stands))
+
+    at : (j : ℕ) (b : Bool) → eqb j k ≡ b → OpenChannelFor I N S (begun_piece e j (rows_of more j)) (value_at after j)
+    at j true same = subst (λ n. OpenChannelFor I N S (begun_piece e n (rows_of more n)) (value_at after n)) (sym (eqb-true j k same)) at_k
+    at j false other =
+        let ne = eqb-false j k other in
+        subst (λ o. OpenChannelFor I N S (begun_piece e j (rows_of more j)) o) (sym (put.others j ne))
+        (subst (λ items. OpenChannelFor I N S (begun_piece e j items) (value_at before j)) (sym (has.others j ne)) (out.others j ne))

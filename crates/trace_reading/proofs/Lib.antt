@@ -1,0 +1,13 @@
+pub mod Rows
+pub mod BlockReads
+pub mod BlockTakes
+pub mod InterfaceLemmas
+pub mod Heads
+pub mod Cuts
+pub mod Nexts
+pub mod Texts
+pub mod Firsts
+pub mod Courses
+pub mod Parts
+pub mod Lags
+pub mod RoomLemmas

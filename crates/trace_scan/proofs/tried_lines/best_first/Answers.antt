@@ -1,8 +1,0 @@
-use Rattle.std.proofs.Common.{◌∙◌, subst}
-use Rattle.std.specs.List.Sorted.{IsPermutation}
-use Rattle.trace_scan.proofs.TrialsLemmas.{tried_all}
-use Rattle.trace_scan.proofs.tried_lines.best_first.Goals as goal
-
-pub returns-clause-all : goal.returns-clause-all
-returns-clause-all g c own headers items all =
-    subst (λ first. IsPermutation first c.sorted.result.items) (c.in_ok-tried.ensures ∙ tried_all g.C.Channel own items headers c.args.trials.now all) c.sorted.ensures.permutation

@@ -1,6 +1,0 @@
-use Rattle.std.proofs.Common.{◌≡◌, map, take}
-use Rattle.trace_scan.specs.TriedLines.{tried_by}
-use Rattle.trace_scan.proofs.tried_lines.outcomes.Given as goal
-
-abbrev pub invariant-loop-trial : goal.invariant-loop-trial
-invariant-loop-trial g l = record { tried : l.tried.items ≡ map tried_by (take l.trial-index l.trials) }

@@ -1,9 +1,0 @@
-use Rattle.std.proofs.Common.{◌++◌, subst}
-use Rattle.trace_text.specs.StandsFor.{last_row}
-use Rattle.trace_scan.specs.Trials.{IsTrace}
-use Rattle.trace_scan.proofs.tried_text.take_last.Goals as goal
-
-pub take-requires : goal.take-requires
-take-requires g c =
-    let next = c.requires.next in
-    record { next = (next.0, next.1, next.2, next.3, next.4 c.if-has_row.true, subst (λ has. IsTrace next.0 (next.1 ++ last_row has next.2)) c.if-has_row.true next.5) }
