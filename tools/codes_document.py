@@ -45,9 +45,9 @@ TITLES = {
 }
 HEAD = """# The words of the report, of a header and of the refusals, causes and terms
 
-`x25scan --explain WORD` prints what stands here of a word, and `x25scan --explain` the list of all words. A word is known
-by its name too: `--explain echo` prints what `--explain "parameter 2"` does. A word with several meanings stands in
-several tables: `--explain 22` prints all three of that one, `--explain "kind 22"` the one of a faulty line, and
+`x25scan --explain WORD` prints what this page says of a word, and `x25scan --explain` the list of all words. A word is
+known by its name too: `--explain echo` prints what `--explain "parameter 2"` does. A word with several meanings is in
+several tables: `--explain 22` prints all three meanings of 22, `--explain "kind 22"` that of a faulty line, and
 `--explain "cause 1"` the causes of a clear, a reset and a restart.
 
 `--explain kind` prints all kinds. The same holds of `line`, `field`, `side`, `direction`, `end`, `setting`, `absent`,
@@ -56,24 +56,26 @@ several tables: `--explain 22` prints all three of that one, `--explain "kind 22
 A line that the program prints can be pasted: `--explain "F 5 T d1 1"` explains the line and each of its words by its
 field, `--explain "x25scan: line 3: kind 24"` the kind, and `--explain "write failed"` the refusal.
 
-*Profile* marks what this project chose; X.25 means the edition of 10/96. The last column has what is printed, and the
-trace that prints it.
+*Profile* marks what this project chose; X.25 means the edition of 10/96. The last column has an example of what is
+printed, and a trace that prints it.
+
 `tools/codes_document.py` writes this page from the table of [explanations](../crates/explanations).
 """
 PROOFS_HEAD = """
 ## From a code to its proof
 
-Each code has its rule in words, the definition that says it, the function that gives it with the contract that names the
-definition, the file of the function's proof, an edit that the prover refuses, and a trace that prints it. Where no file is
-named the prover finds the proof of the contract without help.
+Each row leads from a code to its rule in words, to the file of its definition, to the function that returns it (whose
+contract names the definition), to the file of the function's proof, to an edit that the prover refuses, and to a trace
+that prints the code. Where the proof is `-`, the prover proves the contract without a written proof.
 
 The contract of `table_t` is the whole table. An edit of it lets a class of packets pass that has these codes, so several
-codes name the same edit. Three codes are of the DCE alone: `table_n` gives them where no indication is owed.
+codes name the same edit. Three codes are of the DCE alone: `table_n` returns them where no indication is owed.
 
 The scans keep the windows and interrupts of a channel in one word, `FlowWord` of
 [packed.rt](../crates/data_transfer/src/packed.rt). Its functions judge P(S) and P(R) by a comparison of the numbers of one
-direction; the proof and the edit of codes 1 and 2 are those of the comparison. `Flow` has the same contracts and calls the
-same comparisons. It judges for `PlainChannel`, which only tests and users of the library run.
+direction (`is_send_valid` and `count_acknowledged` in the definition); the proof and the edit of codes 1 and 2 are those of
+the comparison. `Flow` has the same contracts and calls the same comparisons. It judges for `PlainChannel`, which only tests
+and users of the library run.
 
 | code | rule | definition | function | proof | edit | trace |
 |---|---|---|---|---|---|---|

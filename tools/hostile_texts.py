@@ -194,7 +194,7 @@ class Writer:
         rows = [(side, self.start(number) + asks), (other(side), self.start(number) + answers)]
         return rows if self.chance(0.93) else rows[:1]
 
-    def usual(self) -> Rows:
+    def common(self) -> Rows:
         """A packet that a side sends next on some channel."""
         number = self.source.randint(1, self.interface.channels)
         channel, side = self.channels[number], self.source.choice(SIDES)
@@ -252,7 +252,7 @@ class Writer:
 
     def more(self) -> None:
         """Further rows; where gap rows are allowed, some come with a gap row, and some are replaced by one."""
-        rows = self.strange() if self.chance(0.06) else self.usual()
+        rows = self.strange() if self.chance(0.06) else self.common()
         if self.interface.has_gaps and self.chance(self.gap_share):
             self.gap()
             rows = rows[self.source.randint(0, len(rows)):]

@@ -170,7 +170,7 @@ class Captures(unittest.TestCase):
 
 
 class Traces(unittest.TestCase):
-    """A trace goes on as it is, packed or not."""
+    """A trace is passed on unchanged, packed or not."""
 
     def test_as_it_is(self):
         trace = TRACE.read_bytes()

@@ -152,7 +152,7 @@ def terminal_problems(scanner: str, source: str) -> list[str]:
 
 
 def trace_problems(scanner: str, trace: pathlib.Path) -> list[str]:
-    """A trace that goes on as it is has its report."""
+    """A trace that is passed on unchanged has its report."""
     status = trace.with_suffix(".status")
     wanted = (int(status.read_text()) if status.exists() else 0, trace.with_suffix(".report").read_bytes(), None)
     return runner.differences(runner.run([TRACER, "--follow", "--scanner", scanner, trace]), wanted)

@@ -26,7 +26,7 @@ class Call:
 
 
 class Line:
-    """An interface of modulo 8 with a window and a packet size that its trace does not say."""
+    """An interface of modulo 8 with a window and a packet size that its trace does not state."""
 
     def __init__(self, seed, channels=3):
         self.source = random.Random(seed)
@@ -92,7 +92,7 @@ class Line:
         self.answer(call, TOO_LONG)
 
     def run(self, rounds=120, faults=3):
-        """Calls, data, and as many faults of each kind."""
+        """Calls, data, and this number of faults of each kind."""
         for call in self.calls:
             self.row("T", call, bytes.fromhex("0B0000"))
             self.row("N", call, b"\x0f")

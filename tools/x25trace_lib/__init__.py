@@ -5,6 +5,6 @@ carriers    links, internet, tunnels, other_ports, tcp, xot, lapb: from frames t
 the trace   packets, channels, halves, spool, trace: from packets to rows under a header; live: while frames come
 header      estimate has what was seen; ranking the headers that x25scan tries, evidence what they decide
 comments    the capture again, with what x25scan finds as comments of its frames
-following   x25scan, which reads the trace while it is written; passing has a trace that goes on as it is
+following   x25scan, which reads the trace while it is written; passing has a trace that is passed on unchanged
 command     the streams, the signals and the exit status; words has the options. making is what x25page calls
 """

@@ -120,7 +120,7 @@ class Connection:
         return self.streams[index].first is not None or self.streams[1 - index].acknowledged is not None
 
     def takes(self, index: int, segment: Segment) -> bool:
-        """The fast path: takes a segment whose octets follow all that both sides sent; others go to `feed`."""
+        """The fast path: accepts a segment whose octets follow all that both sides sent; others go to `feed`."""
         stream, other, payload = self.streams[index], self.streams[1 - index], segment.payload
         if segment.sequence != stream.next or segment.acknowledged != other.next or not payload:
             return False

@@ -10,11 +10,11 @@ from x25tools_lib.streams import is_pipe, is_same, shown_name
 
 GAPS = """\
 Where packets may not have been recorded, the trace has gap rows: NUMBER ? CHANNEL, or NUMBER ? * where they may be of any
-channel. x25scan takes what a missing packet could explain for no finding. Such a trace, and one that begins in the middle or
+channel. What a missing packet could explain is no finding of x25scan. Such a trace, and one that begins in the middle or
 is written while frames come, has the third form of the header."""
 FOLLOWING = """\
 With --follow, x25scan prints findings while rows are written, and the rest of the report at the end. Ctrl-C
-(SIGINT) and SIGTERM end the reading, and the report of what was read follows. A second one ends all at once. Findings of
+(SIGINT) and SIGTERM end the reading, and the report of what was read follows. A second one ends both at once. Findings of
 a pipe come at once where options give all numbers of the header, or where the pipe has a trace. The exit status is that
 of x25scan where there is a trace: 0 without findings, 1 with findings."""
 EPILOG = f"""
@@ -57,7 +57,7 @@ def parser() -> Words:
     )
     words.add_argument("captures", metavar="CAPTURE", nargs="+",
                        help="the file, or files of a rotated capture in their order; - for standard input; or a trace, "
-                       "which goes on as it is")
+                       "which is passed on unchanged")
     words.add_argument("--follow", dest="is_followed", action="store_true",
                        help="have x25scan read the trace while it is written: print its findings as they come, and after "
                        "Ctrl-C the whole report")

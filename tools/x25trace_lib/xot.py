@@ -389,7 +389,7 @@ class Xot:
         return Packet(chunk.frame, side, octets, circuit, chunk.time)
 
     def follow(self, circuit: Circuit, frame: int, side: Side, octets: bytes) -> bool:
-        """Follows the circuit by a packet other than usual data and RR; returns whether it is one of the circuit."""
+        """Follows the circuit by a packet that is not data or RR on its last channel; returns whether it is one of the circuit."""
         kind, line_channel = octets[2], channel_of(octets)
         if kind == PVC_SETUP and not circuit.called:
             self.set_up(circuit, frame, side)

@@ -106,7 +106,7 @@ class Observer:
 
 
 def open_capture(path: str | os.PathLike[str]) -> Iterator[Object]:
-    """The objects of a capture (pcap, pcapng, snoop or hex dump), which x25trace turns into a trace.
+    """The objects of a capture (pcap, pcapng, snoop or hex dump), of which x25trace makes a trace.
 
     Needs the programs of the package x25scan. Raises ScanError with the words of x25trace, and as `rows`.
     """
