@@ -201,7 +201,7 @@ class Traces(unittest.TestCase):
             (64, b"x25trace: --win is of captures, and ", ["--win", "2", TRACE]),
             (64, b"x25trace: --no-times is of captures, and ", ["--no-times", TRACE]),
             (2, b"x25trace: UnknownFormat: ", [FILES / "ethernet.pcap", TRACE]),
-            (2, b"is a trace, which stands alone; docs/GUIDE.md says how several become one", [TRACE, TRACE]),
+            (2, b"is a trace, which is read alone; docs/GUIDE.md says how several become one", [TRACE, TRACE]),
         )
         for status, words, line in lines:
             done = run(*line)

@@ -155,7 +155,7 @@ class Called(unittest.TestCase):
 
     def test_refused_words(self):
         self.refused(64, "--win is of captures, and ", "--win", "2", TRACE)
-        self.refused(64, "a trace stands alone", TRACE, TRACE)
+        self.refused(64, "a trace is read alone", TRACE, TRACE)
         self.refused(64, "the page is a file: -o names it", "-o", "-", TRACE)
         self.refused(64, "argument --win: '0' is not a number from 1 to 127", "--win", "0", CAPTURE)
 
@@ -163,7 +163,7 @@ class Called(unittest.TestCase):
         """What is no page is not written over, unless -o names it; the input never is."""
         other = self.folder / "seven-calls.html"
         other.write_bytes(OLD)
-        self.refused(2, "Output: seven-calls.html stands there and is no page of x25page: -o names another file", TRACE)
+        self.refused(2, "Output: seven-calls.html exists and is no page of x25page: -o names another file", TRACE)
         self.assertEqual(other.read_bytes(), OLD)
         self.assertEqual(self.run_page("-o", other, TRACE).returncode, 0)
         copy = self.folder / "copy.trace"

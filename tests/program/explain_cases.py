@@ -88,7 +88,7 @@ LINES = (
     (
         "C 1 1 1 out - - 1 2 - open 2 2 0 0 2",
         (
-            "C (line of the report): call", "call (field of the report): number of a call", "epoch (field of the report): stretch between two restarts",
+            "C (line of the report): call", "call (field of the report): number of a call", "epoch (field of the report): part between two restarts",
             "channel (field of the report): logical channel", "out (direction of a call): outgoing call", "called (field of the report): called address",
             "calling (field of the report): calling address", "opened (field of the report): row that opened the call", "up (field of the report): row that brought the call up",
             "ended (field of the report): row that ended the call", "open (end of a call): still open", "data_t (field of the report): dataT", "octets_t (field of the report): octT",
@@ -129,7 +129,7 @@ TWENTY_SIX = b"""26 (diagnostic code): Packet type invalid for state p7
   Example: F 3 N p7 26 in /usr/share/doc/x25scan/tests/traces/worked/dce-faults.trace
 26 (kind of faulty line): Side
   The side is neither T nor N.
-  When: On a row, after 28, 24 and 25. In the third form a ? in its place makes the row a gap row. The trace is refused with status 2 and nothing is reported; with --follow what was found before stands.
+  When: On a row, after 28, 24 and 25. In the third form a ? in its place makes the row a gap row. The trace is refused with status 2 and nothing is reported; findings that --follow printed before remain.
   Clause: profile
   See: /usr/share/doc/x25scan/TRACE.md
   Example: x25scan: line 2: kind 26 in /usr/share/doc/x25scan/tests/traces/worked/refused-side.trace

@@ -134,7 +134,7 @@ class Compared(InFolder):
         self.refused(2, "Output: after.trace is what the page is made of", "--compare", before, after, "-o", after)
         self.refused(3, "reading or writing failed: ", "--compare", before, after, "-o", "/dev/full")
         (self.folder / "before-to-after.html").write_text("other")
-        self.refused(2, "Output: before-to-after.html stands there and is no page of x25page", "--compare", before, after)
+        self.refused(2, "Output: before-to-after.html exists and is no page of x25page", "--compare", before, after)
 
     def test_many_addresses(self):
         """Text has the greatest differences of a section, and says how many more there are."""

@@ -123,11 +123,11 @@ class Each(InFolder):
         other.write_text(OLD)
         done = self.page("--each", SEVEN, OVERLAPPING, "-o", "pages")
         self.assertEqual((done.returncode, other.read_text()), (2, OLD))
-        self.assertIn("Output: pages/seven-calls.html stands there and is no page of x25page", self.index()[0][1])
+        self.assertIn("Output: pages/seven-calls.html exists and is no page of x25page", self.index()[0][1])
         (self.folder / "pages" / "index.html").write_text(OLD)
         done = self.page("--each", OVERLAPPING, "-o", "pages")
         self.assertEqual(done.returncode, 2)
-        self.assertIn(b"Output: pages/index.html stands there and is no page of x25page", done.stderr)
+        self.assertIn(b"Output: pages/index.html exists and is no page of x25page", done.stderr)
 
     def test_refused_words(self):
         self.refused(64, "--each writes into a folder: -o names it", "--each", SEVEN)

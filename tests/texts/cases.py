@@ -12,12 +12,12 @@ HEADER = b"X25 1 MOD 8 WIN 2 SIZE 128 PVC 0 SVC 4\n"
 TEXT_LIMIT = 1 << 30
 LINE_LIMIT = 8500
 MISSING, HEADER_FORM, HEADER_RANGE, LINE_FORM, NUMBER, SIDE, HEX, LINE_LONG, TEXT_LARGE = range(21, 30)
-CARRIAGE_RETURN = "The line ends in a carriage return, and a line feed alone ends a line: tr -d '\\r' < FILE | x25scan reads the text."
+CARRIAGE_RETURN = "The line ends in a carriage return, and a line feed alone ends a line: tr -d '\\r' < FILE | x25scan reads the trace."
 LONG_LINE = "The line has more than 8,500 bytes without its line feed, comments too."
-EMPTY = "The line is empty: sed '/^$/d' FILE | x25scan reads the text without empty lines."
+EMPTY = "The line is empty: sed '/^$/d' FILE | x25scan reads the trace without its empty lines."
 NO_TRACE = 'This is no trace: it begins with "{}"; x25trace reads captures.'
-LAST_EMPTY = "The last line that was read is empty: sed '/^$/d' FILE | x25scan reads the text without empty lines."
-SECOND_HEADER = "A second header stands here, as in joined traces. Where the row numbers go on, awk '!/^X25 / || !n++' FILE.. | x25scan reads them as one trace."
+LAST_EMPTY = "The last line that was read is empty: sed '/^$/d' FILE | x25scan reads the trace without its empty lines."
+SECOND_HEADER = "This is a second header, as in joined traces. Where the row numbers go on, awk '!/^X25 / || !n++' FILE.. | x25scan reads them as one trace."
 CAPTURE = "This is a capture: x25page FILE shows it, and x25trace FILE | x25scan prints its report."
 TURNED = "This is {} {} file: editcap -F pcapng FILE OUT.pcapng, of Wireshark, turns it into one that x25page reads."
 TOO_LARGE = "The text has more than 2^30 bytes: cut it after a restart confirmation, and begin each part with the header (/usr/share/doc/x25scan/GUIDE.md has the command)."
@@ -119,9 +119,9 @@ def wrong_digits():
 # Whole texts whose header is missing or faulty.
 HEADERS = [
     (b"", 1, MISSING, "The text is empty."),
-    (b"# a\n# b\n", 3, MISSING, "The text has no line that is not a comment."),
-    (b"#", 2, MISSING, "The text has no line that is not a comment."),
-    (b"# no header\n", 2, MISSING, "The text has no line that is not a comment."),
+    (b"# a\n# b\n", 3, MISSING, "The trace has no line that is not a comment."),
+    (b"#", 2, MISSING, "The trace has no line that is not a comment."),
+    (b"# no header\n", 2, MISSING, "The trace has no line that is not a comment."),
     (b"\n", 1, HEADER_FORM, EMPTY),
     (COMMENTS + HEADER + b"1 T\n", 20002, LINE_FORM, "The line has 2 words, and a row has three: its number, its side and its octets."),
     (b"X25 1 mod 8 WIN 2 SIZE 128 PVC 0 SVC 4", 1, HEADER_FORM, 'The header\'s words are in capitals: "mod" is written MOD.'),

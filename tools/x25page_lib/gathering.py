@@ -87,7 +87,7 @@ def opened_trace(words: argparse.Namespace, messages: Messages, waiting: Waiting
                 yield made
             return
         if len(words.captures) > 1:
-            parser().error("a trace stands alone; docs/GUIDE.md says how several become one")
+            parser().error("a trace is read alone; docs/GUIDE.md says how several become one")
         if not words.has_several and (option := of_captures(words)):
             parser().error(f"{option} is of captures, and {name} is a trace, which has its header and its sides")
         messages.is_packed = source.is_packed

@@ -28,7 +28,7 @@ def path_of(words: argparse.Namespace) -> pathlib.Path:
 def checked(path: pathlib.Path, inputs: Iterable[str], is_named: bool) -> pathlib.Path:
     """Returns a path that may be written: not an input and, unless the user named it, no file other than a page."""
     if not is_named and path.exists() and not path.is_dir() and not is_page(path):
-        raise Refusal(PageWhy.OUTPUT, f"{path} stands there and is no page of x25page: -o names another file")
+        raise Refusal(PageWhy.OUTPUT, f"{path} exists and is no page of x25page: -o names another file")
     if path.is_dir():
         raise Refusal(PageWhy.OUTPUT, f"{path} is a folder: -o names a file")
     if any(is_same(path, name) for name in inputs):

@@ -71,7 +71,7 @@ def form_of(source: Source, kinds: dict[int | None, str]) -> type[Form]:
             words = f"{source.name} is a {form} file"
             raise Refusal(Why.UNKNOWN_FORMAT, f"{words}; {TURN}, of Wireshark, turns it into one that is read")
     if is_next(source):
-        words = f"{source.name} is a trace, which stands alone; docs/GUIDE.md says how several become one"
+        words = f"{source.name} is a trace, which is read alone; docs/GUIDE.md says how several become one"
         raise Refusal(Why.UNKNOWN_FORMAT, words)
     if not is_dump(start):
         raise Refusal(Why.UNKNOWN_FORMAT, f"{source.name} is {unknown_form(start)}")

@@ -147,7 +147,7 @@ class Pcapng:
         """Skips to the next place with a whole block, and reports how far it is."""
         while True:
             window = self.source.peek(WINDOW)
-            at = next((at for at in range(4, len(window) - SMALLEST + 1, 4) if self.stands(window, at)), None)
+            at = next((at for at in range(4, len(window) - SMALLEST + 1, 4) if self.is_block(window, at)), None)
             if at is not None:
                 self.source.skip(at)
                 break
@@ -157,7 +157,7 @@ class Pcapng:
         passed = self.source.offset - start
         self.damage(start, f"{what} cannot be: {passed} octets are left out, frame numbers go on after them")
 
-    def stands(self, window: bytes, at: int) -> bool:
+    def is_block(self, window: bytes, at: int) -> bool:
         """Whether a block of a known type, with two equal lengths, is at an offset."""
         order = self.order
         if window[at:at + 4] == MAGIC:

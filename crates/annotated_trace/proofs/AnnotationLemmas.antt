@@ -84,7 +84,7 @@ same_print_before F G to before taken ls _ h = tt
 abbrev pub Closes : Report → List ℕ → Type 0
 Closes report bytes = IsUnmarked bytes
 
--- comments behind the lines
+-- comments after the lines
 closed : (choice : Rows) (x lines bytes closing : List ℕ) → IsPrintOf (IsAnnotatedLine choice) [] (lines_of x) lines → IsUnmarked closing → bytes ≡ lines ++ closing → IsAnnotation choice x bytes
 closed choice x lines bytes closing h c e = record {
   front = lines;

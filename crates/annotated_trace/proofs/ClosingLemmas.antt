@@ -134,7 +134,7 @@ behind_first l more h one k = record {
   begun = ap (λ b. list_all is_noted (last_of b)) (begun_behind l more one) ∙ k.begun;
 }
 
--- bytes that end in a line, or go on behind it
+-- bytes that end in a line, or go on after it
 abbrev Ends : (front left l tail : List ℕ) → Type 0
 Ends front left l tail = ((more : List ℕ) × (l ≡ front ++ more)) ⊎ ((c : ℕ) × (more : List ℕ) × (front ≡ l ++ c ∷ more) × (tail ≡ c ∷ (more ++ left)))
 
@@ -162,15 +162,15 @@ first_of_notes (l ∷ ls) front left h e = by (ends front left l (10 ∷ text ls
         let rest : text ls ≡ x.1 ++ left = let same = x.3 in cc in
         subst IsFirstOfNotes (ap (λ c. l ++ c ∷ x.1) feed ∙ sym x.2) (behind_first l x.1 (noted_of l h.0) (one_of l h.0) (later x.1 rest))
 
--- ---- what a sink took
+-- ---- what a sink accepted
 
--- a sink took notes
+-- a sink accepted notes
 pub record TookNotes (before after : Option (List ℕ)) : Type 0 where
   pub lines : List Line
   pub notes : AreNotes lines
   pub taken : after ≡ with_more before (text lines)
 
--- it took a first part of some
+-- it accepted a first part of some
 pub record TookFirst (before after : Option (List ℕ)) : Type 0 where
   pub lines : List Line
   pub front : List ℕ

@@ -1,4 +1,4 @@
--- The comments behind a line.
+-- The comments after a line.
 use Rattle.std.proofs.Common.{◌≡◌, ◌∙◌, sym, ap, subst, ℕ, ◌<◌, true, List, ◌++◌, length, length-append, arith, Result, Ok, Err, OnOk, OnErr, IfErr, append_assoc}
 use Rattle.line_model.specs.text.Text.{Line}
 use Rattle.line_model.specs.traces.Traces.{text}

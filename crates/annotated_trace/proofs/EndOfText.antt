@@ -142,7 +142,7 @@ no_last x h = ap (λ b. ended_lines x ++ line_or_none b) h ∙ append-nil (ended
 all_lines : (F : List Line → List ℕ → Type 0) (x bytes : List ℕ) → begun_line x ≡ [] → F (ended_lines x) bytes → F (lines_of x) bytes
 all_lines F x bytes none h = subst (λ ls. F ls bytes) (sym (no_last x none)) h
 
--- what is behind what a sink has
+-- what comes after what a sink has
 behind : (before taken after : Option (List ℕ)) (sent more : List ℕ) → taken ≡ with_more before sent → after ≡ with_more taken more → after ≡ with_more before (sent ++ more)
 behind before taken after sent more t a = a ∙ ap (λ o. with_more o more) t ∙ with_more-append before sent more
 

@@ -30,7 +30,7 @@ none_second : (xs ys : List Line) → xs ++ ys ≡ [] → ys ≡ []
 none_second [] ys h = h
 none_second (x ∷ xs) ys h = cc
 
--- the marks behind lines are those of the findings that come with them
+-- the marks after lines are those of the findings that come with them
 pub record Come (before : List Line) (annotated : List Annotated) : Type 0 where
   pub findings : List Finding
   pub came : found_in (before ++ bare_lines annotated) ≡ found_in before ++ findings

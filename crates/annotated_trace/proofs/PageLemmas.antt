@@ -22,7 +22,7 @@ plain_more text done front = simp append_assoc
 pub nothing_noted : (start taken : Option (List ℕ) × ℕ) (buffer : WriteBuffer) → Writes start taken buffer [] → HasNoted start taken buffer 0 (record { lines = []; line = [] })
 nothing_noted start taken buffer w = record { lines = tt; words = record { one = refl; short = omega arith }; said_is = refl; writes = w }
 
--- ---- words behind others
+-- ---- words after others
 
 some_said : (b : ℕ) (line : List ℕ) → (length (b ∷ line) == 0) ≡ false
 some_said b line = grind (arith, nat_tests)
@@ -106,7 +106,7 @@ all_noted start t0 t1 c0 c1 said notes h feed =
 pub some_there : (n : ℕ) → (n == 0) ≡ false → 0 < n
 some_there n h = grind (arith, nat_tests)
 
--- ---- octets, one behind the other
+-- ---- octets, one after the other
 
 take_twice : (n : ℕ) (xs ys : List ℕ) → take n (take n xs ++ ys) ≡ take n (xs ++ ys)
 take_twice zero xs ys = refl

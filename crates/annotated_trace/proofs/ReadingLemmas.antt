@@ -1,4 +1,4 @@
--- What a sink took of a trace that is printed while it is read.
+-- What a sink accepted of a trace that is printed while it is read.
 use Rattle.std.proofs.Common.{◌≡◌, ◌≢◌, ◌∙◌, sym, ap, subst, ℕ, ◌<◌, ◌≤◌, ◌^◌, List, [], ◌++◌, length, Option, None, Result, Ok, Err, IfOk, IfErr, OnOk, append-nil, arith, inl, inr, ◌⊎◌}
 use Rattle.line_model.specs.text.Text.{Line, early, ended_lines}
 use Rattle.line_model.specs.declared.fault.Fault.{Fault}

@@ -48,7 +48,7 @@ pub appended_ok : {T E : Type 0} → (r : Result T E) (now out rest whole : List
 appended_ok (Ok x) now out rest whole e h one = e ∙ plain_end out rest whole h one
 appended_ok (Err x) now out rest whole e h one = tt
 
--- ---- bytes behind others
+-- ---- bytes after others
 
 pub none_added : (before : List ℕ) → BeginsWith before before
 none_added before = ([], sym (append-nil before))

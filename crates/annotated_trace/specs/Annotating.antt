@@ -1,4 +1,4 @@
--- What a scan that annotates a trace returns, and what its sink took.
+-- What a scan that annotates a trace returns, and what its sink accepted.
 use Rattle.std.specs.Prelude.{◌≡◌, ℕ, List, ◌++◌, Option, None}
 use Rattle.line_model.specs.basics.Device.{with_more}
 use Rattle.line_model.specs.text.Text.{fault}
@@ -9,7 +9,7 @@ use Rattle.annotated_trace.specs.Annotation.{IsAnnotation, IsAnnotationOf}
 use Rattle.annotated_trace.specs.Printing.{HasPassed, IsPrintingFault, StopsPrinting}
 use Rattle.annotated_trace.specs.declared.rows.Rows.{Rows}
 
--- the text has no fault, the sink took an annotation of it, and the sums are those of its report
+-- the text has no fault, the sink accepted an annotation of it, and the sums are those of its report
 pub record IsAnnotated (choice : Rows) (x : List ℕ) (before after : Option (List ℕ)) (sums : Summary) : Type 0 where
   pub sound : fault x ≡ None
   pub bytes : List ℕ
@@ -17,7 +17,7 @@ pub record IsAnnotated (choice : Rows) (x : List ℕ) (before after : Option (Li
   pub annotation : IsAnnotation choice x bytes
   pub counted : sums ≡ trace_summary x
 
--- the sink took a first part of an annotation of the text
+-- the sink accepted a first part of an annotation of the text
 pub record HasFirstOf (choice : Rows) (x : List ℕ) (before after : Option (List ℕ)) : Type 0 where
   pub front : List ℕ
   pub left : List ℕ
@@ -28,7 +28,7 @@ pub record HasFirstOf (choice : Rows) (x : List ℕ) (before after : Option (Lis
 abbrev pub IsAnnotatingFault : Fault → Type 0
 IsAnnotatingFault fault = IsPrintingFault fault
 
--- a source gave a text without a fault, and the sink took an annotation of it; the sums are those of its report
+-- a source gave a text without a fault, and the sink accepted an annotation of it; the sums are those of its report
 abbrev pub Annotates : (choice : Rows) (left after asked before taken : Option (List ℕ)) → Summary → Type 0
 Annotates choice left after asked before taken sums = HasPassed (IsAnnotated choice) left after asked before taken sums
 

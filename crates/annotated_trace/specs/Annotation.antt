@@ -83,7 +83,7 @@ abbrev pub IsMarkedWhere : (picked : Bool) → (before : List Line) → Annotate
 IsMarkedWhere true before a = HasItsMarks before a × HasComment a
 IsMarkedWhere false before a = a.comments ≡ []
 
--- where all rows are described, each line has its marks, and each that writes a row at least one comment; else exactly the lines of the rows
+-- where all rows are described, each line has its marks, and each that writes a row at least one comment; otherwise exactly the lines of the rows
 -- that are chosen are described
 abbrev pub IsMarked : Rows → (before : List Line) → Annotated → Type 0
 IsMarked All before a = HasItsMarks before a × (is_chosen_line All before a.line ≡ true → HasComment a)

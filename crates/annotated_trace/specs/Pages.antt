@@ -5,7 +5,7 @@ use Rattle.line_model.specs.basics.Written.{Writes}
 use Rattle.line_model.specs.declared.write_buffer.WriteBuffer.{WriteBuffer}
 use Rattle.annotated_trace.specs.Wording.{AreNotes, IsWords, Remarks, begun_note}
 
--- a sink that had `before` took these notes, except what is on its way; the line that has not ended has `said` bytes
+-- a sink that had `before` accepted these notes, except what is on its way; the line that has not ended has `said` bytes
 pub record HasNoted (before taken : Option (List ℕ) × ℕ) (buffer : WriteBuffer) (said : ℕ) (notes : Remarks) : Type 0 where
   pub lines : AreNotes notes.lines
   pub words : IsWords notes.line

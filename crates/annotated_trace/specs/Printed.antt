@@ -14,13 +14,13 @@ pub record HasAppended (form : List ℕ → Type 0) (before after : List ℕ) : 
   pub appended : after ≡ before ++ bytes
   pub formed : form bytes
 
--- a sink took bytes of a form
+-- a sink accepted bytes of a form
 pub record HasTaken (form : List ℕ → Type 0) (before after : Option (List ℕ)) : Type 0 where
   pub bytes : List ℕ
   pub taken : after ≡ with_more before bytes
   pub formed : form bytes
 
--- a sink took a first part of bytes of a form
+-- a sink accepted a first part of bytes of a form
 pub record HasTakenFirst (form : List ℕ → Type 0) (before after : Option (List ℕ)) : Type 0 where
   pub bytes : List ℕ
   pub front : List ℕ
@@ -29,13 +29,13 @@ pub record HasTakenFirst (form : List ℕ → Type 0) (before after : Option (Li
   pub taken : after ≡ with_more before front
   pub formed : form bytes
 
--- a sink took a first part of these bytes
+-- a sink accepted a first part of these bytes
 pub record HasFirstPart (bytes : List ℕ) (before after : Option (List ℕ)) : Type 0 where
   pub front : List ℕ
   pub left : List ℕ
   pub whole : bytes ≡ front ++ left
   pub taken : after ≡ with_more before front
 
--- a sink took a first part of what was held, or all of it and a first part of bytes of a form
+-- a sink accepted a first part of what was held, or all of it and a first part of bytes of a form
 abbrev pub StopsClosing : (form : List ℕ → Type 0) (held : List ℕ) (before after : Option (List ℕ)) → Type 0
 StopsClosing form held before after = HasFirstPart held before after ⊎ HasTakenFirst form (with_more before held) after

@@ -41,17 +41,17 @@ IsFedOn reader printing before chunk after result = OfFed reader printing before
 abbrev pub PrintOf : {A O P : Type 0} → Printing P A O → Rows → List Line → List ℕ → Type 0
 PrintOf printing choice = IsPrintOf (printing.form choice) []
 
--- a sink that had `before` took, with what is held, the print of some lines
+-- a sink that had `before` accepted, with what is held, the print of some lines
 pub record HasPrinted (is_print : List Line → List ℕ → Type 0) (before taken : Option (List ℕ)) (held : List ℕ) (ls : List Line) : Type 0 where
   pub sent : List ℕ
   pub taken_is : taken ≡ with_more before sent
   pub lines : is_print ls (sent ++ held)
 
--- of any text so, and any sink that took, with what is held, the print of the lines that ended
+-- of any text so, and any sink that accepted, with what is held, the print of the lines that ended
 abbrev pub OfPrinted : {A O P : Type 0} → TraceObserver O A → Printing P A O → TracePrinter A O P → (taken : Option (List ℕ)) → (Rows → List ℕ → Option (List ℕ) → Type 0) → Type 0
 OfPrinted reader printing t taken Fact = (choice : Rows) (text : List ℕ) (before : Option (List ℕ)) → WasFed (HasFollowed reader printing choice) t text → HasPrinted (PrintOf printing choice) before taken t.held.items (ended_lines text) → Fact choice text before
 
--- it took a first part of the print of the first ones of some lines
+-- it accepted a first part of the print of the first ones of some lines
 pub record HasFirstPrint (is_print : List Line → List ℕ → Type 0) (before taken : Option (List ℕ)) (ls : List Line) : Type 0 where
   pub done : List Line
   pub others : List Line
@@ -59,7 +59,7 @@ pub record HasFirstPrint (is_print : List Line → List ℕ → Type 0) (before 
   pub left : List ℕ
   pub printed : HasPrinted is_print before taken left done
 
--- what a sink has where a text is refused: at a faulty line the print of the lines before it, with what is held; else a first part
+-- what a sink has where a text is refused: at a faulty line the print of the lines before it, with what is held; otherwise a first part
 abbrev pub IsStoppedAt : (is_print : List Line → List ℕ → Type 0) (before taken : Option (List ℕ)) (held : List ℕ) (ls : List Line) → Fault → Type 0
 IsStoppedAt is_print before taken held ls (Trace line kind) = HasPrinted is_print before taken held (good_lines (Some (line, kind)) ls)
 IsStoppedAt is_print before taken held ls _ = HasFirstPrint is_print before taken ls
@@ -106,7 +106,7 @@ IsEndRefusal x (Trace line kind) = (fault x ≡ Some (line, kind)) ⊎ IsFull x 
 IsEndRefusal x Write = fault x ≡ None
 IsEndRefusal x _ = ⊥
 
--- the text has no fault, the sink took the print of its lines and what comes after them by its report, and the sums are those of the report
+-- the text has no fault, the sink accepted the print of its lines and what comes after them by its report, and the sums are those of the report
 pub record IsPrinted (is_print : List Line → List ℕ → Type 0) (closes : Report → List ℕ → Type 0) (x : List ℕ) (before after : Option (List ℕ)) (sums : Summary) : Type 0 where
   pub report : Report
   pub reported : IsReportOf x report
@@ -130,7 +130,7 @@ pub record IsFirstOfClosing (closes : Report → List ℕ → Type 0) (x lines f
   pub closed : closes report closing
   pub whole : lines ++ closing ≡ front ++ left
 
--- the sink took a first part of what is printed of the text
+-- the sink accepted a first part of what is printed of the text
 pub record HasFirstPrintOf (is_print : List Line → List ℕ → Type 0) (closes : Report → List ℕ → Type 0) (x : List ℕ) (before after : Option (List ℕ)) : Type 0 where
   pub lines : List ℕ
   pub front : List ℕ

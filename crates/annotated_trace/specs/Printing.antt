@@ -1,4 +1,4 @@
--- What a scan that prints a trace returns, and what its sink took.
+-- What a scan that prints a trace returns, and what its sink accepted.
 use Rattle.std.specs.Prelude.{◌≡◌, ◌≢◌, ◌⊎◌, ℕ, ◌<◌, ◌≤◌, ◌^◌, List, [], ◌++◌, length, Option, Some, None}
 use Rattle.trace_text.specs.Decided.{NoneDecidedButLast}
 use Rattle.trace_text.specs.Sources.{IsAllGiven, IsGiven, NoneDecided}
@@ -35,7 +35,7 @@ pub record IsRefusedAfter (is_print : List Line → List ℕ → Type 0) (before
   pub kinds : IsPrinterFault returned
   pub failed : returned ≡ Write → old < now
 
--- a source gave a text to its end, and the sink took of it what `whole` says
+-- a source gave a text to its end, and the sink accepted of it what `whole` says
 pub record HasPassed (whole : (x : List ℕ) (before after : Option (List ℕ)) → Summary → Type 0) (left after asked before taken : Option (List ℕ)) (sums : Summary) : Type 0 where
   pub given : List ℕ
   pub source : IsAllGiven left after asked given

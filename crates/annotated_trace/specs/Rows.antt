@@ -32,7 +32,7 @@ is_open_in e c = (c.epoch == e) && is_none c.ended
 abbrev pub has_open_in : (number epoch : ℕ) → List CallRecord → Bool
 has_open_in n e cs = list_any (λ (q : ℕ × CallRecord). (q.0 == n) && is_open_in e q.1) (enumerate_from 1 cs)
 
--- whether a row is one of a call's, by the logical channel that took it: the call was open there before the row, or is after it
+-- whether a row is one of a call's, by the logical channel that received it: the call was open there before the row, or is after it
 abbrev pub is_of_call_on : Option ℕ → (number epoch : ℕ) → (before after : List CallRecord) → Bool
 is_of_call_on None n e before after = false
 is_of_call_on (Some k) n e before after = has_open n e k before || has_open n e k after

@@ -15,7 +15,7 @@ use trace_text::trace_observer::TraceObserver;
 /// Writes a trace again, each line with its comments, and returns the last line of its report as numbers. Fails with
 /// the first faulty line, where the source or the sink fails, when memory is refused, and as `TracePrinter::end` does.
 /// The sink has all lines before a faulty one with their comments, all lines that an LF ended where the source failed,
-/// and else a first part.
+/// and otherwise a first part.
 pub fn annotate<A: Allocator + Copy, O: TraceObserver<A>, D: Describer<A, O>, S: Source, K: Sink>(
     alloc: A,
     trace: O,
@@ -24,14 +24,14 @@ pub fn annotate<A: Allocator + Copy, O: TraceObserver<A>, D: Describer<A, O>, S:
     sink: &mut K,
 ) -> Result<Summary, Fault>
     requires fresh { O.represents trace [] }
-    // The source gave a text without a fault, and the sink took an annotation of it, of exactly the rows that the
+    // The source gave a text without a fault, and the sink accepted an annotation of it, of exactly the rows that the
     // describer chooses.
     ensures annotated { IfOk result (Annotates (D.rows describer) (S.left source.old)
         (S.left source.new)
         (S.before source.new) (K.taken sink.old) (K.taken sink.new)) }
     // A refusal is by the bytes that were read, and those before the last call of the source show no faulty line. The
     // sink has the annotation of all lines before the faulty one, if it did not fail; of all that ended where the source
-    // failed, or memory was refused at the end; else a first part.
+    // failed, or memory was refused at the end; otherwise a first part.
     ensures stopped { IfErr result (Stops (D.rows describer) (S.left source.old) (S.left source.new)
         (S.before source.new) (K.taken sink.old) (K.taken sink.new) (K.failures sink.new
         ≡ K.failures sink.old)) }

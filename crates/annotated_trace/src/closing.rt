@@ -35,7 +35,7 @@ fn write_to<'a, A: Allocator, O: TraceObserver<A>, P: Printer<A, O>, K: Sink, B:
     (lent.give_back(), answer)
 }
 
-/// Writes to a sink what comes after the last line of a text. Fails where the sink fails, which took a first part.
+/// Writes to a sink what comes after the last line of a text. Fails where the sink fails, which accepted a first part.
 fn write_closing<A: Allocator, O: TraceObserver<A>, P: Printer<A, O>, K: Sink>(
     report: &Report<A>,
     printer: &mut P,
@@ -54,7 +54,7 @@ fn write_closing<A: Allocator, O: TraceObserver<A>, P: Printer<A, O>, K: Sink>(
 }
 
 /// Writes to a sink what is held, and what comes after the last line of a text; returns the last line of the report
-/// as numbers. Fails where the sink fails, which took a first part of them.
+/// as numbers. Fails where the sink fails, which accepted a first part of them.
 pub fn send_closing<A: Allocator, O: TraceObserver<A>, P: Printer<A, O>, K: Sink>(
     report: &Report<A>,
     printer: &mut P,

@@ -11,7 +11,7 @@ use std::alloc::Allocator;
 /// The most bytes that are held while a chunk is read.
 const MUCH: usize = 1 << 18;
 
-/// Writes to a sink what is held. Fails where the sink fails, which took a first part.
+/// Writes to a sink what is held. Fails where the sink fails, which accepted a first part.
 pub fn send_held<A: Allocator, K: Sink>(held: &mut Vec<u8, A>, sink: &mut K) -> Result<(), Fault>
     ensures ok { OnOk result (K.taken sink.new ≡ with_more (K.taken sink.old) held.old.items) }
     ensures none_held { OnOk result (held.new.items ≡ []) }
@@ -27,7 +27,7 @@ pub fn send_held<A: Allocator, K: Sink>(held: &mut Vec<u8, A>, sink: &mut K) -> 
     Ok(())
 }
 
-/// Writes what is held to a sink where it is 2^18 bytes or more. Fails where the sink fails, which took a first part.
+/// Writes what is held to a sink where it is 2^18 bytes or more. Fails where the sink fails, which accepted a first part.
 pub fn send_much<A: Allocator, K: Sink>(held: &mut Vec<u8, A>, sink: &mut K) -> Result<(), Fault>
     ensures ok { OnOk result ((sent : List ℕ)
         × (K.taken sink.new ≡ with_more (K.taken sink.old) sent)

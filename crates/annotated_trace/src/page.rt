@@ -170,8 +170,8 @@ impl<S: LentSink> ClosingPage<S> {
         self.said = 0;
     }
 
-    /// Ends the last line, if it has words, and returns the sink. It took all notes, or it has failed and took a first
-    /// part of them.
+    /// Ends the last line, if it has words, and returns the sink. It accepted all notes, or it has failed and accepted a
+    /// first part of them.
     pub(crate) fn finish(self) -> (S, Result<(), Fault>)
         ensures ok { (notes : Remarks) → HasNoted S.before
             (S.taken self.sink, S.failures self.sink) self.buffer

@@ -53,7 +53,7 @@ pub trait Printer<A: Allocator, O: TraceObserver<A>>: Drop {
             → line.now ≡ l ++ 10 ∷ [] → OnOk result (printed self.new (before ++ l ∷ [])) }
         ensures rows { rows self.new ≡ rows self.old };
 
-    /// Writes to a lent sink what comes after the last line. Fails where the sink fails, which took a first part.
+    /// Writes to a lent sink what comes after the last line. Fails where the sink fails, which accepted a first part.
     fn close<S: LentSink>(&mut self, report: &Report<A>, sink: S) -> (S, Result<(), Fault>)
         requires { (S.taken sink, S.failures sink) ≡ S.before }
         ensures ok { OnOk result.1 (HasTaken (closing (rows self.old) report.now) S.before.0

@@ -302,7 +302,7 @@ impl<A: Allocator + Copy, O: TraceObserver<A>, P: Printer<A, O>, K: Sink> Consum
 /// Prints the trace of a source, line by line, and what comes after the last line. Returns the last line of its report
 /// as numbers. Fails with the first faulty line, where the source or the sink fails, when memory is refused, and as
 /// `TracePrinter::end` does. The sink has what all lines before a faulty one become, what all lines become that an LF
-/// ended where the source failed, and else a first part. The clauses are about the end of the call; those of
+/// ended where the source failed, and otherwise a first part. The clauses are about the end of the call; those of
 /// `TracePrinter::feed` say what is written after each read.
 pub fn print_trace<A: Allocator + Copy, O: TraceObserver<A>, P: Printer<A, O>, S: Source, K: Sink>(
     alloc: A,
@@ -312,13 +312,13 @@ pub fn print_trace<A: Allocator + Copy, O: TraceObserver<A>, P: Printer<A, O>, S
     sink: &mut K,
 ) -> Result<Summary, Fault>
     requires fresh { O.represents trace [] }
-    // The source gave a text without a fault, and the sink took the print of its lines and what comes after them.
+    // The source gave a text without a fault, and the sink accepted the print of its lines and what comes after them.
     ensures printed { IfOk result (HasPassed (IsPrinted (IsPrintOf (P.form (P.rows printer)) [])
         (P.closing (P.rows printer))) (S.left source.old) (S.left source.new)
         (S.before source.new) (K.taken sink.old) (K.taken sink.new)) }
     // A refusal is by the bytes that were read, and those before the last call of the source show no faulty line. The
     // sink has the print of all lines before the faulty one, if it did not fail; of all that ended where the source
-    // failed, or memory was refused at the end; else a first part.
+    // failed, or memory was refused at the end; otherwise a first part.
     ensures stopped { IfErr result (StopsPrinting (IsPrintOf (P.form (P.rows printer)) [])
         (HasFirstPrintOf (IsPrintOf (P.form (P.rows printer)) [])
         (P.closing (P.rows printer))) (S.left source.old) (S.left source.new)

@@ -1,4 +1,4 @@
--- What was taken of a text that was asked for, and of the line of a fault.
+-- What was accepted of a text that was asked for, and of the line of a fault.
 use Rattle.std.proofs.Common.{◌≡◌, ◌≢◌, sym, subst, ℕ, ◌<◌, Bool, true, false, List, [], Option, Some, Result, Ok, Err, OnOk, OnErr, append-nil, arith, cond, ◌==◌}
 use Rattle.line_model.specs.basics.Device.{with_more}
 use Rattle.line_model.specs.basics.Written.{HasFront}
@@ -11,7 +11,7 @@ use Rattle.command_line.specs.Faults.{IsSaid, SaysFault, fault_line}
 use Rattle.command_line.specs.Program.{IsAskedTextTaken, IsScanRefusal, fault_status}
 use Rattle.command_line.proofs.StatusLemmas.{small, wider_refusal}
 
--- all of a text was taken, or the sink failed and took a first part of it
+-- all of a text was accepted, or the sink failed and accepted a first part of it
 text_taken : {T E : Type 0} (r : Result T E) (text : List ℕ) (before after : Option (List ℕ)) (x y : ℕ) → OnOk r (after ≡ with_more before text) → OnErr r (HasFront before after text) → OnErr r (x < y) → IsAskedTextTaken (Some text) before after (y ≡ x)
 text_taken (Ok u) text before after x y whole part failed = ((text, [], sym (append-nil text), whole), λ w. whole)
 text_taken (Err e) text before after x y whole part failed = (part, λ w. absurd (omega (arith, w, failed)))

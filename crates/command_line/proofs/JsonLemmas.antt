@@ -7,7 +7,7 @@ use Rattle.line_model.specs.traces.Traces.{trace_report}
 use Rattle.json_lines.specs.Json.{json_text}
 use Rattle.command_line.specs.Program.{IsReportStatus, IsScanned, IsScannedAsJson}
 
--- what a scan says of a sink that had taken nothing and not failed
+-- what a scan says of a sink that had accepted nothing and not failed
 pub scanned_afresh : (lag : ℕ) (followed : Bool) (text : List ℕ) (left asked before after : Option (List ℕ)) (failed failures status : ℕ) →
     before ≡ Some [] → failed ≡ 0 →
     IsScanned lag followed text left asked before after (failures ≡ failed) status →
@@ -33,7 +33,7 @@ given_back lag followed text left asked before taken after failed failures was s
     subst (λ f. IsScannedAsJson lag followed text left asked before after (f ≡ was) status) (sym well)
     (subst (λ t. IsScannedAsJson lag followed text left asked before t (failed ≡ was) status) (sym same) shown)
 
--- the objects of a report that was taken
+-- the objects of a report that was accepted
 pub reported_json : (lines : List ℕ) (before after : Option (List ℕ)) (status : ℕ) → IsReportStatus false (Some []) (Some lines) status → after ≡ with_more before (json_text lines) → IsReportStatus true before after status
 reported_json lines before after status r taken = record {
   reported = λ few.

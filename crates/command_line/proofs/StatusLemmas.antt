@@ -134,7 +134,7 @@ refused_scan lag true text left asked before after well f status r failed s = re
 
 -- ---- whatever the source shows
 
--- a report was taken
+-- a report was accepted
 pub reported_any : (before after : Option (List ℕ)) (sums : Summary) (status : ℕ) → ((text : List ℕ) × IsReported text before after sums) → status ≡ summary_status sums → IsReportStatus false before after status
 reported_any before after sums status of s =
     let few = small sums.findings status s in

@@ -18,7 +18,7 @@ IsNothing ls bytes = IsPrintOf (λ before l own. own ≡ []) [] ls bytes
 abbrev pub ClosesWithCalls : TableForm → Report → List ℕ → Type 0
 ClosesWithCalls form report bytes = IsCallTable form report.calls bytes
 
--- a source gave a text without a fault, and the sink took the table of the calls of its report; the sums are those of the report
+-- a source gave a text without a fault, and the sink accepted the table of the calls of its report; the sums are those of the report
 abbrev pub PrintsCalls : TableForm → (left after asked before taken : Option (List ℕ)) → Summary → Type 0
 PrintsCalls form left after asked before taken sums = HasPassed (IsPrinted IsNothing (ClosesWithCalls form)) left after asked before taken sums
 

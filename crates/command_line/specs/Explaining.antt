@@ -19,7 +19,7 @@ or_line word line = if length word == 0 then word ++ line else word
 abbrev pub asked_rows : (text : List ℕ) → (table : List Explanation) → List Explanation
 asked_rows text table = or_line (explanations_of text table) (pasted_rows text table)
 
--- what is printed by a table: the list of its words where no word is named, else all explanations of the word
+-- what is printed by a table: the list of its words where no word is named, otherwise all explanations of the word
 abbrev pub answer : (word : List ℕ) → (table : List Explanation) → Option (List ℕ)
 answer [] table = Some (headings_text table)
 answer (c ∷ word) table = answer_by (asked_rows (unprefixed (c ∷ word)) table)
@@ -30,7 +30,7 @@ pub record IsAnswer (word : List ℕ) (printed : Option (List ℕ)) : Type 0 whe
   pub whole : map key table ≡ table_keys
   pub exact : printed ≡ answer word table
 
--- a first part of the explanation of a word was taken
+-- a first part of the explanation of a word was accepted
 pub record IsBegun (word : List ℕ) (before after : Option (List ℕ)) : Type 0 where
   pub text : List ℕ
   pub count : ℕ

@@ -24,15 +24,15 @@ fault_words (Missing piece) = codes "piece " ++ decimal piece ++ codes " missing
 abbrev pub fault_line : Fault → List ℕ
 fault_line fault = codes "x25scan: " ++ fault_words fault ++ 10 ∷ []
 
--- a sink took more bytes
+-- a sink accepted more bytes
 abbrev pub Grows : (before after : Option (List ℕ)) → Type 0
 Grows before after = (more : List ℕ) × (after ≡ with_more before more)
 
--- it took a line, and more after it
+-- it accepted a line, and more after it
 abbrev pub BeginsWith : (line : List ℕ) → (before after : Option (List ℕ)) → Type 0
 BeginsWith line before after = (more : List ℕ) × (after ≡ with_more before (line ++ more))
 
--- a line was printed first: the sink took it, and more after it, or it failed and took a first part of it
+-- a line was printed first: the sink accepted it, and more after it, or it failed and accepted a first part of it
 pub record IsSaid (line : List ℕ) (before after : Option (List ℕ)) (well : Type 0) : Type 0 where
   pub part : HasFront before after line ⊎ BeginsWith line before after
   pub whole : well → BeginsWith line before after

@@ -27,7 +27,7 @@ word_topic field word =
     else if bytes_eq field (codes "word") then Some (codes "setting")
     else None
 
--- what is explained of a word in a field: the word by its topic, else the field
+-- what is explained of a word in a field: the word by its topic, otherwise the field
 abbrev pub asked_of : (topic : Option (List ℕ)) → (field word : List ℕ) → List ℕ
 asked_of None field word = of_topic (codes "field") field
 asked_of (Some topic) field word = of_topic topic word

@@ -23,7 +23,7 @@ use Rattle.command_line.specs.declared.options.Printing.{Printing}
 abbrev pub AreRowObjects : Rows → List Line → List ℕ → Type 0
 AreRowObjects rows ls bytes = IsPrintOf (IsLineObject rows) [] ls bytes
 
--- a source gave a text without a fault, and the sink took the objects of these rows of it and those of its report; the sums are those of the
+-- a source gave a text without a fault, and the sink accepted the objects of these rows of it and those of its report; the sums are those of the
 -- report
 abbrev pub PrintsRows : Rows → (left after asked before taken : Option (List ℕ)) → Summary → Type 0
 PrintsRows rows left after asked before taken sums = HasPassed (IsPrinted (AreRowObjects rows) IsClosing) left after asked before taken sums

@@ -20,16 +20,16 @@ use Rattle.command_line.specs.declared.help.TheConstants.{HELP, VERSION}
 use Rattle.command_line.specs.declared.options.Options.{Options}
 use Rattle.trace_text.specs.Refusals.{IsRefusal}
 
--- 0 without findings, else 1
+-- 0 without findings, otherwise 1
 abbrev pub summary_status : Summary → ℕ
 summary_status sums = if sums.findings == 0 then 0 else 1
 
--- 2 for a refused trace, else 3
+-- 2 for a refused trace, otherwise 3
 abbrev pub fault_status : Fault → ℕ
 fault_status (Trace line kind) = 2
 fault_status _ = 3
 
--- 3 where memory is refused, 0 for help and the version, else 64
+-- 3 where memory is refused, 0 for help and the version, otherwise 64
 abbrev pub words_status : ErrorKind → ℕ
 words_status OutOfMemory = 3
 words_status DisplayHelp = 0
@@ -42,7 +42,7 @@ asked_text DisplayHelp = Some HELP.now
 asked_text DisplayVersion = Some VERSION.now
 asked_text _ = None
 
--- a sink took all of the text that was asked for, or it failed and took a first part of it; where none was asked for it is as it was
+-- a sink accepted all of the text that was asked for, or it failed and accepted a first part of it; where none was asked for it is as it was
 abbrev pub IsAskedTextTaken : (text : Option (List ℕ)) → (before after : Option (List ℕ)) → (well : Type 0) → Type 0
 IsAskedTextTaken None before after well = after ≡ before
 IsAskedTextTaken (Some text) before after well = HasFront before after text × (well → after ≡ with_more before text)
@@ -53,7 +53,7 @@ IsWordsAnswer kinds before after well status =
     ((status ≡ 3) × (after ≡ before))
     ⊎ ((kind : ErrorKind) × IsAmong kind kinds × (status ≡ words_status kind) × IsAskedTextTaken (asked_text kind) before after well)
 
--- how many of the last bytes that were read before the last call may show a faulty line: none in one thread, else those of the blocks in
+-- how many of the last bytes that were read before the last call may show a faulty line: none in one thread, otherwise those of the blocks in
 -- flight
 abbrev pub lag_by : (alone : Bool) → ℕ
 lag_by true = 0
@@ -65,12 +65,12 @@ pub record IsFaulty (lag : ℕ) (text : List ℕ) (left asked : Option (List ℕ
   pub kind : Kind
   pub refusal : IsRefusedBy lag (IsRefusal lag) text left asked (Trace line kind)
 
--- why a scan refused a text, and what its sink took then, by whether it followed the text
+-- why a scan refused a text, and what its sink accepted then, by whether it followed the text
 abbrev pub IsScanRefusal : (lag : ℕ) → (followed : Bool) → (text : List ℕ) → (left asked before after : Option (List ℕ)) → (well : Type 0) → Fault → Type 0
 IsScanRefusal lag false text left asked before after well fault = IsRefusedBy lag (IsRefusal lag) text left asked fault × IsTaken before after (trace_report text) fault
 IsScanRefusal lag true text left asked before after well fault = IsRefusedBy 0 IsFollowRefusal text left asked fault × IsRefusedBy 0 (IsWrittenOf before after well) text left asked fault
 
--- the sink failed on the report of a text without a fault, and took a first part of it
+-- the sink failed on the report of a text without a fault, and accepted a first part of it
 pub record IsCutShort (text : List ℕ) (before after : Option (List ℕ)) (well : Type 0) : Type 0 where
   pub failed : ¬ well
   pub sound : fault text ≡ None
@@ -93,14 +93,14 @@ pub record IsStatus (lag : ℕ) (text : List ℕ) (left asked before after : Opt
   pub other : status ≡ 3 → IsStoppedBy lag text left asked before after well
   pub range : status < 4
 
--- a text is refused by a faulty line, behind the lines of what was found before it
+-- a text is refused by a faulty line, after the lines of what was found before it
 pub record IsFaultyBehind (text : List ℕ) (left asked before after : Option (List ℕ)) (well : Type 0) : Type 0 where
   pub line : ℕ
   pub kind : Kind
   pub refusal : IsRefusedBy 0 IsFollowRefusal text left asked (Trace line kind)
   pub written_of : IsRefusedBy 0 (IsWrittenOf before after well) text left asked (Trace line kind)
 
--- a fault other than the text's ended a scan that followed it: what it says of the bytes that were read, and what the sink took
+-- a fault other than the text's ended a scan that followed it: what it says of the bytes that were read, and what the sink accepted
 pub record IsEndedBy (text : List ℕ) (left asked before after : Option (List ℕ)) (well : Type 0) : Type 0 where
   pub cause : Fault
   pub other : fault_status cause ≡ 3
@@ -121,20 +121,20 @@ abbrev pub IsScanned : (lag : ℕ) → (followed : Bool) → (text : List ℕ) �
 IsScanned lag false text left asked before after well status = IsStatus lag text left asked before after well status
 IsScanned lag true text left asked before after well status = IsFollowStatus text left asked before after well status
 
--- a sink that had `before` took a first part of the objects of the lines that were written
+-- a sink that had `before` accepted a first part of the objects of the lines that were written
 pub record HasFirstObjects (given : List ℕ) (before after : Option (List ℕ)) : Type 0 where
   pub front : List ℕ
   pub rest : List ℕ
   pub whole : json_text given ≡ front ++ rest
   pub taken : after ≡ with_more before front
 
--- a sink took the objects of all lines that were written, or it failed and took a first part of them
+-- a sink accepted the objects of all lines that were written, or it failed and accepted a first part of them
 abbrev pub AreObjects : (given : List ℕ) → (failures plain : ℕ) → (before after : Option (List ℕ)) → (well : Type 0) → (status : ℕ) → Type 0
 AreObjects given failures plain before after well status =
     ((failures ≡ 0) × (status ≡ plain) × (after ≡ with_more before (json_text given))) ⊎ ((status ≡ 3) × (¬ well) × HasFirstObjects given before after)
 
 -- what the status says of a text whose report is printed as JSON lines: lines were written as to a sink that accepts all, unless
--- the sink failed, and the sink took their objects
+-- the sink failed, and the sink accepted their objects
 pub record IsScannedAsJson (lag : ℕ) (followed : Bool) (text : List ℕ) (left asked before after : Option (List ℕ)) (well : Type 0) (status : ℕ) : Type 0 where
   pub given : List ℕ
   pub failures : ℕ
@@ -157,14 +157,14 @@ abbrev pub report_in : (json : Bool) → (text : List ℕ) → List ℕ
 report_in false text = trace_report text
 report_in true text = json_text (trace_report text)
 
--- a sink took the report of some text without a fault, and the status is that of its sums
+-- a sink accepted the report of some text without a fault, and the status is that of its sums
 pub record HasReport (json : Bool) (before after : Option (List ℕ)) (status : ℕ) : Type 0 where
   pub text : List ℕ
   pub sound : fault text ≡ None
   pub taken : after ≡ with_more before (report_in json text)
   pub counted : status ≡ summary_status (trace_summary text)
 
--- what the status says where a report was asked for, whatever the source shows: one below 2 is that of a report that was taken
+-- what the status says where a report was asked for, whatever the source shows: one below 2 is that of a report that was accepted
 pub record IsReportStatus (json : Bool) (before after : Option (List ℕ)) (status : ℕ) : Type 0 where
   pub reported : status < 2 → HasReport json before after status
   pub range : status < 4

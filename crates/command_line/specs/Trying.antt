@@ -7,7 +7,7 @@ use Rattle.header_trials.specs.TriedLines.{HasTried, HasTriedPart}
 use Rattle.command_line.specs.Printing.{IsRefused}
 use Rattle.command_line.specs.Program.{IsFaulty, IsUnread, fault_status}
 
--- the sink took the lines, and the first one has findings
+-- the sink accepted the lines, and the first one has findings
 pub record HasTriedWith (text : List ℕ) (before after : Option (List ℕ)) : Type 0 where
   pub findings : ℕ
   pub some : 0 < findings

@@ -20,7 +20,7 @@ pub fn annotate<A: Allocator + Copy, S: Source, K: Sink>(
     source: &mut S,
     sink: &mut K,
 ) -> Result<Summary, Fault>
-    // The source gave a text without a fault, and the sink took an annotation of exactly these rows of it.
+    // The source gave a text without a fault, and the sink accepted an annotation of exactly these rows of it.
     ensures annotated { IfOk result (Annotates rows (S.left source.old)
         (S.left source.new) (S.before source.new) (K.taken sink.old) (K.taken sink.new)) }
     // A refusal is by the bytes that were read, and the sink has a first part of their annotation.

@@ -54,7 +54,7 @@ fn put_words<E: Sink>(out: &mut WriteBuffer, errors: &mut E, fault: Fault)
     }
 }
 
-/// Prints the line of a fault. Fails where the errors fail, which took a first part of it.
+/// Prints the line of a fault. Fails where the errors fail, which accepted a first part of it.
 pub(crate) fn print_fault<E: Sink>(errors: &mut E, fault: Fault) -> Result<(), Fault>
     ensures ok { OnOk result (TakesAll E.Sink errors.old errors.new (fault_line fault)) }
     ensures part { OnErr result (TakesFront E.Sink errors.old errors.new (fault_line fault)) }

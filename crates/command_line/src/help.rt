@@ -14,7 +14,7 @@ Arguments:
 
 Options:
       --workers <N>       Scan with this many worker threads, 1 to 64 (default: 4)
-      --alone             Scan in one thread, which takes longer and less memory
+      --alone             Scan in one thread: slower, with less memory
       --follow            Print findings while the trace is read, in one thread
       --json              Print the report as JSON lines, an object for each line
       --annotate          Print the trace again, with comments that say what its rows are and did
@@ -33,7 +33,7 @@ Examples:
   x25scan day.trace                     print the report of a trace
   x25scan --alone < day.trace           read standard input, in one thread
   tail -n +1 -F line.trace | x25scan --follow
-                                        follow a line while it is recorded
+                                        follow a recording while it grows
   x25scan --json day.trace              print an object for each line of the report
   x25scan --rows --call 7 day.trace     print an object for each row of call 7
   x25scan --calls day.trace > calls.csv write a table of the calls for a spreadsheet

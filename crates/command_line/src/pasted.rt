@@ -72,7 +72,7 @@ fn word_topic(field: &str, word: &[u8]) -> Option<&'static str>
     }
 }
 
-/// Appends what explains a word in a field: the word by its topic, else the field.
+/// Appends what explains a word in a field: the word by its topic, otherwise the field.
 fn push_word(
     alloc: Global,
     table: &[&'static [Explanation]],

@@ -84,7 +84,7 @@ fn print_missing<S: Input, E: Sink>(
     }
 }
 
-/// Prints the trace in a form: with comments as `annotate` does, else what its printer makes of each line, as
+/// Prints the trace in a form: with comments as `annotate` does, otherwise what its printer makes of each line, as
 /// `annotated_trace::printing::print_trace` does.
 fn print<S: Source, K: Sink>(
     alloc: Global,

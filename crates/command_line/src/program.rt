@@ -409,14 +409,14 @@ pub fn program<S: Input, K: Output, E: Sink, R: Threads + Wait + Clock + Sync>(
         → IsUnread source.old source.new sink.old sink.new result
         ⊎ IsStatusOfShown (lag_by (alone asked)) (as_json asked) (follows asked) trace (S.left source.new) (S.before source.new)
         (K.taken sink.old) (K.taken sink.new) (K.failures sink.new ≡ K.failures sink.old) result }
-    // Where they ask so, whatever the source shows: status 0 or 1 says that the sink took the report of some text without a
-    // fault, or its objects, and is that of its findings. No status is above 3.
+    // Where they ask so, whatever the source shows: status 0 or 1 says that the sink accepted the report of some text
+    // without a fault, or its objects, and is that of its findings. No status is above 3.
     ensures reported { let asked = map (λ word. word.now) words.now in
         words_fault asked ≡ [] → asked_word asked ≡ None → tries_headers asked ≡ false
         → annotates asked ≡ false → prints_rows asked ≡ false
         → lists_calls asked ≡ false → notes_refused asked ≡ false
         → IsReportStatus (as_json asked) (K.taken sink.old) (K.taken sink.new) result }
-    // Status 2 says that the errors took the line of the trace's fault first, or that they failed.
+    // Status 2 says that the errors accepted the line of the trace's fault first, or that they failed.
     ensures said { let asked = map (λ word. word.now) words.now in
         let trace = trace_of (named_trace asked) (S.left source.old) (S.named source.old) in
         words_fault asked ≡ [] → asked_word asked ≡ None → tries_headers asked ≡ false
@@ -424,8 +424,8 @@ pub fn program<S: Input, K: Output, E: Sink, R: Threads + Wait + Clock + Sync>(
         → lists_calls asked ≡ false → notes_refused asked ≡ false
         → result ≡ 2 → SaysFault (lag_by (alone asked)) trace (S.left source.new) (S.before source.new)
         (E.taken errors.old) (E.taken errors.new) (E.failures errors.new ≡ E.failures errors.old) }
-    // Where they ask for an annotation, of each row or of exactly those that they choose, the sink took one of that trace,
-    // or it was refused. Where they ask for JSON with it, they are refused.
+    // Where they ask for an annotation, of each row or of exactly those that they choose, the sink accepted one of that
+    // trace, or it was refused. Where they ask for JSON with it, they are refused.
     ensures annotated { let asked = map (λ word. word.now) words.now in
         let trace = trace_of (named_trace asked) (S.left source.old) (S.named source.old) in
         words_fault asked ≡ [] → asked_word asked ≡ None → tries_headers asked ≡ false
@@ -434,7 +434,7 @@ pub fn program<S: Input, K: Output, E: Sink, R: Threads + Wait + Clock + Sync>(
         → IsUnread source.old source.new sink.old sink.new result
         ⊎ ((rows : AnyRows) × AreAskedRows asked rows
         × IsAnnotateAnswer S.Source K.Sink (as_json asked) rows trace source.old source.new sink.old sink.new result) }
-    // Where they ask for the rows as objects, of each row or of exactly those that they choose, the sink took these and
+    // Where they ask for the rows as objects, of each row or of exactly those that they choose, the sink accepted these and
     // those of the report, or the trace was refused. Where they ask for an annotation with it, they are refused.
     ensures rows { let asked = map (λ word. word.now) words.now in
         let trace = trace_of (named_trace asked) (S.left source.old) (S.named source.old) in
@@ -443,9 +443,9 @@ pub fn program<S: Input, K: Output, E: Sink, R: Threads + Wait + Clock + Sync>(
         → IsUnread source.old source.new sink.old sink.new result
         ⊎ ((rows : AnyRows) × AreAskedRows asked rows
         × IsRowsAnswer S.Source K.Sink (has_comments asked) rows trace source.old source.new sink.old sink.new result) }
-    // Where they ask for the table of calls, as CSV or as objects where they ask for JSON, the sink took that of exactly the
-    // calls of the report, or the trace was refused. Where they ask for rows, for an annotation or for following with it, they
-    // are refused.
+    // Where they ask for the table of calls, as CSV or as objects where they ask for JSON, the sink accepted that of
+    // exactly the calls of the report, or the trace was refused. Where they ask for rows, for an annotation or for
+    // following with it, they are refused.
     ensures calls { let asked = map (λ word. word.now) words.now in
         let trace = trace_of (named_trace asked) (S.left source.old) (S.named source.old) in
         words_fault asked ≡ [] → asked_word asked ≡ None → tries_headers asked ≡ false → lists_calls asked ≡ true
@@ -459,8 +459,9 @@ pub fn program<S: Input, K: Output, E: Sink, R: Threads + Wait + Clock + Sync>(
         words_fault asked ≡ [] → asked_word asked ≡ None → notes_refused asked ≡ true
         → IsUnread source.old source.new sink.old sink.new result
         ⊎ IsRefused source.old source.new sink.old sink.new result }
-    // Where they ask for the headers that explain the rows best, the sink took the lines of all that are tried, or the trace
-    // was refused. Where they ask for JSON, following, rows, an annotation or the table of calls with it, they are refused.
+    // Where they ask for the headers that explain the rows best, the sink accepted the lines of all that are tried, or
+    // the trace was refused. Where they ask for JSON, following, rows, an annotation or the table of calls with it, they
+    // are refused.
     ensures tried { let asked = map (λ word. word.now) words.now in
         let trace = trace_of (named_trace asked) (S.left source.old) (S.named source.old) in
         words_fault asked ≡ [] → asked_word asked ≡ None → tries_headers asked ≡ true
@@ -476,8 +477,9 @@ pub fn program<S: Input, K: Output, E: Sink, R: Threads + Wait + Clock + Sync>(
         → IsUnread source.old source.new sink.old sink.new result
         ⊎ ((source.new ≡ source.old)
         × IsAnswered word (K.taken sink.old) (K.taken sink.new) result) }
-    // Where the words are wrong, or ask for help or the version, the source is not asked. The sink took the text of the help or
-    // of the version where that was asked for, or it failed and took a first part of it, or memory ran out.
+    // Where the words are wrong, or ask for help or the version, the source is not asked. The sink accepted the text of
+    // the help or of the version where that was asked for, or it failed and accepted a first part of it, or memory ran
+    // out.
     ensures usage { let asked = map (λ word. word.now) words.now in
         words_fault asked ≢ []
         → (source.new ≡ source.old) × IsWordsAnswer (words_fault asked) (K.taken sink.old) (K.taken sink.new)

@@ -55,7 +55,7 @@ rows_written ls l = by (is_comment l) (has_header ls) refl refl
     by false false is headed = rows_in-first ls l is headed ∙ nothing (ap (λ b. cond (b && not (is_comment l)) (row_of l) None) headed)
     by false true is headed = later_rows ls l is headed ∙ ap (λ o. rows_in ls ++ option_to_list o) (sym (λ t. cond (headed t && not (is t)) (row_of l) None))
 
--- where a line writes a row, a header stands before it
+-- where a line writes a row, a header comes before it
 pub written_row : (ls : List Line) (l : Line) (r : Row) → row_written ls l ≡ Some r → row_of l ≡ Some r
 written_row ls l r h = by (has_header ls && not (is_comment l)) h
   where

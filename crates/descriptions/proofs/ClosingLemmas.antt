@@ -57,7 +57,7 @@ bare_objects title (suc n) =
 pub some_closing : (n : ℕ) → (bytes : List ℕ) × AreClosingObjects n bytes
 some_closing n = let h = bare_objects (codes "call_facts") n in (h.0, ([], h.0, refl, (zero, ([], refl, refl, tt)), h.1))
 
--- ---- what a sink took of them
+-- ---- what a sink accepted of them
 
 pub taken_all : {T E : Type 0} (r : Result T E) (form : List ℕ → Type 0) (bytes : List ℕ) (before after : Option (List ℕ)) → form bytes → OnOk r (after ≡ with_more before bytes) → OnOk r (HasTaken form before after)
 taken_all (Ok x) form bytes before after f t = record { bytes = bytes; taken = t; formed = f }

@@ -57,7 +57,7 @@ other_lengths e (Initial pad) is h = ap (λ w. all_lengths (record e { what = w 
 pub none_next : (es : List Event) (i : ℕ) (e : Event) → i < length es → e ≡ get_or es i e → ((side : Side) (n : ℕ) → ¬ (e.what ≡ Data side n)) → all_lengths (take i es) ≡ [] → all_lengths (take (i + 1) es) ≡ []
 none_next es i e lt is other none = lengths_next es i e lt is ∙ (λ t. none t ++ other_lengths e e.what refl other t)
 
--- the events of the logical channel that takes a row
+-- the events of the logical channel that receives a row
 pub events_are : (i : Interface) (o : Observer GapLine GapChannel) (r : Item) (channel taker : Option ℕ) (seen events : List Event) → channel ≡ taker → ((k : ℕ) → channel ≡ Some k → events ≡ seen) → (channel ≡ None → events ≡ [])
     → ((k : ℕ) → taker ≡ Some k → seen ≡ row_events i o.epoch k (o.states k) r) → events ≡ events_at i taker o r
 events_are i o r channel None seen events is taken untaken came = untaken is

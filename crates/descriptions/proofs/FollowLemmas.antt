@@ -39,7 +39,7 @@ events_more i rs r =
     ∙ map-append event_of (walk_events (x25 i) (start i) rs) (own ++ [])
     ∙ ap (λ l. events i rs ++ map event_of l) (append-nil own)
 
--- a row that a channel took is for no other
+-- a row that a channel received is for no other
 taken_alone : (i : Interface) (l : GapLine) (r : Item) (k : ℕ) → routed (x25 i) l r ≡ Some k → steps_all (x25 i) l r ≡ false
 taken_alone i l r k h = ap (λ b. b && stays_ready (x25 i) l r) (by (is_ready l) (is_of_all (gap_of r.packet)) h)
   where
@@ -48,7 +48,7 @@ taken_alone i l r k h = ap (λ b. b && stays_ready (x25 i) l r) (by (is_ready l)
     by true false e = refl
     by false all e = cc
 
--- those of a row that a channel took
+-- those of a row that a channel received
 pub events_on_channel : (i : Interface) (rs : List Item) (r : Item) (k : ℕ) → routed (x25 i) (observer i rs).line r ≡ Some k → events i (rs ++ r ∷ []) ≡ events i rs ++ row_events i (observer i rs).epoch k ((observer i rs).states k) r
 events_on_channel i rs r k h =
     events_more i rs r ∙ (λ j. events i rs ++ map event_of (row_events_by (x25 i) (observer i rs) r (taken_alone i (observer i rs).line r k h j) (h j)))
@@ -65,7 +65,7 @@ ready_at i l r k h = by (is_ready l) refl
     by true e = e
     by false e = absurd (let bad : None ≡ Some k = sym (ap (λ b. cond b (channel_unless (x25 i) r (is_of_all (gap_of r.packet))) None) e) ∙ h in cc)
 
--- what is known before a row that a channel takes
+-- what is known before a row that a channel receives
 pub applied_so_far : (i : Interface) (rs : List Item) (r : Item) (k : ℕ) (w : CallRows) → routed (x25 i) (observer i rs).line r ≡ Some k → Follows i rs w → IsAfter (observer i rs).epoch (events i rs) w
 applied_so_far i rs r k w h f = record { to_come = f.to_come; place = f.place (ready_at i (observer i rs).line r k h); known = f.known }
 
@@ -86,7 +86,7 @@ judged_on i rs r k n e fs of_call h same came is =
     ∙ ap (λ l. has_open n (observer i rs).epoch k (calls_of (events i rs)) || has_open n (observer i rs).epoch k (calls_of l)) (sym (events_on_channel i rs r k h))
     ∙ sym (λ t. is_of_call_by (taken_alone i (observer i rs).line r k h t) (h t) n (observer i rs).epoch (calls_of (events i rs)) (calls_of (events i (rs ++ r ∷ []))))
 
--- the same of a row that no channel took, which may be a gap of all channels
+-- the same of a row that no channel received, which may be a gap of all channels
 pub judged_off : (i : Interface) (rs : List Item) (r : Item) (w : CallRows) (e : ℕ) (each of_call : Bool) → routed (x25 i) (observer i rs).line r ≡ None → Follows i rs w → each ≡ steps_all (x25 i) (observer i rs).line r → e ≡ (observer i (rs ++ r ∷ [])).epoch
     → of_call ≡ (each && is_in e w.place) → of_call ≡ is_of_call i rs r w.number
 judged_off i rs r w e false of_call h f each epoch is =

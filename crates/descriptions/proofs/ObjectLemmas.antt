@@ -104,7 +104,7 @@ row_put (Ok x) rows None earlier (Some r) picked out after e unpicked object =
 row_put (Ok x) rows (Some i) earlier (Some r) picked out after e unpicked object =
     subst (λ b. HasAppended (IsObjectWhere b i (items_of i earlier) (item_of i r)) out after) (same_choice picked (is_chosen rows i (items_of i earlier) (item_of i r)) e) (object i r refl refl)
 
--- ---- a row that was taken
+-- ---- a row that was received
 
 pub no_row : (o : Option Row) (r : Row) → o ≡ None → o ≡ Some r → ⊥
 no_row None r e f = cc

@@ -1,4 +1,4 @@
--- The objects of a report, and those after them, as a sink took them.
+-- The objects of a report, and those after them, as a sink accepted them.
 use Rattle.std.proofs.Common.{◌≡◌, ◌∙◌, sym, ap, refl, ℕ, List, ◌++◌, length, Option, Result, Ok, Err, OnOk, OnErr, append_assoc}
 use Rattle.line_model.specs.basics.Device.{with_more}
 use Rattle.line_model.specs.basics.Records.{Report}

@@ -61,12 +61,12 @@ abbrev pub word_after : Judge → List ℕ
 word_after (judge.Restart before after) = state_word (restart_name after)
 word_after (judge.Channel k before after accepted) = known_word (view_in after).adrift (view_in after).state
 
--- the state of the logical channel that takes a row; of the restart machine where none does
+-- the state of the logical channel that receives a row; of the restart machine where none does
 abbrev pub state_at : (taker : Option ℕ) → Observer GapLine GapChannel → List ℕ
 state_at None o = state_word (restart_name o.line.line.state)
 state_at (Some k) o = known_word (is_adrift (o.states k).certainty) (o.states k).channel.state
 
--- the events of a row on the logical channel that takes it
+-- the events of a row on the logical channel that receives it
 abbrev pub events_at : Interface → (taker : Option ℕ) → Observer GapLine GapChannel → Item → List Event
 events_at i None o r = []
 events_at i (Some k) o r = row_events i o.epoch k (o.states k) r

@@ -20,7 +20,7 @@ struct Place {
 /// A call by its number in the report: whether it is open, and where.
 #[derive(Clone, Copy)]
 pub(crate) struct CallRows {
-    /// Counted from 1; 0 stands for no call.
+    /// Counted from 1; 0 means no call.
     number: u32,
     /// How many calls are still to be opened up to this one.
     to_come: u32,

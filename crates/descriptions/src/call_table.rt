@@ -263,7 +263,7 @@ fn put_entries<W: Sink, A: Allocator + Copy>(
     }
 }
 
-/// Writes the table of calls to a lent sink. Fails where the sink fails, which took a first part of it.
+/// Writes the table of calls to a lent sink. Fails where the sink fails, which accepted a first part of it.
 fn write_table<A: Allocator + Copy, S: LentSink>(
     form: TableForm,
     sources: &Sources<'_, A>,

@@ -88,7 +88,7 @@ fn write_to<'a, A: Allocator + Copy, K: Sink, B: Origin>(
 }
 
 /// Writes to a sink the objects after those of the report, whose calls these are. Fails where the sink fails, which
-/// took a first part of them.
+/// accepted a first part of them.
 pub fn write_rest<A: Allocator + Copy, K: Sink>(
     rest: &Rest<A>,
     records: &[CallRecord<A>],

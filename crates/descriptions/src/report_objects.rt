@@ -13,7 +13,7 @@ use line_model::report::Report;
 use report_merge::text::write_report;
 use std::alloc::Allocator;
 
-/// Writes to a lent sink the objects of the lines of a report. Fails where the sink fails, which took a first part.
+/// Writes to a lent sink the objects of the lines of a report. Fails where the sink fails, which accepted a first part.
 pub fn write_report_objects<A: Allocator, S: LentSink>(
     report: &Report<A>,
     sink: S,

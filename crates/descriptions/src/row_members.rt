@@ -335,7 +335,7 @@ fn billionths<O: Out>(json: &mut Json<O>, billionths: u32)
     }
 }
 
-/// The octets of a row: the hex digits of its line, where they are known, else those of the octets.
+/// The octets of a row: the hex digits of its line, where they are known, otherwise those of the octets.
 fn hex_member<O: Out>(json: &mut Json<O>, facts: &RowFacts<'_>, digits: Option<&[u8]>)
     ensures { IfSome digits.entry (λ digits. IsText digits.now)
         → Adds O.has IsFurther json.old.out json.new.out }

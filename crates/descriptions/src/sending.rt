@@ -30,7 +30,7 @@ impl<S: LentSink> Sending<S> {
         }
     }
 
-    /// Returns the sink. It took all that was put, or it has failed and took a first part of it.
+    /// Returns the sink. It accepted all that was put, or it has failed and accepted a first part of it.
     pub fn finish(self) -> (S, Result<(), Fault>)
         ensures ok { (text : List ℕ) → ⟦<Sending<S> as Out>⟧.has self text
             → OnOk result.1 (S.taken result.0 ≡ with_more S.before.0 text) }

@@ -76,7 +76,7 @@ const HEADER_WORDS: [Explanation; 10] = [
         topic: Topic::Header,
         word: "IN",
         name: "incoming calls only",
-        meaning: "The last of the logical channels that take incoming calls only; they begin after PVC.",
+        meaning: "The last of the logical channels that are for incoming calls only; they begin after PVC.",
         when: "In the second and the third form of the header.",
         clause: "X.25 6.8, Annex A",
         definition: "crates/line_model/specs/text/Header.antt",

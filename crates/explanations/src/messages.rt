@@ -33,7 +33,7 @@ const MESSAGES: [Explanation; 5] = [
         word: "X3",
         name: "refusable setting",
         meaning: "A set, or set and read, asks what no PAD can do: it sets parameter 11, or gives 2, 8, 12 or 15 a value over 1, or 16, 17 or 18 one over 127.",
-        when: "On the last packet of the sequence, in d1, where nothing else is wrong. It changes no state; the settings are taken as asked.",
+        when: "On the last packet of the sequence, in d1, where nothing else is wrong. It changes no state; the settings count as asked.",
         clause: "X.3 Table 1; profile",
         definition: "crates/line_model/specs/channels/Pad.antt",
         example: "F 4 N d1 X3",

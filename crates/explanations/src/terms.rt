@@ -32,7 +32,7 @@ const TERMS: [Explanation; 11] = [
         topic: Topic::Term,
         word: "trace",
         name: "trace",
-        meaning: "What x25scan reads: a text with comments, one header, and a line for each packet in the order in which they passed.",
+        meaning: "What x25scan reads: comments, one header, and a line for each packet, in the order in which the packets passed.",
         when: "x25trace writes one of a capture; /usr/share/doc/x25scan/TRACE.md has the form.",
         clause: "profile",
         definition: "crates/line_model/specs/text/Text.antt",

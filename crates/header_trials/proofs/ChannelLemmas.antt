@@ -26,7 +26,7 @@ gap_said i k n recorded = record {
   channel = inr refl;
 }
 
--- a channel that took all gaps
+-- a channel that received all gaps
 pub all_taken : {A C : Type 0} (m : Machine C A) (i : Interface) (gaps k : ℕ) (g : GapChannel) (c : TriedChannel C) → IsCaughtUp m i gaps k g c → IsChannel m i gaps k g c
 all_taken m i gaps k g c h = record {
   interface = h.interface;

@@ -75,7 +75,7 @@ left_if true true f why n = record { packets = refl; octets = refl }
 left_if true false true why n = record { packets = refl; octets = refl }
 left_if true false false why n = record { packets = refl; octets = refl }
 
--- where a logical channel takes the row
+-- where a logical channel receives the row
 left_on : (i : Interface) (o : Observer GapLine GapChannel) (r : Item) (k : ℕ) → routed (x25 i) o.line r ≡ Some k → IsLeft (left_out_at i o r) (uncounted_in i r (row_events i o.epoch k (o.states k) r))
 left_on i o r k to =
     let es : List Event = row_events i o.epoch k (o.states k) r in
@@ -86,7 +86,7 @@ left_in_restart : (b : Bool) (n : ℕ) → IsLeft (left_out_by (cond b (Some Res
 left_in_restart true n = record { packets = refl; octets = refl }
 left_in_restart false n = record { packets = refl; octets = refl }
 
--- where none takes it
+-- where none receives it
 left_untaken : (i : Interface) (o : Observer GapLine GapChannel) (r : Item) → routed (x25 i) o.line r ≡ None → IsLeft (left_out_at i o r) (uncounted_in i r [])
 left_untaken i o r to =
     subst (λ q. IsLeft (left_out_by (cond (is_data r.packet) (reason_by i q o r) None) (user_octets i r.length)) (uncounted_in i r [])) (sym to)
@@ -335,7 +335,7 @@ few_uncounted i r es = at (is_data r.packet && not (counts_data es))
     at true = omega arith
     at false = omega arith
 
--- ---- what is needed of a step before it is taken
+-- ---- what is needed of a step before it is done
 
 pub item_of_turn : (i : Interface) (item : Item) (line : GapLine) (epoch : ℕ) (step : Step) → IsSaid i item → IsStep line epoch item step → IfSome (channel_in step.turn) (λ k. IsItem i k item)
 item_of_turn i item line epoch step said is = subst (λ t. IfSome (channel_in t) (λ k. IsItem i k item)) (sym is.turn) (at (routing line item).route)
@@ -352,7 +352,7 @@ item_of_turn i item line epoch step said is = subst (λ t. IfSome (channel_in t)
         passes true = tt
         passes false = tt
 
--- a gap of all channels stands where gaps are recorded
+-- a gap of all channels comes where gaps are recorded
 pub gap_recorded : (i : Interface) (item : Item) (line : GapLine) (epoch : ℕ) (step : Step) → IsSaid i item → IsStep line epoch item step → step.turn ≡ ToAll → i.gaps ≡ true
 gap_recorded i item line epoch step said is to = recorded i.gaps refl
   where

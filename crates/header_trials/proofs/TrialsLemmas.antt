@@ -44,7 +44,7 @@ AreOnWay m (suc n) own items more [] [] = Unit {0}
 AreOnWay m (suc n) own items more (i ∷ is) (t ∷ ts) = HasWalked m i (more i) t × IsLike own i × AreOnWay m n own items more is ts
 AreOnWay m (suc n) own items more _ _ = ⊥
 
--- the header of the next one, and that it has not taken the row
+-- the header of the next one, and that it has not received the row
 pub record IsNext {A C : Type 0} (m : Machine C A) (own : Interface) (items : SaidRows) (t : Trial A C) : Type 0 where
   pub header : Interface
   pub walked : HasWalked m header (items header) t
@@ -60,7 +60,7 @@ next_on_way m (suc n) own items more (i ∷ is) (t ∷ ts) d lt all = next_on_wa
 next_on_way m (suc n) own items more [] (t ∷ ts) d lt all = absurd all
 next_on_way m (suc n) own items more (i ∷ is) [] d lt all = absurd all
 
--- it takes the row
+-- it receives the row
 pub one_on_way : {A C : Type 0} (m : Machine C A) (n : ℕ) (own : Interface) (items more : SaidRows) (is : List Interface) (ts : List (Trial A C)) (d t : Trial A C) → n < length ts → AreOnWay m n own items more is ts
     → ((i : Interface) → IsLike own i → HasWalked m i (items i) (get_or ts n d) → HasWalked m i (more i) t) → AreOnWay m (suc n) own items more is (set ts n t)
 one_on_way m zero own items more [] [] d t lt all next = absurd (omega arith)
@@ -72,7 +72,7 @@ one_on_way m (suc n) own items more (i ∷ is) (u ∷ ts) d t lt all next = (all
 one_on_way m (suc n) own items more [] (u ∷ ts) d t lt all next = absurd all
 one_on_way m (suc n) own items more (i ∷ is) [] d t lt all next = absurd all
 
--- all took it
+-- all received it
 pub all_on_way : {A C : Type 0} (m : Machine C A) (n : ℕ) (own : Interface) (items more : SaidRows) (is : List Interface) (ts : List (Trial A C)) → length ts ≤ n → AreOnWay m n own items more is ts → AreTrials m own more is ts
 all_on_way m zero own items more [] [] le all = tt
 all_on_way m zero own items more (i ∷ is) (t ∷ ts) le all = absurd (omega arith)

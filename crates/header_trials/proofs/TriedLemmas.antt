@@ -29,7 +29,7 @@ pub tried_stays : {A C : Type 0} (m : Machine C A) (rs : List Row) (before after
 tried_stays m rs before after None stays h = h
 tried_stays m rs before after (Some t) stays h = (h.0, stays h.0 h.1, h.2)
 
--- some of a chunk was read, and the trials took its rows
+-- some of a chunk was read, and the trials received its rows
 pub record Course {A C : Type 0} (m : Machine C A) (text chunk rest : List ℕ) (t : TriedText A C) : Type 0 where
   pub read : List ℕ
   pub whole : chunk ≡ read ++ rest

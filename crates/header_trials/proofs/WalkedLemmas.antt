@@ -64,7 +64,7 @@ same_channels m i start e states after channels same h = record {
   recorded = h.recorded;
 }
 
--- ---- a row was taken
+-- ---- a row was received
 
 -- what becomes of a trial by the step of a row: `turned` are the channels before a further epoch makes them fresh
 pub record Takes {A C : Type 0} (m : Machine C A) (states : ℕ → GapChannel) (r : Item) (step : Step) (before after : Trial A C) (turned : TriedChannels A C) : Type 0 where

@@ -76,7 +76,7 @@ states_after (ToChannel k) i states r = with_state states k (row_step i k (state
 states_after ToAll i states r = λ k. gap_step i k true (states k)
 states_after _ i states r = states
 
--- the events of the logical channel that takes a row
+-- the events of the logical channel that receives a row
 abbrev pub events_after : ChannelEffect → Interface → (epoch : ℕ) → (ℕ → GapChannel) → Item → List Event
 events_after (ToChannel k) i e states r = row_events i e k (states k) r
 events_after _ i e states r = []

@@ -121,13 +121,13 @@ pub record AreTriedLines (text bytes : List ℕ) (findings : ℕ) : Type 0 where
   pub whole : bytes ≡ tried_text tried
   pub first : findings ≡ fewest tried
 
--- a sink took them
+-- a sink accepted them
 pub record HasTried (text : List ℕ) (before after : Option (List ℕ)) (findings : ℕ) : Type 0 where
   pub bytes : List ℕ
   pub lines : AreTriedLines text bytes findings
   pub taken : after ≡ with_more before bytes
 
--- or it failed, and took a first part of them
+-- or it failed, and accepted a first part of them
 pub record HasTriedPart (text : List ℕ) (before after : Option (List ℕ)) : Type 0 where
   pub bytes : List ℕ
   pub findings : ℕ

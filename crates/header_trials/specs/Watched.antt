@@ -2,8 +2,8 @@
 use Rattle.std.specs.Prelude.{ℕ, ◌<◌, ◌+◌, ◌^◌, List}
 
 -- how many errors of the DTE were answered and were not, how many indications of the DCE were not owed, and how many errors
--- are not decided; by logical channel, and for the restart machine in place 0: 0 where none is, else 1 and how many packets of
--- the DCE passed since
+-- are not decided; by logical channel, and for the restart machine in place 0: 0 where none is, otherwise 1
+-- plus the number of packets of the DCE since
 pub record Watched : Type 0 where
   pub answered : ℕ
   pub unanswered : ℕ

@@ -237,8 +237,8 @@ pub struct Watch<A: Allocator> {
     reactions: Reactions,
     /// How many errors of the DTE are open: neither answered nor given up.
     pending: u32,
-    /// By logical channel, and 0 for the restart machine: 0 where no error is open, else 1 and how many packets of the DCE
-    /// passed since.
+    /// By logical channel, and 0 for the restart machine: 0 where no error is open, otherwise 1 plus the number of packets
+    /// of the DCE since.
     waits: Vec<u8, A>,
 }
 

@@ -238,7 +238,7 @@ fn put_lines<W: Sink>(out: &mut WriteBuffer, sink: &mut W, tried: &[Tried])
     }
 }
 
-/// Writes the names of the columns and all lines to a sink. Fails only where the sink does (`Write`), which then took a
+/// Writes the names of the columns and all lines to a sink. Fails only where the sink does (`Write`), which then accepted a
 /// first part.
 pub fn write_lines<W: Sink>(tried: &[Tried], sink: &mut W) -> Result<(), Fault>
     ensures ok { OnOk result (TakesAll W.Sink sink.old sink.new (tried_text tried.now)) }

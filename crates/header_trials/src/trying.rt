@@ -42,13 +42,13 @@ fn write_tried<A: Allocator + Copy, C: Channel<A>, K: Sink>(
 /// Walks a trace under each header that is tried on it, and writes a heading and a line for each header, best first
 /// (`AreTriedLines`): the reactions of the DCE, the findings, and the data that is not counted. Returns the findings of
 /// the first line. Fails with the first faulty line, where the source or the sink fails, and when memory is refused.
-/// The sink is then as it was, or it failed and took a first part.
+/// The sink is then as it was, or it failed and accepted a first part.
 pub fn try_headers<A: Allocator + Copy, S: Source, K: Sink>(
     alloc: A,
     source: &mut S,
     sink: &mut K,
 ) -> Result<u32, Fault>
-    // Where it succeeds, the text has no fault, and the sink took exactly the heading and these lines, each once.
+    // Where it succeeds, the text has no fault, and the sink accepted exactly the heading and these lines, each once.
     ensures tried { (text : List ℕ) → S.left source.old ≡ Some text
         → IfOk result (HasTried text (K.taken sink.old) (K.taken sink.new)) }
     // The same holds for a source that hides its bytes.
@@ -62,10 +62,10 @@ pub fn try_headers<A: Allocator + Copy, S: Source, K: Sink>(
     ensures write_failed { result ≡ Err Fault.Write → K.failures sink.old < K.failures sink.new }
     // The sink is not asked before the whole text was accepted.
     ensures unwritten { IfErr result (λ fault. fault ≢ Fault.Write → sink.new ≡ sink.old) }
-    // Where the sink failed, it took a first part of these lines.
+    // Where the sink failed, it accepted a first part of these lines.
     ensures part { (text : List ℕ) → S.left source.old ≡ Some text → result ≡ Err Fault.Write
         → HasTriedPart text (K.taken sink.old) (K.taken sink.new) }
-    // For a source that hides its bytes, it took a first part of the lines of some text.
+    // For a source that hides its bytes, it accepted a first part of the lines of some text.
     ensures part_of_text { result ≡ Err Fault.Write → (text : List ℕ)
         × HasTriedPart text (K.taken sink.old) (K.taken sink.new) }
     // The source is asked at least once.

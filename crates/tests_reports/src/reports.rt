@@ -210,7 +210,7 @@ fn bundles(alloc: Global, pieces: usize) -> Result<Vec<BundleReport>, AllocError
     Ok(bundles)
 }
 
-/// The same reports dealt to `count` bundles one by one, so that the calls of each bundle stand between those of
+/// The same reports dealt to `count` bundles one by one, so that the calls of each bundle lie between those of
 /// others.
 fn dealt(alloc: Global, count: u32) -> Result<Vec<BundleReport>, AllocError> {
     let mut bundles = Vec::new(alloc);

@@ -12,12 +12,12 @@ mod held;
 mod in_blocks;
 mod machines;
 mod meeting;
+mod out_of_memory;
 mod paced_source;
 mod refused;
 mod refused_crews;
 mod runs;
 mod seams;
-mod wanting;
 mod worked;
 
 use crate::scans::checks::{Stop, Test, check_all_traces, check_stops, check_writes};

@@ -1,4 +1,4 @@
--- A text whose cutter takes the rows of a block.
+-- A text whose cutter consumes the rows of a block.
 use Rattle.std.proofs.Common.{◌≡◌, ◌∙◌, sym, ap, subst, ℕ, ◌+◌, List, ◌++◌, length, Option, Some, length-append}
 use Rattle.std.specs.Prelude.{IfSome, MatchOption}
 use Rattle.line_model.specs.basics.Records.{Row, Piece}

@@ -76,12 +76,12 @@ plan_begun (Some all) text h = (h.0, ap trace_plan h.1)
 pub plan_expected : (plan : KnownPlan) (known left : Option (List ℕ)) → known ≡ left → plan ≡ option_map trace_plan known → MayBeFed left (IsPlanBegunSo plan known)
 plan_expected plan known left e planned text begins = record { planned = planned; begins = subst (λ l. BeginsSo l text) (sym e) begins }
 
--- all that was given was taken
+-- all that was given was consumed
 pub all_taken : (known : Option (List ℕ)) (text taken : List ℕ) → BeginsSo known text → BeginsSo known taken → length taken ≡ length text → IfSome known (λ whole. taken ≡ text)
 all_taken None text taken given begins size = tt
 all_taken (Some whole) text taken given begins size = sym (take-append_seam taken begins.0) ∙ ap (take (length taken)) (sym begins.1 ∙ given.1) ∙ ap (λ n. take n (text ++ given.0)) size ∙ take-append_seam text given.0
 
--- the plan is that of what was taken
+-- the plan is that of what was consumed
 pub plan_whole : (plan : KnownPlan) (known : Option (List ℕ)) (taken : List ℕ) → plan ≡ option_map trace_plan known → IfSome known (λ whole. whole ≡ taken) → IfSome plan (λ ps. ps ≡ trace_plan taken)
 plan_whole plan known taken e h = subst (λ ps. IfSome ps (λ l. l ≡ trace_plan taken)) (sym e) (at known h)
   where
@@ -89,7 +89,7 @@ plan_whole plan known taken e h = subst (λ ps. IfSome ps (λ l. l ≡ trace_pla
     at None h = tt
     at (Some whole) h = ap trace_plan h
 
--- the whole text was taken
+-- the whole text was consumed
 pub whole_taken : (known left after asked : Option (List ℕ)) (text taken : List ℕ) → known ≡ left → IsAllGiven left after asked text → IfSome known (λ whole. taken ≡ text) → IfSome known (λ whole. whole ≡ taken)
 whole_taken None left after asked text taken e source h = tt
 whole_taken (Some whole) left after asked text taken e source h = (source whole (sym e)).0 ∙ sym h
@@ -153,7 +153,7 @@ has_read known before after asked failed was_fed fed (Err f) same w ok of_text r
 
 -- ---- where reading stops
 
--- of one that takes what was given before it refuses
+-- of one that consumes what was given before it refuses
 has_stopped : {A : Type 0} (known before after asked : Option (List ℕ)) (failed : Type 0) (was_fed : List ℕ → Type 0) (refused : (fed last : List ℕ) → Fault → Type 0) (fed : List Piece) (f g : Fault) → known ≡ before → (u : IsFedUpTo (lag_of known) before after asked was_fed refused f)
     → ((all rest : List ℕ) → known ≡ Some all → all ≡ (u.fed ++ u.last) ++ rest → IsRefusal (lag_of known) (u.fed ++ u.last) rest g) → IsReadingFault g → (g ≡ ReadFailed → failed)
     → HasRead {A = A} before after asked failed fed (Err g)

@@ -50,7 +50,7 @@ pub first_cut : {A : Type 0} (text chunk rest : List ℕ) (row : ReadRow) (lines
     → HasCut ([] ++ item_read i row ∷ []) f → IsCutTo (text ++ t.1.taken) after f
 first_cut text chunk rest row lines after i f s none t kept same cut = cut_row i text chunk rest row lines after f s t (sym kept ∙ ap Some (sym same)) same (subst (λ rows. HasCut (items_of i rows ++ item_read i row ∷ []) f) (sym none) cut)
 
--- the pieces that are complete with the first row, and with those behind it
+-- the pieces that are complete with the first row, and with those after it
 pub first_pieces : (i : Interface) (text chunk rest : List ℕ) (row : ReadRow) (lines after last : Progress) (out now out_after : List Piece) → Represents lines text → early_rows text ≡ [] → (t : ReadsRow lines after chunk rest row)
     → HasAppended out now (given_of i []) (given_of i ([] ++ item_read i row ∷ [])) → HasAppended now out_after (given_in i (text ++ t.1.taken)) (given_in i ((text ++ t.1.taken) ++ rest))
     → Represents last (text ++ chunk) → last.interface ≡ Some i → HasAppended out out_after (known_pieces text) (known_pieces (text ++ chunk))

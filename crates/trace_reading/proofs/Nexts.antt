@@ -29,7 +29,7 @@ in_plan : (known : KnownPlan) (first pieces : List Piece) (k : ℕ) (p : Piece) 
 in_plan None first pieces k p h e = tt
 in_plan (Some ps) first pieces k p h e = at_place first pieces h.0 ps k p h.1 e
 
--- the pieces behind the first ones of the plan of some rows
+-- the pieces after the first ones of the plan of some rows
 pub are_next : (known : KnownPlan) (i : Interface) (rs : List Item) (first pieces more : List Piece) (n : ℕ) → n ≡ length first → (first ++ pieces) ++ more ≡ plan i rs
     → IfSome known (λ ps. (rest : List Piece) × ((first ++ pieces) ++ rest ≡ ps)) → ArePlanned known n pieces
 are_next known i rs first pieces more n count whole planned k p h =

@@ -1,4 +1,4 @@
--- The parts of a text that are taken in order.
+-- The parts of a text that are consumed in order.
 use Rattle.std.proofs.Common.{◌≡◌, ◌∙◌, sym, ap, subst, refl, ℕ, ◌+◌, ◌≤◌, List, [], ◌++◌, length, take, Option, Some, None, Result, Ok, Err, append-nil, append_assoc, length-append, arith}
 use Rattle.std.proofs.Math.Seq.{take-append_seam}
 use Rattle.std.specs.Prelude.{IfErr, IfSome, OnOk}
@@ -23,7 +23,7 @@ use Rattle.trace_reading.proofs.Rows.{all_fed}
 same_front : (xs ys us vs : List ℕ) → xs ++ us ≡ ys ++ vs → length xs ≡ length ys → xs ≡ ys
 same_front xs ys us vs e n = sym (take-append_seam xs us) ∙ ap (take (length xs)) e ∙ ap (λ k. take k (ys ++ vs)) n ∙ take-append_seam ys vs
 
--- bytes that stand after those that were taken
+-- bytes that come after those that were consumed
 pub begins_more : (known : Option (List ℕ)) (taken bytes : List ℕ) (place : ℕ) → BeginsSo known taken → place ≡ length taken → IfSome known (λ whole. StandsAt whole place bytes) → BeginsSo known (taken ++ bytes)
 begins_more None taken bytes place begins at s = tt
 begins_more (Some whole) taken bytes place begins at s =
@@ -34,11 +34,11 @@ begins_more (Some whole) taken bytes place begins at s =
 pub planned_so : (plan : KnownPlan) (known : Option (List ℕ)) (text : List ℕ) → plan ≡ option_map trace_plan known → BeginsSo known text → IsPlanOf plan text
 planned_so plan known text e begins = subst (λ ps. IsPlanOf ps text) (sym e) (plan_begun known text begins)
 
--- how many bytes were taken
+-- how many bytes were consumed
 pub taken_length : {A : Type 0} (text : List ℕ) (c : TextCutter A) → HasTaken text c → bytes_fed c.lines ≡ length text
 taken_length text c h = fed_length c.lines text h.reads
 
--- a part was taken, and the pieces that came to be complete were fed
+-- a part was consumed, and the pieces that came to be complete were fed
 pub part_fed : {A : Type 0} (known : Option (List ℕ)) (queue : QueueId) (pass after : PassView) (sent reached : ℕ) (c d : TextCutter A) (bytes : List ℕ) (pieces : List Piece) (len : ℕ) → (so : IsFedSoFar known queue pass sent c) → bytes_fed d.lines ≤ reached → BeginsSo known (so.taken ++ bytes) → HasTaken (so.taken ++ bytes) d
     → known_pieces (so.taken ++ bytes) ≡ known_pieces so.taken ++ pieces → len ≡ length pieces → after.record_of.fed ≡ pass.record_of.fed + len → HasFed pass.record_of after.record_of → after.queue ≡ pass.queue → after.pieces ≡ pass.pieces ++ pieces
     → IsFedSoFar known queue after reached d
@@ -59,7 +59,7 @@ part_fed known queue pass after sent reached c d bytes pieces len so within begi
 pub fed_both : (a b c : PassView) → HasFedOn a b → HasFedOn b c → HasFedOn a c
 fed_both a b c first more = record { kept = fed_on a.record_of b.record_of c.record_of first.kept more.kept; same = more.same ∙ first.same }
 
--- ---- bytes of the text that stand one after the other
+-- ---- bytes of the text that come one after the other
 
 pub stands_front : (known : Option (List ℕ)) (place : ℕ) (bytes lines more : List ℕ) → bytes ≡ lines ++ more → IfSome known (λ whole. StandsAt whole place bytes) → IfSome known (λ whole. StandsAt whole place lines)
 stands_front None place bytes lines more e s = tt
@@ -96,7 +96,7 @@ stands_more (Some whole) text chunk bytes place begins size s =
 pub more_sent : {A : Type 0} (known : Option (List ℕ)) (queue : QueueId) (pass : PassView) (sent more : ℕ) (c : TextCutter A) → IsFedSoFar known queue pass sent c → sent ≤ more → IsFedSoFar known queue pass more c
 more_sent known queue pass sent more c so le = record { taken = so.taken; begins = so.begins; cut = so.cut; within = omega (arith, le, so.within); queue_is = so.queue_is; no_ends = so.no_ends }
 
--- all that was sent on was taken, and nothing stands after it
+-- all that was sent on was consumed, and nothing comes after it
 none_stands : {A : Type 0} (known : Option (List ℕ)) (queue : QueueId) (pass : PassView) (sent : ℕ) (room : List ℕ) (c : TextCutter A) → IsFedSoFar known queue pass sent c → bytes_fed c.lines ≡ sent → room ≡ [] → IfSome known (λ whole. StandsAt whole sent room)
 none_stands None queue pass sent room c so all none = tt
 none_stands (Some whole) queue pass sent room c so all none = record {
@@ -129,7 +129,7 @@ held_same known queue same_queue pass sent now room rest c d h at text work is =
 pub held_more : {A : Type 0} (known : Option (List ℕ)) (queue : QueueId) (pass : PassView) (sent : ℕ) (text chunk room : List ℕ) (c : TextCutter A) → BeginsSo known (text ++ chunk) → length text ≡ sent + length room → IsHeld known queue pass sent room c → IsHeld known queue pass sent (room ++ chunk) c
 held_more known queue pass sent text chunk room c begins size h = record { cut = h.cut; place = stands_more known text chunk room sent begins size h.place }
 
--- all that was taken is sound
+-- all that was consumed is sound
 pub taken_sound : {A : Type 0} (known : Option (List ℕ)) (queue : QueueId) (pass : PassView) (sent size : ℕ) (c : TextCutter A) → IsFedSoFar known queue pass sent c → bytes_fed c.lines ≡ size → IfSome known (λ whole. early (take size whole) ≡ None)
 taken_sound None queue pass sent size c so all = tt
 taken_sound (Some whole) queue pass sent size c so all =
@@ -151,7 +151,7 @@ pub ok_holds : {T P : Type 0} (r : Result T Fault) → P → OnOk r P
 ok_holds (Err f) h = tt
 ok_holds (Ok u) h = h
 
--- nothing stands after what was sent on, and all of that was taken
+-- nothing comes after what was sent on, and all of that was consumed
 pub few_none : {T : Type 0} (r : Result T Fault) (sent most : ℕ) (room : List ℕ) → room ≡ [] → OnOk r (sent ≤ most) → OnOk r (sent + length room ≤ most)
 few_none (Err f) sent most room none h = tt
 few_none (Ok u) sent most room none h = let empty : length room ≡ 0 = ap (λ (xs : List ℕ). length xs) none in omega (arith, empty, h)

@@ -3,7 +3,7 @@ use Rattle.std.proofs.Common.{◌≡◌, ◌∙◌, sym, ap, ℕ, ◌+◌, ◌-�
 use Rattle.std.proofs.lemmas.List.{take-append-drop}
 use Rattle.streams.proofs.ByteRunLemmas.{filled}
 
--- the first n bytes were written behind the first a, in the place of others
+-- the first n bytes were written after the first a, in the place of others
 pub read_behind : (bytes now more post rest : List ℕ) (a n size : ℕ) → now ≡ bytes → a ≤ length bytes → n ≤ length more → a + n ≤ size → take (a + n) (take size (take a now ++ (more ++ post) ++ rest)) ≡ take a bytes ++ take n more
 read_behind bytes now more post rest a n size same there few within =
     take-take (a + n) size (take a now ++ (more ++ post) ++ rest) within
@@ -16,6 +16,6 @@ pub split_at : (items bytes first next : List ℕ) (len count : ℕ) → take le
 split_at items bytes first next len count is few le front back =
     sym (take-append-drop count items) ∙ ap (λ xs. xs ++ drop count items) (ap (take count) (sym is) ∙ take-take count len bytes le ∙ sym front) ∙ ap (λ xs. first ++ xs) (sym back)
 
--- what stands behind the first of them
+-- what comes after the first of them
 pub all_behind : (items : List ℕ) (count : ℕ) → take (length items - count) (drop count items) ≡ drop count items
 all_behind items count = take_all (length items - count) (drop count items) (omega (arith, length-drop count items))

@@ -37,14 +37,14 @@ pub record IsBlockAt (known : Option (List ℕ)) (place most : ℕ) (block : Blo
   pub few : length block.bytes ≤ most
   pub stands : IfSome known (λ whole. StandsAt whole place block.bytes)
 
--- the rows of a block that is read after a header, and cut as a restart machine takes them
+-- the rows of a block that is read after a header, and cut as a restart machine receives them
 pub record IsReadAs {A : Type 0} (start : Start) (bytes : List ℕ) (r : BlockRows A) : Type 0 where
   pub rows : List Row
   pub block : IsBlock start.interface bytes rows
   pub span_is : IsSpanOf bytes rows r.span
   pub cut : IsBlockCut start.machine (items_of start.interface rows) r.cut
 
--- these rows were read, and are cut as a restart machine takes them
+-- these rows were read, and are cut as a restart machine receives them
 pub record AreRead {A : Type 0} (l : GapLine) (rs : List Row) (r : RowsSoFar A) : Type 0 where
   pub empty : r.is_empty ≡ not (has_some rs)
   pub first : r.first ≡ first_number rs

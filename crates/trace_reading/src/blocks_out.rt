@@ -53,7 +53,7 @@ impl<'a, P: TraceText, A: Allocator + Copy> BlocksOut<'a, P, A> {
         }
     }
 
-    /// Returns the memory of bytes that were consumed, if there is some; else an empty list.
+    /// Returns the memory of bytes that were consumed, if there is some; otherwise an empty list.
     pub fn memory(&mut self) -> Vec<u8, A> {
         match self.rooms.pop() {
             Some(bytes) => bytes,
@@ -90,7 +90,7 @@ impl<'a, P: TraceText, A: Allocator + Copy> BlocksOut<'a, P, A> {
         self.count >= MOST_BLOCKS
     }
 
-    /// Hands a block out. Returns it where too many are in flight, or where memory to take blocks back is refused.
+    /// Hands a block out. Returns it where too many are in flight, or where memory to receive blocks back is refused.
     pub fn hand_out<R: Wait>(&mut self, rt: &R, block: Block<P, A>) -> Result<(), Block<P, A>>
         ensures back { IfErr result (λ back. back ≡ block) }
     {

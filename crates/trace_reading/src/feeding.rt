@@ -318,7 +318,7 @@ impl<'a, P: Plan + TraceText, A: Allocator + Copy, R: Wait + Clock> FedText<'a, 
     }
 }
 
-/// Reads a source to its end, each read behind the bytes of the room. It stops at the first refusal, and with
+/// Reads a source to its end, each read after the bytes of the room. It stops at the first refusal, and with
 /// `Fault::Read` where the source fails.
 fn read_text<P: Plan + TraceText, A: Allocator + Copy, S: RoomSource, R: Wait + Clock>(
     source: &mut S,
@@ -351,7 +351,7 @@ fn read_text<P: Plan + TraceText, A: Allocator + Copy, S: RoomSource, R: Wait + 
     }
 }
 
-/// The source has failed: consumes what was read, and returns its fault, or else that of the source.
+/// The source has failed: consumes what was read, and returns its fault, or otherwise that of the source.
 fn take_failed<P: Plan + TraceText, A: Allocator + Copy, R: Wait + Clock>(
     fed: &mut FedText<'_, P, A, R>,
     pass: &mut FeederPass<A>,

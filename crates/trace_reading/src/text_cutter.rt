@@ -188,7 +188,7 @@ impl<A: Allocator + Copy> TextCutter<A> {
         self.refused
     }
 
-    /// Returns the number of the last row, where the text so far ends with its line; else 0.
+    /// Returns the number of the last row, where the text so far ends with its line; otherwise 0.
     pub fn last_number(&self) -> u32 {
         match self.lines.end_block(0) {
             Some(span) => span.last,

@@ -57,7 +57,7 @@ same_fault f e h = cc
 pub stop_no_write : {T : Type 0} (f : Fault) → IsStopFault f → Path (Result T Fault) (Err f) (Err Write) → ⊥
 stop_no_write f h e = subst IsStopFault (same_fault f Write e) h
 
--- where the sink failed, it took a first part of the report
+-- where the sink failed, it accepted a first part of the report
 pub part_taken : (f : Fault) (text : List ℕ) (before after : Option (List ℕ)) → fault text ≡ None → f ≡ Write → IsTaken before after (trace_report text) f → IsPartTaken before after
 part_taken f text before after sound w taken =
     let some : (n : ℕ) × (after ≡ with_more before (take n (trace_report text))) = subst (IsTaken before after (trace_report text)) w taken in

@@ -1,4 +1,4 @@
--- What a scan that follows a trace returns, and what its sink took.
+-- What a scan that follows a trace returns, and what its sink accepted.
 use Rattle.std.specs.Prelude.{◌≡◌, ◌⊎◌, ℕ, ◌<◌, ◌≤◌, ◌^◌, List, [], ◌++◌, Option, Some, None}
 use Rattle.line_model.specs.text.Text.{early, fault}
 use Rattle.trace_text.specs.Decided.{NoneDecidedButLast}
@@ -11,7 +11,7 @@ use Rattle.live_report.specs.Follows.{HasFindings, HasFindingsAtLine, HasFirst, 
 use Rattle.live_report.specs.Found.{found_text}
 use Rattle.live_report.specs.Reports.{IsReportFault}
 
--- what a refusal says of the bytes that were read: the first faulty line is returned once they show it, else at the end of the text, and
+-- what a refusal says of the bytes that were read: the first faulty line is returned once they show it, otherwise at the end of the text, and
 -- all but at most the last 65,536 show none; where memory ran out so too; a device failed while they showed none
 abbrev pub IsFollowRefusal : (given rest : List ℕ) → Fault → Type 0
 IsFollowRefusal given rest Memory = NoneDecidedButLast (2 ^ 16) given
@@ -20,7 +20,7 @@ IsFollowRefusal given rest Read = early given ≡ None
 IsFollowRefusal given rest Write = early given ≡ None
 IsFollowRefusal given rest _ = ⊥
 
--- what the sink took at a refusal: a first part of the lines of what was found in the bytes that were read, or of the report where they
+-- what the sink accepted at a refusal: a first part of the lines of what was found in the bytes that were read, or of the report where they
 -- are a whole text; at a faulty line all those lines, if it did not fail; where the source failed all of them
 abbrev pub IsWrittenOf : (before taken : Option (List ℕ)) (well : Type 0) (given rest : List ℕ) → Fault → Type 0
 IsWrittenOf before taken well given rest (Trace line kind) = HasFirst before taken (found_text given) × (well → HasFindings before taken given)

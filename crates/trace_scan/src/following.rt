@@ -62,7 +62,7 @@ pub fn follow<A: Allocator + Copy, S: Source, K: Sink>(
     sink: &mut K,
     uncounted: &mut Uncounted,
 ) -> Result<Summary, Fault>
-    // Of a text without a fault the sink took exactly the report.
+    // Of a text without a fault the sink accepted exactly the report.
     ensures reported { (text : List ℕ) → S.left source.old ≡ Some text
         → IfOk result (IsReported text (K.taken sink.old) (K.taken sink.new)) }
     // And what was not counted of it is returned.

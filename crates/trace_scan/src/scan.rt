@@ -26,7 +26,7 @@ pub fn scan_alone<A: Allocator + Copy, S: Source, K: Sink>(
     sink: &mut K,
     uncounted: &mut Uncounted,
 ) -> Result<Summary, Fault>
-    // Of a text without a fault the sink took exactly the report.
+    // Of a text without a fault the sink accepted exactly the report.
     ensures reported { (text : List ℕ) → S.left source.old ≡ Some text
         → IfOk result (IsReported text (K.taken sink.old) (K.taken sink.new)) }
     // And what was not counted of it is returned.
@@ -46,7 +46,7 @@ pub fn scan_alone<A: Allocator + Copy, S: Source, K: Sink>(
     ensures unwritten { IfErr result (λ fault. fault ≢ Fault.Write → sink.new ≡ sink.old) }
     ensures taken { (text : List ℕ) → S.left source.old ≡ Some text
         → IfErr result (IsTaken (K.taken sink.old) (K.taken sink.new) (trace_report text)) }
-    // Whatever the source shows: where the sink failed, it took a first part of the report of a text without a fault.
+    // Whatever the source shows: where the sink failed, it accepted a first part of the report of a text without a fault.
     ensures part { result ≡ Err Fault.Write → IsPartTaken (K.taken sink.old) (K.taken sink.new) }
     // The source is asked at least once.
     ensures called { S.calls source.old < S.calls source.new }

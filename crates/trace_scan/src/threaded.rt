@@ -40,8 +40,8 @@ pub struct ScanParts<A: Allocator = Global> {
     pub gathered: Gathered<A, BundleReport<A>>,
 }
 
-/// Returns what was read and made. Fails with the fault of the reading thread, or else with a worker's, which is out of
-/// memory.
+/// Returns what was read and made. Fails with the fault of the reading thread, or otherwise with that of a worker, which
+/// is out of memory.
 pub fn first_fault<A: Allocator>(
     outcome: Option<Result<Read<A>, Fault>>,
     gathered: Result<Gathered<A, BundleReport<A>>, Fault>,
@@ -177,7 +177,7 @@ pub fn scan_with<
 ) -> Result<ScanOutcome<A>, Fault>
     requires workers { (0 < workers) × (workers ≤ 64) }
     requires capacity { (0 < capacity) × (capacity ≤ 4096) }
-    // Of a text without a fault the sink took exactly the report of the one observer.
+    // Of a text without a fault the sink accepted exactly the report of the one observer.
     ensures reported { (text : List ℕ) → S.left source.old ≡ Some text
         → IfOk result (λ scan. IsReported text (K.taken sink.old) (K.taken sink.new) scan.summary) }
     // The totals are that observer's over the channels.
@@ -205,7 +205,7 @@ pub fn scan_with<
     ensures unwritten { IfErr result (λ fault. fault ≢ Fault.Write → sink.new ≡ sink.old) }
     ensures taken { (text : List ℕ) → S.left source.old ≡ Some text
         → IfErr result (IsTaken (K.taken sink.old) (K.taken sink.new) (trace_report text)) }
-    // Whatever the source shows: where the sink failed, it took a first part of the report of a text without a fault.
+    // Whatever the source shows: where the sink failed, it accepted a first part of the report of a text without a fault.
     ensures part { result ≡ Err Fault.Write → IsPartTaken (K.taken sink.old) (K.taken sink.new) }
     // The merge fails only when memory is refused.
     ensures kinds { IfErr result IsWorkedFault }

@@ -205,7 +205,7 @@ function showAccounts() {
   const table = new Table("account-table", columns, facts.accounts);
   place("accounts").append(make("h2", {}, "Who pays"),
     make("p", { class: "muted" },
-      "The called address pays where the call asks for reverse charging, else the calling one."),
+      "The called address pays where the call asks for reverse charging, otherwise the calling one."),
     make("div", { class: "card flush" }, table.element),
       leftOut(facts.left_out.accounts, "account", "x25scan prints all of them.") ?? "");
 }

@@ -33,15 +33,15 @@ pub fn ends_in_return(line: &[u8]) -> bool {
 
 /// The sentence on a line that ends in a carriage return.
 pub const RETURN: &str =
-    "The line ends in a carriage return, and a line feed alone ends a line: tr -d '\\r' < FILE | x25scan reads the text.";
+    "The line ends in a carriage return, and a line feed alone ends a line: tr -d '\\r' < FILE | x25scan reads the trace.";
 
 /// The sentence on an empty line.
 const EMPTY: &str =
-    "The line is empty: sed '/^$/d' FILE | x25scan reads the text without empty lines.";
+    "The line is empty: sed '/^$/d' FILE | x25scan reads the trace without its empty lines.";
 
 /// The sentence on an empty line that no other follows.
 const LAST_EMPTY: &str =
-    "The last line that was read is empty: sed '/^$/d' FILE | x25scan reads the text without empty lines.";
+    "The last line that was read is empty: sed '/^$/d' FILE | x25scan reads the trace without its empty lines.";
 
 /// Returns the sentence on an empty line; these bytes were read after it.
 pub fn empty_advice(alloc: Global, after: &[u8]) -> Result<Option<String>, AllocError> {

@@ -60,7 +60,7 @@ const GAP_CHANNEL: &str =
 
 /// The sentence on a header among the rows.
 const SECOND_HEADER: &str =
-    "A second header stands here, as in joined traces. Where the row numbers go on, awk '!/^X25 / || !n++' FILE.. | x25scan reads them as one trace.";
+    "This is a second header, as in joined traces. Where the row numbers go on, awk '!/^X25 / || !n++' FILE.. | x25scan reads them as one trace.";
 
 /// Whether a line is one of a header's, by its beginning.
 fn is_like_header(line: &[u8]) -> bool {

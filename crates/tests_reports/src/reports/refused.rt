@@ -63,7 +63,7 @@ fn two(
     Ok(reports)
 }
 
-/// What two pieces merge to is right: out of memory where a growth was refused, else both findings and calls.
+/// What two pieces merge to is right: out of memory where a growth was refused, otherwise both findings and calls.
 fn is_right(merged: Result<Report<&Scarce<Global>>, Fault>, refused: bool) -> bool {
     match merged {
         Ok(report) => !refused && report.findings.len() == 2 && report.calls.len() == 2,

@@ -28,8 +28,8 @@ fn lines_in(bytes: &[u8]) -> usize {
     lines
 }
 
-/// The fault of a trace text, if the line that has it has ended in the bytes that were given, else that of a source
-/// that fails.
+/// The fault of a trace text, if the line that has it has ended in the bytes that were given, otherwise that of a
+/// source that fails.
 fn fault_of(worked: &Worked, given: usize) -> Fault {
     let lines = lines_in(&worked.text[..given.min(worked.text.len())]);
     match worked.fault {

@@ -67,7 +67,7 @@ fn scan_noting<R: Threads + Wait + Clock + Sync>(
 }
 
 /// Scans a trace text with workers, with one growth refused after `good`.
-fn scan_wanting<R: Threads + Wait + Clock + Sync>(
+fn scan_with_one_refused<R: Threads + Wait + Clock + Sync>(
     rt: &R,
     heap: &Scarce<Global>,
     alloc: Global,
@@ -86,7 +86,7 @@ fn check_growth<R: Threads + Wait + Clock + Sync + Abort>(
     way: Way,
     good: u64,
 ) {
-    let noted = scan_wanting(rt, heap, alloc, way, good);
+    let noted = scan_with_one_refused(rt, heap, alloc, way, good);
     let fault = noted.outcome.answer.err();
     let got = fault == Some(Fault::Memory) || fault == Some(Fault::Start);
     assert!(rt; got, "growth {good}");
@@ -98,7 +98,7 @@ fn check_growth<R: Threads + Wait + Clock + Sync + Abort>(
 /// Refuses each growth before the source is asked in turn.
 fn check_crew<R: Threads + Wait + Clock + Sync + Abort>(rt: &R, alloc: Global, way: Way) {
     let heap = Scarce::new(alloc);
-    let whole = scan_wanting(rt, &heap, alloc, way, u64::MAX);
+    let whole = scan_with_one_refused(rt, &heap, alloc, way, u64::MAX);
     assert!(rt; whole.outcome.answer.is_ok());
     let growths = whole.growths_before.unwrap_or(0);
     assert!(rt; 0 < growths);

@@ -25,7 +25,7 @@ use workers::Gate;
 /// The pieces of three epochs on four channels.
 const PIECES: usize = 12;
 
-/// No hold takes more turns.
+/// A hold ends after this number of turns.
 const TURNS: u32 = 100_000_000;
 
 /// A hold lets the other threads run once in this number of turns.
@@ -35,7 +35,7 @@ const TURNS_OF_ONE_YIELD: u32 = 8;
 #[derive(Drop)]
 pub struct Record {
     times: [AtomicU64; PIECES],
-    strangers: AtomicU64,
+    unknown: AtomicU64,
     late: AtomicBool,
 }
 
@@ -43,13 +43,13 @@ impl Record {
     pub fn new() -> Record {
         Record {
             times: array::from_fn(|_| AtomicU64::new(0)),
-            strangers: AtomicU64::new(0),
+            unknown: AtomicU64::new(0),
             late: AtomicBool::new(false),
         }
     }
 
     pub fn enter(&self, id: u32) {
-        let times = self.times.get(id as usize).unwrap_or(&self.strangers);
+        let times = self.times.get(id as usize).unwrap_or(&self.unknown);
         times.fetch_add(1, SeqCst);
     }
 
@@ -60,7 +60,7 @@ impl Record {
                 return false;
             }
         }
-        self.strangers.load(SeqCst) == 0
+        self.unknown.load(SeqCst) == 0
     }
 
     /// Whether a hold ended too early.
@@ -71,7 +71,7 @@ impl Record {
     /// Whether these pieces were entered.
     pub fn has(&self, ids: &[usize]) -> bool {
         for id in ids {
-            if self.times.get(*id).unwrap_or(&self.strangers).load(SeqCst) == 0 {
+            if self.times.get(*id).unwrap_or(&self.unknown).load(SeqCst) == 0 {
                 return false;
             }
         }

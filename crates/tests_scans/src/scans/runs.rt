@@ -20,8 +20,8 @@ use trace_scan::threaded::{ScanOutcome, scan_with};
 use workers::{Crew, Gate};
 
 /// How a trace text is scanned: in one thread, as it grows, or by a number of workers over a queue of a number of
-/// pieces. In blocks the workers read each part of the text that the source gives and that ends a line; else only parts
-/// of many lines.
+/// pieces. In blocks the workers read each part of the text that the source gives and that ends a line; otherwise
+/// only parts of many lines.
 #[derive(Clone, Copy)]
 pub enum Way {
     Alone,

@@ -1,4 +1,4 @@
-//! Texts whose lines stand first, in the middle and last in a block, by blocks of any number of lines.
+//! Texts whose lines come first, in the middle and last in a block, by blocks of any number of lines.
 
 use crate::scans::checks::{Test, check_all_traces, same_number};
 use crate::scans::paced_source::{Lines, PacedSource, length_of_lines};
@@ -101,7 +101,7 @@ fn check_rows<R: Threads + Wait + Clock + Sync + Abort>(
     Ok(())
 }
 
-/// How many rows of channels stand between restarts: after one some rows stand in order, and those after them by channel.
+/// How many rows of channels are between restarts: after one some rows are in order, and those after them by channel.
 const RUNS: [u32; 4] = [127, 128, 129, 300];
 
 /// A trace text of rows on four channels, with a restart after each run of them.
@@ -136,7 +136,7 @@ fn check_runs<R: Threads + Wait + Clock + Sync + Abort>(rt: &R, alloc: Global) -
 /// How many rows a trace text has of which one is faulty.
 const ALL_ROWS: u32 = 12;
 
-/// What stands in the place of a row, with its number less by this, and the rule that it breaks.
+/// What is in the place of a row, with its number less by this, and the rule that it breaks.
 const FAULTY_ROWS: [(u32, &str, Kind); 5] = [
     (1, " T 100100\n", Kind::Number),
     (2, " T 100100\n", Kind::Number),
@@ -206,7 +206,7 @@ fn check_slow<R: Threads + Wait + Clock + Sync + Abort>(
 }
 
 /// Scans a trace text by blocks from a source that fails after `good` bytes: it is refused by its faulty line if that
-/// was given, and else by the source.
+/// was given, and otherwise by the source.
 fn check_failure<R: Threads + Wait + Clock + Sync + Abort>(
     rt: &R,
     alloc: Global,

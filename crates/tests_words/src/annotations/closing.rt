@@ -33,7 +33,7 @@ const AGAIN: &str = "A line that is said again and again.";
 /// That line, as it is written.
 const WRITTEN: &str = "# A line that is said again and again.\n";
 
-/// The lines that are said behind the first one.
+/// How many lines are said after the first one.
 const TIMES: usize = 300;
 
 /// The most growths and calls of a sink that these tests look for.
@@ -111,7 +111,7 @@ impl Answer {
     }
 }
 
-/// The annotation of the trace, with `times` lines behind the first one of its closing.
+/// The annotation of the trace, with `times` lines after the first one of its closing.
 fn annotated<A: Allocator + Copy>(heap: A, alloc: Global, cuts: Cuts, times: usize) -> Answer {
     let describer = Wordy { times };
     annotated_by(heap, alloc, LINES.as_bytes(), cuts, describer)
@@ -150,7 +150,7 @@ fn a_sink_that_fails_at_any_call_has_a_first_part(rt: HostRuntime) -> Result<(),
     Ok(())
 }
 
-/// What was answered is right: where a growth was refused, the closing is not written, else it is.
+/// What was answered is right: where a growth was refused, the closing is not written, otherwise it is.
 fn is_right(alloc: Global, answer: &Answer, refused: bool) -> Result<bool, AllocError> {
     if refused {
         Ok(answer.is_part(Fault::Memory, DESCRIBED))

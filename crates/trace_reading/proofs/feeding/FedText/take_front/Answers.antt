@@ -5,7 +5,7 @@ use Rattle.trace_reading.proofs.Parts.{err_wider, held_after, held_same, stands_
 use Rattle.trace_reading.specs.Readings.{IsHeld}
 use Rattle.trace_reading.proofs.feeding.FedText.take_front.Goals as goal
 
--- the bytes that are taken, and those that stay
+-- the bytes that are consumed, and those that stay
 parts : (room same : List ℕ) (count : ℕ) → same ≡ room → room ≡ take count same ++ drop count room
 parts room same count is = sym (take-append-drop count room) ∙ ap (λ xs. take count xs ++ drop count room) (sym is)
 

@@ -15,13 +15,13 @@ use tests_devices::Cuts;
 use trace_scan::gate::OpenGate;
 use workers::Gate;
 
-/// Wants memory for one piece, and runs all others.
+/// Is out of memory for one piece, and runs all others.
 #[derive(Drop)]
-struct Wanting {
+struct OutOfMemory {
     id: u32,
 }
 
-impl Gate for Wanting {
+impl Gate for OutOfMemory {
     ghost ran = { λ gate piece report. Unit {0} };
 
     fn run<A: Allocator + Copy>(
@@ -46,7 +46,7 @@ fn check_piece<R: Threads + Wait + Clock + Sync + Abort>(
     cuts: Cuts,
     id: u32,
 ) {
-    let gate = Wanting { id };
+    let gate = OutOfMemory { id };
     let outcome = outcome_of(scan_through(rt, alloc, alloc, &gate, way, refused.text, cuts));
     agree_on_fault(rt, &outcome, refused, cuts);
     agree_on_report(rt, &outcome, refused, cuts);
@@ -55,14 +55,14 @@ fn check_piece<R: Threads + Wait + Clock + Sync + Abort>(
 /// What is reported of a trace text that is refused so.
 fn refusal(text: &[u8], fault: Fault) -> Worked<'_> {
     Worked {
-        name: "three-epochs with a worker that wants memory",
+        name: "three-epochs with a worker out of memory",
         text,
         fault: Some(fault),
         report: b"",
     }
 }
 
-/// Wants memory for the first piece, for one in the middle and for the last, also where the sink would fail.
+/// Is out of memory for the first piece, for one in the middle and for the last, also where the sink would fail.
 fn check_pieces<R: Threads + Wait + Clock + Sync + Abort>(rt: &R, alloc: Global, way: Way) {
     let refused = refusal(trace(rt, "three-epochs").text, Fault::Memory);
     let whole = Cuts::of_steps(7, 7);
