@@ -6,6 +6,7 @@ pub mod LastLemmas
 pub mod UncountedLemmas
 pub mod StandLemmas
 pub mod TakeLemmas
+pub mod WalkLemmas
 pub mod ReportingLemmas
 pub mod WholeLemmas
 pub mod FoundLemmas

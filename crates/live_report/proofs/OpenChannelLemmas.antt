@@ -1,15 +1,14 @@
 -- The open channel is removed from the table, reads a row, and is put back.
-use Rattle.std.proofs.Common.{◌≡◌, ◌∙◌, sym, ap, subst, refl, ℕ, Bool, true, false, eqb, List, [], ◌∷◌, ◌++◌, Some, None}
+use Rattle.std.proofs.Common.{◌≡◌, ◌∙◌, sym, ap, subst, refl, ℕ, Bool, true, false, eqb, List, [], ◌∷◌, ◌++◌, Some, None, Result, Ok, Err, IfOk, OnOk}
 use Rattle.std.specs.BTreeSet.{insert_key}
 use Rattle.std.specs.Ordering.{nat_cmp}
 use Rattle.std.proofs.lemmas.Bool.{eqb-true, eqb-false}
 use Rattle.line_model.specs.declared.interface.Interface.{Interface}
-use Rattle.line_model.specs.basics.Records.{Item, Piece}
+use Rattle.line_model.specs.basics.Records.{Item}
 use Rattle.line_model.specs.channels.Gaps.{GapChannel}
 use Rattle.line_model.specs.pieces.Plan.{has_some}
-use Rattle.restart_epochs.specs.OpenRows.{OpenRows, last_number, rows_of, with_channel, with_gap, HasMore}
+use Rattle.restart_epochs.specs.OpenRows.{OpenRows, rows_of, with_channel, with_gap, HasMore}
 use Rattle.restart_epochs.specs.ChannelTables.{ChannelTables, value_at, HasTaken, HasListed, HasPut}
-use Rattle.channel_run.specs.Live.{Represents as IsLive}
 use Rattle.live_report.specs.OpenChannels.{OpenEpoch, begun_piece, OpenChannelFor, OpenChannelsFor, IsOutFor, OpenFor}
 use Rattle.live_report.specs.declared.open_channels.OpenChannel.{OpenChannel}
 
@@ -17,14 +16,17 @@ has_more : (items : List Item) (item : Item) → has_some (items ++ item ∷ [])
 has_more [] item = refl
 has_more (x ∷ xs) item = refl
 
+pub on_both : {T E : Type 0} {P R : T → Type 0} {Q : Type 0} → (r : Result T E) → IfOk r P → OnOk r Q → ((x : T) → P x → Q → R x) → IfOk r R
+on_both (Ok x) p q f = f x p q
+on_both (Err e) p q f = tt
+
 pub out_none : {A C : Type 0} → (I : C → Interface) (N : C → ℕ) (S : C → GapChannel → Type 0) (e : OpenEpoch) (k : ℕ) (rows : OpenRows) (before middle after : ChannelTables (OpenChannel A C)) (entry : OpenChannel A C)
     → OpenChannelsFor I N S e rows before → HasTaken k None before middle → HasListed k middle after
-    → ((p : Piece) → p.interface ≡ e.interface → p.channel ≡ k → p.epoch ≡ e.number → p.start ≡ e.start → p.items ≡ [] → IsLive I N S entry.live p) → entry.last ≡ 0
-    → IsOutFor I N S e k rows entry after
-out_none I N S e k rows before middle after entry f t l fresh zero =
+    → OpenFor I N S entry (begun_piece e k []) → IsOutFor I N S e k rows entry after
+out_none I N S e k rows before middle after entry f t l fresh =
     let empty : rows_of rows k ≡ [] = subst (OpenChannelFor I N S (begun_piece e k (rows_of rows k))) (sym t.value) (f.each k) in
     record {
-      stands = record { live = fresh (begun_piece e k (rows_of rows k)) refl refl refl refl empty; last = zero ∙ ap last_number (sym empty) };
+      stands = subst (λ items. OpenFor I N S entry (begun_piece e k items)) (sym empty) fresh;
       others = λ j ne. subst (OpenChannelFor I N S (begun_piece e j (rows_of rows j))) (sym (l.values j ∙ t.others j ne)) (f.each j);
       channels = l.channels ∙ ap (λ ks. insert_key nat_cmp ks k) (t.channels ∙ f.channels) ∙ ap (λ items. with_channel items k rows.channels) (sym empty);
     }

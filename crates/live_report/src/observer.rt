@@ -1,19 +1,20 @@
 //! The observer that runs: it walks a trace row by row, and keeps what it found, not what it read.
 
-ghost use Rattle.std.specs.Prelude.{◌≡◌, ◌<◌, ◌≤◌, ◌+◌, ◌-◌, ◌^◌, ◌++◌, ◌∷◌, [], None, Some, true, List, length, map, IfErr, IfOk, IfSome, MatchOption, OnOk, cond};
+ghost use Rattle.std.specs.Prelude.{◌≡◌, ℕ, ◌<◌, ◌≤◌, ◌+◌, ◌-◌, ◌^◌, ◌++◌, ◌∷◌, [], None, Some, true, List, length, map, IfErr, IfOk, IfSome, MatchOption, OnOk, cond, is_some};
 ghost use Rattle.line_model.specs.basics.Records as records;
 ghost use Rattle.line_model.specs.declared.fault.Fault.TheVariants.{Memory};
 ghost use Rattle.line_model.specs.declared.interface.Interface.{Interface as AnyInterface};
-ghost use Rattle.line_model.specs.packets.Says.{item_read};
+ghost use Rattle.line_model.specs.packets.Says.{gap_of, item_read};
 ghost use Rattle.line_model.specs.pieces.Plans.{end_at, value};
 ghost use Rattle.restart_epochs.specs.OpenRows.{OpenRows};
+ghost use Rattle.restart_epochs.specs.Walks.{step_to, IsStep};
 ghost use Rattle.restart_epochs.specs.Cutting.{Cutting, ended_by, gap_turned, observer, HasTurned};
 ghost use Rattle.report_merge.specs.Gathered.{gathered};
 ghost use Rattle.channel_run.specs.Live.{channel_so_far};
 ghost use Rattle.channel_run.specs.Views.{IsViewOf};
 ghost use Rattle.live_report.specs.OpenChannels.{ChannelsRepresent};
 ghost use Rattle.live_report.specs.JudgedRows.{IsJudgedRow, judged_row};
-ghost use Rattle.live_report.specs.Uncounted.{uncounted_of};
+ghost use Rattle.live_report.specs.Uncounted.{AreFew, uncounted_of};
 ghost use Rattle.live_report.specs.declared.judged_row.Judge.TheVariants.{Restart};
 ghost use Rattle.live_report.specs.Turns.{FindsBy, HasEvents, JudgesBy, MayTurn, OfOpen, StandsAt, epoch_of, with_data};
 ghost use Rattle.live_report.specs.Observing.{open_piece, HasKept, HasWalked, IsHolding, IsObserver, MayWalk, ReturnsFinding, ReturnsReport, WalksOn};
@@ -36,7 +37,7 @@ use line_model::state::RState;
 use report_merge::parts::Parts;
 use report_merge::row_counts::RowCounts;
 use restart_epochs::parts::end_at;
-use restart_epochs::walk::{ChannelEffect, EpochWalk, Step};
+use restart_epochs::walk::{ChannelEffect, EpochWalk, Step, is_gap};
 use std::alloc::Allocator;
 
 /// An observer of an interface, and what it found so far.
@@ -269,26 +270,87 @@ impl<A: Allocator + Copy, C: Channel<A>> Observer<A, C> {
         ensures keeps { self.new.keeps_rows ≡ self.old.keeps_rows }
         ensures memory { IfErr result (λ fault. fault ≡ Memory) }
     {
-        let step = self.walk.step(item)?;
-        let outcome = self.turn(&step, item)?;
-        self.uncounted.take(&self.walk.interface, item, &outcome, self.events.as_slice());
+        match self.walk.channel_of(item) {
+            Some(channel) => self.take_on_channel(channel, item),
+            None => self.take_by_machine(item),
+        }
+    }
+
+    /// Reads a row that goes to a logical channel, as `take` does.
+    #[inline(always)]
+    fn take_on_channel(
+        &mut self,
+        channel: u16,
+        item: &ItemRef<'_>,
+    ) -> Result<Option<Finding>, Fault>
+        requires room { MayWalk C.Channel self.old (λ _. item.now ∷ []) }
+        requires step { IsStep self.old.walk.machine self.old.walk.epoch item.now (step_to channel self.old.walk item.now) }
+        ensures stands { WalksOn C.Channel self.old (λ _. item.now) self.new result }
+        ensures finding { ReturnsFinding C.Channel self.old (λ _. item.now) result }
+        ensures keeps { self.new.keeps_rows ≡ self.old.keeps_rows }
+        ensures memory { IfErr result (λ fault. fault ≡ Memory) }
+    {
+        let outcome = self
+            .open_channels
+            .step(&self.walk, channel, item, &mut self.events)?;
         self.keep(&outcome, item)?;
-        self.walk.advance(step);
+        self.count_on_channel(item);
         Ok(outcome.finding)
     }
 
-    /// Where rows are kept, keeps a row as it was judged, and lists the event of accepted data with Q 0. Fails only when
-    /// memory is refused.
+    /// Counts a row that goes to a logical channel.
+    #[inline(always)]
+    fn count_on_channel(&mut self, item: &ItemRef<'_>)
+        requires packets { self.old.walk.packets + 1 < 2 ^ 32 }
+        requires gaps { self.old.walk.gaps + 1 < 2 ^ 32 }
+        ensures { self.new ≡ record self.old {
+          walk = record self.old.walk {
+            packets = self.old.walk.packets + 1;
+            gaps = self.old.walk.gaps + cond (is_some (gap_of item.now.packet)) 1 0;
+          };
+        } }
+    {
+        self.walk.packets += 1;
+        if is_gap(&item.packet) {
+            self.walk.gaps += 1;
+        }
+    }
+
+    /// Reads a row by the restart machine, as `take` does.
+    #[inline(never)]
+    fn take_by_machine(&mut self, item: &ItemRef<'_>) -> Result<Option<Finding>, Fault>
+        requires room { MayWalk C.Channel self.old (λ _. item.now ∷ []) }
+        ensures stands { WalksOn C.Channel self.old (λ _. item.now) self.new result }
+        ensures finding { ReturnsFinding C.Channel self.old (λ _. item.now) result }
+        ensures keeps { self.new.keeps_rows ≡ self.old.keeps_rows }
+        ensures memory { IfErr result (λ fault. fault ≡ Memory) }
+    {
+        let step = self.walk.step(item)?;
+        let judged = self.turn(&step, item)?;
+        self.keep(&judged, item)?;
+        self.walk.advance(step);
+        Ok(judged.finding)
+    }
+
+    /// Counts the data of a row that was not counted. Where rows are kept, keeps the row as it was judged, and lists the
+    /// event of accepted data with Q 0. Fails only when memory is refused.
     #[inline(always)]
     fn keep(&mut self, outcome: &RowOutcome, item: &ItemRef<'_>) -> Result<(), Fault>
         ensures rest { OnOk result (self.new
-            ≡ record self.old { last = self.new.last; events = self.new.events }) }
+            ≡ record self.old { last = self.new.last; events = self.new.events; uncounted = self.new.uncounted }) }
+        ensures uncounted { (i : AnyInterface) (epoch : ℕ) (earlier : List records.Item)
+            → IsJudgedRow i earlier item.now (judged_row item.now outcome.now)
+            (with_data epoch outcome.now.judge item.now self.old.events.items)
+            → self.old.walk.interface ≡ i → AreFew (earlier ++ item.now ∷ [])
+            → self.old.uncounted ≡ uncounted_of i earlier
+            → OnOk result (self.new.uncounted ≡ uncounted_of i (earlier ++ item.now ∷ [])) }
         ensures last { self.old.keeps_rows ≡ true → OnOk result (self.new.last ≡ Some (judged_row item.now outcome.now)) }
         ensures events { self.old.keeps_rows ≡ true → OnOk result (self.new.events.items
             ≡ with_data self.old.walk.epoch outcome.now.judge item.now self.old.events.items) }
         ensures keeps { self.new.keeps_rows ≡ self.old.keeps_rows }
         ensures memory { IfErr result (λ fault. fault ≡ Memory) }
     {
+        self.uncounted.take(&self.walk.interface, item, outcome, self.events.as_slice());
         if !self.keeps_rows {
             return Ok(());
         }

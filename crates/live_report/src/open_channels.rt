@@ -7,7 +7,7 @@ ghost use Rattle.line_model.specs.declared.fault.Fault.TheVariants.{Memory};
 ghost use Rattle.line_model.specs.packets.Says.{gap_item};
 ghost use Rattle.line_model.specs.pieces.Plan.{has_some};
 ghost use Rattle.line_model.specs.pieces.Plans.{value};
-ghost use Rattle.restart_epochs.specs.ChannelTables.{no_open_channels};
+ghost use Rattle.restart_epochs.specs.ChannelTables.{no_open_channels, HasListed};
 ghost use Rattle.restart_epochs.specs.OpenRows.{OpenRows, rows_of, with_gap, HasMore};
 ghost use Rattle.channel_run.specs.Live.{channel_so_far};
 ghost use Rattle.channel_run.specs.Run.{row_events};
@@ -118,6 +118,7 @@ impl<A: Allocator + Copy, C: Channel<A>> OpenChannels<A, C> {
     }
 
     /// Removes and returns a channel of the table, and begins one where the channel has no rows in this epoch.
+    #[inline(always)]
     fn take_out(
         &mut self,
         alloc: A,
@@ -133,6 +134,22 @@ impl<A: Allocator + Copy, C: Channel<A>> OpenChannels<A, C> {
         if let Some(entry) = self.table.take(channel) {
             return Ok(entry);
         }
+        self.begin(alloc, walk, channel)
+    }
+
+    /// Begins a channel that is not in the table, and lists it.
+    #[inline(never)]
+    fn begin(
+        &mut self,
+        alloc: A,
+        walk: &EpochWalk<A>,
+        channel: u16,
+    ) -> Result<Box<OpenChannel<A, C>, A>, Fault>
+        ensures listed { OnOk result (HasListed channel self.old.table self.new.table) }
+        ensures fresh { IfOk result (λ entry. IsOpenFor C.Channel (epoch_of walk.now) channel [] entry.value) }
+        ensures gap { OnOk result (self.new.gap ≡ self.old.gap) }
+        ensures memory { IfErr result (λ fault. fault ≡ Memory) }
+    {
         self.table.list(channel)?;
         let live = LiveChannel::fresh(alloc, &walk.interface, channel, walk.epoch, walk.start)?;
         let entry = Box::new(alloc, OpenChannel { live, last: 0 })?;

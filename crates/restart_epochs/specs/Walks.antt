@@ -61,6 +61,10 @@ pub record IsStep (line : GapLine) (before : ℕ) (item : Item) (step : Step) : 
   pub gap : step.gap ≡ is_some (gap_of item.packet)
   pub turn : step.turn ≡ turn_of item.packet (routing line item).route
 
+-- what a row does to a walk that goes to a logical channel: the restart machine and the epoch stay
+abbrev pub step_to : {A : Type 0} → (channel : ℕ) → EpochWalk A → Item → Step
+step_to channel w item = record { machine = w.machine; epoch = w.epoch; finding = None; gap = is_some (gap_of item.packet); turn = ToChannel channel }
+
 -- the walk has room for what a step finds
 abbrev pub HasRoom : {A : Type 0} → EpochWalk A → Step → Type 0
 HasRoom w step = vec_len w.findings + length (option_to_list step.finding) ≤ vec_capacity w.findings

@@ -79,6 +79,7 @@ impl<T: Drop, A: Allocator + Copy> ChannelTable<T, A> {
     }
 
     /// Removes and returns the value of a channel, if it has one. The channel stays listed.
+    #[inline(always)]
     pub fn take(&mut self, channel: u16) -> Option<Box<T, A>>
         ensures { HasTaken channel (option_map (λ b. b.value) result) self.old self.new }
     {
@@ -89,6 +90,7 @@ impl<T: Drop, A: Allocator + Copy> ChannelTable<T, A> {
     }
 
     /// Puts a value into the place of a channel.
+    #[inline(always)]
     pub fn put(&mut self, channel: u16, value: Box<T, A>)
         requires { channel < length self.old.open_channels }
         ensures { HasPut channel value.value self.old self.new }

@@ -1,10 +1,10 @@
 //! The walk over the rows of a trace, except for what is on the logical channels: the restart machine, the epoch, and
 //! what it found.
 
-ghost use Rattle.std.specs.Prelude.{option_to_list, ◌≡◌, ◌<◌, ◌+◌, ◌^◌, ◌++◌, IfOk, OnOk, OnErr, is_some};
+ghost use Rattle.std.specs.Prelude.{option_to_list, ◌≡◌, ◌<◌, ◌+◌, ◌^◌, ◌++◌, IfOk, IfSome, OnOk, OnErr, is_some};
 ghost use Rattle.line_model.specs.channels.GapRestart.{is_of_all};
 ghost use Rattle.line_model.specs.packets.Says.{gap_of};
-ghost use Rattle.restart_epochs.specs.Walks.{epoch_after, passed, route_finding, start_after, start_joined, turn_of, HasJoined, HasRoom, IsAdvanced, IsFresh, IsFreshBlock, IsSameWalk, IsStep};
+ghost use Rattle.restart_epochs.specs.Walks.{epoch_after, passed, route_finding, start_after, start_joined, step_to, turn_of, HasJoined, HasRoom, IsAdvanced, IsFresh, IsFreshBlock, IsSameWalk, IsStep};
 
 use crate::restart::{Restart, Route, packet_channel};
 use line_model::finding::{Code, Finding};
@@ -122,7 +122,7 @@ impl<A: Allocator> EpochWalk<A> {
         ensures same { IsSameWalk self.old self.new }
         ensures room { IfOk result (λ step. HasRoom self.new step) }
     {
-        if let Some(channel) = self.machine.hands_on(&item.packet) {
+        if let Some(channel) = self.channel_of(item) {
             return Ok(Step {
                 machine: self.machine,
                 epoch: self.epoch,
@@ -132,6 +132,15 @@ impl<A: Allocator> EpochWalk<A> {
             });
         }
         self.step_by_machine(item)
+    }
+
+    /// Fast path: returns the logical channel that the next row goes to, while the restart machine and the epoch stay.
+    /// `None` where `step` returns what the row does.
+    #[inline(always)]
+    pub fn channel_of(&self, item: &ItemRef<'_>) -> Option<u16>
+        ensures { IfSome result (λ channel. IsStep self.now.machine self.now.epoch item.now (step_to channel self.now item.now)) }
+    {
+        self.machine.hands_on(&item.packet)
     }
 
     /// The step of a row by the restart machine.
@@ -207,9 +216,9 @@ fn next_epoch(epoch: u32, route: Route) -> u32
     }
 }
 
-/// Whether a row is a gap of a channel, or of all.
+/// Returns whether a row is a gap of a channel, or of all.
 #[inline(always)]
-fn is_gap(packet: &Packet) -> bool
+pub fn is_gap(packet: &Packet) -> bool
     ensures { result ≡ is_some (gap_of packet.now) }
 {
     matches!(

@@ -19,8 +19,13 @@ pub fn split_front(last: u32, text: &[u8]) -> Option<(u32, Side, &[u8])>
     }
     let mut number = 0;
     let mut count = 0;
-    while count < NUMBER_DIGITS && text[count].is_ascii_digit() {
-        number = number * 10 + (text[count] - b'0') as u32;
+    while count < NUMBER_DIGITS {
+        // It wraps: above 9 for any byte that is no digit.
+        let digit = (text[count] as u32).wrapping_sub(b'0' as u32);
+        if digit > 9 {
+            break;
+        }
+        number = number * 10 + digit;
         count += 1;
     }
     if count == 0 || text[0] == b'0' || number <= last {
