@@ -1,8 +1,6 @@
 -- A channel, and what it represents (X.25 Annexes B and C).
-use Rattle.std.specs.Prelude.{ℕ, Bool, false, ◌≡◌, List, ◌++◌, map, Option, None, Result, Ok, Err, IfOk, IfErr, OnErr}
+use Rattle.std.specs.Prelude.{ℕ, Bool, ◌≡◌, List, ◌++◌, map, Option, None, Result, Ok, Err, IfOk, IfErr, OnErr}
 use Rattle.line_model.specs.declared.state.ChannelState.{ChannelState}
-use Rattle.line_model.specs.declared.state.ChannelState.TheVariants.{Transfer}
-use Rattle.line_model.specs.declared.state.DState.TheVariants.{D1}
 use Rattle.line_model.specs.declared.state.Side.{Side}
 use Rattle.line_model.specs.declared.state.StateName.{StateName}
 use Rattle.line_model.specs.declared.event.Event.{Event}
@@ -81,11 +79,6 @@ IsJudged (Err n) ws x q old new c o = (failing x q n c ≡ o) × (new ≡ old)
 abbrev pub listed : {U : Type 0} → Result U Fault → Result (Option ℕ) Fault
 listed (Ok u) = Ok None
 listed (Err e) = Err e
-
--- in d1, where no indication is owed
-pub record IsOpen (p : Known) : Type 0 where
-  pub state : p.state ≡ Transfer D1
-  pub unowed : p.owed ≡ false
 
 -- the same of a function that may be out of memory, on each channel that it represents
 abbrev pub Comes : {U : Type 0} → Result U Fault → EventOrigin → (old new : Known) → (before after : List Event) → (Channel → Outcome) → Type 0

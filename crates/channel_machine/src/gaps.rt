@@ -4,7 +4,7 @@ mod adrift;
 mod carried;
 pub mod channel;
 mod doubts;
-mod kinds;
+pub(crate) mod kinds;
 mod largest;
 mod numbering;
 mod reading;

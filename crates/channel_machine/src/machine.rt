@@ -2,7 +2,8 @@
 
 ghost use Rattle.channel_machine.specs.GapChannels.{Represents, interface_of, number_of};
 
-use crate::gaps::channel::GapChannel;
+use crate::gaps::channel::{Certainty, GapChannel};
+use crate::gaps::kinds::gap_in;
 use crate::messages::data_packet;
 use crate::status::StatusStore;
 use channel_run::run::Channel;
@@ -74,6 +75,12 @@ impl<A: Allocator + Clone, S: StatusStore + Drop> Channel<A> for GapChannel<A, S
         item: &ItemRef<'_>,
         events: &mut Vec<Event, A>,
     ) -> Result<Option<u32>, Fault> {
-        self.handle(epoch, item, events)
+        match &self.certainty {
+            Certainty::Certain => match gap_in(&item.packet) {
+                None => self.channel.handle(epoch, item, events),
+                Some(_) => self.handle_rarely(epoch, item, events),
+            },
+            _ => self.handle_rarely(epoch, item, events),
+        }
     }
 }

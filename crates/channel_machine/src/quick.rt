@@ -1,13 +1,12 @@
 //! The common rows of a channel: data with Q 0 and RR in d1, which need no table.
 
 ghost use Rattle.std.specs.Prelude.{◌≡◌, ◌∷◌, [], Some, false, IfOk, OnErr, OnSome};
-ghost use Rattle.std.specs.Bool.{OnTrue};
 ghost use Rattle.line_model.specs.basics.Bounds.{IsSaid};
 ghost use Rattle.line_model.specs.channels.Channels.{Channel};
 ghost use Rattle.line_model.specs.channels.ChannelStep.{channel_step, failing};
 ghost use Rattle.line_model.specs.packets.Classes.{header_length, packet_class};
 ghost use Rattle.line_model.specs.packets.Says.{header_in, receive_in};
-ghost use Rattle.channel_machine.specs.Channels.{DoesApart, IsJudged, IsMemory, IsOpen, IsUnchanged, Stands};
+ghost use Rattle.channel_machine.specs.Channels.{DoesApart, IsJudged, IsMemory, IsUnchanged, Stands};
 ghost use Rattle.channel_machine.specs.Events.{origin_at};
 ghost use Rattle.channel_machine.specs.Reached.{IsReached};
 
@@ -43,9 +42,9 @@ impl<A: Allocator + Clone, S: StatusStore> StatusChannel<A, S> {
         ensures unchanged { IsUnchanged result self.old self.new events.old.items events.new.items }
         ensures memory { IsMemory result }
     {
-        if !self.is_open() {
+        let ChannelState::Transfer(DState::D1) = self.status.state() else {
             return self.handle_by_table(epoch, item, events);
-        }
+        };
         match &item.packet {
             Packet::Channel {
                 kind: PacketKind::Data(Some(header)),
@@ -72,7 +71,7 @@ impl<A: Allocator + Clone, S: StatusStore> StatusChannel<A, S> {
     #[inline(always)]
     fn judge_unqualified(&mut self, header: &DataHeader, item: &ItemRef<'_>) -> Result<u32, u8>
         requires said { IsSaid self.old.terms.interface item.now }
-        requires in_d1 { IsOpen self.old }
+        requires in_d1 { self.old.state ≡ ChannelState.Transfer DState.D1 }
         requires class { packet_class item.now.packet ≡ Class.Data }
         requires header { header_in item.now.packet ≡ Some header.now }
         requires unqualified { header.now.qualified ≡ false }
@@ -82,16 +81,17 @@ impl<A: Allocator + Clone, S: StatusStore> StatusChannel<A, S> {
             (channel_step self.old.terms.interface self.old.channel c item.now) }
         ensures faulted { OnErr result (self.new ≡ self.old) }
     {
-        if self.user_data_length(item) > usize::from(self.status.size(item.side)) {
+        let length = self.user_data_length(item);
+        if length > usize::from(self.status.size(item.side)) {
             return Err(PACKET_TOO_LONG);
         }
-        self.accept_unqualified(header, item)
+        self.accept_unqualified(header, item, length)
     }
 
     /// Accepts RR in d1, or returns its fault, and the channel is as it was.
     #[inline(always)]
     fn judge_ready(&mut self, receive: u8, item: &ItemRef<'_>) -> Result<(), u8>
-        requires in_d1 { IsOpen self.old }
+        requires in_d1 { self.old.state ≡ ChannelState.Transfer DState.D1 }
         requires class { packet_class item.now.packet ≡ Class.Rr }
         requires receive { receive_in item.now.packet ≡ Some receive }
         requires whole { item.now.length ≡ header_length self.old.terms.interface }
@@ -127,16 +127,5 @@ impl<A: Allocator + Clone, S: StatusStore> StatusChannel<A, S> {
             state: StateName::D1,
         };
         listed(self.fail(&judgement, code, events))
-    }
-
-    /// Returns whether the channel is in d1 and no indication is owed.
-    #[inline(always)]
-    pub(crate) fn is_open(&self) -> bool
-        ensures { OnTrue result (IsOpen self.now) }
-    {
-        match self.status.state() {
-            ChannelState::Transfer(DState::D1) => !self.status.is_owed(),
-            _ => false,
-        }
     }
 }

@@ -106,7 +106,8 @@ impl<A: Allocator + Clone, S: StatusStore> StatusChannel<A, S> {
         ensures memory { IsMemory result }
     {
         events.reserve(1)?;
-        match self.accept_unqualified(header, item) {
+        let length = self.user_data_length(item);
+        match self.accept_unqualified(header, item, length) {
             Ok(octets) => {
                 let what = data_packet(judgement.side, octets);
                 events.push_reserved(judgement.origin.event(what));
@@ -227,8 +228,8 @@ impl<A: Allocator + Clone, S: StatusStore> StatusChannel<A, S> {
         }
     }
 
-    /// Returns the state in whose column a packet is judged, and the entry there. In d1 where nothing is owed every
-    /// packet of data transfer is normal.
+    /// Returns the state in whose column a packet is judged, and the entry there. In d1 every packet of data
+    /// transfer is normal.
     #[inline(always)]
     pub(crate) fn judge(&self, side: Side, class: Class) -> (StateName, Action)
         ensures judged { (c : Channel) → Stands self.now c
@@ -238,7 +239,7 @@ impl<A: Allocator + Clone, S: StatusStore> StatusChannel<A, S> {
         ensures fits { is_entry result.1 side class self.now.state ≡ true }
         ensures in_d1 { result.1 ≡ Normal → is_in_d1 self.now.state ≡ true }
     {
-        if is_transfer(class) && self.is_open() {
+        if is_transfer(class) && self.is_in_d1() {
             return (StateName::D1, Action::Normal);
         }
         judged(

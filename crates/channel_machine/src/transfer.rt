@@ -92,14 +92,16 @@ impl<A: Allocator + Clone, S: StatusStore> StatusChannel<A, S> {
         item.length - header_length(&self.status.interface())
     }
 
-    /// Accepts a data packet with Q 0, and returns how many octets of user data it has; or returns its fault, that of
-    /// its numbers or of the Q bit of the sequence begun, and the channel is as it was. Allocates nothing.
+    /// Accepts a data packet with Q 0 by its octets of user data, and returns how many they are; or returns its fault,
+    /// that of its numbers or of the Q bit of the sequence begun, and the channel is as it was. Allocates nothing.
     #[inline(always)]
     pub(crate) fn accept_unqualified(
         &mut self,
         header: &DataHeader,
         item: &ItemRef<'_>,
+        length: usize,
     ) -> Result<u32, u8>
+        requires length { length ≡ item.now.length - header_length self.old.terms.interface }
         requires said { IsSaidData self.old.terms.interface item.now header.now }
         requires unqualified { header.now.qualified ≡ false }
         requires short { item.now.length ≤ largest_length }
@@ -109,17 +111,14 @@ impl<A: Allocator + Clone, S: StatusStore> StatusChannel<A, S> {
             (data_step self.old.terms.interface q item.now (Some header.now) c) }
         ensures faulted { OnErr result (self.new ≡ self.old) }
     {
-        let length = self.user_data_length(item);
-        if !self.assembler.is_alike(item.side, false) {
-            let mut status = self.status;
-            if let Err(code) = status.data(item.side, header.send, header.receive) {
-                return Err(code);
-            }
-            return Err(INCONSISTENT_Q_BIT_SETTING);
-        }
-        if let Err(code) = self.status.data(item.side, header.send, header.receive) {
+        let mut status = self.status;
+        if let Err(code) = status.data(item.side, header.send, header.receive) {
             return Err(code);
         }
+        if !self.assembler.is_alike(item.side, false) {
+            return Err(INCONSISTENT_Q_BIT_SETTING);
+        }
+        self.status = status;
         self.assembler
             .put_unqualified(item.side, header.more, header.delivery, length);
         Ok(length as u32)

@@ -9,7 +9,8 @@ use Rattle.data_transfer.proofs.Packets.{alike_is, holds_more, octets_more, unqu
 use Rattle.data_transfer.proofs.SequenceLemmas.{begun-other, begun-more, begun-done}
 use Rattle.data_transfer.specs.Sequences.{SequenceView, Assembly}
 use Rattle.data_transfer.specs.Assembly.{Holds, IsPutOn, IsUnqualifiedOn, is_like, unqualified}
-use Rattle.data_transfer.specs.Assembler.{Represents, IsPut, IsPutUnqualified}
+use Rattle.data_transfer.specs.Assembler.{Represents, IsPut, IsPutUnqualified, begun_on}
+use Rattle.data_transfer.specs.Lending.{with_begun}
 use Rattle.data_transfer.specs.declared.sequence.Put.{Put}
 use Rattle.data_transfer.specs.declared.sequence.Put.TheVariants.{Going, Complete, Mixed}
 
@@ -55,7 +56,7 @@ put_t (Complete s) old new hs h x_is size_is stands put =
 put_t Mixed old new hs h x_is size_is stands put =
     (alike_is old.of_t.qualified (begun old.of_t.size T hs) h stands.of_t.qualified ∙ put.0, ap (λ b. record old { of_t = b }) put.1)
 
-pub unqualified_t : (b : Bool) (old : Assembly) (new : SequenceView) (hs : List AcceptedData) (m d : Bool) (n : ℕ) → new.size ≡ old.of_t.size →
+unqualified_t : (b : Bool) (old : Assembly) (new : SequenceView) (hs : List AcceptedData) (m d : Bool) (n : ℕ) → new.size ≡ old.of_t.size →
     is_like old.of_t.qualified false ≡ true → Represents old hs → IsUnqualifiedOn b old.of_t new (unqualified T m d n) →
     IsPutUnqualified old (record old { of_t = new }) T (unqualified T m d n) hs
 unqualified_t true old new hs m d n size_is like stands put =
@@ -100,7 +101,7 @@ put_n (Complete s) old new hs h x_is size_is stands put =
 put_n Mixed old new hs h x_is size_is stands put =
     (alike_is old.of_n.qualified (begun old.of_n.size N hs) h stands.of_n.qualified ∙ put.0, ap (λ b. record old { of_n = b }) put.1)
 
-pub unqualified_n : (b : Bool) (old : Assembly) (new : SequenceView) (hs : List AcceptedData) (m d : Bool) (n : ℕ) → new.size ≡ old.of_n.size →
+unqualified_n : (b : Bool) (old : Assembly) (new : SequenceView) (hs : List AcceptedData) (m d : Bool) (n : ℕ) → new.size ≡ old.of_n.size →
     is_like old.of_n.qualified false ≡ true → Represents old hs → IsUnqualifiedOn b old.of_n new (unqualified N m d n) →
     IsPutUnqualified old (record old { of_n = new }) N (unqualified N m d n) hs
 unqualified_n true old new hs m d n size_is like stands put =
@@ -116,3 +117,9 @@ unqualified_n false old new hs m d n size_is like stands put =
       alike_is old.of_n.qualified gs h stands.of_n.qualified ∙ like,
       stands_n old new hs h refl size_is stands (done Holds new old.of_n.size N hs h refl put.0 put.1),
     )
+
+pub unqualified_on : (b : Bool) (x : Side) (old : Assembly) (new : SequenceView) (hs : List AcceptedData) (m d : Bool) (n : ℕ) → new.size ≡ (begun_on old x).size →
+    is_like (begun_on old x).qualified false ≡ true → Represents old hs → IsUnqualifiedOn b (begun_on old x) new (unqualified x m d n) →
+    IsPutUnqualified old (with_begun old x new) x (unqualified x m d n) hs
+unqualified_on b T old new hs m d n size_is like stands put = unqualified_t b old new hs m d n size_is like stands put
+unqualified_on b N old new hs m d n size_is like stands put = unqualified_n b old new hs m d n size_is like stands put

@@ -9,3 +9,4 @@ pub mod FlowFields
 pub mod Packed
 pub mod PackedLaw
 pub mod PackedFields
+pub mod Lending

@@ -32,6 +32,9 @@ impl<A: Allocator> Model for Assembler<A> {
 }
 
 impl<A: Allocator + Clone> Assembler<A> {
+    ghost use Rattle.std.specs.Borrow.{sem};
+    ghost use Rattle.data_transfer.specs.Lending.{lends_begun};
+
     /// Returns an assembler with nothing begun, with the packet sizes of T and N in octets. It needs no memory.
     pub fn new(alloc: A, size_t: u16, size_n: u16) -> Self
         ensures sizes { sizes result ≡ record { of_t = size_t; of_n = size_n } }
@@ -67,15 +70,15 @@ impl<A: Allocator + Clone> Assembler<A> {
     pub fn is_alike(&self, side: Side, qualified: bool) -> bool
         ensures { result ≡ is_like (begun_on self.now side).qualified qualified }
     {
-        match side {
-            Side::T => self.of_t.is_alike(qualified),
-            Side::N => self.of_n.is_alike(qualified),
-        }
+        let begun = match side {
+            Side::T => &self.of_t,
+            Side::N => &self.of_n,
+        };
+        begun.is_alike(qualified)
     }
 
     /// Accepts a data packet of a side with Q 0 by its M bit, its D bit and how many octets of user data it has, where
     /// its numbers are valid and the side has begun no sequence with Q 1. It needs no memory.
-    #[tactic(auto, using(crate::proofs::Sides::unqualified_t, crate::proofs::Sides::unqualified_n))]
     #[inline(always)]
     pub fn put_unqualified(&mut self, side: Side, more: bool, delivery: bool, length: usize)
         requires { is_like (begun_on self.old side).qualified false ≡ true }
@@ -83,10 +86,7 @@ impl<A: Allocator + Clone> Assembler<A> {
             → IsPutUnqualified self.old self.new side (unqualified side more delivery length) hs }
         ensures sizes { sizes self.new ≡ sizes self.old }
     {
-        match side {
-            Side::T => self.of_t.put_unqualified(more, delivery, length),
-            Side::N => self.of_n.put_unqualified(more, delivery, length),
-        };
+        self.begun_mut(side).put_unqualified(more, delivery, length);
     }
 
     /// Adds a data packet to the sequence of a side, where the caller knows that more of the sequence follows. Fails
@@ -117,10 +117,7 @@ impl<A: Allocator + Clone> Assembler<A> {
         ensures unchanged { OnErr result (self.new ≡ self.old) }
         ensures memory { IfErr result (λ fault. fault ≡ Memory) }
     {
-        match side {
-            Side::T => self.of_t.finish(octets),
-            Side::N => self.of_n.finish(octets),
-        }
+        self.begun_mut(side).finish(octets)
     }
 
     /// Forgets what a side has begun.
@@ -128,10 +125,7 @@ impl<A: Allocator + Clone> Assembler<A> {
         ensures done { Holds (begun_on self.new side) [] }
         ensures apart { begun_on self.new (other side) ≡ begun_on self.old (other side) }
     {
-        match side {
-            Side::T => self.of_t.reset(),
-            Side::N => self.of_n.reset(),
-        }
+        self.begun_mut(side).reset();
     }
 
     /// Forgets what was begun, as leaving d1 does; the sizes stay.
@@ -150,5 +144,17 @@ impl<A: Allocator + Clone> Assembler<A> {
     {
         self.of_t = Begun::new(size_t);
         self.of_n = Begun::new(size_n);
+    }
+
+    /// Returns what a side has begun, to be changed.
+    #[inline(always)]
+    fn begun_mut(&mut self, side: Side) -> &mut Begun<A>
+        ensures* writes_back { sem 𝓛 (lends_begun A.row A.Allocator self.entry side result) }
+        ensures value { result.now ≡ begun_on self.old side }
+    {
+        match side {
+            Side::T => &mut self.of_t,
+            Side::N => &mut self.of_n,
+        }
     }
 }

@@ -1,9 +1,7 @@
 //! The restart machine.
 
-ghost use Rattle.std.specs.Prelude.{◌≡◌, ℕ, IfSome};
+ghost use Rattle.std.specs.Prelude.{◌≡◌};
 ghost use Rattle.std.specs.Bool.{OnTrue};
-ghost use Rattle.line_model.specs.declared.route.Route.TheVariants.{ToChannel};
-ghost use Rattle.line_model.specs.declared.state.Side.{Side as AnySide};
 ghost use Rattle.line_model.specs.packets.Classes.{packet_class};
 ghost use Rattle.line_model.specs.packets.Says.{gap_of, packet_channel};
 ghost use Rattle.line_model.specs.observer.Observer.{start};
@@ -134,20 +132,6 @@ impl Restart {
             EpochStart::Drifting(self.owed_before)
         } else {
             EpochStart::Restarted
-        }
-    }
-
-    /// Fast path: in r1 a packet on a logical channel goes to that channel (X.25 clause 3).
-    #[inline(always)]
-    pub(crate) fn hands_on(&self, packet: &Packet) -> Option<u16>
-        ensures channel { IfSome result (λ channel. channel ≡ packet_channel packet.now) }
-        ensures step { IfSome result (λ _. (side : AnySide) (length : ℕ)
-            → record { route = ToChannel; after = self.now }
-            ≡ routing_by (gap_of packet.now) self.now side (packet_class packet.now) length) }
-    {
-        match packet {
-            Packet::Channel { channel, .. } if self.state == RState::R1 => Some(*channel),
-            _ => None,
         }
     }
 

@@ -12,7 +12,7 @@ use line_model::gap::EpochStart;
 use line_model::interface::Interface;
 use line_model::items::ItemRef;
 use line_model::packet::{Packet, PacketKind};
-use line_model::state::StateName;
+use line_model::state::{RState, StateName};
 use std::alloc::{AllocError, Allocator, Global};
 
 /// What a row does to the logical channels.
@@ -134,13 +134,16 @@ impl<A: Allocator> EpochWalk<A> {
         self.step_by_machine(item)
     }
 
-    /// Fast path: returns the logical channel that the next row goes to, while the restart machine and the epoch stay.
-    /// `None` where `step` returns what the row does.
+    /// Fast path: returns the logical channel that the next row goes to, while the restart machine and the epoch stay:
+    /// in r1 each packet on a channel goes to it (X.25 clause 3). `None` where `step` returns what the row does.
     #[inline(always)]
     pub fn channel_of(&self, item: &ItemRef<'_>) -> Option<u16>
         ensures { IfSome result (λ channel. IsStep self.now.machine self.now.epoch item.now (step_to channel self.now item.now)) }
     {
-        self.machine.hands_on(&item.packet)
+        match &item.packet {
+            Packet::Channel { channel, .. } if self.machine.state() == RState::R1 => Some(*channel),
+            _ => None,
+        }
     }
 
     /// The step of a row by the restart machine.

@@ -1,17 +1,21 @@
 -- Digits at the front of a text that are counted, and not converted.
-use Rattle.std.proofs.Common.{◌≡◌, ◌∙◌, sym, ap, refl, subst, ℕ, ◌+◌, ◌-◌, ◌*◌, ◌/◌, ◌%◌, ◌<◌, ◌≤◌, true, List, [], ◌∷◌, ◌++◌, length, min, replicate, take, take_all, drop, get_or, ltb, length-drop, length-take-le, Bool, false, leb, get_or-take, Option, Some, None, append_assoc, arith, length-append, take-take}
+use Rattle.std.proofs.Common.{◌≡◌, ◌∙◌, sym, ap, refl, subst, ℕ, ◌+◌, ◌-◌, ◌*◌, ◌/◌, ◌%◌, ◌<◌, ◌≤◌, true, List, [], ◌∷◌, ◌++◌, length, map, min, replicate, take, take_all, w64, w8, drop, get_or, ltb, length-take-le, Bool, false, leb, get_or-take, Option, Some, None, append_assoc, arith, length-append, take-take}
 use Rattle.std.specs.Prelude.{is_some, not, zero, suc}
-use Rattle.std.specs.List.{AllPass}
-use lib.Seq.{take-add, take-append-add}
+use Rattle.std.specs.Int.{trailing_ones}
+use Rattle.std.specs.List.{AllPass, range_with_len}
+use lib.Seq.{take-append-add}
 use Rattle.std.proofs.lemmas.Bool.{leb-false, leb-true}
 use Rattle.std.proofs.Math.Nat.{min-le_left, min-le_right}
 use Rattle.std.proofs.lemmas.List.{take-append-drop, take-append-le}
 use Rattle.std.proofs.lemmas.List.Elements.{All-append, All-from_get_or, All-head, All-tail, All-take}
-use Rattle.std.proofs.lemmas.Simd.{get_or-chunk, length-chunk}
+use Rattle.std.proofs.lemmas.Simd.{Each1-from_get_or, below_from_Fits, get_or-chunk, length-chunk}
 use lib.Lanes.{chunk}
+use mir.Val.{Fits}
 use Rattle.hex.specs.Hex.{hex_digit_value, is_hex_digit}
-use Rattle.trace_text.specs.Digits.{AreDigitValues, AreHits, AreOctets, BeginsOctets, HasValues, IsDigitValue, octet_in}
+use Rattle.trace_text.specs.Digits.{AreDigitValues, AreOctets, BeginsOctets, HasValues, IsDigitValue, octet_in}
 use Rattle.trace_text.proofs.DigitLemmas.{right_digit, twice}
+use Rattle.trace_text.proofs.DigitValueLemmas.{are_hits}
+use Rattle.trace_text.proofs.LaneLemmas.{AreHits, all_hits, first_least, mask_of}
 
 octet_there : (h l : Option ℕ) → is_some h ≡ true → is_some l ≡ true → (octet : ℕ) × (octet_in h l ≡ Some octet)
 octet_there None l p q = cc
@@ -81,16 +85,30 @@ pub counted : (text rest block : List ℕ) (count n : ℕ) → HasCounted text r
 counted text rest block count n c e few digits m =
     counted-last text rest count n c (subst (AllPass is_hex_digit) (ap (take count) e ∙ take-take count 64 rest few) digits) m
 
--- bytes that all hit are digits
-pub all-hit : (bytes hits : List ℕ) (count : ℕ) → length bytes ≡ 64 → AreHits (chunk 0 64 bytes) hits → count ≤ 64 → ((i : ℕ) → i < count → not (ltb (get_or hits i 0) 128) ≡ true) → AllPass is_hex_digit (take count bytes)
-all-hit bytes hits count whole are few none =
-    let size : length (take count bytes) ≡ count = length-take-le count bytes (omega (arith, whole, few)) in
-    let lanes : length (chunk 0 64 bytes) ≡ 64 = length-chunk 0 64 bytes (omega (arith, whole)) in
-    All-from_get_or (λ b. is_hex_digit b ≡ true) (take count bytes) 0
-    (λ i l.
-    let less : i < count = omega (arith, l, size) in
-    let lane : get_or (chunk 0 64 bytes) i 0 ≡ get_or bytes i 0 = get_or-chunk 0 64 bytes i 0 (omega (arith, less, few)) ∙ ap (λ m. get_or bytes m 0) (omega arith) in
-    ap is_hex_digit (get_or-take count bytes i 0 less ∙ sym lane) ∙ sym (are.1 i (omega (arith, less, few, lanes))) ∙ none i less)
+-- where the function gives 128 and more for the digits alone, the bytes before the lowest bit that is not set are digits
+pub first-digits : (f : ℕ → ℕ) (bytes hits : List ℕ) → length bytes ≡ 64 → ((i : ℕ) → Fits w8 (get_or bytes i 0)) → hits ≡ map f (chunk 0 64 bytes) → are_hits 0 (map f (range_with_len 0 256)) ≡ true →
+    (trailing_ones w64 (mask_of leb 64 128 hits) ≤ 64) × AllPass is_hex_digit (take (trailing_ones w64 (mask_of leb 64 128 hits)) bytes)
+first-digits f bytes hits whole fits e all = (
+  first.0,
+  All-from_get_or (λ b. is_hex_digit b ≡ true) (take count bytes) 0 (λ i l.
+      let less : i < count = omega (arith, l, length-take-le count bytes (omega (arith, whole, first.0))) in
+      ap is_hex_digit (get_or-take count bytes i 0 less ∙ sym (lane i (omega (arith, less, first.0)))) ∙ sym (are.1 i (omega (arith, less, first.0, lanes))) ∙ first.1 i less),
+)
+  where
+    lanes : length (chunk 0 64 bytes) ≡ 64
+    lanes = length-chunk 0 64 bytes (omega (arith, whole))
+
+    lane : (i : ℕ) → i < 64 → get_or (chunk 0 64 bytes) i 0 ≡ get_or bytes i 0
+    lane i l = get_or-chunk 0 64 bytes i 0 l ∙ ap (λ m. get_or bytes m 0) (omega arith)
+
+    are : AreHits (chunk 0 64 bytes) hits
+    are = all_hits f (chunk 0 64 bytes) hits (below_from_Fits w8 (chunk 0 64 bytes) (Each1-from_get_or (Fits w8) (chunk 0 64 bytes) 0 (λ i l. subst (Fits w8) (sym (lane i (omega (arith, l, lanes)))) (fits i)))) e all
+
+    count : ℕ
+    count = trailing_ones w64 (mask_of leb 64 128 hits)
+
+    first : (count ≤ 64) × ((i : ℕ) → i < count → not (ltb (get_or hits i 0) 128) ≡ true)
+    first = first_least 128 hits (are.0 ∙ lanes)
 
 -- ---- the values of the first 32 bytes
 
@@ -137,9 +155,6 @@ digits-first text values count has few low = (
     there : count ≤ length text
     there = fits (leb count (length text)) refl
 
--- and the digits after them
-pub digits-after : (text rest : List ℕ) (count : ℕ) → (32 ≤ length text) × AllPass is_hex_digit (take 32 text) → rest ≡ drop 32 text → count ≤ length rest → AllPass is_hex_digit (take count rest) → (32 + count ≤ length text) × AllPass is_hex_digit (take (32 + count) text)
-digits-after text rest count first e few digits = (
-  omega (arith, first.0, few, ap (λ (xs : List ℕ). length xs) e, length-drop 32 text),
-  subst (AllPass is_hex_digit) (sym (take-add 32 count text)) (All-append (λ b. is_hex_digit b ≡ true) (take 32 text) (take count (drop 32 text)) first.1 (subst (λ (xs : List ℕ). AllPass is_hex_digit (take count xs)) e digits)),
-)
+-- they are counted
+pub counted-first : (text : List ℕ) → (32 ≤ length text) × AllPass is_hex_digit (take 32 text) → HasCounted text (drop 32 text)
+counted-first text first = record { done = take 32 text; whole = sym (take-append-drop 32 text); digits = first.1 }

@@ -1,12 +1,12 @@
 -- Vectors that are computed lane by lane, and the octets that 32 bytes write.
-use Rattle.std.proofs.Common.{◌≡◌, ◌≢◌, ◌∙◌, w64, sym, ap, ap₂, refl, subst, ℕ, ◌+◌, ◌-◌, ◌*◌, ◌/◌, ◌%◌, ◌^◌, ◌<◌, ◌≤◌, Bool, true, false, cond, List, [], ◌∷◌, map, length, drop, take, get_or, replicate, ltb, leb, arith, w8, get_or-take, length-take-le, inl, inr}
+use Rattle.std.proofs.Common.{◌≡◌, ◌∙◌, w64, eqb, sym, ap, ap₂, refl, subst, ℕ, ◌+◌, ◌-◌, ◌*◌, ◌/◌, ◌%◌, ◌^◌, ◌<◌, ◌≤◌, Bool, true, false, cond, List, [], ◌∷◌, map, length, drop, take, get_or, replicate, ltb, leb, arith, w8, get_or-take, length-take-le, inl, inr}
 use Rattle.std.specs.Prelude.{◌⊎◌, suc, zero, Option, Some, None, is_some, not}
 use Rattle.std.specs.List.{AllPass}
 use Rattle.std.proofs.lemmas.List.Elements.{All-get_or}
 use Rattle.hex.specs.Hex.{hex_digit_value, is_hex_digit}
 use Rattle.std.specs.List.{prefix_len, range_with_len}
 use Rattle.std.proofs.lemmas.List.Sums.{prefix_len-le-length, prefix_len_passes}
-use Rattle.std.proofs.lemmas.Bool.{not-true}
+use Rattle.std.proofs.lemmas.Bool.{eqb-false, eqb-true, not-true}
 use Rattle.std.proofs.lemmas.Bool.Decides.{nat_tests}
 use Rattle.std.proofs.lemmas.List.{get_or-map, length-map}
 use Rattle.std.proofs.lemmas.List.FromFn.{get_or-map-range_with_len}
@@ -15,7 +15,7 @@ use lib.Count.{count_trailing_zeros}
 use Rattle.std.specs.Int.{bit_at, trailing_ones}
 use Rattle.std.proofs.lemmas.Nat.Bits.{bit_at-trailing_ones, bit_at_ones}
 use lib.Lanes.{Each1, chunk, digits_l, number_l, zip2, mask_l, sel_l, top}
-use Rattle.trace_text.specs.Digits.{AreDigitValues, AreHits, AreOctets, HasDecoded, HasValues, IsDigitValue, octet_of}
+use Rattle.trace_text.specs.Digits.{AreDigitValues, AreOctets, HasDecoded, HasValues, IsDigitValue, octet_of}
 use Rattle.trace_text.proofs.DigitLemmas.{octets-each, right_octet}
 use Rattle.trace_text.proofs.DigitValueLemmas.{are_hits, are_values, table_hit, table_value}
 
@@ -55,7 +55,10 @@ all_lanes P f v result bytes e all = (
 pub all_values : (f : ℕ → ℕ) (v result : List ℕ) → Each1 (λ d. d < 256) v → result ≡ map f v → are_values 0 (map f (range_with_len 0 256)) ≡ true → AreDigitValues v result
 all_values f v result bytes e all = all_lanes IsDigitValue f v result bytes e (λ d byte. table_value (map f (range_with_len 0 256)) d all byte)
 
--- and the hits
+-- a digit has 128 or more, and no other byte
+abbrev pub AreHits : List ℕ → List ℕ → Type 0
+AreHits bytes hits = (length hits ≡ length bytes) × ((i : ℕ) → i < length bytes → not (ltb (get_or hits i 0) 128) ≡ is_hex_digit (get_or bytes i 0))
+
 pub all_hits : (f : ℕ → ℕ) (v result : List ℕ) → Each1 (λ d. d < 256) v → result ≡ map f v → are_hits 0 (map f (range_with_len 0 256)) ≡ true → AreHits v result
 all_hits f v result bytes e all = all_lanes (λ d m. not (ltb m 128) ≡ is_hex_digit d) f v result bytes e (λ d byte. table_hit (map f (range_with_len 0 256)) d all byte)
 
@@ -91,20 +94,32 @@ lane_passes p v m i mask there bit = sym (get_or-map p v i 0 false there) ∙ is
 not_less : (least x : ℕ) → leb least x ≡ true → not (ltb x least) ≡ true
 not_less least x k = grind (arith, nat_tests, k)
 
--- where every lane of 64 has its bit, each is the limit or more
-pub all_least : (least : ℕ) (v : List ℕ) → length v ≡ 64 → mask_of leb 64 least v ≡ 2 ^ 64 - 1 → (i : ℕ) → i < 64 → not (ltb (get_or v i 0) least) ≡ true
-all_least least v long all i h =
-    not_less least (get_or v i 0) (lane_passes (leb least) v (mask_of leb 64 least v) i (mask_is leb 64 least v long (omega arith)) (omega (arith, h, long)) (ap (λ (n : ℕ). bit_at n i) all ∙ bit_at_ones 64 i h))
-
--- and else each before the lowest bit that is not set
-pub first_least : (least : ℕ) (v : List ℕ) → length v ≡ 64 → mask_of leb 64 least v ≢ 2 ^ 64 - 1 →
+-- each lane of 64 before the lowest bit that is not set is the limit or more
+pub first_least : (least : ℕ) (v : List ℕ) → length v ≡ 64 →
     (trailing_ones w64 (mask_of leb 64 least v) ≤ 64) × ((i : ℕ) → i < trailing_ones w64 (mask_of leb 64 least v) → not (ltb (get_or v i 0) least) ≡ true)
-first_least least v long some =
-    let m : ℕ = mask_of leb 64 least v in
-    let mask = mask_is leb 64 least v long (omega arith) in
-    let below : m < 2 ^ 64 = subst (λ (n : ℕ). n < 2 ^ 64) (sym mask) (subst (λ (k : ℕ). mask_l (map (leb least) v) < 2 ^ k) (length-map v (leb least) ∙ long) (mask_l-lt (map (leb least) v))) in
-    let lowest = bit_at-trailing_ones w64 m (omega (arith, below, some)) in
-    (omega (arith, lowest.0), λ i h. not_less least (get_or v i 0) (lane_passes (leb least) v m i mask (omega (arith, h, lowest.0, long)) (lowest.2 i h)))
+unfolding count_trailing_zeros
+first_least least v long = at (eqb m (2 ^ 64 - 1)) refl
+  where
+    m : ℕ
+    m = mask_of leb 64 least v
+
+    mask : m ≡ mask_l (map (leb least) v)
+    mask = mask_is leb 64 least v long (omega arith)
+
+    below : m < 2 ^ 64
+    below = subst (λ (n : ℕ). n < 2 ^ 64) (sym mask) (subst (λ (k : ℕ). mask_l (map (leb least) v) < 2 ^ k) (length-map v (leb least) ∙ long) (mask_l-lt (map (leb least) v)))
+
+    reaches : (i : ℕ) → i < 64 → bit_at m i ≡ 1 → not (ltb (get_or v i 0) least) ≡ true
+    reaches i h bit = not_less least (get_or v i 0) (lane_passes (leb least) v m i mask (omega (arith, h, long)) bit)
+
+    at : (all : Bool) → eqb m (2 ^ 64 - 1) ≡ all → (trailing_ones w64 m ≤ 64) × ((i : ℕ) → i < trailing_ones w64 m → not (ltb (get_or v i 0) least) ≡ true)
+    at true e =
+        let all : m ≡ 2 ^ 64 - 1 = eqb-true m (2 ^ 64 - 1) e in
+        let count : trailing_ones w64 m ≡ 64 = ap (trailing_ones w64) all in
+        (omega (arith, count), λ i h. let there : i < 64 = omega (arith, h, count) in reaches i there (ap (λ (n : ℕ). bit_at n i) all ∙ bit_at_ones 64 i there))
+    at false e =
+        let lowest = bit_at-trailing_ones w64 m (omega (arith, below, eqb-false m (2 ^ 64 - 1) e)) in
+        (omega (arith, lowest.0), λ i h. reaches i (omega (arith, h, lowest.0)) (lowest.2 i h))
 
 pub none_great : (n most : ℕ) (v : List ℕ) → length v ≡ n → n ≤ 64 → mask_of ltb n most v ≡ 0 → (i : ℕ) → i < n → get_or v i 0 ≤ most
 none_great n most v long few none i h = not_great most (get_or v i 0) (none_passes (ltb most) v (mask_of ltb n most v) n long (mask_is ltb n most v long few) none i h)

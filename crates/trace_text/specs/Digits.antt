@@ -1,5 +1,5 @@
 -- Hex digits, and two of them as an octet (profile).
-use Rattle.std.specs.Prelude.{◌≡◌, nat_lt, not, ◌⊎◌, ◌<◌, ◌≤◌, ℕ, ◌+◌, ◌*◌, List, [], ◌∷◌, ◌++◌, length, slice_index, drop, take, Option, Some, None}
+use Rattle.std.specs.Prelude.{◌≡◌, ◌⊎◌, ◌<◌, ◌≤◌, ℕ, ◌+◌, ◌*◌, List, [], ◌∷◌, ◌++◌, length, slice_index, drop, take, Option, Some, None}
 use Rattle.std.specs.List.{AllPass}
 use Rattle.std.specs.Option.{option_and_then}
 use Rattle.hex.specs.Hex.{hex_digit_value, is_hex_digit}
@@ -29,10 +29,6 @@ AreDigitValues bytes values = (length values ≡ length bytes) × ((i : ℕ) →
 -- the values of the first 32 bytes of a text, as if zeros followed it
 abbrev pub HasValues : List ℕ → List ℕ → Type 0
 HasValues text values = (length values ≡ 32) × ((i : ℕ) → i < 32 → IsDigitValue (slice_index text i) (slice_index values i))
-
--- a digit has 128 or more, and no other byte
-abbrev pub AreHits : List ℕ → List ℕ → Type 0
-AreHits bytes hits = (length hits ≡ length bytes) × ((i : ℕ) → i < length bytes → not (nat_lt (slice_index hits i) 128) ≡ is_hex_digit (slice_index bytes i))
 
 -- a text begins with digits that write these octets, and an LF after them
 pub record BeginsDigits (text octets rest : List ℕ) : Type 0 where

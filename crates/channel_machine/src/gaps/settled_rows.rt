@@ -217,8 +217,9 @@ impl<A: Allocator + Clone, S: StatusStore> StatusChannel<A, S> {
         self.status.settle();
     }
 
-    /// Whether the channel is in d1.
-    fn is_in_d1(&self) -> bool
+    /// Returns whether the channel is in d1.
+    #[inline(always)]
+    pub(crate) fn is_in_d1(&self) -> bool
         ensures { result ≡ is_in_d1 self.now.state }
     {
         matches!(self.status.state(), ChannelState::Transfer(DState::D1))

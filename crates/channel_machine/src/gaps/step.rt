@@ -22,37 +22,9 @@ use line_model::items::ItemRef;
 use std::alloc::Allocator;
 
 impl<A: Allocator + Clone, S: StatusStore> GapChannel<A, S> {
-    /// Steps the channel by a row in an epoch, and appends the events of the row, except that of a data packet with Q 0 in
-    /// d1 where nothing is in doubt: it returns that packet's octets of user data instead. Fails only when memory is refused,
-    /// and nothing has changed then.
-    #[inline(always)]
-    pub(crate) fn handle(
-        &mut self,
-        epoch: u32,
-        item: &ItemRef<'_>,
-        events: &mut Vec<Event, A>,
-    ) -> Result<Option<u32>, Fault>
-        requires said { IsSaid (interface_of self.old) item.now }
-        ensures does { (g : gaps.GapChannel) → Represents self.old g
-            → IfOk result (λ accepted. GapDoesApart (origin_at epoch (number_of self.old) item.now)
-            item.now.side self.old self.new events.old.items events.new.items accepted
-            (row_step (interface_of self.old) (number_of self.old) g item.now)) }
-        ensures apart { IfOk result (λ accepted. OnSome accepted (events.new ≡ events.old)) }
-        ensures unchanged { IsGapUnchanged result self.old self.new events.old.items events.new.items }
-        ensures memory { IsMemory result }
-    {
-        match &self.certainty {
-            Certainty::Certain => match gap_in(&item.packet) {
-                None => self.channel.handle(epoch, item, events),
-                Some(_) => self.handle_rarely(epoch, item, events),
-            },
-            _ => self.handle_rarely(epoch, item, events),
-        }
-    }
-
-    /// Steps the channel as `handle` does, where the row is a gap, or something is in doubt.
+    /// Steps the channel as `advance` does, where the row is a gap, or something is in doubt.
     #[inline(never)]
-    fn handle_rarely(
+    pub(crate) fn handle_rarely(
         &mut self,
         epoch: u32,
         item: &ItemRef<'_>,

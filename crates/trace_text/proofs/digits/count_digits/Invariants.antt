@@ -2,7 +2,7 @@ use Rattle.std.proofs.Common.{length}
 use Rattle.trace_text.proofs.DigitCounts.{HasCounted}
 use Rattle.trace_text.proofs.digits.count_digits.Given as goal
 
--- the blocks of digits that were passed
+-- the digits that were passed
 abbrev pub invariant-loop-bytes : goal.invariant-loop-bytes
 invariant-loop-bytes l = HasCounted l.text l.rest
 

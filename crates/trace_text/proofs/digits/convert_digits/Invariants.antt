@@ -1,5 +1,5 @@
 use Rattle.std.proofs.Common.{◌-◌, ◌≤◌, length}
-use Rattle.trace_text.proofs.digits.put_few.Given as goal
+use Rattle.trace_text.proofs.digits.convert_digits.Given as goal
 
 abbrev pub invariant-loop-octets : goal.invariant-loop-octets
 invariant-loop-octets g l = length l.octets.items ≤ 4
