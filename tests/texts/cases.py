@@ -54,7 +54,7 @@ ROWS = [
     (MANY + b"19999 T -\n1 N -\n", 20001, NUMBER, "The row's number is 19999, and that of the row before is 19999: numbers rise."),
     (MANY + b"19999 T -\n" + MORE, 20001, NUMBER, "The row's number is 19999, and that of the row before is 19999: numbers rise."),
     (MANY + COMMENTS + b"19999 T -\n" + MORE, 40001, NUMBER, None),
-    (MANY + b"20000 T 1G\n" + MORE, 20001, HEX, 'At column 10 stands "G", which is no hex digit.'),
+    (MANY + b"20000 T 1G\n" + MORE, 20001, HEX, 'Column 10 has "G", which is not a hex digit.'),
     (MANY + MORE + b"90000 X 10\n" + MANY, 90000, SIDE, 'The side is "X": T for the DTE or N for the DCE belongs there.'),
     (b"\n", 2, LINE_FORM, LAST_EMPTY),
     (b"1 T 10\n\n", 3, LINE_FORM, LAST_EMPTY),
@@ -86,30 +86,30 @@ ROWS = [
     (b"1 n -\n", 2, SIDE, "The side n is written N."),
     (b"1 DTE -\n", 2, SIDE, 'The side is "DTE": T for the DTE or N for the DCE belongs there.'),
     (b"1 X\x01 -\n", 2, SIDE, 'The side is "X\\x01": T for the DTE or N for the DCE belongs there.'),
-    (b"1 T 100\n", 2, HEX, "The octets have 3 hex digits, an odd number: the last one, at column 7, stands alone."),
-    (b"1 T 100", 2, HEX, "The octets have 3 hex digits, an odd number: the last one, at column 7, stands alone."),
-    (b"12 T 100\n", 2, HEX, "The octets have 3 hex digits, an odd number: the last one, at column 8, stands alone."),
-    (b"1 T 10x0\n", 2, HEX, 'At column 7 stands "x", which is no hex digit.'),
-    (b"1 T 1g\n", 2, HEX, 'At column 6 stands "g", which is no hex digit.'),
-    (b"12 T 10g0\n", 2, HEX, 'At column 8 stands "g", which is no hex digit.'),
+    (b"1 T 100\n", 2, HEX, "The octets have 3 hex digits, an odd number: the last one, at column 7, has no second digit."),
+    (b"1 T 100", 2, HEX, "The octets have 3 hex digits, an odd number: the last one, at column 7, has no second digit."),
+    (b"12 T 100\n", 2, HEX, "The octets have 3 hex digits, an odd number: the last one, at column 8, has no second digit."),
+    (b"1 T 10x0\n", 2, HEX, 'Column 7 has "x", which is not a hex digit.'),
+    (b"1 T 1g\n", 2, HEX, 'Column 6 has "g", which is not a hex digit.'),
+    (b"12 T 10g0\n", 2, HEX, 'Column 8 has "g", which is not a hex digit.'),
     (b"1 T 10\r\n", 2, HEX, CARRIAGE_RETURN),
     (b"1 T " + DIGITS + b"\n1 N " + DIGITS + b"\n" + BEHIND, 3, NUMBER, "The row's number is 1, and that of the row before is 1: numbers rise."),
     (b"07 T " + DIGITS + b"\n" + BEHIND, 2, NUMBER, 'The row\'s number is "07": 1 to 999999999 without a leading zero belongs there.'),
     (b"1234567890 T " + DIGITS + b"\n" + BEHIND, 2, NUMBER, None),
     (b"1 t " + DIGITS + b"\n" + BEHIND, 2, SIDE, "The side t is written T."),
-    (b"1 T " + DIGITS[:33] + b"\n" + BEHIND, 2, HEX, "The octets have 33 hex digits, an odd number: the last one, at column 37, stands alone."),
+    (b"1 T " + DIGITS[:33] + b"\n" + BEHIND, 2, HEX, "The octets have 33 hex digits, an odd number: the last one, at column 37, has no second digit."),
     (b"1 T " + DIGITS + b"\r\n" + BEHIND, 2, HEX, CARRIAGE_RETURN),
     (b"1 T " + DIGITS + b" \n" + BEHIND, 2, LINE_FORM, "The line ends in a space."),
     (b"1 T \n" + BEHIND, 2, LINE_FORM, "The line ends in a space."),
     (b"1 T " + b"00" * 4201 + b"\n" + BEHIND, 2, HEX, None),
 ]
 
-# Bytes that are no hex digit, most of them next to one in ASCII.
+# Bytes that are not a hex digit, most of them next to one in ASCII.
 WRONG = b"/:@G`g\0\x1f\x80\xbf\xff"
 
 
 def wrong_digits():
-    """Rows with each byte that is no hex digit at each place of the digits that are read at once, and beyond."""
+    """Rows with each byte that is not a hex digit at each place of the digits that are read at once, and beyond."""
     for place in range(33):
         for byte in WRONG:
             digits = DIGITS[:place] + bytes([byte]) + DIGITS[place + 1:]
@@ -125,19 +125,19 @@ HEADERS = [
     (b"\n", 1, HEADER_FORM, EMPTY),
     (COMMENTS + HEADER + b"1 T\n", 20002, LINE_FORM, "The line has 2 words, and a row has three: its number, its side and its octets."),
     (b"X25 1 mod 8 WIN 2 SIZE 128 PVC 0 SVC 4", 1, HEADER_FORM, 'The header\'s words are in capitals: "mod" is written MOD.'),
-    (b"X25 1 MOD 8 SIZE 128 PVC 0 SVC 4", 1, HEADER_FORM, 'In the header stands "SIZE" where WIN belongs.'),
-    (b"X25 1 MOD 8 WIN 02 SIZE 128 PVC 0 SVC 4", 1, HEADER_FORM, '"02" stands after WIN, where a number of 1 to 9 digits without a leading zero belongs.'),
-    (b"X25 1 MOD 08 WIN 2 SIZE 128 PVC 0 SVC 4", 1, HEADER_FORM, '"08" stands after MOD, where a number of 1 to 9 digits without a leading zero belongs.'),
+    (b"X25 1 MOD 8 SIZE 128 PVC 0 SVC 4", 1, HEADER_FORM, 'The header has "SIZE" where WIN belongs.'),
+    (b"X25 1 MOD 8 WIN 02 SIZE 128 PVC 0 SVC 4", 1, HEADER_FORM, '"02" comes after WIN, where a number of 1 to 9 digits without a leading zero belongs.'),
+    (b"X25 1 MOD 08 WIN 2 SIZE 128 PVC 0 SVC 4", 1, HEADER_FORM, '"08" comes after MOD, where a number of 1 to 9 digits without a leading zero belongs.'),
     (b"X25 1 MOD 1000000000 WIN 2 SIZE 128 PVC 0 SVC 4", 1, HEADER_FORM, None),
     (b"X25 1 MOD 8 WIN 2 SIZE 128 PVC 0", 1, HEADER_FORM, "The header ends where SVC belongs."),
     (b"X25 1 MOD 8 WIN 2 SIZE 128 PVC", 1, HEADER_FORM, "The header ends where the number of PVC belongs."),
-    (b"X25 2 MOD 8 WIN 2 SIZE 128 PVC 0 SVC 4", 1, HEADER_FORM, 'In the header stands "SVC" where IN belongs.'),
+    (b"X25 2 MOD 8 WIN 2 SIZE 128 PVC 0 SVC 4", 1, HEADER_FORM, 'The header has "SVC" where IN belongs.'),
     (b"X25 3 MOD 8", 1, HEADER_FORM, "The header ends where WIN belongs."),
-    (b"X25 3 MOD 8 WIN 2 SIZE 128 PVC 0 SVC 4", 1, HEADER_FORM, 'In the header stands "SVC" where IN belongs.'),
+    (b"X25 3 MOD 8 WIN 2 SIZE 128 PVC 0 SVC 4", 1, HEADER_FORM, 'The header has "SVC" where IN belongs.'),
     (b"X25 4 MOD 8", 1, HEADER_FORM, "After X25 comes the form of the header: 1, 2 or 3."),
-    (b"X25 1 MOD 8 WIN 2 SIZE 128 PVC 0 SVC 4 JOIN", 1, HEADER_FORM, '"JOIN" stands after the header\'s last number.'),
+    (b"X25 1 MOD 8 WIN 2 SIZE 128 PVC 0 SVC 4 JOIN", 1, HEADER_FORM, '"JOIN" comes after the header\'s last number.'),
     (b"X25 2 MOD 8 WIN 2 SIZE 128 PVC 0 IN 0 TWO 4 OUT 4 join", 1, HEADER_FORM, 'The header\'s words are in capitals: "join" is written JOIN.'),
-    (b"1 T 10\n", 1, HEADER_FORM, "A row stands before the header, which comes first, as X25 1 MOD 8 WIN 2 SIZE 128 PVC 0 SVC 4."),
+    (b"1 T 10\n", 1, HEADER_FORM, "A row comes before the header, which has to come first, as X25 1 MOD 8 WIN 2 SIZE 128 PVC 0 SVC 4."),
     (b"X25 1 MOD 8 WIN 2 SIZE 128 PVC 0 SVC 4\r\n", 1, HEADER_FORM, CARRIAGE_RETURN),
     (b"#\nX25 1 MOD 9 WIN 2 SIZE 128 PVC 0 SVC 4", 2, HEADER_RANGE, "The header's MOD is 9: 8 or 128 belongs there."),
     (b"X25 1 MOD 8 WIN 8 SIZE 128 PVC 0 SVC 4", 1, HEADER_RANGE, "The header's WIN is 8: 1 to 7 belongs there."),
@@ -156,7 +156,7 @@ HEADERS = [
     (b"  \n  x25 1\n", 1, HEADER_FORM, "The line begins with a space."),
     (b" X25 1 MOD 8\n", 1, HEADER_FORM, "The line begins with a space."),
     (b"x25 1 MOD 8\n", 1, HEADER_FORM, 'The header\'s words are in capitals: "x25" is written X25.'),
-    (b"MOD 8 WIN 2\n", 1, HEADER_FORM, 'In the header stands "MOD" where X25 belongs.'),
+    (b"MOD 8 WIN 2\n", 1, HEADER_FORM, 'The header has "MOD" where X25 belongs.'),
     (b"\xd4\xc3\xb2\xa1\x02\x00\x04\x00\n", 1, HEADER_FORM, CAPTURE),
     (b"\x0a\x0d\x0d\x0a\x1c\x00\x00\x00", 1, HEADER_FORM, CAPTURE),
 ]
@@ -176,7 +176,7 @@ GAPS = [
     (THIRD_HEADER + b"1 ? 0\n", 2, HEX, NO_CHANNEL.format("0")),
     (THIRD_HEADER + b"1 ? 01\n", 2, HEX, NO_CHANNEL.format("01")),
     (THIRD_HEADER + b"1 ? **\n", 2, HEX, NO_CHANNEL.format("**")),
-    (THIRD_HEADER + b"1 ? 1\n2 T 0z\n", 3, HEX, 'At column 6 stands "z", which is no hex digit.'),
+    (THIRD_HEADER + b"1 ? 1\n2 T 0z\n", 3, HEX, 'Column 6 has "z", which is not a hex digit.'),
     (THIRD_HEADER + b"5 ? 1\n5 ? 2\n", 3, NUMBER, "The row's number is 5, and that of the row before is 5: numbers rise."),
     (THIRD_HEADER + b"1 ? 1 2\n", 2, LINE_FORM, "The line has 4 words, and a row has three: its number, its side and its octets."),
     (MANY_GAPS + b"30000 X -\n", 30001, SIDE, NO_SIDE.format("X")),

@@ -10,7 +10,7 @@ use Rattle.line_model.specs.observer.Report.{no_summary, report_of}
 use Rattle.line_model.specs.text.Text.{Line, begun_kind, begun_line, content_of, early, end_kind, ended_lines, fault, first_fault, form_kind, head, head_of, line_kind, line_or_none, lines_of, rows, rows_in, size_kind, size_of}
 use Rattle.line_model.specs.traces.Traces.{trace_summary}
 use Rattle.line_model.specs.declared.fault.Fault.{Fault}
-use Rattle.line_model.specs.declared.fault.Fault.TheVariants.{Memory, Trace, Read, Write, Start, Double, Stranger, Missing}
+use Rattle.line_model.specs.declared.fault.Fault.TheVariants.{Memory, Trace, Read, Write, Start, Double, UnknownPiece, Missing}
 use Rattle.line_model.specs.declared.fault.Kind.{Kind}
 use Rattle.line_model.specs.declared.fault.Kind.TheVariants.{HeaderMissing, TextLarge}
 use Rattle.line_model.specs.declared.totals.Summary.{Summary}
@@ -116,7 +116,7 @@ lf_refused x Read some sound h = absurd h
 lf_refused x Write some sound h = absurd h
 lf_refused x Start some sound h = absurd h
 lf_refused x (Double i) some sound h = absurd h
-lf_refused x (Stranger i) some sound h = absurd h
+lf_refused x (UnknownPiece i) some sound h = absurd h
 lf_refused x (Missing i) some sound h = absurd h
 
 -- ---- the end

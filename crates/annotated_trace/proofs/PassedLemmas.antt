@@ -19,14 +19,14 @@ use Rattle.line_model.proofs.DeviceLemmas.{with_more-append}
 pub record Passed {A O P : Type 0} (S : O → P → List ℕ → Type 0) (F : List Line → List ℕ → Type 0) (a0 a : TracePrinter A O P) (taken0 taken : Option (List ℕ)) (chunk rest : List ℕ) : Type 0 where
   pub fed : List ℕ
   pub whole : chunk ≡ fed ++ rest
-  pub stands : (x : List ℕ) → WasFed S a0 x → WasFed S a (x ++ fed)
+  pub represented : (x : List ℕ) → WasFed S a0 x → WasFed S a (x ++ fed)
   pub printed : (x : List ℕ) (before : Option (List ℕ)) → WasFed S a0 x → HasPrinted F before taken0 a0.held.items (ended_lines x) → HasPrinted F before taken a.held.items (ended_lines (x ++ fed))
 
 pub nothing_passed : {A O P : Type 0} → (S : O → P → List ℕ → Type 0) (F : List Line → List ℕ → Type 0) (a : TracePrinter A O P) (taken : Option (List ℕ)) (chunk : List ℕ) → Passed S F a a taken taken chunk chunk
 nothing_passed S F a taken chunk = record {
   fed = [];
   whole = refl;
-  stands = λ x s. subst (WasFed S a) (sym (append-nil x)) s;
+  represented = λ x s. subst (WasFed S a) (sym (append-nil x)) s;
   printed = λ x before s h. subst (λ y. HasPrinted F before taken a.held.items (ended_lines y)) (sym (append-nil x)) h;
 }
 
@@ -57,14 +57,14 @@ pub line_passed : {A O P : Type 0} → (S : O → P → List ℕ → Type 0) (F 
     → end ≡ front ++ 10 ∷ [] → IsOneLine front → ((x front : List ℕ) → WasFed S a x → end ≡ front ++ 10 ∷ [] → IsOneLine front → WasFed S a1 (x ++ end))
     → ((x front sent : List ℕ) → WasFed S a x → end ≡ front ++ 10 ∷ [] → IsOneLine front → F (ended_lines x) (sent ++ a.held.items) → F (ended_lines (x ++ end)) (sent ++ a1.held.items))
     → a2.trace ≡ a1.trace → a2.printer ≡ a1.printer → a2.begun.items ≡ a1.begun.items → taken2 ≡ with_more taken sent → sent ++ a2.held.items ≡ a1.held.items → Passed S F a0 a2 taken0 taken2 chunk back
-line_passed S F a0 a a1 a2 taken0 taken taken2 chunk rest front back end sent p e k one stands held t d b took put = record {
+line_passed S F a0 a a1 a2 taken0 taken taken2 chunk rest front back end sent p e k one represented held t d b took put = record {
   fed = p.fed ++ end;
   whole = behind_line p.fed front back rest end chunk p.whole e k;
-  stands = λ x s.
-      let next = stands (x ++ p.fed) front (p.stands x s) k one in
+  represented = λ x s.
+      let next = represented (x ++ p.fed) front (p.represented x s) k one in
       subst (WasFed S a2) (append_assoc x p.fed end) (record { trace = same_read S a1 a2 ((x ++ p.fed) ++ end) t d next.trace; begun = b ∙ next.begun });
   printed = λ x before s h.
-      let now = printed_line F before taken taken2 a.held.items a1.held.items a2.held.items (x ++ p.fed) ((x ++ p.fed) ++ end) sent (λ f g. held (x ++ p.fed) front f (p.stands x s) k one g) took put (p.printed x before s h) in
+      let now = printed_line F before taken taken2 a.held.items a1.held.items a2.held.items (x ++ p.fed) ((x ++ p.fed) ++ end) sent (λ f g. held (x ++ p.fed) front f (p.represented x s) k one g) took put (p.printed x before s h) in
       subst (λ y. HasPrinted F before taken2 a2.held.items (ended_lines y)) (append_assoc x p.fed end) now;
 }
 

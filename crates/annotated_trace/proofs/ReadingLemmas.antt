@@ -75,7 +75,7 @@ stop_is : {A O P : Type 0} (S : O → P → List ℕ → Type 0) (size : O → �
     → StopsReading F (fed ++ last) before taken (z ≡ x) f
 stop_is S size F before taken x z t fed last f sound few (inl why) =
     subst (StopsReading F (fed ++ last) before taken (z ≡ x)) (sym why.failure)
-    (subst (λ xs. StopsReading F (fed ++ xs) before taken (z ≡ x) Read) (sym why.none) (subst (λ xs. StopsReading F xs before taken (z ≡ x) Read) (sym (append-nil fed)) (stop_failed F fed before taken (z ≡ x) sound why.stands.printed)))
+    (subst (λ xs. StopsReading F (fed ++ xs) before taken (z ≡ x) Read) (sym why.none) (subst (λ xs. StopsReading F xs before taken (z ≡ x) Read) (sym (append-nil fed)) (stop_failed F fed before taken (z ≡ x) sound why.represented.printed)))
 stop_is S size F before taken x z t fed last f sound few (inr why) = record { refusal = read_refusal fed last f sound few why.refusal; first = why.first; at_line = why.at_line; at_failure = λ e. absurd (no_read f why.kinds e) }
 
 -- by what a reader of the source says

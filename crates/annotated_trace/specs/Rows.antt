@@ -6,7 +6,7 @@ use Rattle.line_model.specs.declared.interface.Interface.{Interface}
 use Rattle.line_model.specs.declared.packet.Packet.{Packet}
 use Rattle.line_model.specs.declared.packet.Packet.TheVariants.{Channel, GapOfAll}
 use Rattle.line_model.specs.channels.Gaps.{GapChannel}
-use Rattle.line_model.specs.channels.GapRestart.{GapLine}
+use Rattle.line_model.specs.channels.GapRestart.{GapInterfaceState}
 use Rattle.line_model.specs.observer.Calls.{calls_of}
 use Rattle.line_model.specs.observer.Machine.{Observer, routed, steps_all, walk}
 use Rattle.line_model.specs.observer.Observer.{events, start, x25}
@@ -45,8 +45,8 @@ is_of_call_by false taker n e before after = is_of_call_on taker n e before afte
 -- whether a row, after others, is one of the rows of the call of a number in the report
 abbrev pub is_of_call : Interface → (before : List Item) → Item → (number : ℕ) → Bool
 is_of_call i before r n =
-    let o : Observer GapLine GapChannel = walk (x25 i) (start i) before in
-    is_of_call_by (steps_all (x25 i) o.line r) (routed (x25 i) o.line r) n o.epoch (calls_of (events i before)) (calls_of (events i (before ++ r ∷ [])))
+    let o : Observer GapInterfaceState GapChannel = walk (x25 i) (start i) before in
+    is_of_call_by (steps_all (x25 i) o.level r) (routed (x25 i) o.level r) n o.epoch (calls_of (events i before)) (calls_of (events i (before ++ r ∷ [])))
 
 -- whether a packet names a logical channel; a gap of all channels represents packets of any
 abbrev pub names : (channel : ℕ) → Packet → Bool

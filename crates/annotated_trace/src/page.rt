@@ -65,7 +65,7 @@ pub struct ClosingPage<S: LentSink> {
     buffer: WriteBuffer,
     /// The bytes of the words of the line that has not ended.
     said: usize,
-    ghost stands: { ∥ HasNotes S.before (S.taken sink, S.failures sink) buffer said ∥₁ },
+    ghost represented: { ∥ HasNotes S.before (S.taken sink, S.failures sink) buffer said ∥₁ },
 }
 
 impl<S: LentSink> ClosingPage<S> {

@@ -91,7 +91,7 @@ put-sum d e (k ∷ ks) same = at (order e.address k.address) refl (put-sum d e k
         ap (put d) (put-by Greater e k ks h) ∙ put-by Greater d k (put e ks) (subst (λ a. order a k.address ≡ Greater) (sym same) h)
         ∙ ap (λ l. k ∷ l) later ∙ sym (put-by Greater (sum_of e d) k ks h)
 
--- an account stands before a list
+-- an account comes before a list
 abbrev IsFirst : Account → List Account → Type 0
 IsFirst d [] = Unit {0}
 IsFirst d (k ∷ ks) = order d.address k.address ≡ Less
@@ -217,7 +217,7 @@ climbs_from r (e ∷ es) first h = (
   climbs_from e.rank es (λ d some. h 0 1 d (omega arith) (omega arith)) (λ i j d le lt. h (suc i) (suc j) d (omega arith) (omega arith)),
 )
 
--- an account of a lower rank stands before the accounts of entries
+-- an account of a lower rank comes before the accounts of entries
 first-ledger : (k : Account) (r s : ℕ) (es : List AccountEntry) → IsRank r k.address → r < s → Climbs s es → AllByRecursion IsRanked es → IsFirst k (ledger (map account_of_entry es))
 first-ledger k r s [] h lt up ranked = tt
 first-ledger k r s (e ∷ es) h lt up ranked =

@@ -111,7 +111,7 @@ pub all_below : (a b : List ℕ) (bs : List (List ℕ)) → order a b ≡ Less �
 all_below a b [] e h = tt
 all_below a b (x ∷ bs) e h = (order_total.trans a b x e h.0, all_below a b bs e h.1)
 
--- what an address is put before, beside and behind
+-- what an address is put before, beside and after
 abbrev pub Placed : List ℕ → List ℕ → List (List ℕ) → Ordering → Type 0
 Placed a b bs o = MatchOrdering o (with_address a (b ∷ bs) ≡ a ∷ b ∷ bs) ((with_address a (b ∷ bs) ≡ b ∷ bs) × (a ≡ b)) (with_address a (b ∷ bs) ≡ b ∷ with_address a bs)
 

@@ -1,4 +1,4 @@
--- One more event of a call, behind those that are counted.
+-- One more event of a call, after those that are counted.
 use Rattle.std.proofs.Common.{◌≡◌, ℕ, zero, suc, ◌+◌, ◌-◌, ◌/◌, ◌≤◌, Bool, true, false, cond, List, [], ◌∷◌, ◌++◌, length, map, reverse, filter_map, sum, refl, sym, ap, ◌∙◌, arith, Option, Some, None, unwrap_or, append_assoc, if◌then◌else◌}
 use Rattle.std.specs.Prelude.{option_map, find}
 use Rattle.std.specs.List.{slice_get, cons_option, filter, flat_map, range_with_len}

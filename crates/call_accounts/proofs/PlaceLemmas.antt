@@ -65,12 +65,12 @@ flipped : (a b c d : ℕ) → (a == c && b == d) ≡ (c == a && d == b)
 flipped a b c d = λ j. same_sym a c j && same_sym b d j
 
 -- the current place goes into the map, and another comes out
-pub turned : {V : Type 0} → (a b epoch channel : ℕ) (here : V) (old removed new : BTreeMap (ℕ × ℕ) V)
+pub current : {V : Type 0} → (a b epoch channel : ℕ) (here : V) (old removed new : BTreeMap (ℕ × ℕ) V)
     → ((q : ℕ × ℕ) → get place_order removed q ≡ cond (is_at (place_order (epoch, channel)) q) None (get place_order old q))
     → ((q : ℕ × ℕ) → get place_order new q ≡ cond (is_at (place_order (a, b)) q) (Some here) (get place_order removed q))
     → (e c : ℕ) → (epoch == e && channel == c) ≡ false
     → get place_order new (e, c) ≡ (if a == e && b == c then Some here else get place_order old (e, c))
-turned a b epoch channel here old removed new takes puts e c other =
+current a b epoch channel here old removed new takes puts e c other =
     puts (e, c)
     ∙ ap (λ x. cond x (Some here) (get place_order removed (e, c))) (same_place a b e c)
     ∙ ap (λ o. cond (a == e && b == c) (Some here) o) (takes (e, c) ∙ ap (λ x. cond x None (get place_order old (e, c))) (same_place epoch channel e c ∙ other))
@@ -190,7 +190,7 @@ added_more {A} old t after es v epoch channel found others adds_at kept few =
 
     before : (o : Option (CallsSoFar A)) → IsKept (λ s. Represents s v.epoch v.channel) o (own_events v.epoch v.channel es) → IsFound o t.here → Represents t.here v.epoch v.channel (own_events v.epoch v.channel es)
     before None none fresh = subst (Represents t.here v.epoch v.channel) (sym none) (fresh v.epoch v.channel)
-    before (Some s) stands same = subst (λ x. Represents x v.epoch v.channel (own_events v.epoch v.channel es)) (sym same) stands
+    before (Some s) represented same = subst (λ x. Represents x v.epoch v.channel (own_events v.epoch v.channel es)) (sym same) represented
 
 -- ---- the records of each place
 
@@ -294,7 +294,7 @@ added_left {A} t es holds_at e c = subst (IsKept HasCalls (calls_at t e c)) (sym
   where
     at : (o : Option (CallsSoFar A)) → IsKept (λ s. Represents s e c) o (own_events e c es) → IsKept HasCalls o (calls_of (own_events e c es))
     at None none = ap calls_of none
-    at (Some s) stands = has_calls_of s e c (own_events e c es) stands
+    at (Some s) represented = has_calls_of s e c (own_events e c es) represented
 
 -- ---- one record less
 

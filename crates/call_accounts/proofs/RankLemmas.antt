@@ -57,7 +57,7 @@ all_octets (x ∷ xs) h = (h 0, all_octets xs (λ i. h (suc i)))
 abbrev Octets : List ℕ → Type 0
 Octets xs = AllByRecursion (λ x. x < 256) xs
 
--- what stands before counts more than all that is behind
+-- what comes before counts more than all that is after
 rank-front : (n : ℕ) (xs ys : List ℕ) (r s : ℕ) → Octets xs → r < s → rank_behind n xs r < rank_behind n ys s
 rank-front zero xs ys r s h lt = lt
 rank-front (suc n) [] [] r s h lt = rank-front n [] [] (r * 257) (s * 257) tt (omega arith)

@@ -1,4 +1,4 @@
--- The calls of one channel in one epoch, with one more event behind those that were added.
+-- The calls of one channel in one epoch, with one more event after those that were added.
 use Rattle.std.proofs.Common.{◌≡◌, ℕ, suc, zero, ◌<◌, Bool, true, false, cond, not, ◌||◌, ◌==◌, List, [], ◌∷◌, ◌++◌, map, refl, sym, ap, ◌∙◌, subst, Option, Some, None, append_assoc, arith, length, sum, ◌-◌, ◌≤◌, get_or, take, drop}
 use Rattle.std.specs.Prelude.{find, take_while, option_map, option_and_then, is_some}
 use Rattle.std.specs.List.{filter, AllByRecursion}
@@ -79,7 +79,7 @@ pub record_along : (e : Event) (o : Bool) (a b : List ℕ) (r : Bool) (later own
 unfolding goes_on
 record_along e o a b r later own h = ap (λ l. record_from e o a b r (take_while goes_on l) (find is_end l)) h
 
--- ---- ends and members, with events behind them
+-- ---- ends and members, with events after them
 
 taken_before : (es : List Event) (o : Event) (later : List Event) → goes_on o ≡ false → take_while goes_on (es ++ o ∷ later) ≡ take_while goes_on es
 taken_before [] o later h = take_while-cons goes_on o later ∙ ap (λ b. cond b (o ∷ take_while goes_on later) []) h
@@ -239,7 +239,7 @@ still_ended : (es : List Event) (e : Event) → AllEnded es → is_opening e ≡
 still_ended [] e h k = ((λ q. cc), tt)
 still_ended (f ∷ es) e h k = ((λ q. still_found es e (h.0 q)), still_ended es e h.1 k)
 
--- ---- the calls that have ended stand before those that have not
+-- ---- the calls that have ended come before those that have not
 
 endless : (es : List Event) → find is_end es ≡ None → AllByRecursion (λ c. c.ended ≡ None) (calls_in es)
 endless [] h = tt

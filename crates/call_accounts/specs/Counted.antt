@@ -12,7 +12,7 @@ use Rattle.call_accounts.specs.declared.counts.CallCounts.{CallCounts}
 
 -- the entry of a parameter from 1 to 22
 abbrev pub entry_at : PadTable → ℕ → Entry
-entry_at t n = slice_index_or t.entries (n - 1) Unknown
+entry_at t n = slice_index_or (unwrap_or t.entries []) (n - 1) Unknown
 
 -- the settings that a table knows of some parameters
 abbrev pub settings_in : Side → PadTable → List ℕ → List SettingRecord

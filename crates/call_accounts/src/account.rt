@@ -125,7 +125,7 @@ fn added_up<A: Allocator>(alloc: A, entries: &[AccountEntry]) -> Result<Vec<Acco
 
 /// Returns the accounts of the addresses that pay for calls, each once, by the bytes of the addresses, the absent one
 /// first: how many calls it pays for, and their segments. The called address pays where the opening packet asks
-/// reverse charging (X.25, 6.18), else the calling one. The order is profile. Fails only when memory is refused.
+/// reverse charging (X.25, 6.18), otherwise the calling one. The order is profile. Fails only when memory is refused.
 pub fn accounts_of<A: Allocator + Clone>(
     alloc: A,
     calls: &[CallRecord<A>],

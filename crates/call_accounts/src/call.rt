@@ -44,7 +44,7 @@ impl<A: Allocator + Clone> Places<A> {
 
     /// Makes (epoch, channel) the current place.
     fn select(&mut self, alloc: &A, epoch: u32, channel: u16) -> Result<(), AllocError>
-        ensures turned { OnOk result ((self.new.epoch ≡ epoch) × (self.new.channel ≡ channel)) }
+        ensures current { OnOk result ((self.new.epoch ≡ epoch) × (self.new.channel ≡ channel)) }
         ensures here { OnOk result (IsFound (calls_at self.old epoch channel) self.new.here) }
         ensures others { OnOk result ((e c : ℕ) → (epoch == e && channel == c) ≡ false
             → calls_at self.new e c ≡ calls_at self.old e c) }

@@ -1,6 +1,6 @@
 //! What the messages of a call have said of the parameters of one PAD.
 
-ghost use Rattle.std.specs.Prelude.{◌≡◌, ℕ, ◌≤◌, ◌==◌, ◌++◌, if◌then◌else◌, OnOk};
+ghost use Rattle.std.specs.Prelude.{◌≡◌, ℕ, ◌-◌, ◌≤◌, ◌==◌, ◌++◌, if◌then◌else◌, slice_index_or, OnOk};
 ghost use Rattle.std.specs.List.{range_with_len};
 ghost use Rattle.line_model.specs.declared.event.Entry.TheVariants.{Unknown};
 ghost use Rattle.line_model.specs.observer.Calls.{is_known};
@@ -14,7 +14,8 @@ use std::alloc::{AllocError, Allocator};
 /// The last word on each of the parameters 1 to 22.
 #[derive(Clone, Copy)]
 pub struct PadTable {
-    entries: [Entry; 22],
+    /// The entries of all of them; `None` until a message says something of one.
+    entries: Option<[Entry; 22]>,
 }
 
 impl PadTable {
@@ -22,8 +23,16 @@ impl PadTable {
     pub(crate) fn new() -> PadTable
         ensures { (n : ℕ) → entry_at result n ≡ Unknown }
     {
-        PadTable {
-            entries: [Entry::Unknown; 22],
+        PadTable { entries: None }
+    }
+
+    /// Returns the entries of all parameters.
+    fn all(&self) -> [Entry; 22]
+        ensures { (n : ℕ) → slice_index_or result (n - 1) Unknown ≡ entry_at self.now n }
+    {
+        match self.entries {
+            Some(entries) => entries,
+            None => [Entry::Unknown; 22],
         }
     }
 
@@ -33,7 +42,9 @@ impl PadTable {
             → entry_at self.new n ≡ (if parameter == n then entry else entry_at self.old n) }
     {
         if (1..=22).contains(&parameter) {
-            self.entries[usize::from(parameter) - 1] = entry;
+            let mut entries = self.all();
+            entries[usize::from(parameter) - 1] = entry;
+            self.entries = Some(entries);
         }
     }
 
@@ -46,8 +57,11 @@ impl PadTable {
         ensures { OnOk result (settings.new.items
             ≡ settings.old.items ++ settings_in pad self.now (range_with_len 1 22)) }
     {
+        let Some(entries) = &self.entries else {
+            return Ok(());
+        };
         for parameter in 1..23u8 {
-            let entry = self.entries[usize::from(parameter) - 1];
+            let entry = entries[usize::from(parameter) - 1];
             if is_known(entry) {
                 settings.push(SettingRecord {
                     pad,

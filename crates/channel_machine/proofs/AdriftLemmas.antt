@@ -19,8 +19,8 @@ use Rattle.line_model.specs.channels.Gaps as gaps
 use Rattle.line_model.specs.channels.Gaps.{WhileAdrift, largest_terms}
 use Rattle.line_model.specs.channels.GapStep.{brought_up, coming_up, is_in_use, with_certainty, data_reported}
 use Rattle.channel_machine.specs.declared.events.EventOrigin.{EventOrigin}
-use Rattle.channel_machine.specs.Channels.{Known, Stands, Does}
-use Rattle.channel_machine.specs.GapChannels.{GapDoes, GapKnown, IsKnownBy, Represents, StandsAdrift, adrift_at, certainty_of, interface_of, number_of}
+use Rattle.channel_machine.specs.Channels.{Known, StatusRepresents, Does}
+use Rattle.channel_machine.specs.GapChannels.{GapDoes, GapKnown, IsKnownBy, Represents, RepresentsAdrift, adrift_at, certainty_of, interface_of, number_of}
 use Rattle.channel_machine.specs.GapSteps.{IsBare}
 use Rattle.channel_machine.specs.GapView.KnownCertainty.{Adrift}
 
@@ -33,18 +33,18 @@ if_open None P e = absurd (true≢false (sym e))
 if_open (Some x) P e = tt
 
 -- a channel adrift whose call was not answered
-pub unanswered_stands : (p : Known) (a : WhileAdrift) (c : Channel) → is_permanent p.terms.interface p.channel ≡ false → Stands p c → c.accepting ≡ None → StandsAdrift p a c
-unanswered_stands p a c virtual stands unanswered = record {
-  stands = stands;
+pub unanswered_represents : (p : Known) (a : WhileAdrift) (c : Channel) → is_permanent p.terms.interface p.channel ≡ false → StatusRepresents p c → c.accepting ≡ None → RepresentsAdrift p a c
+unanswered_represents p a c virtual represented unanswered = record {
+  represented = represented;
   bare = if_none c.opening (c.accepting ≡ None) unanswered;
   circuit = λ e. absurd (true≢false (sym e ∙ virtual));
   unanswered = λ h o t. unanswered;
 }
 
 -- one that is up
-pub up_stands : (p : Known) (a : WhileAdrift) (c : Channel) → Stands p c → is_in_transfer c ≡ true → IsBare c → StandsAdrift p a c
-up_stands p a c stands up bare = record {
-  stands = stands;
+pub up_represents : (p : Known) (a : WhileAdrift) (c : Channel) → StatusRepresents p c → is_in_transfer c ≡ true → IsBare c → RepresentsAdrift p a c
+up_represents p a c represented up bare = record {
+  represented = represented;
   bare = bare;
   circuit = λ e. up;
   unanswered = λ h o t. absurd (true≢false (sym up ∙ t));
@@ -79,9 +79,9 @@ reported_none i r None e = refl
 reported_none i r (Some h) e = absurd (true≢false e)
 
 -- what the code keeps represents the channel adrift
-pub adrift_stands : (p : GapKnown) (a : WhileAdrift) (c : Channel) (r : Bool) → p.restarting ≡ r → p.certainty ≡ Adrift a → StandsAdrift p.channel a c →
+pub adrift_represents : (p : GapKnown) (a : WhileAdrift) (c : Channel) (r : Bool) → p.restarting ≡ r → p.certainty ≡ Adrift a → RepresentsAdrift p.channel a c →
     Represents p (record { channel = c; restarting = r; certainty = gaps.Adrift a })
-adrift_stands p a c r same is s = record {
+adrift_represents p a c r same is s = record {
   restarting = same;
   certainty = ap (λ k. certainty_of k) is;
   channel = subst (λ k. IsKnownBy k p.channel c) (sym is) s;
@@ -89,21 +89,21 @@ adrift_stands p a c r same is s = record {
 
 -- what a function of the channel did, with the channel adrift after it
 pub drifts : (s : EventOrigin) (old new : GapKnown) (before after : List Event) (a : WhileAdrift) (o : Outcome) →
-    Does s old.channel new.channel before after o → new.restarting ≡ old.restarting → new.certainty ≡ Adrift a → StandsAdrift new.channel a o.after →
+    Does s old.channel new.channel before after o → new.restarting ≡ old.restarting → new.certainty ≡ Adrift a → RepresentsAdrift new.channel a o.after →
     GapDoes s old new before after (record { reported = o.reported; after = record { channel = o.after; restarting = old.restarting; certainty = gaps.Adrift a } })
-drifts s old new before after a o d restarting certainty stands = record {
+drifts s old new before after a o d restarting certainty represented = record {
   interface = d.interface;
   number = d.channel;
-  represents = adrift_stands new a o.after old.restarting restarting certainty stands;
+  represents = adrift_represents new a o.after old.restarting restarting certainty represented;
   reports = d.reports;
 }
 
 -- the same of what the code keeps, which is the channel that a function was called on
 became : (s : EventOrigin) (p old new : GapKnown) (before after : List Event) (a b : WhileAdrift) (o : Outcome) (c : Channel) → p ≡ old → Does s p.channel new.channel before after o →
-    new.restarting ≡ p.restarting → new.certainty ≡ Adrift b → StandsAdrift new.channel b o.after → GapDoes s old new before after (with_certainty (adrift_at old a c) (gaps.Adrift b) o)
-became s p old new before after a b o c same d restarting certainty stands =
+    new.restarting ≡ p.restarting → new.certainty ≡ Adrift b → RepresentsAdrift new.channel b o.after → GapDoes s old new before after (with_certainty (adrift_at old a c) (gaps.Adrift b) o)
+became s p old new before after a b o c same d restarting certainty represented =
     subst (λ q. GapDoes s q new before after (with_certainty (adrift_at q a c) (gaps.Adrift b) o)) same
-    (drifts s p new before after b o d restarting certainty stands)
+    (drifts s p new before after b o d restarting certainty represented)
 
 -- a channel whose call was not answered
 pub became_unanswered : (s : EventOrigin) (p old new : GapKnown) (before after : List Event) (a b : WhileAdrift) (o : Outcome) (c : Channel) → p ≡ old →
@@ -111,16 +111,16 @@ pub became_unanswered : (s : EventOrigin) (p old new : GapKnown) (before after :
     new.restarting ≡ p.restarting → new.certainty ≡ Adrift b → o.after.accepting ≡ None → GapDoes s old new before after (with_certainty (adrift_at old a c) (gaps.Adrift b) o)
 became_unanswered s p old new before after a b o c same virtual d restarting certainty unanswered =
     became s p old new before after a b o c same d restarting certainty
-    (unanswered_stands new.channel b o.after
+    (unanswered_represents new.channel b o.after
     ((λ j. is_permanent ((d.interface ∙ ap (λ q. interface_of q) same) j) ((d.channel ∙ ap (λ q. number_of q) same) j)) ∙ virtual)
-    d.stands unanswered)
+    d.represented unanswered)
 
 -- one that is up
 pub became_up : (s : EventOrigin) (p old new : GapKnown) (before after : List Event) (a b : WhileAdrift) (o : Outcome) (c : Channel) → p ≡ old → Does s p.channel new.channel before after o →
     new.restarting ≡ p.restarting → new.certainty ≡ Adrift b → is_in_transfer o.after ≡ true → IsBare o.after → GapDoes s old new before after (with_certainty (adrift_at old a c) (gaps.Adrift b) o)
 became_up s p old new before after a b o c same d restarting certainty up bare =
-    became s p old new before after a b o c same d restarting certainty (up_stands new.channel b o.after d.stands up bare)
+    became s p old new before after a b o c same d restarting certainty (up_represents new.channel b o.after d.represented up bare)
 
 -- what represents the channel on which a function was called
-pub at_entry : (p old : GapKnown) (a : WhileAdrift) (c : Channel) → p ≡ old → StandsAdrift old.channel a c → StandsAdrift p.channel a c
-at_entry p old a c same s = subst (λ (q : GapKnown). StandsAdrift q.channel a c) (sym same) s
+pub at_entry : (p old : GapKnown) (a : WhileAdrift) (c : Channel) → p ≡ old → RepresentsAdrift old.channel a c → RepresentsAdrift p.channel a c
+at_entry p old a c same s = subst (λ (q : GapKnown). RepresentsAdrift q.channel a c) (sym same) s

@@ -24,13 +24,13 @@ use Rattle.data_transfer.specs.Assembler.{begun_on}
 use Rattle.data_transfer.specs.Assembly.{Holds}
 use Rattle.channel_machine.specs.declared.events.EventOrigin.{EventOrigin}
 use Rattle.channel_machine.specs.declared.gaps.settled.Settling.{Settling}
-use Rattle.channel_machine.specs.Channels.{Known, Stands, Does}
-use Rattle.channel_machine.specs.GapChannels.{GapDoes, GapKnown, IsKnownBy, Represents, StandsAdrift, StandsSettled, adrift_at, at_rest, certainty_of, interface_of, number_of}
+use Rattle.channel_machine.specs.Channels.{Known, StatusRepresents, Does}
+use Rattle.channel_machine.specs.GapChannels.{GapDoes, GapKnown, IsKnownBy, Represents, RepresentsAdrift, RepresentsSettled, adrift_at, at_rest, certainty_of, interface_of, number_of}
 use Rattle.channel_machine.specs.GapSteps.{IsBare, carried_on, received_after}
 use Rattle.channel_machine.specs.GapView.{InDoubt, KnownCertainty}
 use Rattle.channel_machine.specs.GapView.KnownCertainty.{Certain, Adrift, Settled}
 use Rattle.channel_machine.specs.Reached.{IsUnanswered}
-use Rattle.channel_machine.specs.SettledNumbers.{NumbersStand, kept_begun}
+use Rattle.channel_machine.specs.SettledNumbers.{NumbersRepresent, kept_begun}
 use Rattle.channel_machine.specs.Settling.{settled_after, settling_by}
 use Rattle.channel_machine.proofs.AdriftLemmas.{became_up, brought_bare, if_open}
 
@@ -40,22 +40,22 @@ abbrev pub NotAdrift : KnownCertainty → Type 0
 NotAdrift (Adrift a) = ⊥
 NotAdrift k = Unit {0}
 
-owed_of : (k : KnownCertainty) (t : gaps.Certainty) (p : Known) (c : Channel) (o : Owed) → NotAdrift k → certainty_of k ≡ t → IsKnownBy k p c → ((d : Channel) → Stands p d → o ≡ owed_by d) → o ≡ gaps.owed_at_gap t c
-owed_of Certain t p c o n e s h = h c s.stands ∙ ap (λ u. gaps.owed_at_gap u c) e
+owed_of : (k : KnownCertainty) (t : gaps.Certainty) (p : Known) (c : Channel) (o : Owed) → NotAdrift k → certainty_of k ≡ t → IsKnownBy k p c → ((d : Channel) → StatusRepresents p d → o ≡ owed_by d) → o ≡ gaps.owed_at_gap t c
+owed_of Certain t p c o n e s h = h c s.represented ∙ ap (λ u. gaps.owed_at_gap u c) e
 owed_of (Settled d) t p c o n e s h = h (at_rest c) s.rest ∙ ap (λ u. gaps.owed_at_gap u c) e
 owed_of (Adrift a) t p c o n e s h = absurd n
 
 -- what a channel owes that is not adrift
-pub owed_known : (p old : GapKnown) (k : KnownCertainty) (g : gaps.GapChannel) (o : Owed) → p ≡ old → p.certainty ≡ k → NotAdrift k → Represents old g → ((d : Channel) → Stands p.channel d → o ≡ owed_by d) →
+pub owed_known : (p old : GapKnown) (k : KnownCertainty) (g : gaps.GapChannel) (o : Owed) → p ≡ old → p.certainty ≡ k → NotAdrift k → Represents old g → ((d : Channel) → StatusRepresents p.channel d → o ≡ owed_by d) →
     o ≡ gaps.owed_at_gap g.certainty g.channel
 owed_known p old k g o same is n r h =
     let here : Represents p g = subst (λ (q : GapKnown). Represents q g) (sym same) r in
     owed_of k g.certainty p.channel g.channel o n (ap (λ t. certainty_of t) (sym is) ∙ here.certainty) (subst (λ t. IsKnownBy t p.channel g.channel) is here.channel) h
 
 -- the channel without its numbers, whatever is certain of it
-rest_by : (k : KnownCertainty) (p : Known) (c : Channel) → IsKnownBy k p c → (d : Channel) × Stands p d × (at_rest d ≡ at_rest c)
-rest_by Certain p c s = (c, s.stands, refl)
-rest_by (Adrift a) p c s = (c, s.stands, refl)
+rest_by : (k : KnownCertainty) (p : Known) (c : Channel) → IsKnownBy k p c → (d : Channel) × StatusRepresents p d × (at_rest d ≡ at_rest c)
+rest_by Certain p c s = (c, s.represented, refl)
+rest_by (Adrift a) p c s = (c, s.represented, refl)
 rest_by (Settled d) p c s = (at_rest c, s.rest, refl)
 
 bare_by : (k : KnownCertainty) (p : Known) (c : Channel) → IsKnownBy k p c → IsBare c
@@ -63,27 +63,27 @@ bare_by Certain p c s = s.reached.bare
 bare_by (Adrift a) p c s = s.bare
 bare_by (Settled d) p c s = s.reached.bare
 
-record LeftStands (i : Interface) (permanent hidden : Bool) (c : Channel) : Type 0 where
+record LeftRepresents (i : Interface) (permanent hidden : Bool) (c : Channel) : Type 0 where
   bare : IsBare c
   circuit : permanent ≡ true → is_in_transfer c ≡ true
   unanswered : hidden ≡ false → is_open c ≡ true → is_in_transfer c ≡ false → c.accepting ≡ None
 
 left_at : (i : Interface) (p t : Bool) (o : Option Opening) (c : Channel) → IfNone o (c.accepting ≡ None) →
-    LeftStands i p (not p && is_some o) (with_largest_terms (not p && is_some o) i (entering (idle_name (p || t) o) false (record c { opening = o })))
+    LeftRepresents i p (not p && is_some o) (with_largest_terms (not p && is_some o) i (entering (idle_name (p || t) o) false (record c { opening = o })))
 left_at i true t None c bare = record { bare = bare; circuit = λ e. refl; unanswered = λ h o u. absurd (true≢false u) }
 left_at i true t (Some v) c bare = record { bare = tt; circuit = λ e. refl; unanswered = λ h o u. absurd (true≢false u) }
 left_at i false t None c bare = record { bare = bare; circuit = λ e. absurd (true≢false (sym e)); unanswered = λ h o u. absurd (true≢false (sym o)) }
 left_at i false t (Some v) c bare = record { bare = tt; circuit = λ e. absurd (true≢false (sym e)); unanswered = λ h o u. absurd (true≢false h) }
 
-left_of : (i : Interface) (n : ℕ) (c : Channel) → IsBare c → LeftStands i (is_permanent i n) (is_hidden_by_gap i n c) (left_by_gap i n c)
+left_of : (i : Interface) (n : ℕ) (c : Channel) → IsBare c → LeftRepresents i (is_permanent i n) (is_hidden_by_gap i n c) (left_by_gap i n c)
 left_of i n c bare = left_at i (is_permanent i n) (is_in_transfer c) c.opening c bare
 
-pub left_adrift : (p : Known) (i : Interface) (n : ℕ) (w : Owed) (c : Channel) → p.terms.interface ≡ i → p.channel ≡ n → Stands p (left_by_gap i n c) → IsBare c →
-    StandsAdrift p (record { owed = w; hidden = is_hidden_by_gap i n c; last = of_both None }) (left_by_gap i n c)
-left_adrift p i n w c interface number stands bare =
-    let l : LeftStands i (is_permanent i n) (is_hidden_by_gap i n c) (left_by_gap i n c) = left_of i n c bare in
+pub left_adrift : (p : Known) (i : Interface) (n : ℕ) (w : Owed) (c : Channel) → p.terms.interface ≡ i → p.channel ≡ n → StatusRepresents p (left_by_gap i n c) → IsBare c →
+    RepresentsAdrift p (record { owed = w; hidden = is_hidden_by_gap i n c; last = of_both None }) (left_by_gap i n c)
+left_adrift p i n w c interface number represented bare =
+    let l : LeftRepresents i (is_permanent i n) (is_hidden_by_gap i n c) (left_by_gap i n c) = left_of i n c bare in
     record {
-      stands = stands;
+      represented = represented;
       bare = l.bare;
       circuit = λ e. l.circuit ((λ j. is_permanent (sym interface j) (sym number j)) ∙ e);
       unanswered = l.unanswered;
@@ -92,18 +92,18 @@ left_adrift p i n w c interface number stands bare =
 -- what a gap leaves of a channel
 gapped_at : (p new : GapKnown) (all_channels : Bool) (g : gaps.GapChannel) (w : Owed) (h : Bool) → Represents p g → new.restarting ≡ (p.restarting || all_channels) →
     new.certainty ≡ Adrift (record { owed = w; hidden = h; last = of_both None }) → w ≡ gaps.owed_at_gap g.certainty g.channel →
-    ((d : Channel) → Stands p.channel d → h ≡ is_hidden_by_gap (interface_of p) (number_of p) d) → interface_of new ≡ interface_of p → number_of new ≡ number_of p →
-    ((d : Channel) → Stands p.channel d → Stands new.channel (left_by_gap (interface_of p) (number_of p) d)) →
+    ((d : Channel) → StatusRepresents p.channel d → h ≡ is_hidden_by_gap (interface_of p) (number_of p) d) → interface_of new ≡ interface_of p → number_of new ≡ number_of p →
+    ((d : Channel) → StatusRepresents p.channel d → StatusRepresents new.channel (left_by_gap (interface_of p) (number_of p) d)) →
     Represents new (gaps.gap_step (interface_of p) (number_of p) all_channels g)
 gapped_at p new all_channels g w h r restarting certainty owed hidden interface number left =
     let i : Interface = interface_of p in
     let n : ℕ = number_of p in
-    let (d, stands, same) = rest_by p.certainty p.channel g.channel r.channel in
+    let (d, represented, same) = rest_by p.certainty p.channel g.channel r.channel in
     let b : WhileAdrift = record { owed = w; hidden = h; last = of_both None } in
     let e : WhileAdrift = record { owed = gaps.owed_at_gap g.certainty g.channel; hidden = is_hidden_by_gap i n g.channel; last = of_both None } in
-    let hidden_is : h ≡ is_hidden_by_gap i n g.channel = hidden d stands ∙ ap (λ c. is_hidden_by_gap i n c) same in
+    let hidden_is : h ≡ is_hidden_by_gap i n g.channel = hidden d represented ∙ ap (λ c. is_hidden_by_gap i n c) same in
     let is : new.certainty ≡ Adrift e = certainty ∙ (λ j. Adrift (record { owed = owed j; hidden = hidden_is j; last = of_both None })) in
-    let there : Stands new.channel (left_by_gap i n g.channel) = subst (λ c. Stands new.channel (left_by_gap i n c)) same (left d stands) in
+    let there : StatusRepresents new.channel (left_by_gap i n g.channel) = subst (λ c. StatusRepresents new.channel (left_by_gap i n c)) same (left d represented) in
     record {
       restarting = restarting ∙ ap (λ v. v || all_channels) r.restarting;
       certainty = ap (λ k. certainty_of k) is;
@@ -113,8 +113,8 @@ gapped_at p new all_channels g w h r restarting certainty owed hidden interface 
 
 pub gapped : (p old new : GapKnown) (all_channels : Bool) (g : gaps.GapChannel) (w : Owed) (h : Bool) → p ≡ old → Represents old g → new.restarting ≡ (p.restarting || all_channels) →
     new.certainty ≡ Adrift (record { owed = w; hidden = h; last = of_both None }) → w ≡ gaps.owed_at_gap g.certainty g.channel →
-    ((d : Channel) → Stands p.channel d → h ≡ is_hidden_by_gap (interface_of p) (number_of p) d) → interface_of new ≡ interface_of p → number_of new ≡ number_of p →
-    ((d : Channel) → Stands p.channel d → Stands new.channel (left_by_gap (interface_of p) (number_of p) d)) →
+    ((d : Channel) → StatusRepresents p.channel d → h ≡ is_hidden_by_gap (interface_of p) (number_of p) d) → interface_of new ≡ interface_of p → number_of new ≡ number_of p →
+    ((d : Channel) → StatusRepresents p.channel d → StatusRepresents new.channel (left_by_gap (interface_of p) (number_of p) d)) →
     Represents new (gaps.gap_step (interface_of old) (number_of old) all_channels g)
 gapped p old new all_channels g w h same r restarting certainty owed hidden interface number left =
     subst (λ (q : GapKnown). Represents new (gaps.gap_step (interface_of q) (number_of q) all_channels g)) same
@@ -145,9 +145,9 @@ acceptance_is i x xs a g e =
       | false ↦ passing g
     ]) (sym e)
 
-pub accepted_adrift : (s : EventOrigin) (p old new : GapKnown) (before after : List Event) (a : WhileAdrift) (h : Bool) (x : Side) (xs : List ℕ) (c : Channel) → p ≡ old → StandsAdrift p.channel a c →
+pub accepted_adrift : (s : EventOrigin) (p old new : GapKnown) (before after : List Event) (a : WhileAdrift) (h : Bool) (x : Side) (xs : List ℕ) (c : Channel) → p ≡ old → RepresentsAdrift p.channel a c →
     (is_open c && not (is_in_transfer c)) ≡ true → h ≡ (a.hidden || is_own_acceptance x c.opening) →
-    ((h ≡ false → IsUnanswered c) → Stands p.channel c → Does s p.channel new.channel before after (coming_up (terms_of_acceptance h (interface_of p) xs) c)) →
+    ((h ≡ false → IsUnanswered c) → StatusRepresents p.channel c → Does s p.channel new.channel before after (coming_up (terms_of_acceptance h (interface_of p) xs) c)) →
     new.restarting ≡ p.restarting → new.certainty ≡ Adrift (record a { hidden = h }) → GapDoes s old new before after (adrift_acceptance (interface_of old) x xs a (adrift_at old a c))
 accepted_adrift s p old new before after a h x xs c same st called hidden does restarting certainty =
     let opened : is_open c ≡ true = both_first (is_open c) (not (is_in_transfer c)) called in
@@ -155,7 +155,7 @@ accepted_adrift s p old new before after a h x xs c same st called hidden does r
     let i : Interface = interface_of p in
     let done : GapDoes s p new before after (with_certainty (adrift_at p a c) (gaps.Adrift (record a { hidden = h })) (coming_up (terms_of_acceptance h i xs) c)) =
     became_up s p p new before after a (record a { hidden = h }) (coming_up (terms_of_acceptance h i xs) c) c refl
-    (does (λ none. record { opened = opened; unanswered = st.unanswered (either_first a.hidden (is_own_acceptance x c.opening) (sym hidden ∙ none)) opened waits }) st.stands)
+    (does (λ none. record { opened = opened; unanswered = st.unanswered (either_first a.hidden (is_own_acceptance x c.opening) (sym hidden ∙ none)) opened waits }) st.represented)
     restarting certainty refl (if_open c.opening (Some (terms_of_acceptance h i xs) ≡ None) opened) in
     subst (λ q. GapDoes s q new before after (adrift_acceptance (interface_of q) x xs a (adrift_at q a c))) same
     (subst (λ o. GapDoes s p new before after o)
@@ -171,7 +171,7 @@ reset_is i n a to g e =
       | false ↦ with_certainty g (gaps.Adrift (record a { owed = a.owed })) (report_nothing g.channel)
     ]) (sym e)
 
-pub reset_adrift : (s : EventOrigin) (p old new : GapKnown) (before after : List Event) (a b : WhileAdrift) (to : StateName) (c : Channel) → p ≡ old → StandsAdrift p.channel a c →
+pub reset_adrift : (s : EventOrigin) (p old new : GapKnown) (before after : List Event) (a b : WhileAdrift) (to : StateName) (c : Channel) → p ≡ old → RepresentsAdrift p.channel a c →
     is_transfer (state_named to) ≡ true → is_in_use (interface_of p) (number_of p) c ≡ true → b ≡ record { owed = a.owed; hidden = hidden_when_up a c; last = of_both None } →
     Does s p.channel new.channel before after (and_then (brought_up (interface_of p) c) (in_state to)) → new.restarting ≡ p.restarting → new.certainty ≡ Adrift b →
     GapDoes s old new before after (adrift_reset (interface_of old) (number_of old) a.owed a to (adrift_at old a c))
@@ -230,7 +230,7 @@ kept_none N i hidden y h c = refl
 -- the packet settles the channel
 pub settles : (s : EventOrigin) (p old new : GapKnown) (before after : List Event) (r : Item) (a b : WhileAdrift) (g : Settling) (k : InDoubt) (c : Channel) →
     p ≡ old → g.side ≡ r.side → g.header ≡ header_in r.packet → IsBare (brought_up (interface_of p) c).after → k.doubts ≡ settled_doubts a.hidden g.side g.header →
-    ((d : Channel) → NumbersStand (interface_of p).modulus k (settled_after (interface_of p).modulus g d)) → ((x : Side) → Holds (begun_on k.assembler x) []) →
+    ((d : Channel) → NumbersRepresent (interface_of p).modulus k (settled_after (interface_of p).modulus g d)) → ((x : Side) → Holds (begun_on k.assembler x) []) →
     Does s p.channel new.channel before after (carried_on (interface_of p) r c) → new.restarting ≡ p.restarting → new.certainty ≡ Settled k →
     GapDoes s old new before after (received_after (interface_of old) r a (adrift_at old b c) (Some g.receive) (Some g.last))
 settles s p old new before after r a b g k c same side header bare doubts numbers begun does restarting certainty =
@@ -238,10 +238,10 @@ settles s p old new before after r a b g k c same side header bare doubts number
     let up : Outcome = brought_up i c in
     let d : Channel = settled_after i.modulus g up.after in
     let there : interface_of new ≡ i = does.interface in
-    let settled : StandsSettled new.channel k d = record {
-      rest = does.stands;
+    let settled : RepresentsSettled new.channel k d = record {
+      rest = does.represented;
       reached = record { bare = bare; waiting = λ e. absurd (true≢false (sym e)) };
-      numbers = subst (λ m. NumbersStand m k d) (ap (λ v. v.modulus) (sym there)) (numbers up.after);
+      numbers = subst (λ m. NumbersRepresent m k d) (ap (λ v. v.modulus) (sym there)) (numbers up.after);
       sequences = λ x. subst (λ l. Holds (begun_on k.assembler x) l) (sym (ap (λ t. kept_begun (interface_of new) t x d) doubts ∙ kept_none x (interface_of new) a.hidden g.side g.header d)) (begun x);
       outside = λ e. absurd (true≢false e);
     } in
@@ -333,9 +333,9 @@ step_by e i n r a g fault entry =
     ]) fault
 
 -- what is owed is no part of what represents a channel adrift
-pub owing_stands : (p : Known) (a b : WhileAdrift) (c : Channel) → b.hidden ≡ a.hidden → StandsAdrift p a c → StandsAdrift p b c
-owing_stands p a b c same s = record {
-  stands = s.stands;
+pub owing_represents : (p : Known) (a b : WhileAdrift) (c : Channel) → b.hidden ≡ a.hidden → RepresentsAdrift p a c → RepresentsAdrift p b c
+owing_represents p a b c same s = record {
+  represented = s.represented;
   bare = s.bare;
   circuit = s.circuit;
   unanswered = λ h. s.unanswered (sym same ∙ h);

@@ -12,7 +12,7 @@ use Rattle.line_model.specs.declared.event.How as how
 use Rattle.line_model.specs.channels.Channels.{Channel, Opening}
 use Rattle.channel_machine.specs.declared.terms.Opened.{Opened}
 use Rattle.channel_machine.specs.declared.events.EventOrigin.{EventOrigin}
-use Rattle.channel_machine.specs.TermsStand.{opened_of}
+use Rattle.channel_machine.specs.TermsRepresent.{opened_of}
 use Rattle.channel_machine.specs.Events.{Reports}
 use Rattle.channel_machine.specs.Channels.{Known, Does}
 use Rattle.channel_machine.proofs.Reporting.{more}
@@ -28,14 +28,14 @@ ends_by h c (Some o) v e = refl
 
 pub ends : (h : How) (c : Channel) (terms : Option Opened) (v : Opened) → terms ≡ option_map opened_of c.opening → terms ≡ Some v →
     ended h c ≡ ending h c
-ends h c terms v stands e = sym (ends_by h c c.opening v (sym stands ∙ e))
+ends h c terms v represented e = sym (ends_by h c c.opening v (sym represented ∙ e))
 
 none_by : (h : How) (c : Channel) (o : Option Opening) → option_map opened_of o ≡ None → report_nothing (record c { opening = o }) ≡ ending h (record c { opening = o })
 none_by h c None e = refl
 none_by h c (Some o) e = absurd (true≢false (sym (ap (λ v. is_none v) e)))
 
 pub ends_none : (h : How) (c : Channel) (call : Option Opened) → call ≡ option_map opened_of c.opening → call ≡ None → report_nothing c ≡ ending h c
-ends_none h c call stands e = none_by h c c.opening (sym stands ∙ e)
+ends_none h c call represented e = none_by h c c.opening (sym represented ∙ e)
 
 -- some events, and then an outcome
 pub after_events : (s : EventOrigin) (old mid new : Known) (before between after : List Event) (vs : List What) (c : Channel) (f : Channel → Outcome) →
@@ -44,7 +44,7 @@ pub after_events : (s : EventOrigin) (old mid new : Known) (before between after
 after_events s old mid new before between after vs c f interface channel first d = record {
   interface = d.interface ∙ interface;
   channel = d.channel ∙ channel;
-  stands = d.stands;
+  represented = d.represented;
   reports = more s before between after vs (f c).reported first d.reports;
 }
 

@@ -15,7 +15,7 @@ use Rattle.line_model.specs.channels.Channels.{Channel, is_permanent}
 use Rattle.line_model.specs.channels.ChannelStep.{channel_step, failing, judged, transferring, verdict, verdict_step}
 use Rattle.line_model.specs.packets.Classes.{header_length, packet_class}
 use Rattle.line_model.specs.packets.Formats.{direction_fault, format_fault, or_other, packet_fault, size_in_force}
-use Rattle.channel_machine.specs.Channels.{Known, Stands}
+use Rattle.channel_machine.specs.Channels.{Known, StatusRepresents}
 use Rattle.channel_machine.specs.Entries.{entry_step}
 use Rattle.channel_machine.specs.Lengths.{outside}
 
@@ -32,13 +32,13 @@ ready_in_d1 false T owed = refl
 ready_in_d1 false N owed = refl
 
 -- what such a row does, by the fault of its packet
-by_fault : (i : Interface) (n : ℕ) (c : Channel) (r : Item) (p : Known) (k : Class) (f : Option ℕ) → p.state ≡ Transfer D1 → Stands p c → packet_class r.packet ≡ k →
+by_fault : (i : Interface) (n : ℕ) (c : Channel) (r : Item) (p : Known) (k : Class) (f : Option ℕ) → p.state ≡ Transfer D1 → StatusRepresents p c → packet_class r.packet ≡ k →
     record { state = name.D1; entry = Normal } ≡ judged (is_permanent i n) r.side (Transfer D1) c.owed k → packet_fault i n c r ≡ f →
     verdict_step i name.D1 r (verdict (record { state = name.D1; entry = Normal }) f) c ≡ channel_step i n c r
-by_fault i n c r p k f in_d1 stands class entry fault =
+by_fault i n c r p k f in_d1 represented class entry fault =
     ap (λ g. verdict_step i name.D1 r (verdict (record { state = name.D1; entry = Normal }) g) c) (sym fault)
     ∙ ap (λ j. entry_step i n j r c)
-    (entry ∙ (λ j. judged (is_permanent i n) r.side ((sym in_d1 ∙ stands.state) j) c.owed (sym class j)))
+    (entry ∙ (λ j. judged (is_permanent i n) r.side ((sym in_d1 ∙ represented.state) j) c.owed (sym class j)))
 
 -- the format of a packet that no direction is against
 undirected_fault : (i : Interface) (n : ℕ) (c : Channel) (r : Item) (k : Class) (f : Option ℕ) → packet_class r.packet ≡ k → direction_fault i n r.side k ≡ None → format_fault i c r.side k r.length r.octets ≡ f → packet_fault i n c r ≡ f
@@ -56,24 +56,24 @@ exact : (n header : ℕ) → n ≡ header → outside header header n ≡ None
 exact n header e = grind (arith, nat_tests, e)
 
 -- data with too many octets
-pub long_data : (i : Interface) (n : ℕ) (c : Channel) (r : Item) (p : Known) → p.state ≡ Transfer D1 → Stands p c → packet_class r.packet ≡ Data →
+pub long_data : (i : Interface) (n : ℕ) (c : Channel) (r : Item) (p : Known) → p.state ≡ Transfer D1 → StatusRepresents p c → packet_class r.packet ≡ Data →
     header_length i ≤ r.length → size_in_force i c r.side < r.length - header_length i → failing r.side name.D1 39 c ≡ channel_step i n c r
-long_data i n c r p in_d1 stands class whole long =
-    by_fault i n c r p Data (Some 39) in_d1 stands class (data_in_d1 (is_permanent i n) r.side c.owed)
+long_data i n c r p in_d1 represented class whole long =
+    by_fault i n c r p Data (Some 39) in_d1 represented class (data_in_d1 (is_permanent i n) r.side c.owed)
     (undirected_fault i n c r Data (Some 39) class refl (too_long r.length (header_length i) (size_in_force i c r.side) whole long))
 
 -- data with no more octets than may be
-pub fine_data : (i : Interface) (n : ℕ) (c : Channel) (r : Item) (p : Known) → p.state ≡ Transfer D1 → Stands p c → packet_class r.packet ≡ Data →
+pub fine_data : (i : Interface) (n : ℕ) (c : Channel) (r : Item) (p : Known) → p.state ≡ Transfer D1 → StatusRepresents p c → packet_class r.packet ≡ Data →
     header_length i ≤ r.length → r.length - header_length i ≤ size_in_force i c r.side → transferring i name.D1 Data r c ≡ channel_step i n c r
-fine_data i n c r p in_d1 stands class whole few =
+fine_data i n c r p in_d1 represented class whole few =
     ap (λ k. transferring i name.D1 k r c) (sym class)
-    ∙ by_fault i n c r p Data None in_d1 stands class (data_in_d1 (is_permanent i n) r.side c.owed)
+    ∙ by_fault i n c r p Data None in_d1 represented class (data_in_d1 (is_permanent i n) r.side c.owed)
     (undirected_fault i n c r Data None class refl (within r.length (header_length i) (size_in_force i c r.side) whole few))
 
 -- RR with a header alone
-pub fine_ready : (i : Interface) (n : ℕ) (c : Channel) (r : Item) (p : Known) → p.state ≡ Transfer D1 → Stands p c → packet_class r.packet ≡ Rr →
+pub fine_ready : (i : Interface) (n : ℕ) (c : Channel) (r : Item) (p : Known) → p.state ≡ Transfer D1 → StatusRepresents p c → packet_class r.packet ≡ Rr →
     r.length ≡ header_length i → transferring i name.D1 Rr r c ≡ channel_step i n c r
-fine_ready i n c r p in_d1 stands class whole =
+fine_ready i n c r p in_d1 represented class whole =
     ap (λ k. transferring i name.D1 k r c) (sym class)
-    ∙ by_fault i n c r p Rr None in_d1 stands class (ready_in_d1 (is_permanent i n) r.side c.owed)
+    ∙ by_fault i n c r p Rr None in_d1 represented class (ready_in_d1 (is_permanent i n) r.side c.owed)
     (undirected_fault i n c r Rr None class refl (exact r.length (header_length i) whole))

@@ -14,12 +14,12 @@ use Rattle.line_model.specs.channels.GapStep.{completed_for_receive, completed_t
 use Rattle.line_model.specs.packets.Formats.{size_in_force}
 use Rattle.data_transfer.specs.Assembler.{begun_on}
 use Rattle.data_transfer.specs.Assembly.{Holds}
-use Rattle.data_transfer.specs.FlowResidues.{Answers, FlowResidues, Stands}
+use Rattle.data_transfer.specs.FlowResidues.{Answers, FlowResidues, ResiduesRepresent}
 use Rattle.data_transfer.specs.Sequences.{Assembly}
 use Rattle.data_transfer.proofs.FlowLemmas.{acknowledged-none_above, acknowledged-some}
 use Rattle.channel_machine.specs.GapChannels.{at_rest}
 use Rattle.channel_machine.specs.GapView.{InDoubt}
-use Rattle.channel_machine.specs.SettledNumbers.{IsCountedInDoubt, NumbersStand, SequencesStand, kept_begun, kept_of, with_counts}
+use Rattle.channel_machine.specs.SettledNumbers.{IsCountedInDoubt, NumbersRepresent, SequencesRepresent, kept_begun, kept_of, with_counts}
 use Rattle.channel_machine.proofs.Counting.{answered_err, answered_ok, receive_keeps}
 use Rattle.channel_machine.proofs.Missed.{packets_apart, sent_apart, sent_own}
 
@@ -108,10 +108,10 @@ side_of N hs = refl
 
 -- a P(R) that is right
 pub acknowledges : {U : Type 0} (u : U) (i : Interface) (s new : InDoubt) (f g : FlowResidues) (x : Side) (n : ℕ) (c : Channel) → (i.modulus ≡ 8) ⊎ (i.modulus ≡ 128) →
-    NumbersStand i.modulus s c → SequencesStand i s c → f.modulus ≡ s.flow.modulus → f.windows ≡ s.flow.windows → Stands f (counts_of (completed_for_receive i.modulus s.doubts x n c)) →
+    NumbersRepresent i.modulus s c → SequencesRepresent i s c → f.modulus ≡ s.flow.modulus → f.windows ≡ s.flow.windows → ResiduesRepresent f (counts_of (completed_for_receive i.modulus s.doubts x n c)) →
     Answers (Ok u) f g (count_receive f.modulus (counts_of (completed_for_receive i.modulus s.doubts x n c)) x n) → g.modulus ≡ f.modulus → g.windows ≡ f.windows → new ≡ record s { flow = g } →
     IsCountedInDoubt (Ok u) i new (count_receive i.modulus (counts_of (completed_for_receive i.modulus s.doubts x n c)) x n) (completed_for_receive i.modulus s.doubts x n c)
-acknowledges u i s new f g x n c eight ns ss modulus windows stands answer kept_modulus kept_windows is =
+acknowledges u i s new f g x n c eight ns ss modulus windows represented answer kept_modulus kept_windows is =
     let m : ℕ = i.modulus in
     let b : Bool = of_side (other x) s.doubts.numbers in
     let d : Channel = completed_for_receive m s.doubts x n c in
@@ -121,20 +121,20 @@ acknowledges u i s new f g x n c eight ns ss modulus windows stands answer kept_
     let a : Sides ℕ = c.acknowledged in
     let here : count_acknowledged m (sent (other x) d.accepted) (of_side (other x) a) n ≡ Some k =
     sym (λ j. count_acknowledged m (side_of (other x) d.accepted j) (of_side (other x) (ack_same m b (other x) n c j)) n) ∙ found in
-    let numbers : NumbersStand m (record s { flow = g }) (with_counts v d) = record {
-      flow = subst (λ t. Stands g (record v { sent = t })) keeps.0 st;
+    let numbers : NumbersRepresent m (record s { flow = g }) (with_counts v d) = record {
+      flow = subst (λ t. ResiduesRepresent g (record v { sent = t })) keeps.0 st;
       modulus = kept_modulus ∙ modulus ∙ ns.modulus;
       widest = kept_windows ∙ windows ∙ ns.widest;
       acknowledged = λ y e. side_of y d.accepted ∙ acked m x y b n k c v.acknowledged eight (sym (side_of y c.accepted) ∙ ns.acknowledged y e)
           (λ same. ap (λ z. of_side z s.doubts.numbers) (sym same) ∙ e) here (taken ∙ ap (λ w. with_side (other x) k w) (ack_same m b (other x) n c));
       unknown = ns.unknown;
     } in
-    let sequences : SequencesStand i (record s { flow = g }) (with_counts v d) = λ y.
+    let sequences : SequencesRepresent i (record s { flow = g }) (with_counts v d) = λ y.
     subst (λ l. Holds (begun_on s.assembler y) l) (kept_completed i m s (other x) y n c ns.unknown) (ss y) in
-    (v, ok, subst (λ t. NumbersStand m t (with_counts v d)) (sym is) numbers, subst (λ t. SequencesStand i t (with_counts v d)) (sym is) sequences)
+    (v, ok, subst (λ t. NumbersRepresent m t (with_counts v d)) (sym is) numbers, subst (λ t. SequencesRepresent i t (with_counts v d)) (sym is) sequences)
 
 -- and one that is wrong
-pub not_acknowledged : (U : Type 0) (e : ℕ) (i : Interface) (s : InDoubt) (f g : FlowResidues) (x : Side) (n : ℕ) (c : Channel) → NumbersStand i.modulus s c → f.modulus ≡ s.flow.modulus →
+pub not_acknowledged : (U : Type 0) (e : ℕ) (i : Interface) (s : InDoubt) (f g : FlowResidues) (x : Side) (n : ℕ) (c : Channel) → NumbersRepresent i.modulus s c → f.modulus ≡ s.flow.modulus →
     Answers {A = U} (Err e) f g (count_receive f.modulus (counts_of (completed_for_receive i.modulus s.doubts x n c)) x n) →
     count_receive i.modulus (counts_of (completed_for_receive i.modulus s.doubts x n c)) x n ≡ Err e
 not_acknowledged U e i s f g x n c ns modulus answer =
@@ -142,7 +142,7 @@ not_acknowledged U e i s f g x n c ns modulus answer =
     (answered_err U e f g (count_receive i.modulus (counts_of d) x n) (subst (λ k. Answers {A = U} (Err e) f g (count_receive k (counts_of d) x n)) (modulus ∙ ns.modulus) answer)).0
 
 -- an interrupt, or its confirmation
-pub flagged : {U : Type 0} (u : U) (i : Interface) (s new : InDoubt) (f g : FlowResidues) (a : Result Counts ℕ) (c d : Channel) → NumbersStand i.modulus s c → SequencesStand i s c →
+pub flagged : {U : Type 0} (u : U) (i : Interface) (s new : InDoubt) (f g : FlowResidues) (a : Result Counts ℕ) (c d : Channel) → NumbersRepresent i.modulus s c → SequencesRepresent i s c →
     d ≡ record c { unconfirmed = d.unconfirmed } → ((v : Counts) → a ≡ Ok v → (v.sent ≡ sent_by d.accepted) × (v.acknowledged ≡ d.acknowledged)) →
     f.modulus ≡ s.flow.modulus → f.windows ≡ s.flow.windows → Answers (Ok u) f g a → g.modulus ≡ f.modulus → g.windows ≡ f.windows →
     new.flow ≡ g → new.assembler ≡ s.assembler → new.doubts.numbers ≡ s.doubts.numbers → new.doubts.sequences ≡ s.doubts.sequences → new.doubts.hidden ≡ s.doubts.hidden →
@@ -154,7 +154,7 @@ flagged u i s new f g a c d ns ss is keeps modulus windows answer kept_modulus k
       v,
       ok,
       record {
-        flow = subst (λ q. Stands q (counts_of (with_counts v d))) (sym flow_is) (subst (λ t. Stands g (record v { sent = t })) (keeps v ok).0 st);
+        flow = subst (λ q. ResiduesRepresent q (counts_of (with_counts v d))) (sym flow_is) (subst (λ t. ResiduesRepresent g (record v { sent = t })) (keeps v ok).0 st);
         modulus = ap (λ q. q.modulus) flow_is ∙ kept_modulus ∙ modulus ∙ ns.modulus;
         widest = ap (λ q. q.windows) flow_is ∙ kept_windows ∙ windows ∙ ns.widest;
         acknowledged = λ y e. ap (λ hs. of_side y (sent_by hs)) accepted_is ∙ ns.acknowledged y (ap (λ w. of_side y w) (sym numbers_are) ∙ e) ∙ ap (λ w. of_side y w) (sym ack_is);
@@ -193,16 +193,16 @@ pub confirm_keeps : (c v : Counts) (x : Side) → count_confirm c x ≡ Ok v →
 confirm_keeps c v x e = confirm_by c v x (of_side (other x) c.unconfirmed) e
 
 -- another interrupt of a side, for a channel of which it was in doubt
-pub flag_stands : (b : Bool) (x : Side) (u : Bool) (f g : FlowResidues) (c : Channel) → Stands f (counts_of c) → b ≡ true → g ≡ record f { unconfirmed = with_side x u f.unconfirmed } →
-    Stands g (counts_of (with_interrupt b x u c))
-flag_stands true x u f g c h e is = subst (λ q. Stands q (counts_of (with_interrupt true x u c))) (sym is) (record {
+pub flag_represents : (b : Bool) (x : Side) (u : Bool) (f g : FlowResidues) (c : Channel) → ResiduesRepresent f (counts_of c) → b ≡ true → g ≡ record f { unconfirmed = with_side x u f.unconfirmed } →
+    ResiduesRepresent g (counts_of (with_interrupt b x u c))
+flag_represents true x u f g c h e is = subst (λ q. ResiduesRepresent q (counts_of (with_interrupt true x u c))) (sym is) (record {
   of_t = h.of_t;
   of_n = h.of_n;
   unconfirmed = ap (λ w. with_side x u w) h.unconfirmed;
 })
-flag_stands false x u f g c h e is = absurd (true≢false (sym e))
+flag_represents false x u f g c h e is = absurd (true≢false (sym e))
 
-pub flag_certain : (b : Bool) (x : Side) (u : Bool) (f : FlowResidues) (c : Channel) → Stands f (counts_of c) → b ≡ false → Stands f (counts_of (with_interrupt b x u c))
+pub flag_certain : (b : Bool) (x : Side) (u : Bool) (f : FlowResidues) (c : Channel) → ResiduesRepresent f (counts_of c) → b ≡ false → ResiduesRepresent f (counts_of (with_interrupt b x u c))
 flag_certain true x u f c h e = absurd (true≢false e)
 flag_certain false x u f c h e = h
 

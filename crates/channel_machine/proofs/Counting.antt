@@ -7,12 +7,12 @@ use Rattle.line_model.specs.declared.state.Side.TheVariants.{T, N}
 use Rattle.line_model.specs.channels.Channels.{Channel, AcceptedData, of_side, with_side, other}
 use Rattle.line_model.specs.channels.FlowControl.{Counts, is_side, packets_of, sent, sent_by, is_send_valid, count_acknowledged, count_data, count_receive, count_interrupt, count_confirm}
 use Rattle.line_model.specs.channels.ChannelStep.{counts_of}
-use Rattle.data_transfer.specs.FlowResidues.{FlowResidues, Stands, Answers}
+use Rattle.data_transfer.specs.FlowResidues.{FlowResidues, ResiduesRepresent, Answers}
 use Rattle.data_transfer.proofs.SequenceLemmas.{packets_of-same, packets_of-other}
 use Rattle.channel_machine.specs.Transfers.{Transfer, Represents, IsCounted}
 
 -- a result shows what the counts return
-pub answered_ok : {U : Type 0} (u : U) (old new : FlowResidues) (r : Result Counts ℕ) → Answers (Ok u) old new r → (v : Counts) × (r ≡ Ok v) × Stands new v
+pub answered_ok : {U : Type 0} (u : U) (old new : FlowResidues) (r : Result Counts ℕ) → Answers (Ok u) old new r → (v : Counts) × (r ≡ Ok v) × ResiduesRepresent new v
 answered_ok u old new (Ok v) h = (v, refl, h)
 answered_ok u old new (Err n) h = absurd h
 
@@ -71,43 +71,43 @@ sent_more N hs p is = λ j. record { of_t = sym (sent_apart T hs p (ap (λ y. is
 
 -- a channel with other counts, over the same packets and messages
 recounted : (i : Interface) (t : Transfer) (new : FlowResidues) (c : Channel) (v : Counts) → Represents i t c →
-    new.modulus ≡ t.flow.modulus → new.windows ≡ t.flow.windows → v.sent ≡ sent_by c.accepted → Stands new v →
+    new.modulus ≡ t.flow.modulus → new.windows ≡ t.flow.windows → v.sent ≡ sent_by c.accepted → ResiduesRepresent new v →
     Represents i (record t { flow = new }) (record c { acknowledged = v.acknowledged; unconfirmed = v.unconfirmed })
-recounted i t new c v stands modulus windows sent_is flow = record {
-  flow = subst (λ s. Stands new (record v { sent = s })) sent_is flow;
-  modulus = modulus ∙ stands.modulus;
-  windows = windows ∙ stands.windows;
-  sequences = stands.sequences;
-  sizes = stands.sizes;
-  settings = stands.settings;
+recounted i t new c v represented modulus windows sent_is flow = record {
+  flow = subst (λ s. ResiduesRepresent new (record v { sent = s })) sent_is flow;
+  modulus = modulus ∙ represented.modulus;
+  windows = windows ∙ represented.windows;
+  sequences = represented.sequences;
+  sizes = represented.sizes;
+  settings = represented.settings;
 }
 
 -- the result of counts that keep what was sent
 counted_by : {U : Type 0} (r : Result U ℕ) (i : Interface) (t : Transfer) (new : FlowResidues) (a : Result Counts ℕ) (c : Channel) → Represents i t c →
     new.modulus ≡ t.flow.modulus → new.windows ≡ t.flow.windows → ((v : Counts) → a ≡ Ok v → v.sent ≡ sent_by c.accepted) →
     Answers r t.flow new a → IsCounted r i t (record t { flow = new }) a c
-counted_by (Ok u) i t new a c stands modulus windows keeps answer =
+counted_by (Ok u) i t new a c represented modulus windows keeps answer =
     let (v, is, flow) = answered_ok u t.flow new a answer in
-    (v, is, recounted i t new c v stands modulus windows (keeps v is) flow)
-counted_by {U = U} (Err e) i t new a c stands modulus windows keeps answer =
+    (v, is, recounted i t new c v represented modulus windows (keeps v is) flow)
+counted_by {U = U} (Err e) i t new a c represented modulus windows keeps answer =
     let (is, same) = answered_err U e t.flow new a answer in
     (is, ap (λ f. record t { flow = f }) same)
 
 pub received : {U : Type 0} (r : Result U ℕ) (i : Interface) (t : Transfer) (new : FlowResidues) (x : Side) (n : ℕ) (c : Channel) → Represents i t c →
     new.modulus ≡ t.flow.modulus → new.windows ≡ t.flow.windows → Answers r t.flow new (count_receive t.flow.modulus (counts_of c) x n) →
     IsCounted r i t (record t { flow = new }) (count_receive i.modulus (counts_of c) x n) c
-received r i t new x n c stands modulus windows answer =
-    counted_by r i t new (count_receive i.modulus (counts_of c) x n) c stands modulus windows (λ v e. (receive_keeps i.modulus (counts_of c) v x n e).0)
-    (subst (λ m. Answers r t.flow new (count_receive m (counts_of c) x n)) stands.modulus answer)
+received r i t new x n c represented modulus windows answer =
+    counted_by r i t new (count_receive i.modulus (counts_of c) x n) c represented modulus windows (λ v e. (receive_keeps i.modulus (counts_of c) v x n e).0)
+    (subst (λ m. Answers r t.flow new (count_receive m (counts_of c) x n)) represented.modulus answer)
 
 pub interrupted : {U : Type 0} (r : Result U ℕ) (i : Interface) (t : Transfer) (new : FlowResidues) (x : Side) (c : Channel) → Represents i t c →
     new.modulus ≡ t.flow.modulus → new.windows ≡ t.flow.windows → Answers r t.flow new (count_interrupt (counts_of c) x) →
     IsCounted r i t (record t { flow = new }) (count_interrupt (counts_of c) x) c
-interrupted r i t new x c stands modulus windows answer =
-    counted_by r i t new (count_interrupt (counts_of c) x) c stands modulus windows (λ v e. interrupt_by (counts_of c) v x (of_side x c.unconfirmed) e) answer
+interrupted r i t new x c represented modulus windows answer =
+    counted_by r i t new (count_interrupt (counts_of c) x) c represented modulus windows (λ v e. interrupt_by (counts_of c) v x (of_side x c.unconfirmed) e) answer
 
 pub confirmed : {U : Type 0} (r : Result U ℕ) (i : Interface) (t : Transfer) (new : FlowResidues) (x : Side) (c : Channel) → Represents i t c →
     new.modulus ≡ t.flow.modulus → new.windows ≡ t.flow.windows → Answers r t.flow new (count_confirm (counts_of c) x) →
     IsCounted r i t (record t { flow = new }) (count_confirm (counts_of c) x) c
-confirmed r i t new x c stands modulus windows answer =
-    counted_by r i t new (count_confirm (counts_of c) x) c stands modulus windows (λ v e. confirm_by (counts_of c) v x (of_side (other x) c.unconfirmed) e) answer
+confirmed r i t new x c represented modulus windows answer =
+    counted_by r i t new (count_confirm (counts_of c) x) c represented modulus windows (λ v e. confirm_by (counts_of c) v x (of_side (other x) c.unconfirmed) e) answer

@@ -1,4 +1,4 @@
--- Calls behind which another may be hidden.
+-- Calls after which another may be hidden.
 use Rattle.std.proofs.Common.{◌≡◌, ℕ, Bool, true, false, refl, sym, ◌∙◌, Some}
 use Rattle.std.specs.Prelude.{◌-◌}
 use Rattle.line_model.specs.declared.interface.Interface.{Interface}
@@ -8,7 +8,7 @@ use Rattle.line_model.specs.channels.Channels.{Channel}
 use Rattle.line_model.specs.packets.Formats.{for_side, is_out}
 use Rattle.line_model.specs.channels.Gaps.{largest_terms}
 use Rattle.channel_machine.specs.Largest.{largest_values}
-use Rattle.channel_machine.specs.TermsStand.{Agreed, TermsStand, values_in_force}
+use Rattle.channel_machine.specs.TermsRepresent.{Agreed, TermsRepresent, values_in_force}
 
 -- the same value for both sides
 same_for : (out : Bool) (x : Side) (n : ℕ) → n ≡ for_side out x (n, n)
@@ -25,9 +25,9 @@ largest_in_force i c = λ k. record {
   window_n = same_for (is_out c) N (i.modulus - 1) k;
 }
 
-pub largest_stands : (old new : Agreed) (c : Channel) → TermsStand old c → new.interface ≡ old.interface → new.call ≡ old.call →
-    new.values ≡ largest_values old.interface → TermsStand new (record c { accepting = Some (largest_terms old.interface) })
-largest_stands old new c s interface call values = record {
+pub largest_represents : (old new : Agreed) (c : Channel) → TermsRepresent old c → new.interface ≡ old.interface → new.call ≡ old.call →
+    new.values ≡ largest_values old.interface → TermsRepresent new (record c { accepting = Some (largest_terms old.interface) })
+largest_represents old new c s interface call values = record {
   call = call ∙ s.call;
   values = values ∙ largest_in_force old.interface c ∙ (λ k. values_in_force (sym interface k) (record c { accepting = Some (largest_terms old.interface) }));
 }

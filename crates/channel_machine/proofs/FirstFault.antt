@@ -7,7 +7,7 @@ use Rattle.line_model.specs.packets.Classes.{packet_class}
 use Rattle.line_model.specs.packets.Formats.{format_fault, packet_fault, direction_fault, or_other}
 use Rattle.line_model.specs.channels.Channels.{Channel}
 
--- a fault of the direction is the first, and else one of the format is
+-- a fault of the direction is the first, and otherwise one of the format is
 pub first_fault_is : (i : Interface) (n : ℕ) (c : Channel) (r : Item) (k : Class) (a b : Option ℕ) → k ≡ packet_class r.packet →
     a ≡ direction_fault i n r.side k → b ≡ format_fault i c r.side k r.length r.octets → or_other a b ≡ packet_fault i n c r
 first_fault_is i n c r k a b class d f =

@@ -23,9 +23,9 @@ use Rattle.channel_machine.specs.Events.{data_of, event_at}
 use Rattle.channel_machine.specs.GapChannels.{GapDoesApart, GapKnown, IsKnownBy, Represents, certainty_of, interface_of}
 use Rattle.channel_machine.specs.GapView.{KnownCertainty}
 use Rattle.channel_machine.specs.GapView.KnownCertainty.{Certain, Adrift, Settled}
-use Rattle.channel_machine.specs.TermsStand.{TermsStand, is_fast, is_pad}
+use Rattle.channel_machine.specs.TermsRepresent.{TermsRepresent, is_fast, is_pad}
 use Rattle.line_model.specs.declared.event.What.TheVariants as what
-use Rattle.channel_machine.proofs.InForce.{fast_stands, pad_stands}
+use Rattle.channel_machine.proofs.InForce.{fast_represents, pad_represents}
 
 -- contents with the stamp of a row are events of the row
 events_are : (s : EventOrigin) (r : Item) (ws : List What) → s.packet ≡ r.number → map (event_at s) ws ≡ map event_of (stamp s.epoch (Some s.channel) r ws)
@@ -35,10 +35,10 @@ events_are s r (w ∷ ws) e =
     (λ j. record { epoch = s.epoch; channel = s.channel; packet = e j; what = w }) in
     λ j. first j ∷ events_are s r ws e j
 
-pub stands_after : (q : Result (Option ℕ) Fault) (s : EventOrigin) (x : Side) (old new : GapKnown) (before after : List Event) (o : GapOutcome) →
+pub represents_after : (q : Result (Option ℕ) Fault) (s : EventOrigin) (x : Side) (old new : GapKnown) (before after : List Event) (o : GapOutcome) →
     IfOk q (λ k. GapDoesApart s x old new before after k o) → IfOk q (λ _. Represents new o.after)
-stands_after (Ok k) s x old new before after o d = d.represents
-stands_after (Err e) s x old new before after o d = tt
+represents_after (Ok k) s x old new before after o d = d.represents
+represents_after (Err e) s x old new before after o d = tt
 
 -- the event that is kept apart is one of the row
 data_are : (s : EventOrigin) (r : Item) (k : Option ℕ) → s.packet ≡ r.number → map (event_at s) (data_of r.side k) ≡ data_events s.epoch s.channel r k
@@ -55,16 +55,16 @@ adds_events (Err f) s old new before after i g r e d = tt
 record Seen (p : Known) (c : Channel) : Type 0 where
   state : p.state ≡ c.state
   owed : p.owed ≡ c.owed
-  terms : TermsStand p.terms c
+  terms : TermsRepresent p.terms c
 
 seen : (t : KnownCertainty) (p : Known) (c : Channel) → IsKnownBy t p c → Seen p c
-seen Certain p c s = record { state = s.stands.state; owed = s.stands.owed; terms = s.stands.terms }
-seen (Adrift a) p c s = record { state = s.stands.state; owed = s.stands.owed; terms = s.stands.terms }
+seen Certain p c s = record { state = s.represented.state; owed = s.represented.owed; terms = s.represented.terms }
+seen (Adrift a) p c s = record { state = s.represented.state; owed = s.represented.owed; terms = s.represented.terms }
 seen (Settled b) p c s = record { state = s.rest.state; owed = s.rest.owed; terms = record { call = s.rest.terms.call; values = s.rest.terms.values } }
 
-counts_known : (t : KnownCertainty) (p : Known) (c : Channel) → IsKnownBy t p c → is_settled (certainty_of t) ≡ false → windows.Stands p.transfer.flow (counts_of c)
-counts_known Certain p c s h = s.stands.transfer.flow
-counts_known (Adrift a) p c s h = s.stands.transfer.flow
+counts_known : (t : KnownCertainty) (p : Known) (c : Channel) → IsKnownBy t p c → is_settled (certainty_of t) ≡ false → windows.ResiduesRepresent p.transfer.flow (counts_of c)
+counts_known Certain p c s h = s.represented.transfer.flow
+counts_known (Adrift a) p c s h = s.represented.transfer.flow
 counts_known (Settled b) p c s h = absurd (true≢false h)
 
 -- the view of what is kept of a channel
@@ -87,8 +87,8 @@ viewed p g b v r adrift is =
       state = s.state;
       adrift = adrift ∙ ap is_adrift r.certainty;
       owed = s.owed;
-      pad_call = pad_stands p.channel.terms g.channel s.terms;
-      fast = fast_stands p.channel.terms g.channel s.terms;
+      pad_call = pad_represents p.channel.terms g.channel s.terms;
+      fast = fast_represents p.channel.terms g.channel s.terms;
       size_t = ap (λ v. v.size_t) s.terms.values;
       size_n = ap (λ v. v.size_n) s.terms.values;
       flow = λ h. counts_known p.certainty p.channel g.channel r.channel (ap is_settled r.certainty ∙ h);

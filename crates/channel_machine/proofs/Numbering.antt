@@ -10,14 +10,14 @@ use Rattle.line_model.specs.channels.Channels.{Channel, Sides, of_side, other, w
 use Rattle.line_model.specs.channels.FlowControl.{Counts, count_acknowledged, count_data, is_send_valid, sent}
 use Rattle.line_model.specs.channels.Gaps.{Doubts, of_both}
 use Rattle.line_model.specs.channels.GapStep.{edge_in_doubt}
-use Rattle.data_transfer.specs.FlowResidues.{Answers, DirectionStands, FlowResidues, Stands, outstanding}
+use Rattle.data_transfer.specs.FlowResidues.{Answers, DirectionRepresents, FlowResidues, ResiduesRepresent, outstanding}
 use Rattle.data_transfer.proofs.FlowLemmas.{outstanding_by_residue}
 use Rattle.line_model.specs.declared.packet.DataHeader.{DataHeader}
 use Rattle.line_model.specs.declared.interface.Interface.{Interface}
 use Rattle.line_model.specs.channels.ChannelStep.{counts_of}
 use Rattle.line_model.specs.channels.GapStep.{completed_to, missed, missing}
 use Rattle.channel_machine.specs.GapView.{InDoubt}
-use Rattle.channel_machine.specs.SettledNumbers.{AreNumbered, IsFirst, IsNumbered, IsWidest, NumbersStand, all_acknowledged}
+use Rattle.channel_machine.specs.SettledNumbers.{AreNumbered, IsFirst, IsNumbered, IsWidest, NumbersRepresent, all_acknowledged}
 use Rattle.channel_machine.proofs.Counting.{answered_ok, answered_err}
 use Rattle.channel_machine.proofs.Completing.{ack_same, sent_other, side_of, unconfirmed_same}
 use Rattle.channel_machine.proofs.Missed.{missing_below, missing_hit, sent_apart, sent_own, side_same}
@@ -51,7 +51,7 @@ data_is m w N s n c = data_shape N (is_send_valid m w c.sent.of_n c.acknowledged
 -- a result of counts of which nothing of the side is outstanding, for the counts themselves
 abbrev IsDoubtful : {U : Type 0} → Result U ℕ → FlowResidues → Side → Result Counts ℕ → Counts → Type 0
 IsDoubtful (Ok u) f x r c =
-    (v : Counts) × (r ≡ Ok v) × Stands f (record v { acknowledged = with_side x (of_side x c.sent) v.acknowledged })
+    (v : Counts) × (r ≡ Ok v) × ResiduesRepresent f (record v { acknowledged = with_side x (of_side x c.sent) v.acknowledged })
     × (of_side x v.sent ≡ of_side x c.sent + 1) × (of_side x v.acknowledged ≡ of_side x c.acknowledged)
 IsDoubtful (Err e) f x r c = r ≡ Err e
 
@@ -91,8 +91,8 @@ doubtful r f g m N s n c e ordered below answer =
 edge_residue : (m n a : ℕ) → (m ≡ 8) ⊎ (m ≡ 128) → a < n → n ≤ a + m → (n - (n - a) % m) % m ≡ a % m
 edge_residue m n a e above below = grind (arith, e, above, below)
 
-edge_stands : (m n a sent acknowledged old : ℕ) → (m ≡ 8) ⊎ (m ≡ 128) → a < n → n ≤ a + m → old ≡ a % m → n % m ≡ sent → DirectionStands m (m - 1) n (n - (n - a) % m) sent old
-edge_stands m n a sent acknowledged old e above below is sent_is = record {
+edge_represents : (m n a sent acknowledged old : ℕ) → (m ≡ 8) ⊎ (m ≡ 128) → a < n → n ≤ a + m → old ≡ a % m → n % m ≡ sent → DirectionRepresents m (m - 1) n (n - (n - a) % m) sent old
+edge_represents m n a sent acknowledged old e above below is sent_is = record {
   sent_is = sent_is;
   acknowledged_is = edge_residue m n a e above below ∙ sym is;
   ordered = omega arith;
@@ -101,23 +101,23 @@ edge_stands m n a sent acknowledged old e above below is sent_is = record {
 
 -- the numbers with that edge
 edged : (x : Side) (m : ℕ) (v : Counts) (g f : FlowResidues) (count old : ℕ) → (m ≡ 8) ⊎ (m ≡ 128) → g.modulus ≡ m → g.windows ≡ of_both (m - 1) →
-    Stands g (record v { acknowledged = with_side x count v.acknowledged }) → of_side x v.acknowledged < of_side x v.sent → of_side x v.sent ≤ of_side x v.acknowledged + m →
+    ResiduesRepresent g (record v { acknowledged = with_side x count v.acknowledged }) → of_side x v.acknowledged < of_side x v.sent → of_side x v.sent ≤ of_side x v.acknowledged + m →
     old ≡ of_side x v.acknowledged % m → f ≡ record g { acknowledged = with_side x old g.acknowledged } →
-    Stands f (record v { acknowledged = edge_in_doubt m true x (of_side x v.sent) v.acknowledged })
+    ResiduesRepresent f (record v { acknowledged = edge_in_doubt m true x (of_side x v.sent) v.acknowledged })
 edged T m v g f count old e modulus windows h above below is set =
-    let P : ℕ × Sides ℕ → Type 0 = λ q. DirectionStands q.0 q.1.of_t v.sent.of_t (v.sent.of_t - (v.sent.of_t - v.acknowledged.of_t) % m) g.sent.of_t old in
+    let P : ℕ × Sides ℕ → Type 0 = λ q. DirectionRepresents q.0 q.1.of_t v.sent.of_t (v.sent.of_t - (v.sent.of_t - v.acknowledged.of_t) % m) g.sent.of_t old in
     let sent_is : v.sent.of_t % m ≡ g.sent.of_t = subst (λ k. v.sent.of_t % k ≡ g.sent.of_t) modulus h.of_t.sent_is in
-    subst (λ q. Stands q (record v { acknowledged = edge_in_doubt m true T v.sent.of_t v.acknowledged })) (sym set) (record {
-      of_t = subst P (λ j. (sym modulus j, sym windows j)) (edge_stands m v.sent.of_t v.acknowledged.of_t g.sent.of_t old old e above below is sent_is);
+    subst (λ q. ResiduesRepresent q (record v { acknowledged = edge_in_doubt m true T v.sent.of_t v.acknowledged })) (sym set) (record {
+      of_t = subst P (λ j. (sym modulus j, sym windows j)) (edge_represents m v.sent.of_t v.acknowledged.of_t g.sent.of_t old old e above below is sent_is);
       of_n = h.of_n;
       unconfirmed = h.unconfirmed;
     })
 edged N m v g f count old e modulus windows h above below is set =
-    let P : ℕ × Sides ℕ → Type 0 = λ q. DirectionStands q.0 q.1.of_n v.sent.of_n (v.sent.of_n - (v.sent.of_n - v.acknowledged.of_n) % m) g.sent.of_n old in
+    let P : ℕ × Sides ℕ → Type 0 = λ q. DirectionRepresents q.0 q.1.of_n v.sent.of_n (v.sent.of_n - (v.sent.of_n - v.acknowledged.of_n) % m) g.sent.of_n old in
     let sent_is : v.sent.of_n % m ≡ g.sent.of_n = subst (λ k. v.sent.of_n % k ≡ g.sent.of_n) modulus h.of_n.sent_is in
-    subst (λ q. Stands q (record v { acknowledged = edge_in_doubt m true N v.sent.of_n v.acknowledged })) (sym set) (record {
+    subst (λ q. ResiduesRepresent q (record v { acknowledged = edge_in_doubt m true N v.sent.of_n v.acknowledged })) (sym set) (record {
       of_t = h.of_t;
-      of_n = subst P (λ j. (sym modulus j, sym windows j)) (edge_stands m v.sent.of_n v.acknowledged.of_n g.sent.of_n old old e above below is sent_is);
+      of_n = subst P (λ j. (sym modulus j, sym windows j)) (edge_represents m v.sent.of_n v.acknowledged.of_n g.sent.of_n old old e above below is sent_is);
       unconfirmed = h.unconfirmed;
     })
 
@@ -139,15 +139,15 @@ out_of_window m w x s n c full =
     data_is m w x s n c ∙ ap (λ v. data_by x v (acknowledged_by m x n c) c) (no_room m w (of_side x c.sent) (of_side x c.acknowledged) s full)
 
 -- how many are outstanding, by what is kept
-outstanding_is : (x : Side) (m : ℕ) (f : FlowResidues) (c : Counts) → (m ≡ 8) ⊎ (m ≡ 128) → f.modulus ≡ m → f.windows ≡ of_both (m - 1) → Stands f c →
+outstanding_is : (x : Side) (m : ℕ) (f : FlowResidues) (c : Counts) → (m ≡ 8) ⊎ (m ≡ 128) → f.modulus ≡ m → f.windows ≡ of_both (m - 1) → ResiduesRepresent f c →
     outstanding m (of_side x f.sent) (of_side x f.acknowledged) ≡ of_side x c.sent - of_side x c.acknowledged
 outstanding_is T m f c e modulus windows h =
-    let d : DirectionStands m (m - 1) c.sent.of_t c.acknowledged.of_t f.sent.of_t f.acknowledged.of_t =
-    subst (λ (q : ℕ × Sides ℕ). DirectionStands q.0 q.1.of_t c.sent.of_t c.acknowledged.of_t f.sent.of_t f.acknowledged.of_t) (λ j. (modulus j, windows j)) h.of_t in
+    let d : DirectionRepresents m (m - 1) c.sent.of_t c.acknowledged.of_t f.sent.of_t f.acknowledged.of_t =
+    subst (λ (q : ℕ × Sides ℕ). DirectionRepresents q.0 q.1.of_t c.sent.of_t c.acknowledged.of_t f.sent.of_t f.acknowledged.of_t) (λ j. (modulus j, windows j)) h.of_t in
     outstanding_by_residue m c.sent.of_t c.acknowledged.of_t f.sent.of_t f.acknowledged.of_t e (record { sent_is = d.sent_is; acknowledged_is = d.acknowledged_is; ordered = d.ordered; below = omega (arith, e, d.within) })
 outstanding_is N m f c e modulus windows h =
-    let d : DirectionStands m (m - 1) c.sent.of_n c.acknowledged.of_n f.sent.of_n f.acknowledged.of_n =
-    subst (λ (q : ℕ × Sides ℕ). DirectionStands q.0 q.1.of_n c.sent.of_n c.acknowledged.of_n f.sent.of_n f.acknowledged.of_n) (λ j. (modulus j, windows j)) h.of_n in
+    let d : DirectionRepresents m (m - 1) c.sent.of_n c.acknowledged.of_n f.sent.of_n f.acknowledged.of_n =
+    subst (λ (q : ℕ × Sides ℕ). DirectionRepresents q.0 q.1.of_n c.sent.of_n c.acknowledged.of_n f.sent.of_n f.acknowledged.of_n) (λ j. (modulus j, windows j)) h.of_n in
     outstanding_by_residue m c.sent.of_n c.acknowledged.of_n f.sent.of_n f.acknowledged.of_n e (record { sent_is = d.sent_is; acknowledged_is = d.acknowledged_is; ordered = d.ordered; below = omega (arith, e, d.within) })
 
 windows_of : (x : Side) (f : FlowResidues) → f.windows ≡ of_both (f.modulus - 1) → of_side x f.windows ≡ f.modulus - 1
@@ -161,9 +161,9 @@ at_widest r f g h x s n c wide modulus windows answer =
     let w : of_side x g.windows ≡ f.modulus - 1 = ap (λ v. of_side x v) windows ∙ windows_of x f wide.windows in
     subst (λ k. Answers r g h (count_data f.modulus k c x s n)) w (subst (λ k. Answers r g h (count_data k (of_side x g.windows) c x s n)) modulus answer)
 
-pub first_stands : (x : Side) (s next : ℕ) (f0 f1 : FlowResidues) (c : Counts) → IsFirst f0 x s c → next ≡ s % f0.modulus → f1 ≡ record f0 { sent = with_side x next f0.sent; acknowledged = with_side x next f0.acknowledged } → Stands f1 (all_acknowledged x c)
-first_stands x s next f0 f1 c first is set =
-    subst (λ f. Stands f (all_acknowledged x c)) (sym (set ∙ (λ j. record f0 { sent = with_side x (is j) f0.sent; acknowledged = with_side x (is j) f0.acknowledged }))) first.stands
+pub first_represents : (x : Side) (s next : ℕ) (f0 f1 : FlowResidues) (c : Counts) → IsFirst f0 x s c → next ≡ s % f0.modulus → f1 ≡ record f0 { sent = with_side x next f0.sent; acknowledged = with_side x next f0.acknowledged } → ResiduesRepresent f1 (all_acknowledged x c)
+first_represents x s next f0 f1 c first is set =
+    subst (λ f. ResiduesRepresent f (all_acknowledged x c)) (sym (set ∙ (λ j. record f0 { sent = with_side x (is j) f0.sent; acknowledged = with_side x (is j) f0.acknowledged }))) first.represented
 
 pub still_widest : (f g : FlowResidues) → IsWidest f → g.modulus ≡ f.modulus → g.windows ≡ f.windows → IsWidest g
 still_widest f g w modulus windows = record {
@@ -180,12 +180,12 @@ first_passes u x s n next lowest after f0 f1 f2 f3 c wide first lowest_is after_
     let m : ℕ = f0.modulus in
     let modulus_is : f1.modulus ≡ m = ap (λ (f : FlowResidues). f.modulus) set in
     let windows_are : f1.windows ≡ f0.windows = ap (λ (f : FlowResidues). f.windows) set in
-    let (v, ok, stands, more, same) = doubtful (Ok u) f1 f2 m x s n c wide.eight first.ordered first.below (at_widest (Ok u) f0 f1 f2 x s n (all_acknowledged x c) wide modulus_is windows_are answer) in
+    let (v, ok, represented, more, same) = doubtful (Ok u) f1 f2 m x s n c wide.eight first.ordered first.below (at_widest (Ok u) f0 f1 f2 x s n (all_acknowledged x c) wide modulus_is windows_are answer) in
     let back : f3 ≡ record f2 { acknowledged = with_side x lowest f2.acknowledged } =
     set_back ∙ (λ j. record f2 { sent = (ap (λ k. with_side x k f2.sent) after_is ∙ side_same x f2.sent) j; acknowledged = with_side x lowest f2.acknowledged }) in (
       v,
       ok,
-      edged x m v f2 f3 (of_side x c.sent) lowest wide.eight (modulus ∙ modulus_is) (windows ∙ windows_are ∙ wide.windows) stands
+      edged x m v f2 f3 (of_side x c.sent) lowest wide.eight (modulus ∙ modulus_is) (windows ∙ windows_are ∙ wide.windows) represented
           (omega (arith, more, same, first.ordered)) (omega (arith, more, same, first.below)) (lowest_is ∙ first.edge ∙ ap (λ k. k % m) (sym same)) back,
     )
 
@@ -197,27 +197,27 @@ first_fails U e x s n next f0 f1 f2 c wide first set answer =
     (at_widest {U = U} (Err e) f0 f1 f2 x s n (all_acknowledged x c) wide (ap (λ (f : FlowResidues). f.modulus) set) (ap (λ (f : FlowResidues). f.windows) set) answer)
 
 -- a data packet of a side whose next P(S) is certain
-fewer : (x : Side) (w k : ℕ) (f : FlowResidues) (c : Counts) → IsWidest f → Stands f c → k ≡ outstanding f.modulus (of_side x f.sent) (of_side x f.acknowledged) → k ≡ of_side x c.sent - of_side x c.acknowledged
-fewer x w k f c wide stands is = is ∙ outstanding_is x f.modulus f c wide.eight refl wide.windows stands
+fewer : (x : Side) (w k : ℕ) (f : FlowResidues) (c : Counts) → IsWidest f → ResiduesRepresent f c → k ≡ outstanding f.modulus (of_side x f.sent) (of_side x f.acknowledged) → k ≡ of_side x c.sent - of_side x c.acknowledged
+fewer x w k f c wide represented is = is ∙ outstanding_is x f.modulus f c wide.eight refl wide.windows represented
 
-pub next_full : (x : Side) (w k s n : ℕ) (f : FlowResidues) (c : Counts) → IsWidest f → Stands f c → k ≡ outstanding f.modulus (of_side x f.sent) (of_side x f.acknowledged) → w ≤ k → count_data f.modulus w c x s n ≡ Err INVALID_P_S
-next_full x w k s n f c wide stands is full = out_of_window f.modulus w x s n c (subst (λ j. w ≤ j) (fewer x w k f c wide stands is) full)
+pub next_full : (x : Side) (w k s n : ℕ) (f : FlowResidues) (c : Counts) → IsWidest f → ResiduesRepresent f c → k ≡ outstanding f.modulus (of_side x f.sent) (of_side x f.acknowledged) → w ≤ k → count_data f.modulus w c x s n ≡ Err INVALID_P_S
+next_full x w k s n f c wide represented is full = out_of_window f.modulus w x s n c (subst (λ j. w ≤ j) (fewer x w k f c wide represented is) full)
 
-next_answers : {U : Type 0} (r : Result U ℕ) (x : Side) (w k s n : ℕ) (f g : FlowResidues) (c : Counts) → IsWidest f → Stands f c → k ≡ outstanding f.modulus (of_side x f.sent) (of_side x f.acknowledged) → k < w → w < f.modulus →
+next_answers : {U : Type 0} (r : Result U ℕ) (x : Side) (w k s n : ℕ) (f g : FlowResidues) (c : Counts) → IsWidest f → ResiduesRepresent f c → k ≡ outstanding f.modulus (of_side x f.sent) (of_side x f.acknowledged) → k < w → w < f.modulus →
     Answers r f g (count_data f.modulus (of_side x f.windows) c x s n) → Answers r f g (count_data f.modulus w c x s n)
-next_answers r x w k s n f g c wide stands is room below answer =
-    subst (λ a. Answers r f g a) (in_window f.modulus w x s n c (subst (λ j. j < w) (fewer x w k f c wide stands is) room) below)
+next_answers r x w k s n f g c wide represented is room below answer =
+    subst (λ a. Answers r f g a) (in_window f.modulus w x s n c (subst (λ j. j < w) (fewer x w k f c wide represented is) room) below)
     (at_widest r f f g x s n c wide refl refl answer)
 
-pub next_passes : {U : Type 0} (u : U) (x : Side) (w k s n : ℕ) (f g : FlowResidues) (c : Counts) → IsWidest f → Stands f c → k ≡ outstanding f.modulus (of_side x f.sent) (of_side x f.acknowledged) → k < w → w < f.modulus →
+pub next_passes : {U : Type 0} (u : U) (x : Side) (w k s n : ℕ) (f g : FlowResidues) (c : Counts) → IsWidest f → ResiduesRepresent f c → k ≡ outstanding f.modulus (of_side x f.sent) (of_side x f.acknowledged) → k < w → w < f.modulus →
     Answers (Ok u) f g (count_data f.modulus (of_side x f.windows) c x s n) → AreNumbered (Ok g) f.modulus false x (count_data f.modulus w c x s n)
-next_passes u x w k s n f g c wide stands is room below answer =
-    answered_ok u f g (count_data f.modulus w c x s n) (next_answers (Ok u) x w k s n f g c wide stands is room below answer)
+next_passes u x w k s n f g c wide represented is room below answer =
+    answered_ok u f g (count_data f.modulus w c x s n) (next_answers (Ok u) x w k s n f g c wide represented is room below answer)
 
-pub next_fails : (U : Type 0) (e : ℕ) (x : Side) (w k s n : ℕ) (f g : FlowResidues) (c : Counts) → IsWidest f → Stands f c → k ≡ outstanding f.modulus (of_side x f.sent) (of_side x f.acknowledged) → k < w → w < f.modulus →
+pub next_fails : (U : Type 0) (e : ℕ) (x : Side) (w k s n : ℕ) (f g : FlowResidues) (c : Counts) → IsWidest f → ResiduesRepresent f c → k ≡ outstanding f.modulus (of_side x f.sent) (of_side x f.acknowledged) → k < w → w < f.modulus →
     Answers {A = U} (Err e) f g (count_data f.modulus (of_side x f.windows) c x s n) → count_data f.modulus w c x s n ≡ Err e
-next_fails U e x w k s n f g c wide stands is room below answer =
-    (answered_err U e f g (count_data f.modulus w c x s n) (next_answers {U = U} (Err e) x w k s n f g c wide stands is room below answer)).0
+next_fails U e x w k s n f g c wide represented is room below answer =
+    (answered_err U e f g (count_data f.modulus w c x s n) (next_answers {U = U} (Err e) x w k s n f g c wide represented is room below answer)).0
 
 -- how many packets of a side a channel has that was completed for it
 abbrev count_completed : ℕ → Bool → ℕ → ℕ → ℕ
@@ -242,11 +242,11 @@ sent_first m b x y n s c is =
     ∙ sent_own x c.accepted (missing m (sent x c.accepted) s)
 
 -- a direction in which nothing is outstanding
-all_stands : (m k s : ℕ) → k % m ≡ s % m → DirectionStands m (m - 1) k k (s % m) (s % m)
-all_stands m k s e = record { sent_is = e; acknowledged_is = e; ordered = omega arith; within = omega arith }
+all_represents : (m k s : ℕ) → k % m ≡ s % m → DirectionRepresents m (m - 1) k k (s % m) (s % m)
+all_represents m k s e = record { sent_is = e; acknowledged_is = e; ordered = omega arith; within = omega arith }
 
 -- the numbers before the first data packet of a side whose next P(S) is in doubt
-first_at : (x : Side) (b : Bool) (f : FlowResidues) (s n : ℕ) (c : Channel) → IsWidest f → sent x c.accepted ≡ of_side x c.acknowledged → Stands f (counts_of (completed_to f.modulus b (other x) n c)) →
+first_at : (x : Side) (b : Bool) (f : FlowResidues) (s n : ℕ) (c : Channel) → IsWidest f → sent x c.accepted ≡ of_side x c.acknowledged → ResiduesRepresent f (counts_of (completed_to f.modulus b (other x) n c)) →
     IsFirst f x s (counts_of (completed_to f.modulus b (other x) n (completed_to f.modulus true x s c)))
 first_at T b f s n c wide same h =
     let m : ℕ = f.modulus in
@@ -256,9 +256,9 @@ first_at T b f s n c wide same h =
     let edge : d.acknowledged ≡ c.acknowledged = ack_same m b N n (completed_to m true T s c) in
     let hit : sent T d.accepted % m ≡ s % m = ap (λ k. k % m) count ∙ missing_hit m (sent T c.accepted) s wide.eight in
     record {
-      stands = record {
-        of_t = subst (λ w. DirectionStands m w (sent T d.accepted) (sent T d.accepted) (s % m) (s % m)) (sym (windows_of T f wide.windows)) (all_stands m (sent T d.accepted) s hit);
-        of_n = subst (λ (q : ℕ × Sides ℕ). DirectionStands m f.windows.of_n q.0 q.1.of_n f.sent.of_n f.acknowledged.of_n) (λ j. (sym (sent_both m b T N n s c refl) j, sym ack j)) h.of_n;
+      represented = record {
+        of_t = subst (λ w. DirectionRepresents m w (sent T d.accepted) (sent T d.accepted) (s % m) (s % m)) (sym (windows_of T f wide.windows)) (all_represents m (sent T d.accepted) s hit);
+        of_n = subst (λ (q : ℕ × Sides ℕ). DirectionRepresents m f.windows.of_n q.0 q.1.of_n f.sent.of_n f.acknowledged.of_n) (λ j. (sym (sent_both m b T N n s c refl) j, sym ack j)) h.of_n;
         unconfirmed = h.unconfirmed ∙ unconfirmed_same m b N n c ∙ sym (unconfirmed_same m b N n (completed_to m true T s c));
       };
       edge = sym h.of_t.acknowledged_is ∙ ap (λ v. v.of_t % m) (sym ack);
@@ -273,9 +273,9 @@ first_at N b f s n c wide same h =
     let edge : d.acknowledged ≡ c.acknowledged = ack_same m b T n (completed_to m true N s c) in
     let hit : sent N d.accepted % m ≡ s % m = ap (λ k. k % m) count ∙ missing_hit m (sent N c.accepted) s wide.eight in
     record {
-      stands = record {
-        of_t = subst (λ (q : ℕ × Sides ℕ). DirectionStands m f.windows.of_t q.0 q.1.of_t f.sent.of_t f.acknowledged.of_t) (λ j. (sym (sent_both m b N T n s c refl) j, sym ack j)) h.of_t;
-        of_n = subst (λ w. DirectionStands m w (sent N d.accepted) (sent N d.accepted) (s % m) (s % m)) (sym (windows_of N f wide.windows)) (all_stands m (sent N d.accepted) s hit);
+      represented = record {
+        of_t = subst (λ (q : ℕ × Sides ℕ). DirectionRepresents m f.windows.of_t q.0 q.1.of_t f.sent.of_t f.acknowledged.of_t) (λ j. (sym (sent_both m b N T n s c refl) j, sym ack j)) h.of_t;
+        of_n = subst (λ w. DirectionRepresents m w (sent N d.accepted) (sent N d.accepted) (s % m) (s % m)) (sym (windows_of N f wide.windows)) (all_represents m (sent N d.accepted) s hit);
         unconfirmed = h.unconfirmed ∙ unconfirmed_same m b T n c ∙ sym (unconfirmed_same m b T n (completed_to m true N s c));
       };
       edge = sym h.of_n.acknowledged_is ∙ ap (λ v. v.of_n % m) (sym ack);
@@ -291,21 +291,21 @@ numbered_by r m doubt i b x h c modulus is done =
     subst (λ (q : ℕ × Bool). AreNumbered r q.0 q.1 x (count_data q.0 (elim q.1 [ true ↦ q.0 | false ↦ window_in_force i c x ]) (counts_of (completed_to q.0 (of_side (other x) b.numbers) (other x) h.receive (completed_to q.0 q.1 x h.send c))) x h.send h.receive))
     (λ j. (modulus j, sym is j)) done
 
-pub judged_first : (r : Result FlowResidues ℕ) (i : Interface) (s : InDoubt) (f : FlowResidues) (x y : Side) (h : DataHeader) (c : Channel) → IsWidest f → NumbersStand i.modulus s c → y ≡ other x → of_side x s.doubts.numbers ≡ true →
-    f.modulus ≡ i.modulus → Stands f (counts_of (completed_to i.modulus (of_side y s.doubts.numbers) y h.receive c)) →
+pub judged_first : (r : Result FlowResidues ℕ) (i : Interface) (s : InDoubt) (f : FlowResidues) (x y : Side) (h : DataHeader) (c : Channel) → IsWidest f → NumbersRepresent i.modulus s c → y ≡ other x → of_side x s.doubts.numbers ≡ true →
+    f.modulus ≡ i.modulus → ResiduesRepresent f (counts_of (completed_to i.modulus (of_side y s.doubts.numbers) y h.receive c)) →
     ((e : Counts) → IsFirst f x h.send e → AreNumbered r f.modulus true x (count_data f.modulus f.modulus e x h.send h.receive)) → IsNumbered r i s.doubts x h c
-judged_first r i s f x y h c wide ns side doubt modulus stands answer =
-    let here : Stands f (counts_of (completed_to f.modulus (of_side (other x) s.doubts.numbers) (other x) h.receive c)) =
-    subst (λ (q : ℕ × Side). Stands f (counts_of (completed_to q.0 (of_side q.1 s.doubts.numbers) q.1 h.receive c))) (λ j. (sym modulus j, side j)) stands in
+judged_first r i s f x y h c wide ns side doubt modulus represented answer =
+    let here : ResiduesRepresent f (counts_of (completed_to f.modulus (of_side (other x) s.doubts.numbers) (other x) h.receive c)) =
+    subst (λ (q : ℕ × Side). ResiduesRepresent f (counts_of (completed_to q.0 (of_side q.1 s.doubts.numbers) q.1 h.receive c))) (λ j. (sym modulus j, side j)) represented in
     numbered_by r f.modulus true i s.doubts x h c modulus doubt
     (answer _ (first_at x (of_side (other x) s.doubts.numbers) f h.send h.receive c wide (sym (side_of x c.accepted) ∙ ns.acknowledged x doubt) here))
 
 pub judged_next : (r : Result FlowResidues ℕ) (i : Interface) (s : InDoubt) (f : FlowResidues) (x y : Side) (w : ℕ) (h : DataHeader) (c : Channel) → y ≡ other x → of_side x s.doubts.numbers ≡ false →
-    f.modulus ≡ i.modulus → w ≡ window_in_force i c x → w < i.modulus → Stands f (counts_of (completed_to i.modulus (of_side y s.doubts.numbers) y h.receive c)) →
-    ((e : Counts) → Stands f e → w < f.modulus → AreNumbered r f.modulus false x (count_data f.modulus w e x h.send h.receive)) → IsNumbered r i s.doubts x h c
-judged_next r i s f x y w h c side doubt modulus window below stands answer =
-    let here : Stands f (counts_of (completed_to f.modulus (of_side (other x) s.doubts.numbers) (other x) h.receive c)) =
-    subst (λ (q : ℕ × Side). Stands f (counts_of (completed_to q.0 (of_side q.1 s.doubts.numbers) q.1 h.receive c))) (λ j. (sym modulus j, side j)) stands in
+    f.modulus ≡ i.modulus → w ≡ window_in_force i c x → w < i.modulus → ResiduesRepresent f (counts_of (completed_to i.modulus (of_side y s.doubts.numbers) y h.receive c)) →
+    ((e : Counts) → ResiduesRepresent f e → w < f.modulus → AreNumbered r f.modulus false x (count_data f.modulus w e x h.send h.receive)) → IsNumbered r i s.doubts x h c
+judged_next r i s f x y w h c side doubt modulus window below represented answer =
+    let here : ResiduesRepresent f (counts_of (completed_to f.modulus (of_side (other x) s.doubts.numbers) (other x) h.receive c)) =
+    subst (λ (q : ℕ × Side). ResiduesRepresent f (counts_of (completed_to q.0 (of_side q.1 s.doubts.numbers) q.1 h.receive c))) (λ j. (sym modulus j, side j)) represented in
     let d : Channel = completed_to f.modulus (of_side (other x) s.doubts.numbers) (other x) h.receive c in
     numbered_by r f.modulus false i s.doubts x h c modulus doubt
     (subst (λ k. AreNumbered r f.modulus false x (count_data f.modulus k (counts_of d) x h.send h.receive)) window (answer (counts_of d) here (subst (λ k. w < k) (sym modulus) below)))

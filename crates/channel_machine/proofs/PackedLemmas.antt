@@ -9,7 +9,7 @@ use Rattle.channel_machine.specs.Status.{Status, view_of}
 use Rattle.std.specs.Prelude.{◌&&◌, cond, Some, None}
 use Rattle.channel_run.specs.StatusWord.{state_by, state_in, owed_in, pad_call_in, fast_in, view_in}
 use Rattle.channel_machine.specs.declared.terms.Opened.{Opened}
-use Rattle.channel_machine.specs.TermsStand.{is_fast, is_pad}
+use Rattle.channel_machine.specs.TermsRepresent.{is_fast, is_pad}
 use Rattle.channel_machine.specs.PackedStatus.{settled, call_by, call_in, values_in, status_in}
 
 -- five fields, one above the other: the states, whether an indication is owed, the call, and the logarithms of both sizes

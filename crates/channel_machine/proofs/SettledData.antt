@@ -19,17 +19,17 @@ use Rattle.line_model.specs.channels.GapStep.{SettledOutcome, accepting_in_doubt
 use Rattle.line_model.specs.channels.Sequences.{sequence_octets}
 use Rattle.data_transfer.specs.Assembler.{begun_on}
 use Rattle.data_transfer.specs.Assembly.{Holds}
-use Rattle.data_transfer.specs.FlowResidues.{FlowResidues, Stands}
+use Rattle.data_transfer.specs.FlowResidues.{FlowResidues, ResiduesRepresent}
 use Rattle.data_transfer.specs.Sequences.{Assembly, SequenceView}
 use Rattle.data_transfer.proofs.SequenceLemmas.{packets_of-other, packets_of-same}
 use Rattle.channel_machine.specs.declared.events.EventOrigin.{EventOrigin}
 use Rattle.channel_machine.specs.Channels as channels
 use Rattle.channel_machine.specs.Channels.{Known}
 use Rattle.channel_machine.specs.Events.{Reports, data_of, event_at}
-use Rattle.channel_machine.specs.GapChannels.{StandsSettled, at_rest}
+use Rattle.channel_machine.specs.GapChannels.{RepresentsSettled, at_rest}
 use Rattle.channel_machine.specs.GapView.{InDoubt}
 use Rattle.channel_machine.specs.SettledData.{Continues, IsAdded, IsDataJudged, IsPut, continued_by, data_settled, known_message}
-use Rattle.channel_machine.specs.SettledNumbers.{IsNumbered, IsWidest, NumbersStand, SequencesStand, kept_begun, kept_of}
+use Rattle.channel_machine.specs.SettledNumbers.{IsNumbered, IsWidest, NumbersRepresent, SequencesRepresent, kept_begun, kept_of}
 use Rattle.channel_machine.specs.SettledSequences.{kept_after}
 use Rattle.channel_machine.specs.SettledSteps.{SettledDoes}
 use Rattle.channel_machine.proofs.Completing.{ack_same, acked, kept_completed, receive_is, rest_completed, sent_other, side_of}
@@ -73,15 +73,15 @@ rest_for_data m b x h c =
 pub size_same : (i : Interface) (b : Doubts) (x y : Side) (h : DataHeader) (c : Channel) → size_in_force i (completed_for_data i.modulus b x h c) y ≡ size_in_force i c y
 size_same i b x y h c = ap (λ d. size_in_force i d y) (rest_for_data i.modulus b x h c)
 
-kept_for_data : (i : Interface) (s : InDoubt) (x y : Side) (h : DataHeader) (c : Channel) → NumbersStand i.modulus s c → kept_begun i s.doubts y c ≡ kept_begun i s.doubts y (completed_for_data i.modulus s.doubts x h c)
+kept_for_data : (i : Interface) (s : InDoubt) (x y : Side) (h : DataHeader) (c : Channel) → NumbersRepresent i.modulus s c → kept_begun i s.doubts y c ≡ kept_begun i s.doubts y (completed_for_data i.modulus s.doubts x h c)
 kept_for_data i s x y h c ns =
     kept_completed i i.modulus s x y h.send c ns.unknown
     ∙ kept_completed i i.modulus s (other x) y h.receive (completed_to i.modulus (of_side x s.doubts.numbers) x h.send c) ns.unknown
 
-pub sequences_for_data : (i : Interface) (s : InDoubt) (x : Side) (h : DataHeader) (c : Channel) → NumbersStand i.modulus s c → SequencesStand i s c → SequencesStand i s (completed_for_data i.modulus s.doubts x h c)
+pub sequences_for_data : (i : Interface) (s : InDoubt) (x : Side) (h : DataHeader) (c : Channel) → NumbersRepresent i.modulus s c → SequencesRepresent i s c → SequencesRepresent i s (completed_for_data i.modulus s.doubts x h c)
 sequences_for_data i s x h c ns ss = λ y. subst (λ l. Holds (begun_on s.assembler y) l) (kept_for_data i s x y h c ns) (ss y)
 
-pub continues : (i : Interface) (s : InDoubt) (x : Side) (h : DataHeader) (p : AcceptedData) (c : Channel) → NumbersStand i.modulus s c → SequencesStand i s c → is_mixed s.doubts.hidden (of_side x s.doubts.sequences) p (continued_by i s.doubts x h c) ≡ false →
+pub continues : (i : Interface) (s : InDoubt) (x : Side) (h : DataHeader) (p : AcceptedData) (c : Channel) → NumbersRepresent i.modulus s c → SequencesRepresent i s c → is_mixed s.doubts.hidden (of_side x s.doubts.sequences) p (continued_by i s.doubts x h c) ≡ false →
     Continues s x (continued_by i s.doubts x h c) p
 continues i s x h p c ns ss alike = record {
   holds = subst (λ n. Holds (begun_on s.assembler x) (kept_of (of_side x s.doubts.sequences) s.doubts.hidden (may_be_begun s.doubts.hidden n x (completed_for_data i.modulus s.doubts x h c).accepted)))
@@ -143,7 +143,7 @@ sent_still : (x : Side) (hs : List AcceptedData) (p : AcceptedData) → p.side �
 sent_still x hs p side = ap (λ l. length l) (packets_of-other (other x) hs p (ap (λ y. is_side (other x) y) side ∙ other_side x))
 
 -- the other side has nothing outstanding after it, where its next P(S) is in doubt
-settled_other : (m w : ℕ) (s : InDoubt) (x : Side) (h : DataHeader) (p : AcceptedData) (v : Counts) (n : ℕ) (c : Channel) → (m ≡ 8) ⊎ (m ≡ 128) → NumbersStand m s c → p.side ≡ x →
+settled_other : (m w : ℕ) (s : InDoubt) (x : Side) (h : DataHeader) (p : AcceptedData) (v : Counts) (n : ℕ) (c : Channel) → (m ≡ 8) ⊎ (m ≡ 128) → NumbersRepresent m s c → p.side ≡ x →
     count_data m w (counts_of (completed_for_data m s.doubts x h c)) x h.send h.receive ≡ Ok v → of_side (other x) s.doubts.numbers ≡ true →
     of_side (other x) (sent_by ((completed_for_data m s.doubts x h c).accepted ++ p ∷ [])) ≡ of_side (other x) (edge_in_doubt m (of_side x s.doubts.numbers) x n v.acknowledged)
 settled_other m w s x h p v n c eight ns side is doubt =
@@ -183,29 +183,29 @@ begun_other doubt hidden size x hs p side =
 
 -- the counts after it
 counts_after : (m w : ℕ) (f : FlowResidues) (b : Bool) (x : Side) (h : DataHeader) (p : AcceptedData) (v : Counts) (d : Channel) → p.side ≡ x → count_data m w (counts_of d) x h.send h.receive ≡ Ok v →
-    Stands f (record v { acknowledged = edge_in_doubt m b x (of_side x v.sent) v.acknowledged }) →
-    Stands f (counts_of (record d { accepted = d.accepted ++ p ∷ []; acknowledged = edge_in_doubt m b x (sent x (d.accepted ++ p ∷ [])) v.acknowledged }))
-counts_after m w f b x h p v d side is stands =
+    ResiduesRepresent f (record v { acknowledged = edge_in_doubt m b x (of_side x v.sent) v.acknowledged }) →
+    ResiduesRepresent f (counts_of (record d { accepted = d.accepted ++ p ∷ []; acknowledged = edge_in_doubt m b x (sent x (d.accepted ++ p ∷ [])) v.acknowledged }))
+counts_after m w f b x h p v d side is represented =
     let keeps = data_counts m w (counts_of d) v x h.send h.receive is in
     let all : v.sent ≡ sent_by (d.accepted ++ p ∷ []) = keeps.0 ∙ sent_more x d.accepted p side in
     let own : of_side x v.sent ≡ sent x (d.accepted ++ p ∷ []) = ap (λ u. of_side x u) all ∙ side_of x (d.accepted ++ p ∷ []) in
-    subst (λ (u : Counts). Stands f u) (λ j. record { sent = all j; acknowledged = edge_in_doubt m b x (own j) v.acknowledged; unconfirmed = keeps.1 j }) stands
+    subst (λ (u : Counts). ResiduesRepresent f u) (λ j. record { sent = all j; acknowledged = edge_in_doubt m b x (own j) v.acknowledged; unconfirmed = keeps.1 j }) represented
 
 -- what is certain after it
-numbers_after : (i : Interface) (w : ℕ) (s : InDoubt) (g : Assembly) (f : FlowResidues) (x : Side) (h : DataHeader) (p : AcceptedData) (a : Bool) (v : Counts) (c : Channel) → (i.modulus ≡ 8) ⊎ (i.modulus ≡ 128) → NumbersStand i.modulus s c → p.side ≡ x →
+numbers_after : (i : Interface) (w : ℕ) (s : InDoubt) (g : Assembly) (f : FlowResidues) (x : Side) (h : DataHeader) (p : AcceptedData) (a : Bool) (v : Counts) (c : Channel) → (i.modulus ≡ 8) ⊎ (i.modulus ≡ 128) → NumbersRepresent i.modulus s c → p.side ≡ x →
     count_data i.modulus w (counts_of (completed_for_data i.modulus s.doubts x h c)) x h.send h.receive ≡ Ok v →
-    Stands f (record v { acknowledged = edge_in_doubt i.modulus (of_side x s.doubts.numbers) x (of_side x v.sent) v.acknowledged }) → IsWidest f → f.modulus ≡ s.flow.modulus →
-    NumbersStand i.modulus (record { doubts = doubts_after_data x a s.doubts; flow = f; assembler = g })
+    ResiduesRepresent f (record v { acknowledged = edge_in_doubt i.modulus (of_side x s.doubts.numbers) x (of_side x v.sent) v.acknowledged }) → IsWidest f → f.modulus ≡ s.flow.modulus →
+    NumbersRepresent i.modulus (record { doubts = doubts_after_data x a s.doubts; flow = f; assembler = g })
     (record (completed_for_data i.modulus s.doubts x h c) {
       accepted = (completed_for_data i.modulus s.doubts x h c).accepted ++ p ∷ [];
       acknowledged = edge_in_doubt i.modulus (of_side x s.doubts.numbers) x (sent x ((completed_for_data i.modulus s.doubts x h c).accepted ++ p ∷ [])) v.acknowledged;
     })
-numbers_after i w s g f x h p a v c eight ns side is stands widest modulus =
+numbers_after i w s g f x h p a v c eight ns side is represented widest modulus =
     let d : Channel = completed_for_data i.modulus s.doubts x h c in
     let e : Channel = record d { accepted = d.accepted ++ p ∷ []; acknowledged = edge_in_doubt i.modulus (of_side x s.doubts.numbers) x (sent x (d.accepted ++ p ∷ [])) v.acknowledged } in
     let t : Doubts = doubts_after_data x a s.doubts in
     record {
-      flow = counts_after i.modulus w f (of_side x s.doubts.numbers) x h p v d side is stands;
+      flow = counts_after i.modulus w f (of_side x s.doubts.numbers) x h p v d side is represented;
       modulus = modulus ∙ ns.modulus;
       widest = widest.windows ∙ ap (λ n. of_both (n - 1)) (modulus ∙ ns.modulus);
       acknowledged = λ y. by_side (λ z. of_side z t.numbers ≡ true → of_side z (sent_by e.accepted) ≡ of_side z e.acknowledged) x y
@@ -216,10 +216,10 @@ numbers_after i w s g f x h p a v c eight ns side is stands widest modulus =
           (λ k. of_other x (of_side x s.doubts.sequences && a) s.doubts.sequences ∙ ns.unknown (other x) (sym (of_other x false s.doubts.numbers) ∙ k));
     }
 
-sequences_after : (i : Interface) (s : InDoubt) (g : Assembly) (f : FlowResidues) (x : Side) (h : DataHeader) (p : AcceptedData) (a : Bool) (u : Sides ℕ) (c : Channel) → NumbersStand i.modulus s c → SequencesStand i s c → p.side ≡ x →
+sequences_after : (i : Interface) (s : InDoubt) (g : Assembly) (f : FlowResidues) (x : Side) (h : DataHeader) (p : AcceptedData) (a : Bool) (u : Sides ℕ) (c : Channel) → NumbersRepresent i.modulus s c → SequencesRepresent i s c → p.side ≡ x →
     a ≡ may_be_category_a s.doubts.hidden (size_in_force i c x) p → Holds (begun_on g x) (kept_after (of_side x s.doubts.sequences) s.doubts.hidden a (continued_by i s.doubts x h c) p) →
     begun_on g (other x) ≡ begun_on s.assembler (other x) →
-    SequencesStand i (record { doubts = doubts_after_data x a s.doubts; flow = f; assembler = g })
+    SequencesRepresent i (record { doubts = doubts_after_data x a s.doubts; flow = f; assembler = g })
     (record (completed_for_data i.modulus s.doubts x h c) { accepted = (completed_for_data i.modulus s.doubts x h c).accepted ++ p ∷ []; acknowledged = u })
 sequences_after i s g f x h p a u c ns ss side category begun apart =
     let d : Channel = completed_for_data i.modulus s.doubts x h c in
@@ -236,11 +236,11 @@ sequences_after i s g f x h p a u c ns ss side category begun apart =
     (subst (λ l. Holds (begun_on g x) l) (sym own) begun)
     (subst (λ (q : SequenceView). Holds q (kept_begun i t (other x) e)) (sym apart) (subst (λ l. Holds (begun_on s.assembler (other x)) l) (sym rest) (ss (other x))))
 
-pub accepts : (s : EventOrigin) (old : Known) (held put left : InDoubt) (before after : List Event) (x : Side) (q : StateName) (h : DataHeader) (p : AcceptedData) (a : Bool) (f : FlowResidues) (c : Channel) → StandsSettled old held c → is_in_d1 old.state ≡ true → p.side ≡ x →
+pub accepts : (s : EventOrigin) (old : Known) (held put left : InDoubt) (before after : List Event) (x : Side) (q : StateName) (h : DataHeader) (p : AcceptedData) (a : Bool) (f : FlowResidues) (c : Channel) → RepresentsSettled old held c → is_in_d1 old.state ≡ true → p.side ≡ x →
     IsDataJudged (Ok f) old.terms.interface held.doubts x h p c → IsWidest f → f.modulus ≡ held.flow.modulus → left ≡ record put { doubts = doubts_after_data x a put.doubts; flow = f } →
     IsAdded s old.terms.interface x held put before after a (continued_by old.terms.interface held.doubts x h c) p (completed_for_data old.terms.interface.modulus held.doubts x h c) →
     SettledDoes s old old left before after (data_settled old.terms.interface x q h p held.doubts c)
-accepts s old held put left before after x q h p a f c st d1 side ((v, is, stands), alike) widest modulus left_is added =
+accepts s old held put left before after x q h p a f c st d1 side ((v, is, represented), alike) widest modulus left_is added =
     let i : Interface = old.terms.interface in
     let b : Doubts = held.doubts in
     let size = size_in_force i c x in
@@ -259,10 +259,10 @@ accepts s old held put left before after x q h p a f c st d1 side ((v, is, stand
       interface = refl;
       channel = refl;
       doubts = ap (λ k. doubts_after_data x k b) category ∙ doubts_of_d1 e.state (doubts_after_data x (may_be_category_a b.hidden size p) b) here;
-      stands = record {
-        rest = subst (λ k. channels.Stands old k) (sym rest) st.rest;
+      represented = record {
+        rest = subst (λ k. channels.StatusRepresents old k) (sym rest) st.rest;
         reached = same c e (ap (λ (k : Channel). k.opening) rest) (ap (λ (k : Channel). k.accepting) rest) (ap (λ (k : Channel). k.state) rest) st.reached;
-        numbers = numbers_after i (window_in_doubt i b c x) held put.assembler f x h p a v c eight st.numbers side is stands widest modulus;
+        numbers = numbers_after i (window_in_doubt i b c x) held put.assembler f x h p a v c eight st.numbers side is represented widest modulus;
         sequences = sequences_after i held put.assembler f x h p a e.acknowledged c st.numbers st.sequences side category added.put.begun added.put.apart;
         outside = λ k. absurd (true≢false (sym here ∙ k));
       };

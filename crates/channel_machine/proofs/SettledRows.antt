@@ -38,14 +38,14 @@ use Rattle.data_transfer.specs.Assembler.{begun_on}
 use Rattle.data_transfer.specs.Assembly.{Holds}
 use Rattle.data_transfer.specs.FlowResidues as flow
 use Rattle.channel_machine.specs.declared.events.EventOrigin.{EventOrigin}
-use Rattle.channel_machine.specs.Channels.{Does, Known, Stands, listed}
+use Rattle.channel_machine.specs.Channels.{Does, Known, StatusRepresents, listed}
 use Rattle.channel_machine.specs.Contents.{is_call}
 use Rattle.channel_machine.specs.Entries.{is_transfer}
 use Rattle.channel_machine.specs.Events.{Reports, data_of, event_at}
-use Rattle.channel_machine.specs.GapChannels.{StandsSettled, at_rest}
+use Rattle.channel_machine.specs.GapChannels.{RepresentsSettled, at_rest}
 use Rattle.channel_machine.specs.GapView.{InDoubt}
 use Rattle.channel_machine.specs.Reached.{IsReached}
-use Rattle.channel_machine.specs.SettledNumbers.{IsCountedInDoubt, NumbersStand, SequencesStand, kept_begun, kept_of, with_counts}
+use Rattle.channel_machine.specs.SettledNumbers.{IsCountedInDoubt, NumbersRepresent, SequencesRepresent, kept_begun, kept_of, with_counts}
 use Rattle.channel_machine.specs.SettledSteps.{IsControlled, SettledDoes, settled_entry, settled_row}
 use Rattle.channel_machine.proofs.AdriftLemmas.{header_class}
 use Rattle.channel_machine.proofs.Completing.{rest_completed}
@@ -87,21 +87,21 @@ none_begun false true = refl
 none_begun false false = refl
 
 -- a channel that enters a state
-pub restarted : (s : EventOrigin) (old new : Known) (held left : InDoubt) (before after : List Event) (o : Outcome) (c : Channel) → StandsSettled old held c → Does s old new before after o → at_rest o.after ≡ o.after → IsReached o.after →
-    left.doubts ≡ doubts_in new.state held.doubts → left.flow.modulus ≡ held.flow.modulus → left.flow.windows ≡ held.flow.windows → flow.Stands left.flow no_counts → ((x : Side) → Holds (begun_on left.assembler x) []) →
+pub restarted : (s : EventOrigin) (old new : Known) (held left : InDoubt) (before after : List Event) (o : Outcome) (c : Channel) → RepresentsSettled old held c → Does s old new before after o → at_rest o.after ≡ o.after → IsReached o.after →
+    left.doubts ≡ doubts_in new.state held.doubts → left.flow.modulus ≡ held.flow.modulus → left.flow.windows ≡ held.flow.windows → flow.ResiduesRepresent left.flow no_counts → ((x : Side) → Holds (begun_on left.assembler x) []) →
     SettledDoes s old new left before after (record { outcome = o; doubts = held.doubts })
 restarted s old new held left before after o c st does rest reached doubts_are modulus windows none begun =
     let d : Channel = o.after in
-    let doubts : left.doubts ≡ doubts_in d.state held.doubts = doubts_are ∙ ap (λ q. doubts_in q held.doubts) does.stands.state in
+    let doubts : left.doubts ≡ doubts_in d.state held.doubts = doubts_are ∙ ap (λ q. doubts_in q held.doubts) does.represented.state in
     record {
       interface = does.interface;
       channel = does.channel;
       doubts = doubts;
-      stands = record {
-        rest = subst (λ e. Stands new e) (sym rest) does.stands;
+      represented = record {
+        rest = subst (λ e. StatusRepresents new e) (sym rest) does.represented;
         reached = reached;
         numbers = record {
-          flow = subst (λ e. flow.Stands left.flow (counts_of e)) rest none;
+          flow = subst (λ e. flow.ResiduesRepresent left.flow (counts_of e)) rest none;
           modulus = modulus ∙ st.numbers.modulus ∙ ap (λ (i : Interface). i.modulus) (sym does.interface);
           widest = windows ∙ st.numbers.widest ∙ ap (λ (i : Interface). of_both (i.modulus - 1)) (sym does.interface);
           acknowledged = λ x e. subst (λ k. of_side x (sent_by k.accepted) ≡ of_side x k.acknowledged) rest (none_sent x);
@@ -115,16 +115,16 @@ restarted s old new held left before after o c st does rest reached doubts_are m
     }
 
 -- one that stays where it is, and owes an indication or not
-pub stays : (s : EventOrigin) (old new : Known) (held : InDoubt) (before after : List Event) (ws : List What) (w : Bool) (c : Channel) → StandsSettled old held c → new.terms.interface ≡ old.terms.interface → new.channel ≡ old.channel →
-    Stands new (at_rest (record c { owed = w })) → Reports s before after ws → SettledDoes s old new held before after (record { outcome = record { reported = ws; after = record c { owed = w } }; doubts = held.doubts })
-stays s old new held before after ws w c st interface number stands reports =
-    let ns : NumbersStand new.terms.interface.modulus held c = subst (λ (i : Interface). NumbersStand i.modulus held c) (sym interface) st.numbers in
+pub stays : (s : EventOrigin) (old new : Known) (held : InDoubt) (before after : List Event) (ws : List What) (w : Bool) (c : Channel) → RepresentsSettled old held c → new.terms.interface ≡ old.terms.interface → new.channel ≡ old.channel →
+    StatusRepresents new (at_rest (record c { owed = w })) → Reports s before after ws → SettledDoes s old new held before after (record { outcome = record { reported = ws; after = record c { owed = w } }; doubts = held.doubts })
+stays s old new held before after ws w c st interface number represented reports =
+    let ns : NumbersRepresent new.terms.interface.modulus held c = subst (λ (i : Interface). NumbersRepresent i.modulus held c) (sym interface) st.numbers in
     record {
       interface = interface;
       channel = number;
       doubts = doubts_same c.state held.doubts (λ e. (st.outside e).0);
-      stands = record {
-        rest = stands;
+      represented = record {
+        rest = represented;
         reached = same c (record c { owed = w }) refl refl refl st.reached;
         numbers = record { flow = ns.flow; modulus = ns.modulus; widest = ns.widest; acknowledged = ns.acknowledged; unknown = ns.unknown };
         sequences = λ x. subst (λ (i : Interface). Holds (begun_on held.assembler x) (kept_begun i held.doubts x c)) (sym interface) (st.sequences x);
@@ -185,8 +185,8 @@ failing_at_rest D1 n c = refl
 failing_at_rest D2 n c = refl
 failing_at_rest D3 n c = refl
 
-pub gave_up : (s : EventOrigin) (old new : Known) (held left : InDoubt) (before after : List Event) (x : Side) (q : StateName) (n : ℕ) (c : Channel) → x ≡ T → StandsSettled old held c → Does s old new before after (failing x q n (at_rest c)) →
-    left.doubts ≡ doubts_in new.state held.doubts → left.flow.modulus ≡ held.flow.modulus → left.flow.windows ≡ held.flow.windows → flow.Stands left.flow no_counts → ((x : Side) → Holds (begun_on left.assembler x) []) →
+pub gave_up : (s : EventOrigin) (old new : Known) (held left : InDoubt) (before after : List Event) (x : Side) (q : StateName) (n : ℕ) (c : Channel) → x ≡ T → RepresentsSettled old held c → Does s old new before after (failing x q n (at_rest c)) →
+    left.doubts ≡ doubts_in new.state held.doubts → left.flow.modulus ≡ held.flow.modulus → left.flow.windows ≡ held.flow.windows → flow.ResiduesRepresent left.flow no_counts → ((x : Side) → Holds (begun_on left.assembler x) []) →
     SettledDoes s old new left before after (failing_in_doubt x q n held.doubts c)
 gave_up s old new held left before after x q n c side st does doubts modulus windows none begun =
     subst (λ y. SettledDoes s old new left before after (failing_in_doubt y q n held.doubts c)) (sym side)
@@ -194,12 +194,12 @@ gave_up s old new held left before after x q n c side st does doubts modulus win
     (subst (λ o. Does s old new before after o) (failing_at_rest q n c) (subst (λ y. Does s old new before after (failing y q n (at_rest c))) side does))
     (given_up_rest q n c) (failed T q n c st.reached) doubts modulus windows none begun)
 
-pub found_of_dce : (s : EventOrigin) (old new : Known) (held : InDoubt) (before after : List Event) (x : Side) (q : StateName) (n : ℕ) (c : Channel) → x ≡ N → StandsSettled old held c → Does s old new before after (failing x q n (at_rest c)) →
+pub found_of_dce : (s : EventOrigin) (old new : Known) (held : InDoubt) (before after : List Event) (x : Side) (q : StateName) (n : ℕ) (c : Channel) → x ≡ N → RepresentsSettled old held c → Does s old new before after (failing x q n (at_rest c)) →
     SettledDoes s old new held before after (failing_in_doubt x q n held.doubts c)
 found_of_dce s old new held before after x q n c side st does =
     let here : Does s old new before after (failing N q n (at_rest c)) = subst (λ y. Does s old new before after (failing y q n (at_rest c))) side does in
     subst (λ y. SettledDoes s old new held before after (failing_in_doubt y q n held.doubts c)) (sym side)
-    (stays s old new held before after (Found N q (Number n) ∷ []) c.owed c st here.interface here.channel here.stands here.reports)
+    (stays s old new held before after (Found N q (Number n) ∷ []) c.owed c st here.interface here.channel here.represented here.reports)
 
 -- a move
 
@@ -219,7 +219,7 @@ moved_rest (Ends h) xs to c = cleared_rest h c.opening to c
 moved_rest Keeps xs to c = refl
 
 -- a packet that changes the counts alone
-pub controlled : {U : Type 0} (u : U) (s : EventOrigin) (old : Known) (held left : InDoubt) (before : List Event) (x : Side) (q : StateName) (b : Doubts) (c : Channel) (o : SettledOutcome) → StandsSettled old held c → is_in_d1 old.state ≡ true →
+pub controlled : {U : Type 0} (u : U) (s : EventOrigin) (old : Known) (held left : InDoubt) (before : List Event) (x : Side) (q : StateName) (b : Doubts) (c : Channel) (o : SettledOutcome) → RepresentsSettled old held c → is_in_d1 old.state ≡ true →
     IsControlled (Ok u) old.terms.interface x q left b c o → SettledDoes s old old left before before o
 controlled u s old held left before x q b c o st d1 (e, is, rest, numbers, sequences) =
     let here : is_in_d1 e.state ≡ true = ap (λ d. is_in_d1 d.state) rest ∙ ap (λ q. is_in_d1 q) (sym st.rest.state) ∙ d1 in
@@ -227,8 +227,8 @@ controlled u s old held left before x q b c o st d1 (e, is, rest, numbers, seque
       interface = refl;
       channel = refl;
       doubts = doubts_of_d1 e.state left.doubts here;
-      stands = record {
-        rest = subst (λ d. Stands old d) (sym rest) st.rest;
+      represented = record {
+        rest = subst (λ d. StatusRepresents old d) (sym rest) st.rest;
         reached = same c e (ap (λ d. d.opening) rest) (ap (λ d. d.accepting) rest) (ap (λ d. d.state) rest) st.reached;
         numbers = numbers;
         sequences = sequences;
@@ -270,7 +270,7 @@ receives r i x q n s new c doubts counted =
     let d : Channel = completed_for_receive i.modulus s.doubts x n c in
     counted_is r i x q new s.doubts s.doubts (count_receive i.modulus (counts_of d) x n) d c (rest_completed i.modulus (of_side (other x) s.doubts.numbers) (other x) n c) (on_ok r (new.doubts ≡ s.doubts) doubts) counted
 
-pub receives_none : {U : Type 0} (u : U) (i : Interface) (x y : Side) (q : StateName) (s : InDoubt) (c : Channel) → NumbersStand i.modulus s c → SequencesStand i s c → IsControlled (Ok u) i x q s s.doubts c (receive_in_doubt i.modulus y q None s.doubts c)
+pub receives_none : {U : Type 0} (u : U) (i : Interface) (x y : Side) (q : StateName) (s : InDoubt) (c : Channel) → NumbersRepresent i.modulus s c → SequencesRepresent i s c → IsControlled (Ok u) i x q s s.doubts c (receive_in_doubt i.modulus y q None s.doubts c)
 receives_none u i x y q s c numbers sequences = (c, refl, refl, numbers, sequences)
 
 -- every other packet of data transfer has its P(R) counted

@@ -18,34 +18,34 @@ use Rattle.line_model.specs.channels.FlowControl.{Counts}
 use Rattle.line_model.specs.channels.ChannelStep.{Outcome, counting, data_counted, data_step, accepted_of, accepting_data}
 use Rattle.channel_machine.specs.declared.events.EventOrigin.{EventOrigin}
 use Rattle.channel_machine.specs.Transfers.{Represents, IsCounted, IsAccepted, counted_in_force}
-use Rattle.channel_machine.specs.Channels.{Known, Stands, Does, DoesApart, IsJudged, Passes}
+use Rattle.channel_machine.specs.Channels.{Known, StatusRepresents, Does, DoesApart, IsJudged, Passes}
 
 -- what follows a fault that left the channel as it was
-pub refusing : (P : Known → Outcome → Type 0) (old mid : Known) (c : Channel) (f : Channel → Outcome) (o : Outcome) → (f c ≡ o) × (mid ≡ old) → Stands old c →
-    ((d : Channel) → Stands mid d → P mid (f d)) → P old o
-refusing P old mid c f o same stands does =
-    subst (λ p. P old p) same.0 (subst (λ u. P u (f c)) same.1 (does c (subst (λ u. Stands u c) (sym same.1) stands)))
+pub refusing : (P : Known → Outcome → Type 0) (old mid : Known) (c : Channel) (f : Channel → Outcome) (o : Outcome) → (f c ≡ o) × (mid ≡ old) → StatusRepresents old c →
+    ((d : Channel) → StatusRepresents mid d → P mid (f d)) → P old o
+refusing P old mid c f o same represented does =
+    subst (λ p. P old p) same.0 (subst (λ u. P u (f c)) same.1 (does c (subst (λ u. StatusRepresents u c) (sym same.1) represented)))
 
 -- a packet that changes the counts alone
-judged_at : {U : Type 0} (r : Result U ℕ) (old : Known) (f : FlowResidues) (x : Side) (q : StateName) (a : Result Counts ℕ) (c : Channel) → Stands old c →
+judged_at : {U : Type 0} (r : Result U ℕ) (old : Known) (f : FlowResidues) (x : Side) (q : StateName) (a : Result Counts ℕ) (c : Channel) → StatusRepresents old c →
     IsCounted r old.terms.interface old.transfer (record old.transfer { flow = f }) a c →
     IsJudged r (λ _. []) x q old (record old { transfer = record old.transfer { flow = f } }) c (counting x q a c)
-judged_at (Ok u) old f x q a c stands answer =
+judged_at (Ok u) old f x q a c represented answer =
     let (v, is, transfer) = answer in
     subst (λ b. Passes old (record old { transfer = record old.transfer { flow = f } }) [] (counting x q b c)) (sym is) (record {
       interface = refl;
       channel = refl;
-      stands = record { state = stands.state; owed = stands.owed; terms = record { call = stands.terms.call; values = stands.terms.values }; transfer = transfer };
+      represented = record { state = represented.state; owed = represented.owed; terms = record { call = represented.terms.call; values = represented.terms.values }; transfer = transfer };
       reported = refl;
     })
-judged_at (Err e) old f x q a c stands answer = (ap (λ b. counting x q b c) (sym answer.0), ap (λ t. record old { transfer = t }) answer.1)
+judged_at (Err e) old f x q a c represented answer = (ap (λ b. counting x q b c) (sym answer.0), ap (λ t. record old { transfer = t }) answer.1)
 
 pub judged_counts : {U : Type 0} (r : Result U ℕ) (old p new : Known) (f : FlowResidues) (x : Side) (q : StateName) (a : Interface → Result Counts ℕ) (c : Channel) → old ≡ p →
-    new ≡ record old { transfer = record old.transfer { flow = f } } → Stands p c →
+    new ≡ record old { transfer = record old.transfer { flow = f } } → StatusRepresents p c →
     (Represents old.terms.interface old.transfer c → IsCounted r old.terms.interface old.transfer (record old.transfer { flow = f }) (a old.terms.interface) c) →
     IsJudged r (λ _. []) x q p new c (counting x q (a p.terms.interface) c)
-judged_counts r old p new f x q a c same rest stands answer =
-    let st : Stands old c = subst (λ o. Stands o c) (sym same) stands in
+judged_counts r old p new f x q a c same rest represented answer =
+    let st : StatusRepresents old c = subst (λ o. StatusRepresents o c) (sym same) represented in
     subst (λ (o : Known). IsJudged r (λ _. []) x q o new c (counting x q (a o.terms.interface) c)) same
     (subst (λ o. IsJudged r (λ _. []) x q old o c (counting x q (a old.terms.interface) c)) (sym rest) (judged_at r old f x q (a old.terms.interface) c st (answer st.transfer)))
 
@@ -76,7 +76,7 @@ pub passes_listed : (s : EventOrigin) (old new : Known) (before after : List Eve
 passes_listed s old new before after ws o passes reports = record {
   interface = passes.interface;
   channel = passes.channel;
-  stands = passes.stands;
+  represented = passes.represented;
   reports = reports ∙ ap (λ vs. before ++ map (event_at s) vs) (sym passes.reported);
 }
 
@@ -85,27 +85,27 @@ pub passes_apart : (s : EventOrigin) (old new : Known) (events : List Event) (x 
 passes_apart s old new events x accepted o passes = record {
   interface = passes.interface;
   channel = passes.channel;
-  stands = passes.stands;
+  represented = passes.represented;
   reports = ap (λ ws. events ++ map (event_at s) ws) (sym passes.reported);
 }
 
 -- a data packet without fault
 pub passes_accepted : (old new : Known) (x : Side) (q : StateName) (p : AcceptedData) (m : Option (List ℕ)) (v : Counts) (r : Result Counts ℕ) (c : Channel) →
-    new ≡ record old { transfer = new.transfer } → Stands old c → ((t : StateName) → data_counted old.terms.interface x t p r c ≡ accepting_data x p v m c) →
+    new ≡ record old { transfer = new.transfer } → StatusRepresents old c → ((t : StateName) → data_counted old.terms.interface x t p r c ≡ accepting_data x p v m c) →
     Represents old.terms.interface new.transfer (accepting_data x p v m c).after → Passes old new (accepting_data x p v m c).reported (data_counted old.terms.interface x q p r c)
-passes_accepted old new x q p m v r c rest stands is transfer =
+passes_accepted old new x q p m v r c rest represented is transfer =
     subst (λ d. Passes old d (accepting_data x p v m c).reported (data_counted old.terms.interface x q p r c)) (sym rest)
     (subst (λ o. Passes old (record old { transfer = new.transfer }) (accepting_data x p v m c).reported o) (sym (is q)) (record {
       interface = refl;
       channel = refl;
-      stands = record { state = stands.state; owed = stands.owed; terms = record { call = stands.terms.call; values = stands.terms.values }; transfer = transfer };
+      represented = record { state = represented.state; owed = represented.owed; terms = record { call = represented.terms.call; values = represented.terms.values }; transfer = transfer };
       reported = refl;
     }))
 
 pub accepted_by : (s : EventOrigin) (old new : Known) (before after : List Event) (x : Side) (q : StateName) (p : AcceptedData) (r : Result Counts ℕ) (c : Channel) (o : Outcome) →
-    new ≡ record old { transfer = new.transfer } → Stands old c → data_counted old.terms.interface x q p r c ≡ o →
+    new ≡ record old { transfer = new.transfer } → StatusRepresents old c → data_counted old.terms.interface x q p r c ≡ o →
     (k : Option ℕ) → k ≡ None → IsAccepted k old.terms.interface s old.transfer new.transfer before after x p r c → Does s old new before after o
-accepted_by s old new before after x q p r c o rest stands counted_is k none accepted_data =
+accepted_by s old new before after x q p r c o rest represented counted_is k none accepted_data =
     let (v, m, is, transfer, reports) = subst (λ j. IsAccepted j old.terms.interface s old.transfer new.transfer before after x p r c) none accepted_data in
     subst (λ d. Does s old new before after d) counted_is
-    (passes_listed s old new before after (accepting_data x p v m c).reported (data_counted old.terms.interface x q p r c) (passes_accepted old new x q p m v r c rest stands is transfer) reports)
+    (passes_listed s old new before after (accepting_data x p v m c).reported (data_counted old.terms.interface x q p r c) (passes_accepted old new x q p m v r c rest represented is transfer) reports)

@@ -7,7 +7,7 @@ use Rattle.line_model.specs.basics.Limits.{is_numbering, is_channels, packet_siz
 use Rattle.packet_decode.specs.Shown.{IsPacketSize}
 use Rattle.channel_machine.specs.declared.terms.Values.{Values}
 use Rattle.channel_machine.specs.Terms.{AreUsable, IsBelow}
-use Rattle.channel_machine.specs.TermsStand.{values_of, with_asked}
+use Rattle.channel_machine.specs.TermsRepresent.{values_of, with_asked}
 
 first_of : (a b : Bool) → IsTrue (a && b) → IsTrue a
 first_of true b e = grind (arith, e)

@@ -13,7 +13,7 @@ use Rattle.data_transfer.specs.Sequences.{Assembly}
 use Rattle.channel_machine.specs.declared.messages.BothSettings.{BothSettings}
 use Rattle.channel_machine.specs.declared.events.EventOrigin.{EventOrigin}
 use Rattle.channel_machine.specs.Events.{Reports, data_of, event_at}
-use Rattle.channel_machine.specs.TermsStand.{Agreed, TermsStand}
+use Rattle.channel_machine.specs.TermsRepresent.{Agreed, TermsRepresent}
 use Rattle.channel_machine.specs.Reached.{IsReached}
 use Rattle.channel_machine.specs.Transfers as transfers
 use Rattle.channel_machine.specs.Transfers.{Represents}
@@ -38,36 +38,36 @@ known n s a b = record {
 }
 
 -- what the code keeps of a channel represents what the observer knows of it
-pub record Stands (p : Known) (c : Channel) : Type 0 where
+pub record StatusRepresents (p : Known) (c : Channel) : Type 0 where
   pub state : p.state ≡ c.state
   pub owed : p.owed ≡ c.owed
-  pub terms : TermsStand p.terms c
+  pub terms : TermsRepresent p.terms c
   pub transfer : Represents p.terms.interface p.transfer c
 
 -- what the code keeps of a channel represents one that was followed from its beginning
 pub record RepresentsReached (p : Known) (c : Channel) : Type 0 where
-  pub stands : Stands p c
+  pub represented : StatusRepresents p c
   pub reached : IsReached c
 
 -- what a function does to a channel and its events
 pub record Does (s : EventOrigin) (old new : Known) (before after : List Event) (o : Outcome) : Type 0 where
   pub interface : new.terms.interface ≡ old.terms.interface
   pub channel : new.channel ≡ old.channel
-  pub stands : Stands new o.after
+  pub represented : StatusRepresents new o.after
   pub reports : Reports s before after o.reported
 
 -- the same where the event of an accepted data packet is kept out of the list
 pub record DoesApart (s : EventOrigin) (x : Side) (old new : Known) (before after : List Event) (accepted : Option ℕ) (o : Outcome) : Type 0 where
   pub interface : new.terms.interface ≡ old.terms.interface
   pub channel : new.channel ≡ old.channel
-  pub stands : Stands new o.after
+  pub represented : StatusRepresents new o.after
   pub reports : after ++ map (event_at s) (data_of x accepted) ≡ before ++ map (event_at s) o.reported
 
 -- a packet of data transfer that passes: the channel after it, and what it reports
 pub record Passes (old new : Known) (ws : List What) (o : Outcome) : Type 0 where
   pub interface : new.terms.interface ≡ old.terms.interface
   pub channel : new.channel ≡ old.channel
-  pub stands : Stands new o.after
+  pub represented : StatusRepresents new o.after
   pub reported : o.reported ≡ ws
 
 -- a packet of data transfer, judged in a state: one that passes reports this, and a fault leaves the channel as it was
@@ -82,7 +82,7 @@ listed (Err e) = Err e
 
 -- the same of a function that may be out of memory, on each channel that it represents
 abbrev pub Comes : {U : Type 0} → Result U Fault → EventOrigin → (old new : Known) → (before after : List Event) → (Channel → Outcome) → Type 0
-Comes r s old new before after f = (c : Channel) → Stands old c → IfOk r (λ _. Does s old new before after (f c))
+Comes r s old new before after f = (c : Channel) → StatusRepresents old c → IfOk r (λ _. Does s old new before after (f c))
 
 -- after a fault the channel and its events are as they were
 abbrev pub IsUnchanged : {U : Type 0} → Result U Fault → (old new : Known) → (before after : List Event) → Type 0

@@ -9,12 +9,12 @@ use Rattle.line_model.specs.channels.Gaps as gaps
 use Rattle.line_model.specs.channels.Gaps.{WhileAdrift, no_doubts, of_both}
 use Rattle.line_model.specs.channels.GapStep.{GapOutcome, is_in_d1}
 use Rattle.channel_machine.specs.declared.events.EventOrigin.{EventOrigin}
-use Rattle.channel_machine.specs.Channels.{Known, Stands, RepresentsReached}
+use Rattle.channel_machine.specs.Channels.{Known, StatusRepresents, RepresentsReached}
 use Rattle.channel_machine.specs.Events.{Reports, data_of, event_at}
 use Rattle.channel_machine.specs.GapView.{InDoubt, KnownCertainty}
 use Rattle.channel_machine.specs.GapView.KnownCertainty.{Certain, Adrift, Settled}
 use Rattle.channel_machine.specs.Reached.{IsReached}
-use Rattle.channel_machine.specs.SettledNumbers.{NumbersStand, SequencesStand}
+use Rattle.channel_machine.specs.SettledNumbers.{NumbersRepresent, SequencesRepresent}
 
 -- what the code keeps of a channel of a recording with gaps
 pub record GapKnown : Type 0 where
@@ -41,25 +41,25 @@ at_rest c = record c { accepted = []; acknowledged = of_both 0; unconfirmed = of
 
 -- a channel adrift: all that was seen is kept, a permanent circuit is in data transfer, and a call that is not up was not
 -- answered, unless another call may be hidden
-pub record StandsAdrift (p : Known) (a : WhileAdrift) (c : Channel) : Type 0 where
-  pub stands : Stands p c
+pub record RepresentsAdrift (p : Known) (a : WhileAdrift) (c : Channel) : Type 0 where
+  pub represented : StatusRepresents p c
   pub bare : IfNone c.opening (c.accepting ≡ None)
   pub circuit : is_permanent p.terms.interface p.channel ≡ true → is_in_transfer c ≡ true
   pub unanswered : a.hidden ≡ false → is_open c ≡ true → is_in_transfer c ≡ false → c.accepting ≡ None
 
 -- a settled channel: numbers, interrupts and sequences are kept apart. Outside d1 nothing of them is in doubt or outstanding.
-pub record StandsSettled (p : Known) (s : InDoubt) (c : Channel) : Type 0 where
-  pub rest : Stands p (at_rest c)
+pub record RepresentsSettled (p : Known) (s : InDoubt) (c : Channel) : Type 0 where
+  pub rest : StatusRepresents p (at_rest c)
   pub reached : IsReached c
-  pub numbers : NumbersStand p.terms.interface.modulus s c
-  pub sequences : SequencesStand p.terms.interface s c
+  pub numbers : NumbersRepresent p.terms.interface.modulus s c
+  pub sequences : SequencesRepresent p.terms.interface s c
   pub outside : is_in_d1 c.state ≡ false → (s.doubts ≡ no_doubts s.doubts.hidden) × (at_rest c ≡ c)
 
 -- what is kept of a channel by what is certain of it
 abbrev pub IsKnownBy : KnownCertainty → Known → Channel → Type 0
 IsKnownBy Certain p c = RepresentsReached p c
-IsKnownBy (Adrift a) p c = StandsAdrift p a c
-IsKnownBy (Settled s) p c = StandsSettled p s c
+IsKnownBy (Adrift a) p c = RepresentsAdrift p a c
+IsKnownBy (Settled s) p c = RepresentsSettled p s c
 
 -- what the code keeps represents a channel of the definitions
 pub record Represents (p : GapKnown) (g : gaps.GapChannel) : Type 0 where
@@ -88,7 +88,7 @@ pub record GapDoesApart (s : EventOrigin) (x : Side) (old new : GapKnown) (befor
 -- what a function does to a channel adrift, unless memory is refused
 abbrev pub ComesAdrift : {U : Type 0} → Result U Fault → EventOrigin → (old new : GapKnown) → (before after : List Event) → WhileAdrift → (gaps.GapChannel → GapOutcome) → Type 0
 ComesAdrift r s old new before after a f =
-    (c : Channel) → StandsAdrift old.channel a c → IfOk r (λ _. GapDoes s old new before after (f (adrift_at old a c)))
+    (c : Channel) → RepresentsAdrift old.channel a c → IfOk r (λ _. GapDoes s old new before after (f (adrift_at old a c)))
 
 -- after a fault the channel and its events are as they were
 abbrev pub IsGapUnchanged : {U : Type 0} → Result U Fault → (old new : GapKnown) → (before after : List Event) → Type 0

@@ -2,7 +2,7 @@ pub mod Sizes
 pub mod Lengths
 pub mod Contents
 pub mod Terms
-pub mod TermsStand
+pub mod TermsRepresent
 pub mod Agreed
 pub mod Events
 pub mod Messages

@@ -7,11 +7,11 @@ use Rattle.line_model.specs.declared.event.What.TheVariants.{Data}
 use Rattle.line_model.specs.channels.ChannelStep.{option_found}
 use Rattle.line_model.specs.channels.Pad.{message_fault, settings_after}
 use Rattle.line_model.specs.channels.Channels.{PadMessage}
-use Rattle.pad.specs.Stands as settings
+use Rattle.pad.specs.Represents as settings
 use Rattle.channel_machine.specs.declared.messages.BothSettings.{BothSettings}
 
 -- the settings of both PADs represent the messages of the call
-pub record SettingsStand (b : BothSettings) (ts : List PadMessage) : Type 0 where
+pub record SettingsRepresent (b : BothSettings) (ts : List PadMessage) : Type 0 where
   pub pad_t : b.of_t.pad ≡ T
   pub pad_n : b.of_n.pad ≡ N
   pub of_t : settings.Represents b.of_t ts

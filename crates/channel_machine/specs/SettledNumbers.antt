@@ -12,7 +12,7 @@ use Rattle.line_model.specs.channels.Sequences.{eq_bool}
 use Rattle.line_model.specs.packets.Formats.{size_in_force}
 use Rattle.data_transfer.specs.Assembler.{begun_on}
 use Rattle.data_transfer.specs.Assembly.{Holds}
-use Rattle.data_transfer.specs.FlowResidues.{FlowResidues, Stands}
+use Rattle.data_transfer.specs.FlowResidues.{FlowResidues, ResiduesRepresent}
 use Rattle.channel_machine.specs.GapView.{InDoubt}
 
 -- windows of the modulus less 1
@@ -21,8 +21,8 @@ pub record IsWidest (f : FlowResidues) : Type 0 where
   pub windows : f.windows ≡ of_both (f.modulus - 1)
 
 -- numbers with the widest windows; of a side whose next number is in doubt nothing is outstanding, and its sequence is in doubt
-pub record NumbersStand (m : ℕ) (s : InDoubt) (c : Channel) : Type 0 where
-  pub flow : Stands s.flow (counts_of c)
+pub record NumbersRepresent (m : ℕ) (s : InDoubt) (c : Channel) : Type 0 where
+  pub flow : ResiduesRepresent s.flow (counts_of c)
   pub modulus : s.flow.modulus ≡ m
   pub widest : s.flow.windows ≡ of_both (m - 1)
   pub acknowledged : (x : Side) → of_side x s.doubts.numbers ≡ true → of_side x (sent_by c.accepted) ≡ of_side x c.acknowledged
@@ -43,8 +43,8 @@ abbrev pub kept_begun : Interface → Doubts → Side → Channel → List Accep
 kept_begun i d x c = kept_of (of_side x d.sequences) d.hidden (may_be_begun d.hidden (size_in_force i c x) x c.accepted)
 
 -- each side's sequence is kept
-abbrev pub SequencesStand : Interface → InDoubt → Channel → Type 0
-SequencesStand i s c = (x : Side) → Holds (begun_on s.assembler x) (kept_begun i s.doubts x c)
+abbrev pub SequencesRepresent : Interface → InDoubt → Channel → Type 0
+SequencesRepresent i s c = (x : Side) → Holds (begun_on s.assembler x) (kept_begun i s.doubts x c)
 
 -- a channel with other counts than those of its data
 abbrev pub with_counts : Counts → Channel → Channel
@@ -52,14 +52,14 @@ with_counts v c = record c { acknowledged = v.acknowledged; unconfirmed = v.unco
 
 -- the result of a packet that changes the counts alone, on a channel that was completed for it
 abbrev pub IsCountedInDoubt : {U : Type 0} → Result U ℕ → Interface → (new : InDoubt) → Result Counts ℕ → (completed : Channel) → Type 0
-IsCountedInDoubt (Ok u) i new r d = (v : Counts) × (r ≡ Ok v) × NumbersStand i.modulus new (with_counts v d) × SequencesStand i new (with_counts v d)
+IsCountedInDoubt (Ok u) i new r d = (v : Counts) × (r ≡ Ok v) × NumbersRepresent i.modulus new (with_counts v d) × SequencesRepresent i new (with_counts v d)
 IsCountedInDoubt (Err e) i new r d = r ≡ Err e
 
 -- the result for the numbers of a data packet by that of the counts, and those after it; its next P(S) may have been in
 -- doubt
 abbrev pub AreNumbered : Result FlowResidues ℕ → (modulus : ℕ) → (doubt : Bool) → Side → Result Counts ℕ → Type 0
 AreNumbered (Ok f) m doubt x r =
-    (v : Counts) × (r ≡ Ok v) × Stands f (record v { acknowledged = edge_in_doubt m doubt x (of_side x v.sent) v.acknowledged })
+    (v : Counts) × (r ≡ Ok v) × ResiduesRepresent f (record v { acknowledged = edge_in_doubt m doubt x (of_side x v.sent) v.acknowledged })
 AreNumbered (Err n) m doubt x r = r ≡ Err n
 
 -- the same on a channel
@@ -74,7 +74,7 @@ all_acknowledged x c = record c { acknowledged = with_side x (of_side x c.sent) 
 
 -- counts that were completed up to a P(S) of a side whose next P(S) is in doubt, and the numbers before
 pub record IsFirst (f : FlowResidues) (x : Side) (send : ℕ) (c : Counts) : Type 0 where
-  pub stands : Stands (record f { sent = with_side x (send % f.modulus) f.sent; acknowledged = with_side x (send % f.modulus) f.acknowledged }) (all_acknowledged x c)
+  pub represented : ResiduesRepresent (record f { sent = with_side x (send % f.modulus) f.sent; acknowledged = with_side x (send % f.modulus) f.acknowledged }) (all_acknowledged x c)
   pub edge : of_side x f.acknowledged ≡ of_side x c.acknowledged % f.modulus
   pub ordered : of_side x c.acknowledged ≤ of_side x c.sent
   pub below : of_side x c.sent < of_side x c.acknowledged + f.modulus

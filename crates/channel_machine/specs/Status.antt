@@ -3,9 +3,9 @@ use Rattle.std.specs.Prelude.{Bool, false, ◌≡◌, ℕ}
 use Rattle.line_model.specs.declared.state.ChannelState.{ChannelState}
 use Rattle.line_model.specs.channels.Channels.{Sides}
 use Rattle.line_model.specs.channels.FlowControl.{no_counts}
-use Rattle.data_transfer.specs.FlowResidues.{FlowResidues, Stands}
+use Rattle.data_transfer.specs.FlowResidues.{FlowResidues, ResiduesRepresent}
 use Rattle.channel_run.specs.declared.run.View.{View}
-use Rattle.channel_machine.specs.TermsStand.{Agreed, is_fast, is_pad}
+use Rattle.channel_machine.specs.TermsRepresent.{Agreed, is_fast, is_pad}
 
 -- the state, whether an indication is owed, what was agreed, and the windows and interrupts
 pub record Status : Type 0 where
@@ -25,7 +25,7 @@ pub record IsEntered (s : Status) (to : ChannelState) (indicated : Bool) (t : Ag
   pub terms : s.terms ≡ t
   pub modulus : s.flow.modulus ≡ t.interface.modulus
   pub windows : s.flow.windows ≡ windows_of t
-  pub nothing_sent : Stands s.flow no_counts
+  pub nothing_sent : ResiduesRepresent s.flow no_counts
 
 -- only the numbers and interrupts differ
 pub record CountsAlone (old new : Status) : Type 0 where

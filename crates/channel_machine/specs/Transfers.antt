@@ -10,11 +10,11 @@ use Rattle.line_model.specs.channels.Channels.{Channel, AcceptedData}
 use Rattle.line_model.specs.channels.FlowControl.{Counts, count_data}
 use Rattle.line_model.specs.packets.Formats.{window_in_force, size_in_force}
 use Rattle.line_model.specs.channels.ChannelStep.{counts_of, data_counted, failing, accepting_data}
-use Rattle.data_transfer.specs.FlowResidues.{FlowResidues, Stands}
+use Rattle.data_transfer.specs.FlowResidues.{FlowResidues, ResiduesRepresent}
 use Rattle.data_transfer.specs.Sequences.{Assembly}
 use Rattle.data_transfer.specs.Assembler as assembly
 use Rattle.channel_machine.specs.declared.messages.BothSettings.{BothSettings}
-use Rattle.channel_machine.specs.Messages.{SettingsStand}
+use Rattle.channel_machine.specs.Messages.{SettingsRepresent}
 use Rattle.channel_machine.specs.Events.{Reports}
 use Rattle.channel_machine.specs.declared.events.EventOrigin.{EventOrigin}
 
@@ -26,12 +26,12 @@ pub record Transfer : Type 0 where
 
 -- the windows, sequences and settings of a channel, under the values in force
 pub record Represents (i : Interface) (t : Transfer) (c : Channel) : Type 0 where
-  pub flow : Stands t.flow (counts_of c)
+  pub flow : ResiduesRepresent t.flow (counts_of c)
   pub modulus : t.flow.modulus ≡ i.modulus
   pub windows : t.flow.windows ≡ record { of_t = window_in_force i c T; of_n = window_in_force i c N }
   pub sequences : assembly.Represents t.assembler c.accepted
   pub sizes : assembly.sizes t.assembler ≡ record { of_t = size_in_force i c T; of_n = size_in_force i c N }
-  pub settings : SettingsStand t.settings c.pad_messages
+  pub settings : SettingsRepresent t.settings c.pad_messages
 
 -- what the counts return for a data packet of a side, in the window in force (X.25 clause 4.4.1)
 abbrev pub counted_in_force : Interface → Side → (send receive : ℕ) → Channel → Result Counts ℕ

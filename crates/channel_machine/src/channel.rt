@@ -3,10 +3,10 @@
 ghost use Rattle.std.specs.Prelude.{◌≡◌, ◌+◌, ◌<◌, ◌≤◌, vec_len, vec_capacity};
 ghost use Rattle.line_model.specs.channels.Channels.{Channel, channel_in};
 ghost use Rattle.line_model.specs.channels.ChannelStep.{entering, ending, failing, after_error};
-ghost use Rattle.channel_machine.specs.Messages.{SettingsStand};
+ghost use Rattle.channel_machine.specs.Messages.{SettingsRepresent};
 ghost use Rattle.channel_machine.specs.Agreed.{agreed_of};
-ghost use Rattle.channel_machine.specs.TermsStand.{TermsStand};
-ghost use Rattle.channel_machine.specs.Channels.{Stands, Does, Comes, IsUnchanged, IsMemory};
+ghost use Rattle.channel_machine.specs.TermsRepresent.{TermsRepresent};
+ghost use Rattle.channel_machine.specs.Channels.{StatusRepresents, Does, Comes, IsUnchanged, IsMemory};
 ghost use Rattle.channel_machine.specs.Events.{origin_at};
 
 use crate::events::{EventOrigin, Judgement};
@@ -59,7 +59,7 @@ impl<A: Allocator + Clone, S: StatusStore> StatusChannel<A, S> {
     ) -> Self
         ensures interface { result.terms.interface ≡ interface.now }
         ensures channel { result.channel ≡ channel }
-        ensures stands { Stands result (channel_in state) }
+        ensures represented { StatusRepresents result (channel_in state) }
     {
         let terms = Terms::new(*interface);
         StatusChannel {
@@ -74,9 +74,9 @@ impl<A: Allocator + Clone, S: StatusStore> StatusChannel<A, S> {
     pub(crate) fn enter(&mut self, to: StateName, owed: bool, terms: &Terms)
         ensures interface { self.new.terms.interface ≡ terms.now.interface }
         ensures channel { self.new.channel ≡ self.old.channel }
-        ensures stands { (c : Channel) → TermsStand (agreed_of terms.now) c
-            → SettingsStand self.old.transfer.settings c.pad_messages
-            → Stands self.new (entering to owed c) }
+        ensures represented { (c : Channel) → TermsRepresent (agreed_of terms.now) c
+            → SettingsRepresent self.old.transfer.settings c.pad_messages
+            → StatusRepresents self.new (entering to owed c) }
     {
         let Values { size_t, size_n, .. } = terms.values;
         self.assembler.renew(size_t, size_n);
@@ -107,7 +107,7 @@ impl<A: Allocator + Clone, S: StatusStore> StatusChannel<A, S> {
         ensures interface { self.new.terms.interface ≡ self.old.terms.interface }
         ensures capacity { vec_capacity events.new ≡ vec_capacity events.old }
         ensures len { vec_len events.new ≤ vec_len events.old + 1 }
-        ensures does { (c : Channel) → Stands self.old c
+        ensures does { (c : Channel) → StatusRepresents self.old c
             → Does origin self.old self.new events.old.items events.new.items
             (ending how (entering to owed c)) }
     {
@@ -152,7 +152,7 @@ impl<A: Allocator + Clone, S: StatusStore> StatusChannel<A, S> {
     /// Has the DCE clear or reset after an error of the DTE.
     fn give_up(&mut self, origin: EventOrigin, state: StateName, events: &mut Vec<Event, A>)
         requires room { vec_len events.old < vec_capacity events.old }
-        ensures { (c : Channel) → Stands self.old c
+        ensures { (c : Channel) → StatusRepresents self.old c
             → Does origin self.old self.new events.old.items events.new.items (after_error state c) }
     {
         let terms = self.status.terms();

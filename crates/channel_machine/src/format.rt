@@ -9,7 +9,7 @@ ghost use Rattle.line_model.specs.packets.Facilities.{fields_of};
 ghost use Rattle.line_model.specs.packets.Formats.{direction_fault, format_fault, packet_fault};
 ghost use Rattle.line_model.specs.packets.Says.{header_in, receive_in};
 ghost use Rattle.packet_decode.specs.Shown.{shown, IsUsable};
-ghost use Rattle.channel_machine.specs.Channels.{Stands};
+ghost use Rattle.channel_machine.specs.Channels.{StatusRepresents};
 ghost use Rattle.channel_machine.specs.Contents.{AreOf, AreUsable, is_call};
 ghost use Rattle.channel_machine.specs.Lengths.{outside, too_long, too_short};
 ghost use Rattle.channel_machine.specs.Sizes.{largest_length};
@@ -106,7 +106,7 @@ impl<A: Allocator + Clone, S: StatusStore> StatusChannel<A, S> {
     #[inline(always)]
     pub(crate) fn read<'a>(&self, item: &ItemRef<'a>) -> Result<Contents<'a>, u8>
         requires said { IsSaid self.now.terms.interface item.now }
-        ensures fault { (c : Channel) → Stands self.now c
+        ensures fault { (c : Channel) → StatusRepresents self.now c
             → result_err result ≡ packet_fault self.now.terms.interface self.now.channel c item.now }
         ensures contents { IfOk result (λ r. AreOf r item.now) }
         ensures usable { IfOk result (λ r. AreUsable r self.now.terms.interface) }
@@ -123,7 +123,7 @@ impl<A: Allocator + Clone, S: StatusStore> StatusChannel<A, S> {
     fn read_format<'a>(&self, class: Class, item: &ItemRef<'a>) -> Result<Contents<'a>, u8>
         requires said { IsSaid self.now.terms.interface item.now }
         requires class { class ≡ packet_class item.now.packet }
-        ensures fault { (c : Channel) → Stands self.now c
+        ensures fault { (c : Channel) → StatusRepresents self.now c
             → result_err result ≡ format_fault self.now.terms.interface c item.now.side class
             item.now.length item.now.octets }
         ensures contents { IfOk result (λ r. AreOf r item.now) }
@@ -150,7 +150,7 @@ impl<A: Allocator + Clone, S: StatusStore> StatusChannel<A, S> {
         requires said { IsSaid self.now.terms.interface item.now }
         requires class { class ≡ packet_class item.now.packet }
         requires call { is_call class ≡ true }
-        ensures fault { (c : Channel) → Stands self.now c
+        ensures fault { (c : Channel) → StatusRepresents self.now c
             → result_err result ≡ format_fault self.now.terms.interface c item.now.side class
             item.now.length item.now.octets }
         ensures fields { IfOk result (λ f. shown f ≡ fields_of item.now.octets) }
@@ -164,7 +164,7 @@ impl<A: Allocator + Clone, S: StatusStore> StatusChannel<A, S> {
     /// in force for the side that sent it.
     #[inline(always)]
     pub(crate) fn length_fault(&self, side: Side, class: Class, length: usize) -> Option<u8>
-        ensures fault { (c : Channel) (xs : List ℕ) → Stands self.now c → is_call class ≡ false
+        ensures fault { (c : Channel) (xs : List ℕ) → StatusRepresents self.now c → is_call class ≡ false
             → result ≡ format_fault self.now.terms.interface c side class length xs }
         ensures short { IfNone result (class ≡ Class.Data → length ≤ largest_length) }
     {

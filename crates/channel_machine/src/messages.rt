@@ -32,11 +32,11 @@ pub struct BothSettings {
 }
 
 impl BothSettings {
-    ghost use Rattle.channel_machine.specs.Messages.{SettingsStand, message_reports};
+    ghost use Rattle.channel_machine.specs.Messages.{SettingsRepresent, message_reports};
 
     /// Returns the settings before any message.
     pub(crate) fn new() -> BothSettings
-        ensures { SettingsStand result [] }
+        ensures { SettingsRepresent result [] }
     {
         BothSettings {
             of_t: Settings::new(Side::T),
@@ -56,10 +56,10 @@ impl BothSettings {
     )
         requires room { vec_len events.old + 514 ≤ vec_capacity events.old }
         ensures reports { (m : List ℕ) (ts : List PadMessage) → octets.now ≡ take 1025 m
-            → SettingsStand self.old ts → Reports origin events.old.items events.new.items
+            → SettingsRepresent self.old ts → Reports origin events.old.items events.new.items
             (message_reports from size ts m) }
-        ensures stands { (m : List ℕ) (ts : List PadMessage) → octets.now ≡ take 1025 m
-            → SettingsStand self.old ts → SettingsStand self.new (ts
+        ensures represented { (m : List ℕ) (ts : List PadMessage) → octets.now ≡ take 1025 m
+            → SettingsRepresent self.old ts → SettingsRepresent self.new (ts
             ++ record { from = from; message = m } ∷ []) }
     {
         match read_message(octets) {
@@ -82,11 +82,11 @@ impl BothSettings {
     )
         requires room { vec_len events.old + 514 ≤ vec_capacity events.old }
         requires short { length message.now.pairs.now < 1024 }
-        ensures reports { (ts : List PadMessage) → SettingsStand self.old ts
+        ensures reports { (ts : List PadMessage) → SettingsRepresent self.old ts
             → Reports origin events.old.items events.new.items
             (message_reports from size ts (pad_message from message.now).message) }
-        ensures stands { (ts : List PadMessage) → SettingsStand self.old ts
-            → SettingsStand self.new (ts ++ pad_message from message.now ∷ []) }
+        ensures represented { (ts : List PadMessage) → SettingsRepresent self.old ts
+            → SettingsRepresent self.new (ts ++ pad_message from message.now ∷ []) }
     {
         let fault = self.apply(from, message);
         report_fault(origin, from, fault, events);
@@ -97,10 +97,10 @@ impl BothSettings {
     /// Applies a message to the settings of both PADs, and returns its fault.
     #[tactic(auto, using(crate::proofs::Faults::both))]
     fn apply(&mut self, from: Side, message: &Message<'_>) -> Option<Xcode>
-        ensures fault { (ts : List PadMessage) → SettingsStand self.old ts
+        ensures fault { (ts : List PadMessage) → SettingsRepresent self.old ts
             → result ≡ message_fault from ts (pad_message from message.now).message }
-        ensures stands { (ts : List PadMessage) → SettingsStand self.old ts
-            → SettingsStand self.new (ts ++ pad_message from message.now ∷ []) }
+        ensures represented { (ts : List PadMessage) → SettingsRepresent self.old ts
+            → SettingsRepresent self.new (ts ++ pad_message from message.now ∷ []) }
     {
         let of_t = self.of_t.apply(message, from);
         let of_n = self.of_n.apply(message, from);

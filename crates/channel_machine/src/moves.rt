@@ -11,7 +11,7 @@ ghost use Rattle.channel_machine.specs.Contents.{AreOf, AreUsable};
 ghost use Rattle.line_model.specs.basics.Records.{Item};
 ghost use Rattle.line_model.specs.packets.Classes.{packet_class};
 ghost use Rattle.line_model.specs.declared.interface.Interface.{Interface};
-ghost use Rattle.channel_machine.specs.Channels.{Stands, Does, IsUnchanged, IsMemory};
+ghost use Rattle.channel_machine.specs.Channels.{StatusRepresents, Does, IsUnchanged, IsMemory};
 ghost use Rattle.channel_machine.specs.Moves.{IsChange, TakesUsable, leaving};
 
 use crate::channel::StatusChannel;
@@ -89,7 +89,7 @@ impl<A: Allocator + Clone, S: StatusStore> StatusChannel<A, S> {
     ) -> Result<(), Fault>
         requires usable { IsUsable self.old.terms.interface fields.now }
         ensures does { (c : Channel) (xs : List ℕ) → shown fields.now ≡ fields_of xs
-            → IfNone c.opening (c.accepting ≡ None) → Stands self.old c
+            → IfNone c.opening (c.accepting ≡ None) → StatusRepresents self.old c
             → IfOk result (λ _. Does origin self.old self.new events.old.items events.new.items
             (changing xs (Opens out) (entering to false c))) }
         ensures unchanged { IsUnchanged result self.old self.new events.old.items events.new.items }
@@ -119,7 +119,7 @@ impl<A: Allocator + Clone, S: StatusStore> StatusChannel<A, S> {
     ) -> Result<(), Fault>
         requires usable { IsUsable self.old.terms.interface fields.now }
         ensures does { (c : Channel) (xs : List ℕ) → shown fields.now ≡ fields_of xs
-            → IsUnanswered c → Stands self.old c
+            → IsUnanswered c → StatusRepresents self.old c
             → IfOk result (λ _. Does origin self.old self.new events.old.items events.new.items
             (changing xs GoesUp (entering to false c))) }
         ensures unchanged { IsUnchanged result self.old self.new events.old.items events.new.items }

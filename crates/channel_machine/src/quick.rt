@@ -6,7 +6,7 @@ ghost use Rattle.line_model.specs.channels.Channels.{Channel};
 ghost use Rattle.line_model.specs.channels.ChannelStep.{channel_step, failing};
 ghost use Rattle.line_model.specs.packets.Classes.{header_length, packet_class};
 ghost use Rattle.line_model.specs.packets.Says.{header_in, receive_in};
-ghost use Rattle.channel_machine.specs.Channels.{DoesApart, IsJudged, IsMemory, IsUnchanged, Stands};
+ghost use Rattle.channel_machine.specs.Channels.{DoesApart, IsJudged, IsMemory, IsUnchanged, StatusRepresents};
 ghost use Rattle.channel_machine.specs.Events.{origin_at};
 ghost use Rattle.channel_machine.specs.Reached.{IsReached};
 
@@ -34,7 +34,7 @@ impl<A: Allocator + Clone, S: StatusStore> StatusChannel<A, S> {
         events: &mut Vec<Event, A>,
     ) -> Result<Option<u32>, Fault>
         requires said { IsSaid self.old.terms.interface item.now }
-        ensures does { (c : Channel) → IsReached c → Stands self.old c
+        ensures does { (c : Channel) → IsReached c → StatusRepresents self.old c
             → IfOk result (λ accepted. DoesApart (origin_at epoch self.old.channel item.now)
             item.now.side self.old self.new events.old.items events.new.items accepted
             (channel_step self.old.terms.interface self.old.channel c item.now)) }
@@ -75,7 +75,7 @@ impl<A: Allocator + Clone, S: StatusStore> StatusChannel<A, S> {
         requires class { packet_class item.now.packet ≡ Class.Data }
         requires header { header_in item.now.packet ≡ Some header.now }
         requires unqualified { header.now.qualified ≡ false }
-        ensures judged { (c : Channel) → Stands self.old c
+        ensures judged { (c : Channel) → StatusRepresents self.old c
             → IsJudged result (λ n. What.Data item.now.side n ∷ []) item.now.side StateName.D1
             self.old self.new c
             (channel_step self.old.terms.interface self.old.channel c item.now) }
@@ -95,7 +95,7 @@ impl<A: Allocator + Clone, S: StatusStore> StatusChannel<A, S> {
         requires class { packet_class item.now.packet ≡ Class.Rr }
         requires receive { receive_in item.now.packet ≡ Some receive }
         requires whole { item.now.length ≡ header_length self.old.terms.interface }
-        ensures judged { (c : Channel) → Stands self.old c
+        ensures judged { (c : Channel) → StatusRepresents self.old c
             → IsJudged result (λ _. []) item.now.side StateName.D1 self.old self.new c
             (channel_step self.old.terms.interface self.old.channel c item.now) }
         ensures faulted { OnErr result (self.new ≡ self.old) }
@@ -113,7 +113,7 @@ impl<A: Allocator + Clone, S: StatusStore> StatusChannel<A, S> {
         code: u8,
         events: &mut Vec<Event, A>,
     ) -> Result<Option<u32>, Fault>
-        ensures does { (c : Channel) → Stands self.old c
+        ensures does { (c : Channel) → StatusRepresents self.old c
             → IfOk result (λ accepted. DoesApart (origin_at epoch self.old.channel item.now)
             item.now.side self.old self.new events.old.items events.new.items accepted
             (failing item.now.side StateName.D1 code c)) }

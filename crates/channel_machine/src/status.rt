@@ -7,7 +7,7 @@ ghost use Rattle.data_transfer.specs.FlowResidues as windows;
 ghost use Rattle.channel_run.specs.StatusWord.{view_in};
 ghost use Rattle.channel_machine.specs.Status.{Status, IsEntered, CountsAlone, view_of};
 ghost use Rattle.channel_machine.specs.Agreed.{agreed_of};
-ghost use Rattle.channel_machine.specs.TermsStand.{size_of};
+ghost use Rattle.channel_machine.specs.TermsRepresent.{size_of};
 
 use crate::terms::{Opened, Terms};
 use data_transfer::packed::FlowWord;
@@ -60,7 +60,7 @@ pub trait StatusStore: Copy {
     fn data(&mut self, side: Side, send: u8, receive: u8) -> Result<(), u8>
         ensures rest { CountsAlone (status self.old) (status self.new) }
         ensures unchanged { OnErr result (status self.new ≡ status self.old) }
-        ensures counts { (c : Counts) → windows.Stands (status self.old).flow c
+        ensures counts { (c : Counts) → windows.ResiduesRepresent (status self.old).flow c
             → windows.Answers result (status self.old).flow (status self.new).flow
             (count_data (status self.old).flow.modulus
             (of_side side (status self.old).flow.windows) c side send receive) };
@@ -69,7 +69,7 @@ pub trait StatusStore: Copy {
     fn ack(&mut self, side: Side, receive: u8) -> Result<(), u8>
         ensures rest { CountsAlone (status self.old) (status self.new) }
         ensures unchanged { OnErr result (status self.new ≡ status self.old) }
-        ensures counts { (c : Counts) → windows.Stands (status self.old).flow c
+        ensures counts { (c : Counts) → windows.ResiduesRepresent (status self.old).flow c
             → windows.Answers result (status self.old).flow (status self.new).flow
             (count_receive (status self.old).flow.modulus c side receive) };
 
@@ -77,7 +77,7 @@ pub trait StatusStore: Copy {
     fn interrupt(&mut self, side: Side) -> Result<(), u8>
         ensures rest { CountsAlone (status self.old) (status self.new) }
         ensures unchanged { OnErr result (status self.new ≡ status self.old) }
-        ensures counts { (c : Counts) → windows.Stands (status self.old).flow c
+        ensures counts { (c : Counts) → windows.ResiduesRepresent (status self.old).flow c
             → windows.Answers result (status self.old).flow (status self.new).flow
             (count_interrupt c side) };
 
@@ -85,7 +85,7 @@ pub trait StatusStore: Copy {
     fn confirm(&mut self, side: Side) -> Result<(), u8>
         ensures rest { CountsAlone (status self.old) (status self.new) }
         ensures unchanged { OnErr result (status self.new ≡ status self.old) }
-        ensures counts { (c : Counts) → windows.Stands (status self.old).flow c
+        ensures counts { (c : Counts) → windows.ResiduesRepresent (status self.old).flow c
             → windows.Answers result (status self.old).flow (status self.new).flow
             (count_confirm c side) };
 }

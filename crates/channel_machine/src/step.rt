@@ -10,7 +10,7 @@ ghost use Rattle.line_model.specs.packets.Says.{header_in};
 ghost use Rattle.line_model.specs.channels.ChannelStep.{call_change, channel_step, data_step, judged, moving, transferring};
 ghost use Rattle.line_model.specs.declared.table.Action.TheVariants.{Move, Normal};
 ghost use Rattle.packet_decode.specs.SaidData.{IsSaidData};
-ghost use Rattle.channel_machine.specs.Channels.{Stands, Does, DoesApart, Comes, IsUnchanged, IsMemory, listed};
+ghost use Rattle.channel_machine.specs.Channels.{StatusRepresents, Does, DoesApart, Comes, IsUnchanged, IsMemory, listed};
 ghost use Rattle.channel_machine.specs.Events.{origin_at};
 ghost use Rattle.channel_machine.specs.Contents.{AreOf, AreUsable};
 ghost use Rattle.channel_machine.specs.Reached.{IsReached, is_from};
@@ -129,7 +129,7 @@ impl<A: Allocator + Clone, S: StatusStore> StatusChannel<A, S> {
         requires usable { AreUsable contents.now self.old.terms.interface }
         ensures does { (c : Channel) (r : Item) → AreOf contents.now r → IsReached c
             → is_from (call_change judgement.now.side (packet_class r.packet) to) to
-            c.state ≡ true → Stands self.old c → IfOk result (λ _.
+            c.state ≡ true → StatusRepresents self.old c → IfOk result (λ _.
             Does judgement.now.origin self.old self.new events.old.items events.new.items
             (moving judgement.now.side (packet_class r.packet) r.octets to c)) }
         ensures unchanged { IsUnchanged result self.old self.new events.old.items events.new.items }
@@ -164,7 +164,7 @@ impl<A: Allocator + Clone, S: StatusStore> StatusChannel<A, S> {
         requires said { IsSaid self.old.terms.interface item.now }
         ensures does { (c : Channel) → IsReached c
             → is_from (call_change judgement.now.side (packet_class item.now.packet) to)
-            to c.state ≡ true → Stands self.old c → IfOk result (λ _.
+            to c.state ≡ true → StatusRepresents self.old c → IfOk result (λ _.
             Does judgement.now.origin self.old self.new events.old.items events.new.items
             (entry_step self.old.terms.interface self.old.channel
             (record { state = judgement.now.state; entry = Move to }) item.now c)) }
@@ -232,7 +232,7 @@ impl<A: Allocator + Clone, S: StatusStore> StatusChannel<A, S> {
     /// transfer is normal.
     #[inline(always)]
     pub(crate) fn judge(&self, side: Side, class: Class) -> (StateName, Action)
-        ensures judged { (c : Channel) → Stands self.now c
+        ensures judged { (c : Channel) → StatusRepresents self.now c
             → record { state = result.0; entry = result.1 }
             ≡ judged (is_permanent self.now.terms.interface self.now.channel) side
             c.state c.owed class }
@@ -263,7 +263,7 @@ impl<A: Allocator + Clone, S: StatusStore> StatusChannel<A, S> {
         requires said { IsSaid self.old.terms.interface item.now }
         requires fits { is_entry entry judgement.now.side (packet_class item.now.packet)
             self.old.state ≡ true }
-        ensures does { (c : Channel) → IsReached c → Stands self.old c → IfOk result (λ _.
+        ensures does { (c : Channel) → IsReached c → StatusRepresents self.old c → IfOk result (λ _.
             Does judgement.now.origin self.old self.new events.old.items events.new.items
             (entry_step self.old.terms.interface self.old.channel
             (record { state = judgement.now.state; entry = entry }) item.now c)) }
@@ -291,7 +291,7 @@ impl<A: Allocator + Clone, S: StatusStore> StatusChannel<A, S> {
         events: &mut Vec<Event, A>,
     ) -> Result<Option<u32>, Fault>
         requires said { IsSaid self.old.terms.interface item.now }
-        ensures does { (c : Channel) → IsReached c → Stands self.old c
+        ensures does { (c : Channel) → IsReached c → StatusRepresents self.old c
             → IfOk result (λ accepted. DoesApart (origin_at epoch self.old.channel item.now)
             item.now.side self.old self.new events.old.items events.new.items accepted
             (channel_step self.old.terms.interface self.old.channel c item.now)) }

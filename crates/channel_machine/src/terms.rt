@@ -8,7 +8,7 @@ ghost use Rattle.line_model.specs.packets.Formats.{for_side};
 ghost use Rattle.line_model.specs.basics.Octets.{octet};
 ghost use Rattle.packet_decode.specs.Shown.{shown, IsUsable};
 ghost use Rattle.channel_machine.specs.Terms.{AreUsable};
-ghost use Rattle.channel_machine.specs.TermsStand.{is_fast, is_out_of, is_pad, opened_of, values_of, with_asked};
+ghost use Rattle.channel_machine.specs.TermsRepresent.{is_fast, is_out_of, is_pad, opened_of, values_of, with_asked};
 
 use line_model::interface::Interface;
 use packet_decode::fields::CallFields;

@@ -7,7 +7,7 @@ ghost use Rattle.line_model.specs.channels.FlowControl.{count_receive};
 ghost use Rattle.line_model.specs.packets.Classes.{header_length, packet_class};
 ghost use Rattle.packet_decode.specs.SaidData.{IsSaidData};
 ghost use Rattle.channel_machine.specs.Transfers.{IsAccepted, counted_in_force, packet};
-ghost use Rattle.channel_machine.specs.Channels.{Stands, IsJudged, IsUnchanged, IsMemory};
+ghost use Rattle.channel_machine.specs.Channels.{StatusRepresents, IsJudged, IsUnchanged, IsMemory};
 ghost use Rattle.channel_machine.specs.Sizes.{largest_length};
 
 use crate::channel::StatusChannel;
@@ -38,7 +38,7 @@ impl<A: Allocator + Clone, S: StatusStore> StatusChannel<A, S> {
     ) -> Result<Option<u8>, Fault>
         requires short { length user_data.now ≤ largest_length }
         ensures rest { self.new ≡ record self.old { transfer = self.new.transfer } }
-        ensures accepted_data { (c : Channel) → Stands self.old c
+        ensures accepted_data { (c : Channel) → StatusRepresents self.old c
             → IfOk result (λ o. IsAccepted o self.old.terms.interface origin self.old.transfer
             self.new.transfer events.old.items events.new.items side
             (packet side header.now user_data.now)
@@ -105,7 +105,7 @@ impl<A: Allocator + Clone, S: StatusStore> StatusChannel<A, S> {
         requires said { IsSaidData self.old.terms.interface item.now header.now }
         requires unqualified { header.now.qualified ≡ false }
         requires short { item.now.length ≤ largest_length }
-        ensures judged { (c : Channel) (q : StateName) → Stands self.old c
+        ensures judged { (c : Channel) (q : StateName) → StatusRepresents self.old c
             → IsJudged result (λ n. What.Data item.now.side n ∷ []) item.now.side q
             self.old self.new c
             (data_step self.old.terms.interface q item.now (Some header.now) c) }
@@ -127,7 +127,7 @@ impl<A: Allocator + Clone, S: StatusStore> StatusChannel<A, S> {
     /// Accepts the P(R) of a packet of a side, or returns its fault, and the channel is as it was.
     #[inline(always)]
     pub(crate) fn accept_ready(&mut self, side: Side, receive: u8) -> Result<(), u8>
-        ensures judged { (c : Channel) (q : StateName) → Stands self.old c
+        ensures judged { (c : Channel) (q : StateName) → StatusRepresents self.old c
             → IsJudged result (λ _. []) side q self.old self.new c (counting side q
             (count_receive self.old.terms.interface.modulus (counts_of c) side receive) c) }
         ensures faulted { OnErr result (self.new ≡ self.old) }
@@ -139,7 +139,7 @@ impl<A: Allocator + Clone, S: StatusStore> StatusChannel<A, S> {
     pub(crate) fn accept_control(&mut self, class: Class, item: &ItemRef<'_>) -> Result<(), u8>
         requires class { class ≡ packet_class item.now.packet }
         requires no_data { class ≡ Class.Data → ⊥ }
-        ensures judged { (c : Channel) (q : StateName) → Stands self.old c
+        ensures judged { (c : Channel) (q : StateName) → StatusRepresents self.old c
             → IsJudged result (λ _. []) item.now.side q self.old self.new c
             (transferring self.old.terms.interface q class item.now c) }
         ensures faulted { OnErr result (self.new ≡ self.old) }

@@ -21,7 +21,7 @@ use Rattle.line_model.specs.basics.Bounds.{IsPiece, IsItem, all_octets}
 use Rattle.line_model.specs.channels.Channels.{is_open}
 use Rattle.line_model.specs.channels.Gaps.{GapChannel, fresh_at}
 use Rattle.line_model.specs.observer.MachineEvents.{RowEvent, stamp}
-use Rattle.line_model.specs.pieces.Pieces.{piece_value}
+use Rattle.line_model.specs.pieces.Pieces.{events_of_steps}
 use Rattle.line_model.specs.observer.Observer.{x25, end_of_epoch, epoch_end, epoch_end_if, event_of, row_step}
 use Rattle.line_model.specs.observer.Calls.{all_lengths, segments_of}
 use Rattle.line_model.specs.observer.Report.{findings_of}
@@ -42,27 +42,27 @@ use Rattle.channel_run.specs.Live.{channel_after, channel_so_far, so_far, with_i
 use Rattle.call_accounts.proofs.CountedLemmas.{sum-more}
 use Rattle.call_accounts.proofs.PlaceLemmas.{countable_before}
 
--- the events of a row, and of those behind it
+-- the events of a row, and of those after it
 rows_first : (i : Interface) (e k : ℕ) (g : GapChannel) (x : Item) (items : List Item) (end : Option Item)
-    → map event_of (piece_value (x25 i) e k g (x ∷ items) end) ≡ row_events i e k g x ++ map event_of (piece_value (x25 i) e k (row_step i k g x).after items end)
+    → map event_of (events_of_steps (x25 i) e k g (x ∷ items) end) ≡ row_events i e k g x ++ map event_of (events_of_steps (x25 i) e k (row_step i k g x).after items end)
 rows_first i e k g x items end =
-    let more : List (RowEvent Item What) = piece_value (x25 i) e k (row_step i k g x).after items end in
+    let more : List (RowEvent Item What) = events_of_steps (x25 i) e k (row_step i k g x).after items end in
     ap (λ vs. map event_of (vs ++ more)) (row_events_are i e k g x) ∙ map-append event_of (stamp e (Some k) x (row_step i k g x).reported) more
 
--- the events of rows, and of a row behind them
+-- the events of rows, and of a row after them
 rows_more : (i : Interface) (e k : ℕ) (g : GapChannel) (items : List Item) (item : Item)
-    → map event_of (piece_value (x25 i) e k g (items ++ item ∷ []) None) ≡ map event_of (piece_value (x25 i) e k g items None) ++ row_events i e k (channel_after i k g items) item
+    → map event_of (events_of_steps (x25 i) e k g (items ++ item ∷ []) None) ≡ map event_of (events_of_steps (x25 i) e k g items None) ++ row_events i e k (channel_after i k g items) item
 rows_more i e k g [] item = rows_first i e k g item [] None ∙ append-nil (row_events i e k g item)
 rows_more i e k g (x ∷ items) item =
     let h : GapChannel = (row_step i k g x).after in
     let events_at_row : List Event = row_events i e k g x in
     rows_first i e k g x (items ++ item ∷ []) None
     ∙ ap (λ l. events_at_row ++ l) (rows_more i e k h items item)
-    ∙ sym (append_assoc events_at_row (map event_of (piece_value (x25 i) e k h items None)) (row_events i e k (channel_after i k h items) item))
+    ∙ sym (append_assoc events_at_row (map event_of (events_of_steps (x25 i) e k h items None)) (row_events i e k (channel_after i k h items) item))
     ∙ ap (λ l. l ++ row_events i e k (channel_after i k h items) item) (sym (rows_first i e k g x items None))
 
 rows_end : (i : Interface) (e k : ℕ) (g : GapChannel) (items : List Item) (end : Option PieceEnd)
-    → map event_of (piece_value (x25 i) e k g items (option_map row_of_end end)) ≡ map event_of (piece_value (x25 i) e k g items None) ++ end_events e k end (channel_after i k g items)
+    → map event_of (events_of_steps (x25 i) e k g items (option_map row_of_end end)) ≡ map event_of (events_of_steps (x25 i) e k g items None) ++ end_events e k end (channel_after i k g items)
 rows_end i e k g [] None = refl
 rows_end i e k g [] (Some n) = refl
 rows_end i e k g (x ∷ items) end =
@@ -70,7 +70,7 @@ rows_end i e k g (x ∷ items) end =
     let events_at_row : List Event = row_events i e k g x in
     rows_first i e k g x items (option_map row_of_end end)
     ∙ ap (λ l. events_at_row ++ l) (rows_end i e k h items end)
-    ∙ sym (append_assoc events_at_row (map event_of (piece_value (x25 i) e k h items None)) (end_events e k end (channel_after i k h items)))
+    ∙ sym (append_assoc events_at_row (map event_of (events_of_steps (x25 i) e k h items None)) (end_events e k end (channel_after i k h items)))
     ∙ ap (λ l. l ++ end_events e k end (channel_after i k h items)) (sym (rows_first i e k g x items None))
 
 pub piece_more : (p : Piece) (item : Item) → piece_events (so_far (with_item p item)) ≡ piece_events (so_far p) ++ row_events p.interface p.epoch p.channel (channel_so_far p) item
@@ -198,7 +198,7 @@ findings_on first old new vs i e lt is h step =
     ∙ append_assoc first (findings_of (take i vs)) (findings_of (e ∷ []))
     ∙ ap (λ l. first ++ l) (sym (findings-more (take i vs) (e ∷ [])) ∙ ap findings_of (sym more))
 
--- ---- the first finding behind others
+-- ---- the first finding after others
 
 at_index : (fs : List Finding) (i : ℕ) (d : Finding) → i < length fs → slice_get fs i ≡ Some (get_or fs i d)
 at_index [] i d lt = absurd (omega arith)
@@ -271,7 +271,7 @@ piece_part i k items n h =
       packets = All-take (IsItem i k) n items h.packets;
     }
 
--- a row that comes behind the first rows of a piece may come there
+-- a row that comes after the first rows of a piece may come there
 pub next_item : (i : Interface) (k : ℕ) (items front left rest : List Item) (next : Item) → IsPiece i k items → items ≡ front ++ left → left ≡ next ∷ rest → IsPiece i k (front ++ next ∷ [])
 next_item i k items front left rest next h all first =
     let more : items ≡ (front ++ next ∷ []) ++ rest = all ∙ ap (λ l. front ++ l) first ∙ sym (append_assoc front (next ∷ []) rest) in

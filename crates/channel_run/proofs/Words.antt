@@ -3,7 +3,7 @@ use Rattle.std.proofs.Common.{◌≡◌, ◌∙◌, ℕ, ◌+◌, ◌*◌, ◌/�
 use Rattle.data_transfer.specs.Packed.{Packed}
 use Rattle.channel_run.specs.StatusWord.{state_by, view_in}
 
--- the mark stands alone above all other bits
+-- the mark is alone above all other bits
 state_kept : (a n : ℕ) → (a % 2 ^ 18 + n * 2 ^ 18) % 8 ≡ a % 8
 state_kept a n = omega arith
 

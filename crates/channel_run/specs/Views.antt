@@ -6,7 +6,7 @@ use Rattle.line_model.specs.channels.ChannelStep.{counts_of}
 use Rattle.line_model.specs.channels.Gaps.{Certainty, GapChannel}
 use Rattle.line_model.specs.channels.Gaps.Certainty.{Adrift, Settled}
 use Rattle.line_model.specs.packets.Formats.{is_pad_call, size_in_force, was_fast}
-use Rattle.data_transfer.specs.FlowResidues.{Stands}
+use Rattle.data_transfer.specs.FlowResidues.{ResiduesRepresent}
 use Rattle.channel_run.specs.declared.run.View.{View}
 
 -- whether a gap left open in which state the channel is
@@ -29,4 +29,4 @@ pub record IsViewOf (i : Interface) (g : GapChannel) (v : View) : Type 0 where
   pub fast : v.fast ≡ was_fast g.channel
   pub size_t : v.size_t ≡ size_in_force i g.channel T
   pub size_n : v.size_n ≡ size_in_force i g.channel N
-  pub flow : is_settled g.certainty ≡ false → Stands v.flow (counts_of g.channel)
+  pub flow : is_settled g.certainty ≡ false → ResiduesRepresent v.flow (counts_of g.channel)

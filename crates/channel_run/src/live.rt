@@ -4,7 +4,7 @@ ghost use Rattle.std.specs.Prelude.{◌≡◌, ◌&&◌, ℕ, List, [], ◌∷�
 ghost use Rattle.line_model.specs.declared.fault.Fault.TheVariants.{Memory};
 ghost use Rattle.line_model.specs.basics.Records.{Piece};
 ghost use Rattle.line_model.specs.basics.Bounds.{IsPiece};
-ghost use Rattle.line_model.specs.pieces.Plans.{piece_events, value};
+ghost use Rattle.line_model.specs.pieces.Plans.{piece_events, result_of};
 ghost use Rattle.line_model.specs.observer.Report.{findings_of};
 ghost use Rattle.channel_run.specs.Tally.{Counts};
 ghost use Rattle.channel_run.specs.Live.{Represents, channel_so_far, so_far, with_item};
@@ -55,7 +55,7 @@ impl<A: Allocator + Clone, C: Channel<A>> LiveChannel<A, C> {
         epoch: u32,
         start: EpochStart,
     ) -> Result<Self, Fault>
-        ensures stands { IfOk result (λ live. (p : Piece) → p.interface ≡ interface.now
+        ensures represented { IfOk result (λ live. (p : Piece) → p.interface ≡ interface.now
             → p.channel ≡ channel → p.epoch ≡ epoch → p.start ≡ start → p.items ≡ []
             → Represents C.interface_of C.number_of C.represents live p) }
         ensures memory { IfErr result (λ fault. fault ≡ Memory) }
@@ -79,7 +79,7 @@ impl<A: Allocator + Clone, C: Channel<A>> LiveChannel<A, C> {
     ) -> Result<ChannelOutcome, Fault>
         requires room { (p : Piece) × Represents C.interface_of C.number_of C.represents self.old p
             × IsPiece p.interface p.channel (p.items ++ item.now ∷ []) }
-        ensures stands { (p : Piece) → Represents C.interface_of C.number_of C.represents self.old p
+        ensures represented { (p : Piece) → Represents C.interface_of C.number_of C.represents self.old p
             → IsPiece p.interface p.channel (p.items ++ item.now ∷ [])
             → OnOk result (Represents C.interface_of C.number_of C.represents self.new
             (with_item p item.now)) }
@@ -130,18 +130,18 @@ impl<A: Allocator + Clone, C: Channel<A>> LiveChannel<A, C> {
     /// Returns the findings so far.
     pub fn findings(&self) -> &[Finding]
         ensures { (p : Piece) → Represents C.interface_of C.number_of C.represents self.now p
-            → result.now ≡ (value (so_far p)).findings }
+            → result.now ≡ (result_of (so_far p)).findings }
     {
         self.tally.findings()
     }
 
     /// Returns the result of the piece so far, by a copy: the channel goes on. Fails only when memory is refused.
     pub fn report(&self, alloc: A, id: u32) -> Result<PieceReport<A>, Fault>
-        requires stands { (p : Piece) × Represents C.interface_of C.number_of
+        requires represented { (p : Piece) × Represents C.interface_of C.number_of
             C.represents self.now p }
         ensures value { IfOk result (λ report. (p : Piece)
             → Represents C.interface_of C.number_of C.represents self.now p
-            → report ≡ value (record p { id = id; end = None })) }
+            → report ≡ result_of (record p { id = id; end = None })) }
         ensures memory { IfErr result (λ fault. fault ≡ Memory) }
     {
         self.tally.report(alloc, id, self.epoch, self.channel)
@@ -150,10 +150,10 @@ impl<A: Allocator + Clone, C: Channel<A>> LiveChannel<A, C> {
     /// Returns the result of the piece. An open call ends with the row that ended the epoch, if one did. Fails only
     /// when memory is refused.
     pub fn end(mut self, id: u32, end: Option<PieceEnd>) -> Result<PieceReport<A>, Fault>
-        requires stands { (p : Piece) × Represents C.interface_of C.number_of C.represents self p }
+        requires represented { (p : Piece) × Represents C.interface_of C.number_of C.represents self p }
         ensures value { IfOk result (λ report. (p : Piece)
             → Represents C.interface_of C.number_of C.represents self p
-            → report ≡ value (record p { id = id; end = end })) }
+            → report ≡ result_of (record p { id = id; end = end })) }
         ensures memory { IfErr result (λ fault. fault ≡ Memory) }
     {
         self.close(end)?;

@@ -26,7 +26,8 @@ use std::alloc::Allocator;
 /// What is known of a logical channel at one moment.
 #[derive(Clone, Copy)]
 pub struct View {
-    /// Its state. Of a channel adrift it says only whether a call is open, whether that came up, and who resets.
+    /// The state. Where the channel is adrift, it says only whether a call is open, whether the call came up, and which
+    /// side resets.
     pub state: ChannelState,
     /// Whether a gap left open in which state it is (profile).
     pub adrift: bool,
@@ -58,12 +59,12 @@ pub trait Channel<A: Allocator>: Drop {
     /// What the machine keeps represents this channel.
     ghost represents: { Self → GapChannel → Type 0 };
 
-    /// Returns a channel of an epoch as it begins: p1, or d1 where it is a permanent virtual circuit, and unknown in
-    /// epoch 1 where the trace begins in the middle; adrift where the epoch begins so. Allocates nothing.
+    /// Returns a channel as its epoch begins: in p1, or in d1 where it is a permanent virtual circuit. It is unknown in
+    /// epoch 1 where the trace begins in the middle, and adrift where the epoch begins adrift. Allocates nothing.
     fn fresh(alloc: A, interface: &Interface, channel: u16, epoch: u32, start: EpochStart) -> Self
         ensures interface { interface_of result ≡ interface.now }
         ensures number { number_of result ≡ channel }
-        ensures stands { represents result (fresh_at interface.now start epoch channel) };
+        ensures represented { represents result (fresh_at interface.now start epoch channel) };
 
     /// Returns the state of the channel.
     fn state(&self) -> ChannelState
@@ -95,7 +96,7 @@ pub trait Channel<A: Allocator>: Drop {
             → IfOk result (λ _. interface_of self.new ≡ interface_of self.old) }
         ensures number { (g : GapChannel) → represents self.old g
             → IfOk result (λ _. number_of self.new ≡ number_of self.old) }
-        ensures stands { (g : GapChannel) → represents self.old g
+        ensures represented { (g : GapChannel) → represents self.old g
             → IfOk result (λ _. represents self.new
             (row_step (interface_of self.old) (number_of self.old) g item.now).after) }
         ensures events { (g : GapChannel) → represents self.old g
@@ -119,7 +120,7 @@ pub trait Channel<A: Allocator>: Drop {
             → IfOk result (λ _. interface_of self.new ≡ interface_of self.old) }
         ensures number { (g : GapChannel) → represents self.old g
             → IfOk result (λ _. number_of self.new ≡ number_of self.old) }
-        ensures stands { (g : GapChannel) → represents self.old g
+        ensures represented { (g : GapChannel) → represents self.old g
             → IfOk result (λ _. represents self.new
             (row_step (interface_of self.old) (number_of self.old) g item.now).after) }
         ensures events { (g : GapChannel) → represents self.old g
@@ -138,7 +139,7 @@ pub fn run_piece<A: Allocator + Clone, C: Channel<A>>(
     alloc: A,
     piece: &Piece<A>,
 ) -> Result<PieceReport<A>, Fault>
-    ensures value { IfOk result (λ report. report ≡ plans.value piece.now) }
+    ensures value { IfOk result (λ report. report ≡ plans.result_of piece.now) }
     ensures memory { IfErr result (λ fault. fault ≡ Memory) }
 {
     let mut live = LiveChannel::<A, C>::fresh(

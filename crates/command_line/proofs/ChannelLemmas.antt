@@ -28,5 +28,5 @@ last_whole false bytes i e none whole = absurd (let bad : true ≡ false = sym e
 
 -- where no row came, all bytes were read
 pub read_all : {T : Type 0} (next : Option T) (before after : Progress) (bytes : List ℕ) (Q : T → Type 0) → MatchOption next (ReadsChunk before after bytes) Q → IfSome next (λ rest. is_some after.interface ≡ true) → after.interface ≡ None → Represents before [] → Represents after bytes
-read_all None before after bytes Q reads headed none s = reads.stands [] s
+read_all None before after bytes Q reads headed none s = reads.represented [] s
 read_all (Some rest) before after bytes Q reads headed none s = absurd (let bad : true ≡ false = sym headed ∙ ap is_some none in cc)

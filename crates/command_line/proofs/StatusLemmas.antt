@@ -5,7 +5,7 @@ use Rattle.std.proofs.lemmas.Bool.Decides.{nat_tests}
 use Rattle.line_model.specs.text.Text.{fault}
 use Rattle.line_model.specs.declared.totals.Summary.{Summary}
 use Rattle.line_model.specs.declared.fault.Fault.{Fault}
-use Rattle.line_model.specs.declared.fault.Fault.TheVariants.{Memory, Trace, Read, Write, Start, Double, Stranger, Missing}
+use Rattle.line_model.specs.declared.fault.Fault.TheVariants.{Memory, Trace, Read, Write, Start, Double, UnknownPiece, Missing}
 use Rattle.command_line.specs.Program.{IsCutShort, IsFollowStatus, IsReportStatus, IsScanRefusal, IsScanned, IsStatus, fault_status, lag_by, summary_status}
 use Rattle.trace_text.specs.Decided.{NoneDecidedButLast}
 use Rattle.trace_text.specs.Sources.{IsRefusedBy, NoneDecided}
@@ -69,7 +69,7 @@ refused_status lag text left asked before after well Memory status r taken faile
 refused_status lag text left asked before after well Read status r taken failed s = other_status lag text left asked before after well Read status s s r (inl taken)
 refused_status lag text left asked before after well Start status r taken failed s = other_status lag text left asked before after well Start status s s r (inl taken)
 refused_status lag text left asked before after well (Double i) status r taken failed s = other_status lag text left asked before after well (Double i) status s s r (inl taken)
-refused_status lag text left asked before after well (Stranger i) status r taken failed s = other_status lag text left asked before after well (Stranger i) status s s r (inl taken)
+refused_status lag text left asked before after well (UnknownPiece i) status r taken failed s = other_status lag text left asked before after well (UnknownPiece i) status s s r (inl taken)
 refused_status lag text left asked before after well (Missing i) status r taken failed s = other_status lag text left asked before after well (Missing i) status s s r (inl taken)
 
 pub status_range : (f : Fault) (status : ℕ) → status ≡ fault_status f → status < 4
@@ -118,7 +118,7 @@ refused_follow text left asked before after well Read status r written_of failed
 refused_follow text left asked before after well Write status r written_of failed s = other_follow text left asked before after well Write status s s r written_of failed
 refused_follow text left asked before after well Start status r written_of failed s = other_follow text left asked before after well Start status s s r written_of failed
 refused_follow text left asked before after well (Double i) status r written_of failed s = other_follow text left asked before after well (Double i) status s s r written_of failed
-refused_follow text left asked before after well (Stranger i) status r written_of failed s = other_follow text left asked before after well (Stranger i) status s s r written_of failed
+refused_follow text left asked before after well (UnknownPiece i) status r written_of failed s = other_follow text left asked before after well (UnknownPiece i) status s s r written_of failed
 refused_follow text left asked before after well (Missing i) status r written_of failed s = other_follow text left asked before after well (Missing i) status s s r written_of failed
 
 -- ---- by whether it was followed

@@ -3,7 +3,7 @@ use Rattle.std.proofs.Common.{◌≡◌, ◌≢◌, ◌∙◌, sym, refl, inl, i
 use Rattle.std.specs.Prelude.{MatchOption, is_some}
 use Rattle.std.proofs.lemmas.Bool.Decides.{nat_tests}
 use Rattle.line_model.specs.declared.fault.Fault.{Fault}
-use Rattle.line_model.specs.declared.fault.Fault.TheVariants.{Memory, Trace, Read, Write, Start, Double, Stranger, Missing}
+use Rattle.line_model.specs.declared.fault.Fault.TheVariants.{Memory, Trace, Read, Write, Start, Double, UnknownPiece, Missing}
 use Rattle.annotated_trace.specs.declared.rows.Rows.{Rows}
 use Rattle.trace_text.specs.Sources.{IsRefusedBy}
 use Rattle.trace_text.specs.Refusals.{IsRefusal}
@@ -57,7 +57,7 @@ refused_try text left asked before after well Memory status r same part failed s
 refused_try text left asked before after well Read status r same part failed s = other_status text left asked before after well Read status s s r (inl (same (λ h. absurd cc)))
 refused_try text left asked before after well Start status r same part failed s = other_status text left asked before after well Start status s s r (inl (same (λ h. absurd cc)))
 refused_try text left asked before after well (Double i) status r same part failed s = other_status text left asked before after well (Double i) status s s r (inl (same (λ h. absurd cc)))
-refused_try text left asked before after well (Stranger i) status r same part failed s = other_status text left asked before after well (Stranger i) status s s r (inl (same (λ h. absurd cc)))
+refused_try text left asked before after well (UnknownPiece i) status r same part failed s = other_status text left asked before after well (UnknownPiece i) status s s r (inl (same (λ h. absurd cc)))
 refused_try text left asked before after well (Missing i) status r same part failed s = other_status text left asked before after well (Missing i) status s s r (inl (same (λ h. absurd cc)))
 
 -- the options have rows to annotate where the words ask for an annotation

@@ -5,7 +5,7 @@ use Rattle.line_model.specs.basics.Faults.{kind_number}
 use Rattle.line_model.specs.basics.Written.{HasFront}
 use Rattle.line_model.specs.declared.fault.Kind.{Kind}
 use Rattle.line_model.specs.declared.fault.Fault.{Fault}
-use Rattle.line_model.specs.declared.fault.Fault.TheVariants.{Memory, Trace, Read, Write, Start, Double, Stranger, Missing}
+use Rattle.line_model.specs.declared.fault.Fault.TheVariants.{Memory, Trace, Read, Write, Start, Double, UnknownPiece, Missing}
 use Rattle.trace_text.specs.Sources.{IsRefusedBy}
 use Rattle.trace_text.specs.Refusals.{IsRefusal}
 
@@ -17,7 +17,7 @@ fault_words Read = codes "read failed"
 fault_words Write = codes "write failed"
 fault_words Start = codes "thread refused"
 fault_words (Double piece) = codes "piece " ++ decimal piece ++ codes " posted twice"
-fault_words (Stranger piece) = codes "piece " ++ decimal piece ++ codes " unknown"
+fault_words (UnknownPiece piece) = codes "piece " ++ decimal piece ++ codes " unknown"
 fault_words (Missing piece) = codes "piece " ++ decimal piece ++ codes " missing"
 
 -- the line of a fault

@@ -94,7 +94,7 @@ pub record IsStatus (lag : ℕ) (text : List ℕ) (left asked before after : Opt
   pub range : status < 4
 
 -- a text is refused by a faulty line, after the lines of what was found before it
-pub record IsFaultyBehind (text : List ℕ) (left asked before after : Option (List ℕ)) (well : Type 0) : Type 0 where
+pub record IsFaultyAfter (text : List ℕ) (left asked before after : Option (List ℕ)) (well : Type 0) : Type 0 where
   pub line : ℕ
   pub kind : Kind
   pub refusal : IsRefusedBy 0 IsFollowRefusal text left asked (Trace line kind)
@@ -112,7 +112,7 @@ pub record IsEndedBy (text : List ℕ) (left asked before after : Option (List �
 pub record IsFollowStatus (text : List ℕ) (left asked before after : Option (List ℕ)) (well : Type 0) (status : ℕ) : Type 0 where
   pub clean : status ≡ 0 → IsReported text before after (trace_summary text) × ((trace_summary text).findings ≡ 0)
   pub found : status ≡ 1 → IsReported text before after (trace_summary text) × (0 < (trace_summary text).findings)
-  pub faulty : status ≡ 2 → IsFaultyBehind text left asked before after well
+  pub faulty : status ≡ 2 → IsFaultyAfter text left asked before after well
   pub other : status ≡ 3 → IsEndedBy text left asked before after well
   pub range : status < 4
 

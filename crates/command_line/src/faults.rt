@@ -49,7 +49,7 @@ fn put_words<E: Sink>(out: &mut WriteBuffer, errors: &mut E, fault: Fault)
         Fault::Write => out.put(errors, b"write failed"),
         Fault::Start => out.put(errors, b"thread refused"),
         Fault::Double(piece) => put_piece(out, errors, piece, b" posted twice"),
-        Fault::Stranger(piece) => put_piece(out, errors, piece, b" unknown"),
+        Fault::UnknownPiece(piece) => put_piece(out, errors, piece, b" unknown"),
         Fault::Missing(piece) => put_piece(out, errors, piece, b" missing"),
     }
 }

@@ -5,13 +5,13 @@ use Rattle.line_model.specs.declared.state.Side.{Side}
 use Rattle.line_model.specs.declared.state.Side.TheVariants.{T, N}
 use Rattle.line_model.specs.channels.Channels.{of_side, with_side, other}
 use Rattle.line_model.specs.channels.FlowControl.{Counts, is_send_valid, count_receive, count_data}
-use Rattle.data_transfer.specs.FlowResidues.{FlowResidues, IsDirection, Residues, DirectionStands, Stands, Answers}
+use Rattle.data_transfer.specs.FlowResidues.{FlowResidues, IsDirection, Residues, DirectionRepresents, ResiduesRepresent, Answers}
 use Rattle.data_transfer.specs.declared.direction.Direction.{Direction}
 use Rattle.data_transfer.specs.Directions.{direction_of, with_direction}
 
 -- one packet more is sent
-sent_one : (m w s a sent acknowledged : ℕ) → (m ≡ 8) ⊎ (m ≡ 128) → DirectionStands m w s a sent acknowledged → s - a < w →
-    DirectionStands m w (s + 1) a ((sent + 1) % m) acknowledged
+sent_one : (m w s a sent acknowledged : ℕ) → (m ≡ 8) ⊎ (m ≡ 128) → DirectionRepresents m w s a sent acknowledged → s - a < w →
+    DirectionRepresents m w (s + 1) a ((sent + 1) % m) acknowledged
 sent_one m w s a sent acknowledged e h l = record {
   sent_is = grind (arith, e, h.sent_is);
   acknowledged_is = h.acknowledged_is;
@@ -21,7 +21,7 @@ sent_one m w s a sent acknowledged e h l = record {
 
 -- the same receive number after one packet more of its own side
 received : {A : Type 0} (x : Side) (u : A) (old mid : FlowResidues) (c : Counts) (o : Option ℕ) →
-    (old.modulus ≡ 8) ⊎ (old.modulus ≡ 128) → Stands old c →
+    (old.modulus ≡ 8) ⊎ (old.modulus ≡ 128) → ResiduesRepresent old c →
     of_side x c.sent - of_side x c.acknowledged < of_side x old.windows →
     mid.modulus ≡ old.modulus → mid.windows ≡ old.windows →
     Answers (Ok u) old mid (elim o as (λ v. Result Counts ℕ) [ Some k ↦ Ok (record c { acknowledged = with_side (other x) k c.acknowledged }) | None ↦ Err INVALID_P_R ]) →
@@ -40,7 +40,7 @@ received N u old mid c (Some k) e h l m w r = record {
 }
 
 -- the counts of one direction and their residues
-residues_of : (x : Side) (k : FlowResidues) (c : Counts) → Stands k c → of_side x k.windows < k.modulus →
+residues_of : (x : Side) (k : FlowResidues) (c : Counts) → ResiduesRepresent k c → of_side x k.windows < k.modulus →
     Residues k.modulus (of_side x c.sent) (of_side x c.acknowledged) (of_side x k.sent) (of_side x k.acknowledged)
 residues_of T k c h b = record { sent_is = h.of_t.sent_is; acknowledged_is = h.of_t.acknowledged_is; ordered = h.of_t.ordered; below = omega (arith, h.of_t.within, b) }
 residues_of N k c h b = record { sent_is = h.of_n.sent_is; acknowledged_is = h.of_n.acknowledged_is; ordered = h.of_n.ordered; below = omega (arith, h.of_n.within, b) }
@@ -51,7 +51,7 @@ room m w s a n v = grind (arith, v)
 
 -- by the side
 counted_receive : {A : Type 0} (x : Side) (u : A) (old mid : FlowResidues) (c : Counts) (receive : ℕ) →
-    (old.modulus ≡ 8) ⊎ (old.modulus ≡ 128) → Stands old c →
+    (old.modulus ≡ 8) ⊎ (old.modulus ≡ 128) → ResiduesRepresent old c →
     of_side x c.sent - of_side x c.acknowledged < of_side x old.windows →
     mid.modulus ≡ old.modulus → mid.windows ≡ old.windows →
     Answers (Ok u) old mid (count_receive old.modulus c x receive) →
@@ -62,7 +62,7 @@ counted_receive N u old mid c receive e h l m w r = received N u old mid c _ e h
 
 -- a data packet whose numbers are valid
 pub counted : {A : Type 0} (x : Side) (u : A) (old mid : FlowResidues) (c : Counts) (send receive : ℕ) →
-    (old.modulus ≡ 8) ⊎ (old.modulus ≡ 128) → of_side x old.windows < old.modulus → Stands old c →
+    (old.modulus ≡ 8) ⊎ (old.modulus ≡ 128) → of_side x old.windows < old.modulus → ResiduesRepresent old c →
     ((s a : ℕ) → Residues old.modulus s a (of_side x old.sent) (of_side x old.acknowledged) → true ≡ is_send_valid old.modulus (of_side x old.windows) s a send) →
     mid.modulus ≡ old.modulus → mid.windows ≡ old.windows →
     Answers (Ok u) old mid (count_receive old.modulus c x receive) →
@@ -78,7 +78,7 @@ pub counted_by : {A : Type 0} (x : Side) (u : A) (old mid new : FlowResidues) (d
     m ≡ old.modulus → d ≡ direction_of x old → n ≡ (d.sent + 1) % m → new ≡ with_direction x (record d { sent = n }) mid →
     IsDirection old.modulus d.window d.sent d.acknowledged → (m ≡ 8) ⊎ (m ≡ 128) →
     ((s a : ℕ) → Residues m s a d.sent d.acknowledged → true ≡ is_send_valid m d.window s a send) →
-    mid.modulus ≡ old.modulus → mid.windows ≡ old.windows → Stands old c →
+    mid.modulus ≡ old.modulus → mid.windows ≡ old.windows → ResiduesRepresent old c →
     Answers (Ok u) old mid (count_receive old.modulus c x receive) →
     Answers (Ok u) old new (count_data old.modulus (of_side x old.windows) c x send receive)
 counted_by x u old mid new d m n c send receive same is more into range e v w k h r =

@@ -3,7 +3,7 @@ use Rattle.std.proofs.Common.{◌≡◌, ◌⊎◌, inl, inr, ◌<◌, ◌≤◌
 use Rattle.std.specs.Prelude.{cond}
 use Rattle.std.proofs.lemmas.Nat.{pow-add, pow_pos, shr_split, shr_high, shr_below, mod_low, mod_below, mul-add-lt, shl_whole, one_shl}
 use Rattle.std.proofs.Math.Nat.{mul-le-mul_right, mod-eq_of_lt}
-use Rattle.data_transfer.specs.FlowResidues.{FlowResidues, AreFlowResidues, IsDirection, DirectionStands, Stands, bit, word_of}
+use Rattle.data_transfer.specs.FlowResidues.{FlowResidues, AreFlowResidues, IsDirection, DirectionRepresents, ResiduesRepresent, bit, word_of}
 use Rattle.line_model.specs.declared.state.Side.{Side}
 use Rattle.line_model.specs.declared.state.Side.TheVariants.{T, N}
 use Rattle.line_model.specs.channels.Channels.{of_side}
@@ -15,11 +15,11 @@ use Rattle.data_transfer.specs.FlowFields.{kept}
 use Rattle.data_transfer.specs.PackedLaw.{cut, bit_read, packed_word-packed_in}
 use Rattle.data_transfer.specs.Packed.{number_at, bit_at, sent_at, acknowledged_at, window_at, unconfirmed_at, kept_in, Packed, packed_in, packed_word}
 
--- what stands from bit k up
+-- the bits from bit k up
 above_at : (w k lo hi : ℕ) → lo < 2 ^ k → w ≡ hi * 2 ^ k + lo → w / 2 ^ k ≡ hi
 above_at w k lo hi below is = rw is (shr_high hi k lo below)
 
--- what stands in n bits from bit k up
+-- the n bits from bit k up
 field_at : (w k n lo v hi : ℕ) → lo < 2 ^ k → v < 2 ^ n → w ≡ ((hi * 2 ^ n + v) * 2 ^ k + lo) → w / 2 ^ k % 2 ^ n ≡ v
 field_at w k n lo v hi below fits is =
     ap (λ q. q % 2 ^ n) (above_at w k lo (hi * 2 ^ n + v) below is) ∙ mod_low hi n v fits
@@ -100,7 +100,7 @@ kept_by k w m wt wn st sn at an it is i = record {
   unconfirmed = record { of_t = it i; of_n = is i };
 }
 
--- a word of nine fields and what stands above them
+-- a word of nine fields and the bits above them
 pub record IsWord (w m st at sn an wt wn it is a : ℕ) : Type 0 where
   pub modulus : m < 2
   pub sent_t : st < 128
@@ -300,11 +300,11 @@ cleared w u t old is h e f =
     subst (λ p. Keeps t (record p { flow = nothing_sent p.flow })) is (keeps t _ in_range (nothing_sent_word w u t e f))
 
 -- it represents no counts
-none_stand : (m w : ℕ) → DirectionStands m w 0 0 0 0
+none_stand : (m w : ℕ) → DirectionRepresents m w 0 0 0 0
 none_stand m w = record { sent_is = omega arith; acknowledged_is = omega arith; ordered = omega arith; within = omega arith }
 
-pub nothing_stands : (k : FlowResidues) → Stands (nothing_sent k) no_counts
-nothing_stands k = record { of_t = none_stand _ _; of_n = none_stand _ _; unconfirmed = refl }
+pub nothing_represents : (k : FlowResidues) → ResiduesRepresent (nothing_sent k) no_counts
+nothing_represents k = record { of_t = none_stand _ _; of_n = none_stand _ _; unconfirmed = refl }
 
 -- the word of what can be kept has nothing above, and keeps it
 pub word_of-keeps : (w : ℕ) (k : FlowResidues) → AreFlowResidues k → word_of k ≡ w → packed_in w ≡ record { flow = k; owner_bits = 0 }

@@ -42,21 +42,21 @@ pub record AreFlowResidues (k : FlowResidues) : Type 0 where
   pub of_n : IsDirection k.modulus k.windows.of_n k.sent.of_n k.acknowledged.of_n
 
 -- the residues of one direction, with no more outstanding than its window
-pub record DirectionStands (m w s a sent acknowledged : ℕ) : Type 0 where
+pub record DirectionRepresents (m w s a sent acknowledged : ℕ) : Type 0 where
   pub sent_is : s % m ≡ sent
   pub acknowledged_is : a % m ≡ acknowledged
   pub ordered : a ≤ s
   pub within : s ≤ a + w
 
 -- what is kept represents some counts
-pub record Stands (f : FlowResidues) (c : Counts) : Type 0 where
-  pub of_t : DirectionStands f.modulus f.windows.of_t c.sent.of_t c.acknowledged.of_t f.sent.of_t f.acknowledged.of_t
-  pub of_n : DirectionStands f.modulus f.windows.of_n c.sent.of_n c.acknowledged.of_n f.sent.of_n f.acknowledged.of_n
+pub record ResiduesRepresent (f : FlowResidues) (c : Counts) : Type 0 where
+  pub of_t : DirectionRepresents f.modulus f.windows.of_t c.sent.of_t c.acknowledged.of_t f.sent.of_t f.acknowledged.of_t
+  pub of_n : DirectionRepresents f.modulus f.windows.of_n c.sent.of_n c.acknowledged.of_n f.sent.of_n f.acknowledged.of_n
   pub unconfirmed : f.unconfirmed ≡ c.unconfirmed
 
 -- a result is that of the counts; a refusal leaves what is kept
 abbrev pub Answers : {A : Type 0} → Result A ℕ → (old new : FlowResidues) → Result Counts ℕ → Type 0
-Answers (Ok u) old new (Ok c) = Stands new c
+Answers (Ok u) old new (Ok c) = ResiduesRepresent new c
 Answers (Err e) old new (Err n) = (e ≡ n) × (new ≡ old)
 Answers (Ok u) old new (Err n) = ⊥
 Answers (Err e) old new (Ok c) = ⊥

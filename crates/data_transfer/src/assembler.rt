@@ -38,7 +38,7 @@ impl<A: Allocator + Clone> Assembler<A> {
     /// Returns an assembler with nothing begun, with the packet sizes of T and N in octets. It needs no memory.
     pub fn new(alloc: A, size_t: u16, size_n: u16) -> Self
         ensures sizes { sizes result ≡ record { of_t = size_t; of_n = size_n } }
-        ensures stands { Represents result [] }
+        ensures represented { Represents result [] }
     {
         Assembler {
             of_t: Begun::new(size_t),
@@ -131,7 +131,7 @@ impl<A: Allocator + Clone> Assembler<A> {
     /// Forgets what was begun, as leaving d1 does; the sizes stay.
     pub fn reset(&mut self)
         ensures sizes { sizes self.new ≡ sizes self.old }
-        ensures stands { Represents self.new [] }
+        ensures represented { Represents self.new [] }
     {
         self.of_t.reset();
         self.of_n.reset();
@@ -140,7 +140,7 @@ impl<A: Allocator + Clone> Assembler<A> {
     /// Forgets what was begun, under other packet sizes, as a call that comes up or ends does.
     pub fn renew(&mut self, size_t: u16, size_n: u16)
         ensures sizes { sizes self.new ≡ record { of_t = size_t; of_n = size_n } }
-        ensures stands { Represents self.new [] }
+        ensures represented { Represents self.new [] }
     {
         self.of_t = Begun::new(size_t);
         self.of_n = Begun::new(size_n);

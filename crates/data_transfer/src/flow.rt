@@ -3,7 +3,7 @@
 ghost use Rattle.std.specs.Prelude.{◌≡◌, ◌⊎◌, ◌<◌, ◌≤◌, ◌+◌, OnErr};
 ghost use Rattle.line_model.specs.channels.FlowControl.{Counts, count_interrupt, count_receive, count_confirm, count_data, no_counts};
 ghost use Rattle.line_model.specs.channels.Channels.{of_side, with_side};
-ghost use Rattle.data_transfer.specs.FlowResidues.{IsDirection, Stands, Answers};
+ghost use Rattle.data_transfer.specs.FlowResidues.{IsDirection, ResiduesRepresent, Answers};
 ghost use Rattle.data_transfer.specs.Directions.{direction_of, with_direction};
 
 use crate::direction::{Direction, residue};
@@ -59,7 +59,7 @@ impl Flow {
         requires window_n { (1 ≤ window_n) × (window_n < modulus) }
         ensures modulus { result.modulus ≡ modulus }
         ensures windows { result.windows ≡ record { of_t = window_t; of_n = window_n } }
-        ensures stands { Stands result no_counts }
+        ensures represented { ResiduesRepresent result no_counts }
     {
         Flow {
             modulus,
@@ -74,7 +74,7 @@ impl Flow {
         ensures modulus { self.new.modulus ≡ self.old.modulus }
         ensures windows { self.new.windows ≡ self.old.windows }
         ensures unchanged { OnErr result (self.new ≡ self.old) }
-        ensures counts { (c : Counts) → Stands self.old c
+        ensures counts { (c : Counts) → ResiduesRepresent self.old c
             → Answers result self.old self.new
             (count_data self.old.modulus (of_side side self.old.windows) c side send receive) }
     {
@@ -94,7 +94,7 @@ impl Flow {
         ensures modulus { self.new.modulus ≡ self.old.modulus }
         ensures windows { self.new.windows ≡ self.old.windows }
         ensures unchanged { OnErr result (self.new ≡ self.old) }
-        ensures counts { (c : Counts) → Stands self.old c
+        ensures counts { (c : Counts) → ResiduesRepresent self.old c
             → Answers result self.old self.new (count_receive self.old.modulus c side receive) }
     {
         let acknowledged = self.direction(side.other());
@@ -117,7 +117,7 @@ impl Flow {
         ensures modulus { self.new.modulus ≡ self.old.modulus }
         ensures windows { self.new.windows ≡ self.old.windows }
         ensures unchanged { OnErr result (self.new ≡ self.old) }
-        ensures counts { (c : Counts) → Stands self.old c
+        ensures counts { (c : Counts) → ResiduesRepresent self.old c
             → Answers result self.old self.new (count_interrupt c side) }
     {
         let sender = self.direction(side);
@@ -140,7 +140,7 @@ impl Flow {
         ensures modulus { self.new.modulus ≡ self.old.modulus }
         ensures windows { self.new.windows ≡ self.old.windows }
         ensures unchanged { OnErr result (self.new ≡ self.old) }
-        ensures counts { (c : Counts) → Stands self.old c
+        ensures counts { (c : Counts) → ResiduesRepresent self.old c
             → Answers result self.old self.new (count_confirm c side) }
     {
         let confirmed = self.direction(side.other());
@@ -191,7 +191,7 @@ impl Flow {
     pub fn reset(&mut self)
         ensures modulus { self.new.modulus ≡ self.old.modulus }
         ensures windows { self.new.windows ≡ self.old.windows }
-        ensures stands { Stands self.new no_counts }
+        ensures represented { ResiduesRepresent self.new no_counts }
     {
         self.of_t = Direction::fresh(self.of_t.window);
         self.of_n = Direction::fresh(self.of_n.window);

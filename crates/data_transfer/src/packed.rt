@@ -3,7 +3,7 @@
 ghost use Rattle.std.specs.Prelude.{◌≡◌, ◌⊎◌, ◌<◌, ◌≤◌, ◌+◌, ◌*◌, ◌^◌, OnErr};
 ghost use Rattle.line_model.specs.channels.FlowControl.{Counts, count_interrupt, count_receive, count_confirm, count_data, no_counts};
 ghost use Rattle.line_model.specs.channels.Channels.{of_side, other};
-ghost use Rattle.data_transfer.specs.FlowResidues.{IsDirection, Stands, Answers, word_of};
+ghost use Rattle.data_transfer.specs.FlowResidues.{IsDirection, ResiduesRepresent, Answers, word_of};
 ghost use Rattle.data_transfer.specs.Directions.{direction_of, with_direction};
 
 use crate::direction::{Direction, residue};
@@ -102,7 +102,7 @@ impl FlowWord {
         ensures windows { self.new.flow.windows ≡ self.old.flow.windows }
         ensures owner_bits { self.new.owner_bits ≡ self.old.owner_bits }
         ensures unchanged { OnErr result (self.new ≡ self.old) }
-        ensures counts { (c : Counts) → Stands self.old.flow c
+        ensures counts { (c : Counts) → ResiduesRepresent self.old.flow c
             → Answers result self.old.flow self.new.flow
             (count_data self.old.flow.modulus
             (of_side side self.old.flow.windows) c side send receive) }
@@ -126,7 +126,7 @@ impl FlowWord {
         ensures windows { self.new.flow.windows ≡ self.old.flow.windows }
         ensures owner_bits { self.new.owner_bits ≡ self.old.owner_bits }
         ensures unchanged { OnErr result (self.new ≡ self.old) }
-        ensures counts { (c : Counts) → Stands self.old.flow c
+        ensures counts { (c : Counts) → ResiduesRepresent self.old.flow c
             → Answers result self.old.flow self.new.flow
             (count_receive self.old.flow.modulus c side receive) }
     {
@@ -140,7 +140,7 @@ impl FlowWord {
         ensures windows { self.new.flow.windows ≡ self.old.flow.windows }
         ensures owner_bits { self.new.owner_bits ≡ self.old.owner_bits }
         ensures unchanged { OnErr result (self.new ≡ self.old) }
-        ensures counts { (c : Counts) → Stands self.old.flow c
+        ensures counts { (c : Counts) → ResiduesRepresent self.old.flow c
             → Answers result self.old.flow self.new.flow (count_interrupt c side) }
     {
         if self.direction(side).unconfirmed {
@@ -157,7 +157,7 @@ impl FlowWord {
         ensures windows { self.new.flow.windows ≡ self.old.flow.windows }
         ensures owner_bits { self.new.owner_bits ≡ self.old.owner_bits }
         ensures unchanged { OnErr result (self.new ≡ self.old) }
-        ensures counts { (c : Counts) → Stands self.old.flow c
+        ensures counts { (c : Counts) → ResiduesRepresent self.old.flow c
             → Answers result self.old.flow self.new.flow (count_confirm c side) }
     {
         if !self.direction(side.other()).unconfirmed {
@@ -172,7 +172,7 @@ impl FlowWord {
         ensures modulus { self.new.flow.modulus ≡ self.old.flow.modulus }
         ensures windows { self.new.flow.windows ≡ self.old.flow.windows }
         ensures owner_bits { self.new.owner_bits ≡ self.old.owner_bits }
-        ensures stands { Stands self.new.flow no_counts }
+        ensures represented { ResiduesRepresent self.new.flow no_counts }
     {
         let without_interrupts = with_field(self.word, 43, 2, 0);
         self.word = with_field(without_interrupts, 1, 28, 0);
@@ -203,7 +203,7 @@ impl FlowWord {
         ensures owner_bits { self.new.owner_bits ≡ self.old.owner_bits }
         ensures own { direction_of side self.new.flow ≡ direction_of side self.old.flow }
         ensures unchanged { OnErr result (self.new ≡ self.old) }
-        ensures counts { (c : Counts) → Stands self.old.flow c
+        ensures counts { (c : Counts) → ResiduesRepresent self.old.flow c
             → Answers result self.old.flow self.new.flow
             (count_receive self.old.flow.modulus c side receive) }
     {

@@ -5,7 +5,7 @@ use Rattle.std.specs.Option.{is_none}
 use Rattle.std.proofs.lemmas.Bool.{eq-eqb}
 use Rattle.line_model.specs.basics.Records.{CallRecord, Item}
 use Rattle.line_model.specs.channels.Gaps.{GapChannel}
-use Rattle.line_model.specs.channels.GapRestart.{GapLine, gap_in, is_of_all, is_ready, routing_by}
+use Rattle.line_model.specs.channels.GapRestart.{GapInterfaceState, gap_in, is_of_all, is_ready, routing_by}
 use Rattle.line_model.specs.declared.interface.Interface.{Interface}
 use Rattle.line_model.specs.declared.state.RState.{RState}
 use Rattle.line_model.specs.declared.state.RState.TheVariants.{R1, R2, R3}
@@ -74,19 +74,19 @@ open_in n e cs (Some p) h = by (p.epoch == e) refl
 abbrev is_first : RState → Bool
 is_first s = elim s [ R1 ↦ true | _ ↦ false ]
 
-pub each_is : (i : Interface) (l : GapLine) (r : Item) → steps_all (x25 i) l r ≡ steps_each (gap_of r.packet) l.line.state
+pub each_is : (i : Interface) (l : GapInterfaceState) (r : Item) → steps_all (x25 i) l r ≡ steps_each (gap_of r.packet) l.level.state
 each_is i l r = by (gap_of r.packet)
   where
-    at : (s : RState) → l.line.state ≡ s → (is_ready l && is_ready (gap_in l.line.state l).after) ≡ steps_each (Some None) l.line.state
+    at : (s : RState) → l.level.state ≡ s → (is_ready l && is_ready (gap_in l.level.state l).after) ≡ steps_each (Some None) l.level.state
     at R1 e = (λ t. is_first (e t) && is_ready (gap_in (e t) l).after) ∙ ap is_first e ∙ sym (ap (steps_each (Some None)) e)
     at R2 e = (λ t. is_first (e t) && is_ready (gap_in (e t) l).after) ∙ sym (ap (steps_each (Some None)) e)
     at R3 e = (λ t. is_first (e t) && is_ready (gap_in (e t) l).after) ∙ sym (ap (steps_each (Some None)) e)
 
-    by : (g : Option (Option ℕ)) → (is_of_all g && (is_ready l && is_ready (routing_by g l r.side (packet_class r.packet) r.length).after)) ≡ steps_each g l.line.state
+    by : (g : Option (Option ℕ)) → (is_of_all g && (is_ready l && is_ready (routing_by g l r.side (packet_class r.packet) r.length).after)) ≡ steps_each g l.level.state
     by None = refl
-    by (Some None) = at l.line.state refl
+    by (Some None) = at l.level.state refl
     by (Some (Some c)) = refl
 
-pub restart_was : (i : Interface) (taker : Option ℕ) (o more : Observer GapLine GapChannel) (j : Judge) (before after : RState) → IsJudge i taker o more j → j ≡ judge.Restart before after → before ≡ o.line.line.state
+pub restart_was : (i : Interface) (taker : Option ℕ) (o more : Observer GapInterfaceState GapChannel) (j : Judge) (before after : RState) → IsJudge i taker o more j → j ≡ judge.Restart before after → before ≡ o.level.level.state
 restart_was i None o more j before after h e = (subst (λ x. IsJudge i None o more x) e h).0
 restart_was i (Some k) o more j before after h e = absurd (subst (λ x. IsJudge i (Some k) o more x) e h)

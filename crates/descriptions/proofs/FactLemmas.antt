@@ -4,7 +4,7 @@ use Rattle.std.proofs.lemmas.List.{take_more, take-append-drop}
 use Rattle.std.proofs.lemmas.List.Elements.{filter_map-append}
 use Rattle.line_model.specs.basics.Records.{Item}
 use Rattle.line_model.specs.channels.Gaps.{GapChannel}
-use Rattle.line_model.specs.channels.GapRestart.{GapLine}
+use Rattle.line_model.specs.channels.GapRestart.{GapInterfaceState}
 use Rattle.line_model.specs.declared.event.Event.{Event}
 use Rattle.line_model.specs.declared.event.What.{What}
 use Rattle.line_model.specs.declared.event.What.TheVariants.{Found, Open, Up, End, Data, Setting, Initial}
@@ -58,7 +58,7 @@ pub none_next : (es : List Event) (i : ℕ) (e : Event) → i < length es → e 
 none_next es i e lt is other none = lengths_next es i e lt is ∙ (λ t. none t ++ other_lengths e e.what refl other t)
 
 -- the events of the logical channel that receives a row
-pub events_are : (i : Interface) (o : Observer GapLine GapChannel) (r : Item) (channel taker : Option ℕ) (seen events : List Event) → channel ≡ taker → ((k : ℕ) → channel ≡ Some k → events ≡ seen) → (channel ≡ None → events ≡ [])
+pub events_are : (i : Interface) (o : Observer GapInterfaceState GapChannel) (r : Item) (channel taker : Option ℕ) (seen events : List Event) → channel ≡ taker → ((k : ℕ) → channel ≡ Some k → events ≡ seen) → (channel ≡ None → events ≡ [])
     → ((k : ℕ) → taker ≡ Some k → seen ≡ row_events i o.epoch k (o.states k) r) → events ≡ events_at i taker o r
 events_are i o r channel None seen events is taken untaken came = untaken is
 events_are i o r channel (Some k) seen events is taken untaken came = taken k is ∙ came k refl

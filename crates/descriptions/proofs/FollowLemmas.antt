@@ -13,14 +13,14 @@ use Rattle.line_model.specs.basics.Records.{Item}
 use Rattle.line_model.specs.channels.Gaps.{GapChannel}
 use Rattle.line_model.specs.declared.event.How.{How}
 use Rattle.line_model.specs.packets.Says.{gap_of}
-use Rattle.line_model.specs.channels.GapRestart.{GapLine, is_of_all, is_ready, routing}
+use Rattle.line_model.specs.channels.GapRestart.{GapInterfaceState, is_of_all, is_ready, routing}
 use Rattle.line_model.specs.observer.Calls.{calls_of, is_end, is_opening}
-use Rattle.line_model.specs.observer.Machine.{Observer, after, after_by, channel_unless, line_moved, line_stepped, renewed, routed, stays_ready, steps_all, walk}
+use Rattle.line_model.specs.observer.Machine.{Observer, after, after_by, channel_unless, level_moved, level_stepped, renewed, routed, stays_ready, steps_all, walk}
 use Rattle.line_model.specs.observer.MachineEvents.{RowEvent, closed_events, ended_events, row_events as all_row_events, row_events_by, stamp, walk_events}
 use Rattle.line_model.specs.observer.Observer.{event_of, events, epoch_end, epoch_end_if, route_found, start, x25}
 use Rattle.restart_epochs.specs.Cutting.{observer}
 use Rattle.restart_epochs.proofs.Epochs.{observer_more}
-use Rattle.restart_epochs.proofs.LineFindings.{events_append}
+use Rattle.restart_epochs.proofs.LevelFindings.{events_append}
 use Rattle.channel_run.specs.Run.{row_events}
 use Rattle.annotated_trace.specs.Rows.{has_open, is_of_call, is_of_call_by}
 use Rattle.descriptions.specs.CallRows.{Follows, IsAfter, is_at, is_in}
@@ -40,7 +40,7 @@ events_more i rs r =
     ∙ ap (λ l. events i rs ++ map event_of l) (append-nil own)
 
 -- a row that a channel received is for no other
-taken_alone : (i : Interface) (l : GapLine) (r : Item) (k : ℕ) → routed (x25 i) l r ≡ Some k → steps_all (x25 i) l r ≡ false
+taken_alone : (i : Interface) (l : GapInterfaceState) (r : Item) (k : ℕ) → routed (x25 i) l r ≡ Some k → steps_all (x25 i) l r ≡ false
 taken_alone i l r k h = ap (λ b. b && stays_ready (x25 i) l r) (by (is_ready l) (is_of_all (gap_of r.packet)) h)
   where
     by : (ready all : Bool) → cond ready (channel_unless (x25 i) r all) None ≡ Some k → all ≡ false
@@ -49,16 +49,16 @@ taken_alone i l r k h = ap (λ b. b && stays_ready (x25 i) l r) (by (is_ready l)
     by false all e = cc
 
 -- those of a row that a channel received
-pub events_on_channel : (i : Interface) (rs : List Item) (r : Item) (k : ℕ) → routed (x25 i) (observer i rs).line r ≡ Some k → events i (rs ++ r ∷ []) ≡ events i rs ++ row_events i (observer i rs).epoch k ((observer i rs).states k) r
+pub events_on_channel : (i : Interface) (rs : List Item) (r : Item) (k : ℕ) → routed (x25 i) (observer i rs).level r ≡ Some k → events i (rs ++ r ∷ []) ≡ events i rs ++ row_events i (observer i rs).epoch k ((observer i rs).states k) r
 events_on_channel i rs r k h =
-    events_more i rs r ∙ (λ j. events i rs ++ map event_of (row_events_by (x25 i) (observer i rs) r (taken_alone i (observer i rs).line r k h j) (h j)))
+    events_more i rs r ∙ (λ j. events i rs ++ map event_of (row_events_by (x25 i) (observer i rs) r (taken_alone i (observer i rs).level r k h j) (h j)))
 
 -- they are of the epoch
 pub of_epoch : (e k : ℕ) (r : Item) (ws : List What) → AllByRecursion (λ f. f.epoch ≡ e) (map event_of (stamp e (Some k) r ws))
 of_epoch e k r [] = tt
 of_epoch e k r (w ∷ ws) = (refl, of_epoch e k r ws)
 
-ready_at : (i : Interface) (l : GapLine) (r : Item) (k : ℕ) → routed (x25 i) l r ≡ Some k → is_ready l ≡ true
+ready_at : (i : Interface) (l : GapInterfaceState) (r : Item) (k : ℕ) → routed (x25 i) l r ≡ Some k → is_ready l ≡ true
 ready_at i l r k h = by (is_ready l) refl
   where
     by : (b : Bool) → is_ready l ≡ b → is_ready l ≡ true
@@ -66,11 +66,11 @@ ready_at i l r k h = by (is_ready l) refl
     by false e = absurd (let bad : None ≡ Some k = sym (ap (λ b. cond b (channel_unless (x25 i) r (is_of_all (gap_of r.packet))) None) e) ∙ h in cc)
 
 -- what is known before a row that a channel receives
-pub applied_so_far : (i : Interface) (rs : List Item) (r : Item) (k : ℕ) (w : CallRows) → routed (x25 i) (observer i rs).line r ≡ Some k → Follows i rs w → IsAfter (observer i rs).epoch (events i rs) w
-applied_so_far i rs r k w h f = record { to_come = f.to_come; place = f.place (ready_at i (observer i rs).line r k h); known = f.known }
+pub applied_so_far : (i : Interface) (rs : List Item) (r : Item) (k : ℕ) (w : CallRows) → routed (x25 i) (observer i rs).level r ≡ Some k → Follows i rs w → IsAfter (observer i rs).epoch (events i rs) w
+applied_so_far i rs r k w h f = record { to_come = f.to_come; place = f.place (ready_at i (observer i rs).level r k h); known = f.known }
 
-pub same_epoch : (i : Interface) (rs : List Item) (r : Item) (k : ℕ) → routed (x25 i) (observer i rs).line r ≡ Some k → (observer i (rs ++ r ∷ [])).epoch ≡ (observer i rs).epoch
-same_epoch i rs r k h = ap (λ o. o.epoch) (observer_more i rs r) ∙ (λ j. (after_by (x25 i) (observer i rs) r (taken_alone i (observer i rs).line r k h j) (h j)).epoch)
+pub same_epoch : (i : Interface) (rs : List Item) (r : Item) (k : ℕ) → routed (x25 i) (observer i rs).level r ≡ Some k → (observer i (rs ++ r ∷ [])).epoch ≡ (observer i rs).epoch
+same_epoch i rs r k h = ap (λ o. o.epoch) (observer_more i rs r) ∙ (λ j. (after_by (x25 i) (observer i rs) r (taken_alone i (observer i rs).level r k h j) (h j)).epoch)
 
 -- its events, as they were applied
 pub all_of_epoch : (i : Interface) (rs : List Item) (r : Item) (k e : ℕ) (fs : List Event) → e ≡ (observer i rs).epoch → fs ≡ row_events i (observer i rs).epoch k ((observer i rs).states k) r → AllByRecursion (λ f. f.epoch ≡ e) fs
@@ -79,27 +79,27 @@ all_of_epoch i rs r k e fs same came =
     (subst (λ n. AllByRecursion (λ f. f.epoch ≡ n) (row_events i (observer i rs).epoch k ((observer i rs).states k) r)) (sym same) (of_epoch (observer i rs).epoch k r _))
 
 -- whether it is one of the call's
-pub judged_on : (i : Interface) (rs : List Item) (r : Item) (k n e : ℕ) (fs : List Event) (of_call : Bool) → routed (x25 i) (observer i rs).line r ≡ Some k → e ≡ (observer i rs).epoch → fs ≡ row_events i (observer i rs).epoch k ((observer i rs).states k) r
+pub judged_on : (i : Interface) (rs : List Item) (r : Item) (k n e : ℕ) (fs : List Event) (of_call : Bool) → routed (x25 i) (observer i rs).level r ≡ Some k → e ≡ (observer i rs).epoch → fs ≡ row_events i (observer i rs).epoch k ((observer i rs).states k) r
     → of_call ≡ (has_open n e k (calls_of (events i rs)) || has_open n e k (calls_of (events i rs ++ fs))) → of_call ≡ is_of_call i rs r n
 judged_on i rs r k n e fs of_call h same came is =
     is ∙ (λ t. has_open n (same t) k (calls_of (events i rs)) || has_open n (same t) k (calls_of (events i rs ++ came t)))
     ∙ ap (λ l. has_open n (observer i rs).epoch k (calls_of (events i rs)) || has_open n (observer i rs).epoch k (calls_of l)) (sym (events_on_channel i rs r k h))
-    ∙ sym (λ t. is_of_call_by (taken_alone i (observer i rs).line r k h t) (h t) n (observer i rs).epoch (calls_of (events i rs)) (calls_of (events i (rs ++ r ∷ []))))
+    ∙ sym (λ t. is_of_call_by (taken_alone i (observer i rs).level r k h t) (h t) n (observer i rs).epoch (calls_of (events i rs)) (calls_of (events i (rs ++ r ∷ []))))
 
 -- the same of a row that no channel received, which may be a gap of all channels
-pub judged_off : (i : Interface) (rs : List Item) (r : Item) (w : CallRows) (e : ℕ) (each of_call : Bool) → routed (x25 i) (observer i rs).line r ≡ None → Follows i rs w → each ≡ steps_all (x25 i) (observer i rs).line r → e ≡ (observer i (rs ++ r ∷ [])).epoch
+pub judged_off : (i : Interface) (rs : List Item) (r : Item) (w : CallRows) (e : ℕ) (each of_call : Bool) → routed (x25 i) (observer i rs).level r ≡ None → Follows i rs w → each ≡ steps_all (x25 i) (observer i rs).level r → e ≡ (observer i (rs ++ r ∷ [])).epoch
     → of_call ≡ (each && is_in e w.place) → of_call ≡ is_of_call i rs r w.number
 judged_off i rs r w e false of_call h f each epoch is =
     is ∙ (λ t. is_of_call_by (each t) (sym h t) w.number (observer i rs).epoch (calls_of (events i rs)) (calls_of (events i (rs ++ r ∷ []))))
 judged_off i rs r w e true of_call h f each epoch is =
-    let o : Observer GapLine GapChannel = observer i rs in
-    let ready = (and_parts (is_ready o.line) (is_ready (routing o.line r).after) (and_parts (is_of_all (gap_of r.packet)) (stays_ready (x25 i) o.line r) (sym each)).1).0 in
-    let same : e ≡ o.epoch = epoch ∙ ap (λ q. q.epoch) (observer_more i rs r) ∙ (λ t. (after_by (x25 i) o r (sym each t) (routed (x25 i) o.line r)).epoch) in
+    let o : Observer GapInterfaceState GapChannel = observer i rs in
+    let ready = (and_parts (is_ready o.level) (is_ready (routing o.level r).after) (and_parts (is_of_all (gap_of r.packet)) (stays_ready (x25 i) o.level r) (sym each)).1).0 in
+    let same : e ≡ o.epoch = epoch ∙ ap (λ q. q.epoch) (observer_more i rs r) ∙ (λ t. (after_by (x25 i) o r (sym each t) (routed (x25 i) o.level r)).epoch) in
     is ∙ ap (λ d. is_in d w.place) same ∙ sym (open_in w.number o.epoch (calls_of (events i rs)) w.place (f.place ready))
-    ∙ (λ t. is_of_call_by (each t) (routed (x25 i) o.line r) w.number o.epoch (calls_of (events i rs)) (calls_of (events i (rs ++ r ∷ []))))
+    ∙ (λ t. is_of_call_by (each t) (routed (x25 i) o.level r) w.number o.epoch (calls_of (events i rs)) (calls_of (events i (rs ++ r ∷ []))))
 
 -- and after it
-pub channel_follows : (i : Interface) (rs : List Item) (r : Item) (k : ℕ) (w : CallRows) → routed (x25 i) (observer i rs).line r ≡ Some k → IsAfter (observer i rs).epoch (events i (rs ++ r ∷ [])) w → Follows i (rs ++ r ∷ []) w
+pub channel_follows : (i : Interface) (rs : List Item) (r : Item) (k : ℕ) (w : CallRows) → routed (x25 i) (observer i rs).level r ≡ Some k → IsAfter (observer i rs).epoch (events i (rs ++ r ∷ [])) w → Follows i (rs ++ r ∷ []) w
 channel_follows i rs r k w h applied =
     let epoch = same_epoch i rs r k h in
     record {
@@ -149,66 +149,66 @@ end_opens_none : (e k : ℕ) (r : Item) (b : Bool) (how : How) → NoOpening (ma
 end_opens_none e k r true how = (refl, tt)
 end_opens_none e k r false how = tt
 
-ends_open_none : (i : Interface) (o : Observer GapLine GapChannel) (r : Item) (ks : List ℕ) → NoOpening (map event_of (flat_map (λ k. stamp o.epoch (Some k) r (epoch_end (o.states k) r)) ks))
+ends_open_none : (i : Interface) (o : Observer GapInterfaceState GapChannel) (r : Item) (ks : List ℕ) → NoOpening (map event_of (flat_map (λ k. stamp o.epoch (Some k) r (epoch_end (o.states k) r)) ks))
 ends_open_none i o r [] = tt
 ends_open_none i o r (k ∷ ks) =
     subst (λ l. AllByRecursion (λ f. is_opening f ≡ false) l) (sym (map-append event_of (stamp o.epoch (Some k) r (epoch_end (o.states k) r)) (flat_map (λ j. stamp o.epoch (Some j) r (epoch_end (o.states j) r)) ks)))
     (both_no_opening _ _ (end_opens_none o.epoch k r _ _) (ends_open_none i o r ks))
 
-closed_open_none : (i : Interface) (o : Observer GapLine GapChannel) (r : Item) (b a : Bool) → NoOpening (map event_of (closed_events (x25 i) o r b a))
+closed_open_none : (i : Interface) (o : Observer GapInterfaceState GapChannel) (r : Item) (b a : Bool) → NoOpening (map event_of (closed_events (x25 i) o r b a))
 closed_open_none i o r true false = ends_open_none i o r (x25 i).channels
 closed_open_none i o r true true = tt
 closed_open_none i o r false a = tt
 
-ended_open_none : (i : Interface) (o : Observer GapLine GapChannel) (r : Item) (v : Bool) → NoOpening (map event_of (ended_events (x25 i) o r v))
+ended_open_none : (i : Interface) (o : Observer GapInterfaceState GapChannel) (r : Item) (v : Bool) → NoOpening (map event_of (ended_events (x25 i) o r v))
 ended_open_none i o r true = closed_open_none i o r true false
-ended_open_none i o r false = closed_open_none i o r (is_ready o.line) (is_ready (routing o.line r).after)
+ended_open_none i o r false = closed_open_none i o r (is_ready o.level) (is_ready (routing o.level r).after)
 
 -- the events of such a row
-abbrev line_events_of : (i : Interface) (rs : List Item) (r : Item) → List Event
-line_events_of i rs r = map event_of (stamp (observer i rs).epoch None r (route_found r (routing (observer i rs).line r).route))
+abbrev level_events_of : (i : Interface) (rs : List Item) (r : Item) → List Event
+level_events_of i rs r = map event_of (stamp (observer i rs).epoch None r (route_found r (routing (observer i rs).level r).route))
 
 -- and those of the calls that it ends, none where it steps each channel
-abbrev ends_of : (i : Interface) → Observer GapLine GapChannel → Item → (all : Bool) → List (RowEvent Item What)
+abbrev ends_of : (i : Interface) → Observer GapInterfaceState GapChannel → Item → (all : Bool) → List (RowEvent Item What)
 ends_of i o r true = []
-ends_of i o r false = ended_events (x25 i) o r (renewed (x25 i) o.line r)
+ends_of i o r false = ended_events (x25 i) o r (renewed (x25 i) o.level r)
 
-ends_open_nothing : (i : Interface) (o : Observer GapLine GapChannel) (r : Item) (all : Bool) → NoOpening (map event_of (ends_of i o r all))
+ends_open_nothing : (i : Interface) (o : Observer GapInterfaceState GapChannel) (r : Item) (all : Bool) → NoOpening (map event_of (ends_of i o r all))
 ends_open_nothing i o r true = tt
-ends_open_nothing i o r false = ended_open_none i o r (renewed (x25 i) o.line r)
+ends_open_nothing i o r false = ended_open_none i o r (renewed (x25 i) o.level r)
 
-line_events_by : (i : Interface) (rs : List Item) (r : Item) (all : Bool) → map event_of (row_events_by (x25 i) (observer i rs) r all None) ≡ line_events_of i rs r ++ map event_of (ends_of i (observer i rs) r all)
-line_events_by i rs r true = sym (append-nil (line_events_of i rs r))
-line_events_by i rs r false = map-append event_of (stamp (observer i rs).epoch None r (route_found r (routing (observer i rs).line r).route)) (ends_of i (observer i rs) r false)
+level_events_by : (i : Interface) (rs : List Item) (r : Item) (all : Bool) → map event_of (row_events_by (x25 i) (observer i rs) r all None) ≡ level_events_of i rs r ++ map event_of (ends_of i (observer i rs) r all)
+level_events_by i rs r true = sym (append-nil (level_events_of i rs r))
+level_events_by i rs r false = map-append event_of (stamp (observer i rs).epoch None r (route_found r (routing (observer i rs).level r).route)) (ends_of i (observer i rs) r false)
 
-events_on_line : (i : Interface) (rs : List Item) (r : Item) → routed (x25 i) (observer i rs).line r ≡ None
-    → events i (rs ++ r ∷ []) ≡ events i rs ++ (line_events_of i rs r ++ map event_of (ends_of i (observer i rs) r (steps_all (x25 i) (observer i rs).line r)))
-events_on_line i rs r h =
-    let all : Bool = steps_all (x25 i) (observer i rs).line r in
+events_on_level : (i : Interface) (rs : List Item) (r : Item) → routed (x25 i) (observer i rs).level r ≡ None
+    → events i (rs ++ r ∷ []) ≡ events i rs ++ (level_events_of i rs r ++ map event_of (ends_of i (observer i rs) r (steps_all (x25 i) (observer i rs).level r)))
+events_on_level i rs r h =
+    let all : Bool = steps_all (x25 i) (observer i rs).level r in
     events_more i rs r ∙ ap (λ q. events i rs ++ map event_of (row_events_by (x25 i) (observer i rs) r all q)) h
-    ∙ ap (λ l. events i rs ++ l) (line_events_by i rs r all)
+    ∙ ap (λ l. events i rs ++ l) (level_events_by i rs r all)
 
 -- ---- epochs rise
 
-moved_up : (i : Interface) (o : Observer GapLine GapChannel) (l : GapLine) (b a : Bool) → o.epoch ≤ (line_moved (x25 i) o l b a).epoch
+moved_up : (i : Interface) (o : Observer GapInterfaceState GapChannel) (l : GapInterfaceState) (b a : Bool) → o.epoch ≤ (level_moved (x25 i) o l b a).epoch
 moved_up i o l false true = omega arith
 moved_up i o l false false = omega arith
 moved_up i o l true true = omega arith
 moved_up i o l true false = omega arith
 
-stepped_up : (i : Interface) (o : Observer GapLine GapChannel) (r : Item) (v : Bool) → o.epoch ≤ (line_stepped (x25 i) o r v).epoch
+stepped_up : (i : Interface) (o : Observer GapInterfaceState GapChannel) (r : Item) (v : Bool) → o.epoch ≤ (level_stepped (x25 i) o r v).epoch
 stepped_up i o r true = omega arith
-stepped_up i o r false = moved_up i o (routing o.line r).after (is_ready o.line) (is_ready (routing o.line r).after)
+stepped_up i o r false = moved_up i o (routing o.level r).after (is_ready o.level) (is_ready (routing o.level r).after)
 
-by_up : (i : Interface) (o : Observer GapLine GapChannel) (r : Item) (all : Bool) (q : Option ℕ) → o.epoch ≤ (after_by (x25 i) o r all q).epoch
+by_up : (i : Interface) (o : Observer GapInterfaceState GapChannel) (r : Item) (all : Bool) (q : Option ℕ) → o.epoch ≤ (after_by (x25 i) o r all q).epoch
 by_up i o r true q = omega arith
 by_up i o r false (Some k) = omega arith
-by_up i o r false None = stepped_up i o r (renewed (x25 i) o.line r)
+by_up i o r false None = stepped_up i o r (renewed (x25 i) o.level r)
 
-after_up : (i : Interface) (o : Observer GapLine GapChannel) (r : Item) → o.epoch ≤ (after (x25 i) o r).epoch
-after_up i o r = by_up i o r (steps_all (x25 i) o.line r) (routed (x25 i) o.line r)
+after_up : (i : Interface) (o : Observer GapInterfaceState GapChannel) (r : Item) → o.epoch ≤ (after (x25 i) o r).epoch
+after_up i o r = by_up i o r (steps_all (x25 i) o.level r) (routed (x25 i) o.level r)
 
-walk_up : (i : Interface) (o : Observer GapLine GapChannel) (rs : List Item) → o.epoch ≤ (walk (x25 i) o rs).epoch
+walk_up : (i : Interface) (o : Observer GapInterfaceState GapChannel) (rs : List Item) → o.epoch ≤ (walk (x25 i) o rs).epoch
 walk_up i o [] = omega arith
 walk_up i o (r ∷ rs) = omega (arith, after_up i o r, walk_up i (after (x25 i) o r) rs)
 
@@ -224,38 +224,38 @@ stamped_up : (e d : ℕ) (c : Option ℕ) (r : Item) (ws : List What) → e ≤ 
 stamped_up e d c r [] h = tt
 stamped_up e d c r (w ∷ ws) h = (h, stamped_up e d c r ws h)
 
-ends_up : (i : Interface) (o : Observer GapLine GapChannel) (d : ℕ) (r : Item) (ks : List ℕ) → o.epoch ≤ d → UpTo d (map event_of (flat_map (λ k. stamp o.epoch (Some k) r (epoch_end (o.states k) r)) ks))
+ends_up : (i : Interface) (o : Observer GapInterfaceState GapChannel) (d : ℕ) (r : Item) (ks : List ℕ) → o.epoch ≤ d → UpTo d (map event_of (flat_map (λ k. stamp o.epoch (Some k) r (epoch_end (o.states k) r)) ks))
 ends_up i o d r [] h = tt
 ends_up i o d r (k ∷ ks) h =
     subst (λ l. AllByRecursion (λ f. f.epoch ≤ d) l) (sym (map-append event_of (stamp o.epoch (Some k) r (epoch_end (o.states k) r)) (flat_map (λ j. stamp o.epoch (Some j) r (epoch_end (o.states j) r)) ks)))
     (up_with d _ _ (stamped_up o.epoch d (Some k) r (epoch_end (o.states k) r) h) (ends_up i o d r ks h))
 
-closed_up : (i : Interface) (o : Observer GapLine GapChannel) (d : ℕ) (r : Item) (b a : Bool) → o.epoch ≤ d → UpTo d (map event_of (closed_events (x25 i) o r b a))
+closed_up : (i : Interface) (o : Observer GapInterfaceState GapChannel) (d : ℕ) (r : Item) (b a : Bool) → o.epoch ≤ d → UpTo d (map event_of (closed_events (x25 i) o r b a))
 closed_up i o d r true false h = ends_up i o d r (x25 i).channels h
 closed_up i o d r true true h = tt
 closed_up i o d r false a h = tt
 
-ended_up : (i : Interface) (o : Observer GapLine GapChannel) (d : ℕ) (r : Item) (v : Bool) → o.epoch ≤ d → UpTo d (map event_of (ended_events (x25 i) o r v))
+ended_up : (i : Interface) (o : Observer GapInterfaceState GapChannel) (d : ℕ) (r : Item) (v : Bool) → o.epoch ≤ d → UpTo d (map event_of (ended_events (x25 i) o r v))
 ended_up i o d r true h = closed_up i o d r true false h
-ended_up i o d r false h = closed_up i o d r (is_ready o.line) (is_ready (routing o.line r).after) h
+ended_up i o d r false h = closed_up i o d r (is_ready o.level) (is_ready (routing o.level r).after) h
 
-ends_of_up : (i : Interface) (o : Observer GapLine GapChannel) (d : ℕ) (r : Item) (all : Bool) → o.epoch ≤ d → UpTo d (map event_of (ends_of i o r all))
+ends_of_up : (i : Interface) (o : Observer GapInterfaceState GapChannel) (d : ℕ) (r : Item) (all : Bool) → o.epoch ≤ d → UpTo d (map event_of (ends_of i o r all))
 ends_of_up i o d r true h = tt
-ends_of_up i o d r false h = ended_up i o d r (renewed (x25 i) o.line r) h
+ends_of_up i o d r false h = ended_up i o d r (renewed (x25 i) o.level r) h
 
-row_up : (i : Interface) (o : Observer GapLine GapChannel) (d : ℕ) (r : Item) (all : Bool) (q : Option ℕ) → o.epoch ≤ d → UpTo d (map event_of (row_events_by (x25 i) o r all q))
-row_up i o d r true q h = stamped_up o.epoch d None r ((x25 i).line_events o.epoch o.line r) h
+row_up : (i : Interface) (o : Observer GapInterfaceState GapChannel) (d : ℕ) (r : Item) (all : Bool) (q : Option ℕ) → o.epoch ≤ d → UpTo d (map event_of (row_events_by (x25 i) o r all q))
+row_up i o d r true q h = stamped_up o.epoch d None r ((x25 i).level_events o.epoch o.level r) h
 row_up i o d r false (Some k) h = stamped_up o.epoch d (Some k) r ((x25 i).channel_events o.epoch k (o.states k) r) h
 row_up i o d r false None h =
-    subst (UpTo d) (sym (map-append event_of (stamp o.epoch None r ((x25 i).line_events o.epoch o.line r)) (ended_events (x25 i) o r (renewed (x25 i) o.line r))))
-    (up_with d _ _ (stamped_up o.epoch d None r ((x25 i).line_events o.epoch o.line r) h) (ended_up i o d r (renewed (x25 i) o.line r) h))
+    subst (UpTo d) (sym (map-append event_of (stamp o.epoch None r ((x25 i).level_events o.epoch o.level r)) (ended_events (x25 i) o r (renewed (x25 i) o.level r))))
+    (up_with d _ _ (stamped_up o.epoch d None r ((x25 i).level_events o.epoch o.level r) h) (ended_up i o d r (renewed (x25 i) o.level r) h))
 
-walked_up : (i : Interface) (o : Observer GapLine GapChannel) (rs : List Item) → UpTo (walk (x25 i) o rs).epoch (map event_of (walk_events (x25 i) o rs))
+walked_up : (i : Interface) (o : Observer GapInterfaceState GapChannel) (rs : List Item) → UpTo (walk (x25 i) o rs).epoch (map event_of (walk_events (x25 i) o rs))
 walked_up i o [] = tt
 walked_up i o (r ∷ rs) =
     let d = (walk (x25 i) (after (x25 i) o r) rs).epoch in
     subst (UpTo d) (sym (map-append event_of (all_row_events (x25 i) o r) (walk_events (x25 i) (after (x25 i) o r) rs)))
-    (up_with d _ _ (row_up i o d r (steps_all (x25 i) o.line r) (routed (x25 i) o.line r) (omega (arith, after_up i o r, walk_up i (after (x25 i) o r) rs))) (walked_up i (after (x25 i) o r) rs))
+    (up_with d _ _ (row_up i o d r (steps_all (x25 i) o.level r) (routed (x25 i) o.level r) (omega (arith, after_up i o r, walk_up i (after (x25 i) o r) rs))) (walked_up i (after (x25 i) o r) rs))
 
 -- no call of a later epoch is open
 none_later : (m n e d k : ℕ) (es : List Event) → e < d → UpTo e es → open_from m n d k (calls_of es) ≡ false
@@ -285,76 +285,76 @@ known_up None e d up h = tt
 known_up (Some p) e d up h = omega (arith, up, h)
 
 -- the epoch goes on, and no call ends; or the next one begins
-record GoesOn (i : Interface) (o p : Observer GapLine GapChannel) (ends : List (RowEvent Item What)) : Type 0 where
-  ready : is_ready o.line ≡ true
+record GoesOn (i : Interface) (o p : Observer GapInterfaceState GapChannel) (ends : List (RowEvent Item What)) : Type 0 where
+  ready : is_ready o.level ≡ true
   epoch : p.epoch ≡ o.epoch
   none : ends ≡ []
 
-abbrev IsNext : (i : Interface) → (o p : Observer GapLine GapChannel) → List (RowEvent Item What) → Type 0
+abbrev IsNext : (i : Interface) → (o p : Observer GapInterfaceState GapChannel) → List (RowEvent Item What) → Type 0
 IsNext i o p ends = GoesOn i o p ends ⊎ (p.epoch ≡ o.epoch + 1)
 
-moved_next : (i : Interface) (o : Observer GapLine GapChannel) (r : Item) (b a : Bool) → is_ready o.line ≡ b → a ≡ true → IsNext i o (line_moved (x25 i) o (routing o.line r).after b a) (closed_events (x25 i) o r b a)
+moved_next : (i : Interface) (o : Observer GapInterfaceState GapChannel) (r : Item) (b a : Bool) → is_ready o.level ≡ b → a ≡ true → IsNext i o (level_moved (x25 i) o (routing o.level r).after b a) (closed_events (x25 i) o r b a)
 moved_next i o r true true was will = inl (record { ready = was; epoch = refl; none = refl })
 moved_next i o r false true was will = inr refl
 moved_next i o r b false was will = absurd (true≢false (sym will))
 
-stepped_next : (i : Interface) (o : Observer GapLine GapChannel) (r : Item) (v : Bool) → is_ready (routing o.line r).after ≡ true → IsNext i o (line_stepped (x25 i) o r v) (ended_events (x25 i) o r v)
+stepped_next : (i : Interface) (o : Observer GapInterfaceState GapChannel) (r : Item) (v : Bool) → is_ready (routing o.level r).after ≡ true → IsNext i o (level_stepped (x25 i) o r v) (ended_events (x25 i) o r v)
 stepped_next i o r true will = inr refl
-stepped_next i o r false will = moved_next i o r (is_ready o.line) (is_ready (routing o.line r).after) refl will
+stepped_next i o r false will = moved_next i o r (is_ready o.level) (is_ready (routing o.level r).after) refl will
 
-line_next : (i : Interface) (o : Observer GapLine GapChannel) (r : Item) (all : Bool) → steps_all (x25 i) o.line r ≡ all → is_ready (routing o.line r).after ≡ true → IsNext i o (after_by (x25 i) o r all None) (ends_of i o r all)
-line_next i o r true h will = inl (record { ready = (and_parts (is_ready o.line) (is_ready (routing o.line r).after) (and_parts (is_of_all (gap_of r.packet)) (stays_ready (x25 i) o.line r) h).1).0; epoch = refl; none = refl })
-line_next i o r false h will = stepped_next i o r (renewed (x25 i) o.line r) will
+level_next : (i : Interface) (o : Observer GapInterfaceState GapChannel) (r : Item) (all : Bool) → steps_all (x25 i) o.level r ≡ all → is_ready (routing o.level r).after ≡ true → IsNext i o (after_by (x25 i) o r all None) (ends_of i o r all)
+level_next i o r true h will = inl (record { ready = (and_parts (is_ready o.level) (is_ready (routing o.level r).after) (and_parts (is_of_all (gap_of r.packet)) (stays_ready (x25 i) o.level r) h).1).0; epoch = refl; none = refl })
+level_next i o r false h will = stepped_next i o r (renewed (x25 i) o.level r) will
 
--- its line part
-moved_line : (i : Interface) (o : Observer GapLine GapChannel) (l : GapLine) (b a : Bool) → (line_moved (x25 i) o l b a).line ≡ l
-moved_line i o l false true = refl
-moved_line i o l false false = refl
-moved_line i o l true a = refl
+-- its interface level
+moved_level : (i : Interface) (o : Observer GapInterfaceState GapChannel) (l : GapInterfaceState) (b a : Bool) → (level_moved (x25 i) o l b a).level ≡ l
+moved_level i o l false true = refl
+moved_level i o l false false = refl
+moved_level i o l true a = refl
 
-stepped_line : (i : Interface) (o : Observer GapLine GapChannel) (r : Item) (v : Bool) → (line_stepped (x25 i) o r v).line ≡ (routing o.line r).after
-stepped_line i o r true = refl
-stepped_line i o r false = moved_line i o (routing o.line r).after (is_ready o.line) (is_ready (routing o.line r).after)
+stepped_level : (i : Interface) (o : Observer GapInterfaceState GapChannel) (r : Item) (v : Bool) → (level_stepped (x25 i) o r v).level ≡ (routing o.level r).after
+stepped_level i o r true = refl
+stepped_level i o r false = moved_level i o (routing o.level r).after (is_ready o.level) (is_ready (routing o.level r).after)
 
-line_after_row : (i : Interface) (o : Observer GapLine GapChannel) (r : Item) (all : Bool) → (after_by (x25 i) o r all None).line ≡ (routing o.line r).after
-line_after_row i o r true = refl
-line_after_row i o r false = stepped_line i o r (renewed (x25 i) o.line r)
+level_after_row : (i : Interface) (o : Observer GapInterfaceState GapChannel) (r : Item) (all : Bool) → (after_by (x25 i) o r all None).level ≡ (routing o.level r).after
+level_after_row i o r true = refl
+level_after_row i o r false = stepped_level i o r (renewed (x25 i) o.level r)
 
-pub line_follows : (i : Interface) (rs : List Item) (r : Item) (w : CallRows) → routed (x25 i) (observer i rs).line r ≡ None → Follows i rs w → Follows i (rs ++ r ∷ []) w
-line_follows i rs r w h f = record {
+pub level_follows : (i : Interface) (rs : List Item) (r : Item) (w : CallRows) → routed (x25 i) (observer i rs).level r ≡ None → Follows i rs w → Follows i (rs ++ r ∷ []) w
+level_follows i rs r w h f = record {
   to_come = f.to_come ∙ ap (λ n. w.number - n) (sym (ap (λ l. length (calls_of l)) same ∙ count_with (events i rs) _ none));
-  place = λ ready k. by (line_next i o r all refl (sym (ap is_ready (ap (λ q. q.line) moved ∙ line_after_row i o r all)) ∙ ready)) k;
+  place = λ ready k. by (level_next i o r all refl (sym (ap is_ready (ap (λ q. q.level) moved ∙ level_after_row i o r all)) ∙ ready)) k;
   known = known_up w.place o.epoch now.epoch (subst (λ q. o.epoch ≤ q.epoch) (sym (observer_more i rs r)) (after_up i o r)) f.known;
 }
   where
-    o : Observer GapLine GapChannel
+    o : Observer GapInterfaceState GapChannel
     o = observer i rs
 
-    now : Observer GapLine GapChannel
+    now : Observer GapInterfaceState GapChannel
     now = observer i (rs ++ r ∷ [])
 
     all : Bool
-    all = steps_all (x25 i) (observer i rs).line r
+    all = steps_all (x25 i) (observer i rs).level r
 
     ends : List Event
-    ends = map event_of (ends_of i (observer i rs) r (steps_all (x25 i) (observer i rs).line r))
+    ends = map event_of (ends_of i (observer i rs) r (steps_all (x25 i) (observer i rs).level r))
 
-    moved : observer i (rs ++ r ∷ []) ≡ after_by (x25 i) (observer i rs) r (steps_all (x25 i) (observer i rs).line r) None
-    moved = observer_more i rs r ∙ ap (after_by (x25 i) (observer i rs) r (steps_all (x25 i) (observer i rs).line r)) h
+    moved : observer i (rs ++ r ∷ []) ≡ after_by (x25 i) (observer i rs) r (steps_all (x25 i) (observer i rs).level r) None
+    moved = observer_more i rs r ∙ ap (after_by (x25 i) (observer i rs) r (steps_all (x25 i) (observer i rs).level r)) h
 
-    same : events i (rs ++ r ∷ []) ≡ events i rs ++ (line_events_of i rs r ++ ends)
-    same = events_on_line i rs r h
+    same : events i (rs ++ r ∷ []) ≡ events i rs ++ (level_events_of i rs r ++ ends)
+    same = events_on_level i rs r h
 
-    none : NoOpening (line_events_of i rs r ++ ends)
-    none = both_no_opening _ _ (no_opening _ (found_quiet (observer i rs).epoch r (routing (observer i rs).line r).route)) (ends_open_nothing i (observer i rs) r (steps_all (x25 i) (observer i rs).line r))
+    none : NoOpening (level_events_of i rs r ++ ends)
+    none = both_no_opening _ _ (no_opening _ (found_quiet (observer i rs).epoch r (routing (observer i rs).level r).route)) (ends_open_nothing i (observer i rs) r (steps_all (x25 i) (observer i rs).level r))
 
-    by : IsNext i (observer i rs) (after_by (x25 i) (observer i rs) r (steps_all (x25 i) (observer i rs).line r) None) (ends_of i (observer i rs) r (steps_all (x25 i) (observer i rs).line r))
+    by : IsNext i (observer i rs) (after_by (x25 i) (observer i rs) r (steps_all (x25 i) (observer i rs).level r) None) (ends_of i (observer i rs) r (steps_all (x25 i) (observer i rs).level r))
         → (k : ℕ) → has_open w.number (observer i (rs ++ r ∷ [])).epoch k (calls_of (events i (rs ++ r ∷ []))) ≡ is_at (observer i (rs ++ r ∷ [])).epoch k w.place
     by (inl on) k =
         let epoch : (observer i (rs ++ r ∷ [])).epoch ≡ (observer i rs).epoch = ap (λ q. q.epoch) moved ∙ on.epoch in
-        let more = quiet_with (observer i rs).epoch (events i rs) (line_events_of i rs r) w (found_quiet (observer i rs).epoch r (routing (observer i rs).line r).route) (record { to_come = f.to_come; place = f.place on.ready; known = f.known }) in
-        let only : events i (rs ++ r ∷ []) ≡ events i rs ++ line_events_of i rs r =
-        same ∙ ap (λ es. events i rs ++ (line_events_of i rs r ++ map event_of es)) on.none ∙ ap (λ x. events i rs ++ x) (append-nil (line_events_of i rs r)) in
+        let more = quiet_with (observer i rs).epoch (events i rs) (level_events_of i rs r) w (found_quiet (observer i rs).epoch r (routing (observer i rs).level r).route) (record { to_come = f.to_come; place = f.place on.ready; known = f.known }) in
+        let only : events i (rs ++ r ∷ []) ≡ events i rs ++ level_events_of i rs r =
+        same ∙ ap (λ es. events i rs ++ (level_events_of i rs r ++ map event_of es)) on.none ∙ ap (λ x. events i rs ++ x) (append-nil (level_events_of i rs r)) in
         (λ t. has_open w.number (epoch t) k (calls_of (only t))) ∙ more.place k ∙ ap (λ e. is_at e k w.place) (sym epoch)
     by (inr next) k =
         let e = (observer i rs).epoch in
@@ -362,6 +362,6 @@ line_follows i rs r w h f = record {
         let up : UpTo e (events i (rs ++ r ∷ [])) =
         subst (UpTo e) (sym same)
         (up_with e (events i rs) _ (walked_up i (start i) rs)
-        (up_with e (line_events_of i rs r) _ (stamped_up e e None r (route_found r (routing (observer i rs).line r).route) (omega arith)) (ends_of_up i (observer i rs) e r (steps_all (x25 i) (observer i rs).line r) (omega arith)))) in
+        (up_with e (level_events_of i rs r) _ (stamped_up e e None r (route_found r (routing (observer i rs).level r).route) (omega arith)) (ends_of_up i (observer i rs) e r (steps_all (x25 i) (observer i rs).level r) (omega arith)))) in
         ap (λ d. has_open w.number d k (calls_of (events i (rs ++ r ∷ [])))) epoch ∙ none_later 1 w.number e (e + 1) k (events i (rs ++ r ∷ [])) (omega arith) up
         ∙ sym (ap (λ d. is_at d k w.place) epoch ∙ not_at w.place e (e + 1) k (omega arith) f.known)

@@ -10,7 +10,7 @@ use Rattle.line_model.specs.declared.state.ChannelState.{ChannelState}
 use Rattle.line_model.specs.declared.state.ChannelState.TheVariants.{Setup, Transfer, Unknown}
 use Rattle.line_model.specs.declared.state.DState.TheVariants.{D1, D2, D3}
 use Rattle.line_model.specs.channels.Gaps.{GapChannel}
-use Rattle.line_model.specs.channels.GapRestart.{GapLine}
+use Rattle.line_model.specs.channels.GapRestart.{GapInterfaceState}
 use Rattle.line_model.specs.observer.Calls.{all_lengths}
 use Rattle.line_model.specs.observer.Machine.{Observer, routed}
 use Rattle.line_model.specs.observer.Observer.{x25}
@@ -149,7 +149,7 @@ settled_words (judge.Restart before after) h = absurd (let bad : false ≡ true 
 settled_words (judge.Channel k before after accepted) h =
     (settled_word before (both_left (is_settled before) (is_settled after) h), settled_word after (both_right (is_settled before) (is_settled after) h))
 
-taker_of : (i : Interface) (taker : Option ℕ) (o more : Observer GapLine GapChannel) (j : Judge) → IsJudge i taker o more j → leaves_settled j ≡ true → (n : ℕ) × (taker ≡ Some n)
+taker_of : (i : Interface) (taker : Option ℕ) (o more : Observer GapInterfaceState GapChannel) (j : Judge) → IsJudge i taker o more j → leaves_settled j ≡ true → (n : ℕ) × (taker ≡ Some n)
 taker_of i None o more (judge.Restart before after) h settled = absurd (let bad : false ≡ true = settled in cc)
 taker_of i None o more (judge.Channel k before after accepted) h settled = absurd h
 taker_of i (Some n) o more j h settled = (n, refl)
@@ -159,9 +159,9 @@ further_rest read packet same none rest h = subst (λ g. IsRest g None rest) (sy
 
 common_object : (i : Interface) (earlier : List Item) (r : Item) (row : JudgedRow) (events : List Event) (bytes : List ℕ) → IsJudgedRow i earlier r row events → IsCommonObject row events bytes → IsRowObject i earlier r bytes
 common_object i earlier r row events bytes l line =
-    let o : Observer GapLine GapChannel = observer i earlier in
-    let more : Observer GapLine GapChannel = observer i (earlier ++ r ∷ []) in
-    let taker : Option ℕ = routed (x25 i) o.line r in
+    let o : Observer GapInterfaceState GapChannel = observer i earlier in
+    let more : Observer GapInterfaceState GapChannel = observer i (earlier ++ r ∷ []) in
+    let taker : Option ℕ = routed (x25 i) o.level r in
     let none : row.finding ≡ None = no_finding row.finding (both_left (is_none row.finding) (leaves_settled row.judge) line.quiet) in
     let settled = both_right (is_none row.finding) (leaves_settled row.judge) line.quiet in
     let d1 = settled_words row.judge settled in

@@ -7,7 +7,7 @@ use Rattle.line_model.specs.basics.Records.{Item, Row}
 use Rattle.line_model.specs.declared.interface.Interface.{Interface}
 use Rattle.line_model.specs.channels.Gaps.{GapChannel}
 use Rattle.line_model.specs.channels.RestartMachine.{restart_name}
-use Rattle.line_model.specs.channels.GapRestart.{GapLine}
+use Rattle.line_model.specs.channels.GapRestart.{GapInterfaceState}
 use Rattle.line_model.specs.observer.Machine.{Observer, routed}
 use Rattle.line_model.specs.observer.Observer.{x25}
 use Rattle.line_model.specs.observer.Calls.{all_lengths}
@@ -37,7 +37,7 @@ joined_next f xs i x out o1 o2 lt e1 e2 =
 
 -- ---- the states before and after a row
 
-pub words_are : (i : Interface) (taker : Option ℕ) (o more : Observer GapLine GapChannel) (j : Judge) → IsJudge i taker o more j → (word_before j ≡ state_at taker o) × (word_after j ≡ state_at taker more)
+pub words_are : (i : Interface) (taker : Option ℕ) (o more : Observer GapInterfaceState GapChannel) (j : Judge) → IsJudge i taker o more j → (word_before j ≡ state_at taker o) × (word_after j ≡ state_at taker more)
 words_are i None o more (judge.Restart before after) h = (ap (λ x. state_word (restart_name x)) h.0, ap (λ x. state_word (restart_name x)) h.1)
 words_are i None o more (judge.Channel k before after accepted) h = absurd h
 words_are i (Some n) o more (judge.Restart before after) h = absurd h
@@ -51,10 +51,10 @@ four_parts out a b c d =
 
 pub head_put : (i : Interface) (earlier : List Item) (r : Item) (facts : RowFacts) (out o1 o2 o3 o4 : List ℕ) → AreFactsOf i earlier r facts
     → o1 ≡ out ++ state_members r.number r.side (named_channel facts.last.now.packet) (word_before facts.last.now.judge) (word_after facts.last.now.judge)
-    → o2 ≡ o1 ++ counted_word (all_lengths (events_at i (routed (x25 i) (observer i earlier).line r) (observer i earlier) r))
+    → o2 ≡ o1 ++ counted_word (all_lengths (events_at i (routed (x25 i) (observer i earlier).level r) (observer i earlier) r))
     → o3 ≡ o2 ++ codes ",\"finding\":" → o4 ≡ o3 ++ finding_word facts.last.now.finding → o4 ≡ out ++ packet_head i earlier r facts.last.now.finding
 head_put i earlier r facts out o1 o2 o3 o4 h e1 e2 e3 e4 =
-    let taker : Option ℕ = routed (x25 i) (observer i earlier).line r in
+    let taker : Option ℕ = routed (x25 i) (observer i earlier).level r in
     let counted : List ℕ = counted_word (all_lengths (events_at i taker (observer i earlier) r)) in
     let words = words_are i taker (observer i earlier) (observer i (earlier ++ r ∷ [])) facts.last.now.judge h.judge in
     let members : state_members r.number r.side (named_channel facts.last.now.packet) (word_before facts.last.now.judge) (word_after facts.last.now.judge)

@@ -37,7 +37,7 @@ pub record IsAfter (e : ℕ) (es : List Event) (w : CallRows) : Type 0 where
 -- it represents these rows of a trace: where rows go to channels, it is open as the definitions' observer has it
 pub record Follows (i : Interface) (rs : List Item) (w : CallRows) : Type 0 where
   pub to_come : w.to_come ≡ w.number - length (calls_of (events i rs))
-  pub place : is_ready (observer i rs).line ≡ true → (k : ℕ) → has_open w.number (observer i rs).epoch k (calls_of (events i rs)) ≡ is_at (observer i rs).epoch k w.place
+  pub place : is_ready (observer i rs).level ≡ true → (k : ℕ) → has_open w.number (observer i rs).epoch k (calls_of (events i rs)) ≡ is_at (observer i rs).epoch k w.place
   pub known : IfSome w.place (λ p. p.epoch ≤ (observer i rs).epoch)
 
 -- an event that opens a call on a logical channel in an epoch

@@ -32,7 +32,7 @@ pub record AreFactsOf (i : Interface) (earlier : List Item) (r : Item) (facts : 
   pub number : facts.last.now.number ≡ r.number
   pub side : facts.last.now.side ≡ r.side
   pub packet : facts.last.now.packet ≡ r.packet
-  pub judge : IsJudge i (routed (x25 i) (observer i earlier).line r) (observer i earlier) (observer i (earlier ++ r ∷ [])) facts.last.now.judge
+  pub judge : IsJudge i (routed (x25 i) (observer i earlier).level r) (observer i earlier) (observer i (earlier ++ r ∷ [])) facts.last.now.judge
   pub finding : (report_of i (earlier ++ r ∷ [])).findings ≡ (report_of i earlier).findings ++ option_to_list facts.last.now.finding
-  pub fate : IsFateOf (all_lengths (events_at i (routed (x25 i) (observer i earlier).line r) (observer i earlier) r)) facts.fate
+  pub fate : IsFateOf (all_lengths (events_at i (routed (x25 i) (observer i earlier).level r) (observer i earlier) r)) facts.fate
   pub reason : reason_in facts.fate ≡ reason_at i (observer i earlier) r

@@ -5,7 +5,7 @@ use Rattle.line_model.specs.basics.Records.{Item, Report, Row}
 use Rattle.line_model.specs.channels.Gaps.{GapChannel}
 use Rattle.line_model.specs.channels.ChannelStep.{setup_name, transfer_name}
 use Rattle.line_model.specs.channels.RestartMachine.{restart_name}
-use Rattle.line_model.specs.channels.GapRestart.{GapLine}
+use Rattle.line_model.specs.channels.GapRestart.{GapInterfaceState}
 use Rattle.line_model.specs.declared.event.Event.{Event}
 use Rattle.line_model.specs.declared.finding.Finding.{Finding}
 use Rattle.line_model.specs.declared.interface.Interface.{Interface}
@@ -62,12 +62,12 @@ word_after (judge.Restart before after) = state_word (restart_name after)
 word_after (judge.Channel k before after accepted) = known_word (view_in after).adrift (view_in after).state
 
 -- the state of the logical channel that receives a row; of the restart machine where none does
-abbrev pub state_at : (taker : Option ℕ) → Observer GapLine GapChannel → List ℕ
-state_at None o = state_word (restart_name o.line.line.state)
+abbrev pub state_at : (taker : Option ℕ) → Observer GapInterfaceState GapChannel → List ℕ
+state_at None o = state_word (restart_name o.level.level.state)
 state_at (Some k) o = known_word (is_adrift (o.states k).certainty) (o.states k).channel.state
 
 -- the events of a row on the logical channel that receives it
-abbrev pub events_at : Interface → (taker : Option ℕ) → Observer GapLine GapChannel → Item → List Event
+abbrev pub events_at : Interface → (taker : Option ℕ) → Observer GapInterfaceState GapChannel → Item → List Event
 events_at i None o r = []
 events_at i (Some k) o r = row_events i o.epoch k (o.states k) r
 
@@ -101,7 +101,7 @@ state_members number side channel before after =
 -- counted, and the code of what it found
 abbrev pub packet_head : Interface → (earlier : List Item) → Item → Option Finding → List ℕ
 packet_head i earlier r found =
-    let taker : Option ℕ = routed (x25 i) (observer i earlier).line r in
+    let taker : Option ℕ = routed (x25 i) (observer i earlier).level r in
     state_members r.number r.side (named_channel r.packet) (state_at taker (observer i earlier)) (state_at taker (observer i (earlier ++ r ∷ [])))
     ++ (counted_word (all_lengths (events_at i taker (observer i earlier) r)) ++ (codes ",\"finding\":" ++ finding_word found))
 

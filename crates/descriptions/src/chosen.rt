@@ -42,7 +42,7 @@ fn steps_each(before: RState, packet: &Packet) -> bool
 fn reaches_each(last: &JudgedRow) -> bool
     ensures { (i : Interface) (before : List Item) (r : Item) (events : List Event)
         → taker last.now.judge ≡ None → IsJudgedRow i before r last.now events
-        → result ≡ steps_all (x25 i) (observer i before).line r }
+        → result ≡ steps_all (x25 i) (observer i before).level r }
 {
     match &last.judge {
         Judge::Restart { before, .. } => steps_each(*before, &last.packet),

@@ -11,7 +11,7 @@ use Rattle.line_model.specs.declared.finding.Xcode.TheVariants.{X1, X2, X3, X4, 
 use Rattle.line_model.specs.declared.event.How as how
 use Rattle.line_model.specs.declared.fault.Kind.TheVariants.{HeaderMissing, HeaderForm, HeaderRange, LineForm, Number, Side, Hex, LineLong, TextLarge}
 use Rattle.line_model.specs.declared.fault.Fault.{Fault}
-use Rattle.line_model.specs.declared.fault.Fault.TheVariants.{Memory, Trace, Read, Write, Start, Double, Stranger, Missing}
+use Rattle.line_model.specs.declared.fault.Fault.TheVariants.{Memory, Trace, Read, Write, Start, Double, UnknownPiece, Missing}
 use Rattle.line_model.specs.basics.Faults.{kind_number}
 use Rattle.line_model.specs.observer.Report.{side_word, state_word, pad_word, how_word, direction_word, dash}
 use Rattle.explanations.specs.declared.explanation.Explanation.{Explanation}
@@ -110,13 +110,13 @@ fault_word Read = codes "read"
 fault_word Write = codes "write"
 fault_word Start = codes "thread"
 fault_word (Double id) = codes "piece"
-fault_word (Stranger id) = codes "piece"
+fault_word (UnknownPiece id) = codes "piece"
 fault_word (Missing id) = codes "piece"
 
 -- the refusals: the faults, arguments that are not text, a word that is not explained, and a trace that cannot be opened
 abbrev pub refusal_keys : List Key
 refusal_keys = all_of topic.TheVariants.Refusal
-    (map fault_word (Memory ∷ Trace 1 HeaderMissing ∷ Read ∷ Write ∷ Start ∷ Double 0 ∷ Stranger 0 ∷ Missing 0 ∷ [])
+    (map fault_word (Memory ∷ Trace 1 HeaderMissing ∷ Read ∷ Write ∷ Start ∷ Double 0 ∷ UnknownPiece 0 ∷ Missing 0 ∷ [])
     ++ codes "arguments" ∷ codes "word" ∷ codes "open" ∷ [])
 
 -- the exit statuses

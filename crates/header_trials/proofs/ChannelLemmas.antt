@@ -33,7 +33,7 @@ all_taken m i gaps k g c h = record {
   number = h.number;
   taken = omega (arith, h.taken);
   before = g;
-  stands = h.stands;
+  represented = h.represented;
   state_is = sym (ap (λ b. caught_up i k b g) (ap (λ n. nat_lt n gaps) h.taken ∙ le-ltb gaps gaps (omega arith)));
 }
 
@@ -53,7 +53,7 @@ gap_in_open_channel m i start e gaps k state (Some c) h = record {
   number = h.number;
   taken = omega (arith, h.taken);
   before = h.before;
-  stands = h.stands;
+  represented = h.represented;
   state_is = one_more i k c.gaps gaps state h.before h.taken h.state_is;
 }
 

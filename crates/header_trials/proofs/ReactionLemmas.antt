@@ -2,7 +2,7 @@
 use Rattle.std.proofs.Common.{◌≡◌, ap, refl, ℕ, ◌+◌, ◌≤◌, ◌==◌, Bool, true, false, cond, List, [], ◌∷◌, ◌++◌, length, arith, nat_lt}
 use Rattle.line_model.specs.basics.Records.{Item}
 use Rattle.line_model.specs.channels.Gaps.{GapChannel}
-use Rattle.line_model.specs.channels.GapRestart.{GapLine, routing}
+use Rattle.line_model.specs.channels.GapRestart.{GapInterfaceState, routing}
 use Rattle.line_model.specs.declared.interface.Interface.{Interface}
 use Rattle.line_model.specs.declared.state.ChannelState.{ChannelState}
 use Rattle.line_model.specs.packets.Classes.{packet_class}
@@ -10,10 +10,10 @@ use Rattle.line_model.specs.packets.Says.{gap_of}
 use Rattle.line_model.specs.observer.Machine.{Observer, after, walk}
 use Rattle.line_model.specs.observer.Observer.{start, x25}
 use Rattle.restart_epochs.specs.Cutting.{observer}
-use Rattle.restart_epochs.specs.Walks.{turn_of}
+use Rattle.restart_epochs.specs.Walks.{effect_of}
 use Rattle.restart_epochs.specs.declared.walk.ChannelEffect.{ChannelEffect}
 use Rattle.restart_epochs.specs.declared.walk.ChannelEffect.TheVariants.{Ends as EndsEpoch, Stays, ToAll, ToChannel}
-use Rattle.header_trials.specs.Reactions.{awaits, closed, epoch_ended, given_up, noted, nothing_watched, passed, reaction_by, reaction_on, seen_on_channel, settled, wait_in, watch_turn, watched, watched_from, watched_next, with_wait}
+use Rattle.header_trials.specs.Reactions.{awaits, closed, epoch_ended, given_up, noted, nothing_watched, passed, reaction_by, reaction_on, seen_on_channel, settled, wait_in, watched_after, watched, watched_from, watched_next, with_wait}
 use Rattle.header_trials.specs.Watched.{IsRoomy, Watched}
 use Rattle.header_trials.specs.declared.reactions.Reaction.{Reaction}
 use Rattle.header_trials.specs.declared.reactions.Reaction.TheVariants.{Answers, Ends, Hides, Nothing, Owes, Passes, Unexplained}
@@ -22,7 +22,7 @@ pub reaction_same : (r : Item) (x y a b c d : Bool) (s t : ChannelState) → x �
     → seen_on_channel (gap_of r.packet) x (reaction_by a c (awaits s (packet_class r.packet)) r) ≡ seen_on_channel (gap_of r.packet) y (reaction_by b d (awaits t (packet_class r.packet)) r)
 reaction_same r x y a b c d s t adrift before after state = λ j. seen_on_channel (gap_of r.packet) (adrift j) (reaction_by (before j) (after j) (awaits (state j) (packet_class r.packet)) r)
 
-from_more : (i : Interface) (o : Observer GapLine GapChannel) (w : Watched) (rs : List Item) (r : Item) → watched_from i o w (rs ++ r ∷ []) ≡ watched_next i (walk (x25 i) o rs) r (watched_from i o w rs)
+from_more : (i : Interface) (o : Observer GapInterfaceState GapChannel) (w : Watched) (rs : List Item) (r : Item) → watched_from i o w (rs ++ r ∷ []) ≡ watched_next i (walk (x25 i) o rs) r (watched_from i o w rs)
 from_more i o w [] r = refl
 from_more i o w (x ∷ rs) r = from_more i (after (x25 i) o x) (watched_next i o x w) rs r
 
@@ -103,27 +103,27 @@ few_ended n w few = record {
   unexplained = few.unexplained;
 }
 
-few_turn : (n : ℕ) (t : ChannelEffect) (x : Reaction) (w : Watched) → AreFewWatched n w → AreFewWatched (n + 1) (watch_turn t x w)
-few_turn n (ToChannel k) x w few = few_noted k n x w few
-few_turn n EndsEpoch x w few = few_noted 0 n x (epoch_ended w) (few_ended n w few)
-few_turn n ToAll x w few = record {
+few_effect : (n : ℕ) (t : ChannelEffect) (x : Reaction) (w : Watched) → AreFewWatched n w → AreFewWatched (n + 1) (watched_after t x w)
+few_effect n (ToChannel k) x w few = few_noted k n x w few
+few_effect n EndsEpoch x w few = few_noted 0 n x (epoch_ended w) (few_ended n w few)
+few_effect n ToAll x w few = record {
   answered = omega (arith, few.answered);
   unanswered = omega (arith, few.unanswered);
   unexplained = omega (arith, few.unexplained);
 }
-few_turn n Stays x w few = few_noted 0 n x w few
+few_effect n Stays x w few = few_noted 0 n x w few
 
-few_from : (n : ℕ) (i : Interface) (o : Observer GapLine GapChannel) (w : Watched) (rs : List Item) → AreFewWatched n w → AreFewWatched (n + length rs) (watched_from i o w rs)
+few_from : (n : ℕ) (i : Interface) (o : Observer GapInterfaceState GapChannel) (w : Watched) (rs : List Item) → AreFewWatched n w → AreFewWatched (n + length rs) (watched_from i o w rs)
 few_from n i o w [] few = record {
   answered = omega (arith, few.answered);
   unanswered = omega (arith, few.unanswered);
   unexplained = omega (arith, few.unexplained);
 }
 few_from n i o w (r ∷ rs) few =
-    let turn : ChannelEffect = turn_of r.packet (routing o.line r).route in
-    let x : Reaction = reaction_on turn i o.line (routing o.line r).after o.states r in
+    let effect : ChannelEffect = effect_of r.packet (routing o.level r).route in
+    let x : Reaction = reaction_on effect i o.level (routing o.level r).after o.states r in
     let next : Watched = watched_next i o r w in
-    let more = few_from (n + 1) i (after (x25 i) o r) next rs (few_turn n turn x w few) in
+    let more = few_from (n + 1) i (after (x25 i) o r) next rs (few_effect n effect x w few) in
     record {
       answered = omega (arith, more.answered);
       unanswered = omega (arith, more.unanswered);

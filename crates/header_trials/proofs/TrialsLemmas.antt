@@ -18,7 +18,7 @@ use Rattle.line_model.specs.text.Text.{early, early_head, early_rows, fault, hea
 use Rattle.line_model.proofs.TextRows.{first_rows_law, rows_law}
 use Rattle.trace_text.specs.Progress.{Progress}
 use Rattle.trace_text.specs.Represents.{Represents}
-use Rattle.trace_text.proofs.RefusalLemmas.{head_stands}
+use Rattle.trace_text.proofs.RefusalLemmas.{head_represents}
 use Rattle.trace_text.proofs.RowsOfText.{early_numbers, early_octets, early_rises, text_numbers, text_octets, text_rises}
 use Rattle.live_report.proofs.ChunkLemmas.{items_sound}
 use Rattle.channel_run.specs.declared.run.Channel.{Ghosts as Machine}
@@ -111,7 +111,7 @@ early_under own text sound head = λ i like. items_sound i (early_rows text) (li
 
 -- the rows of the lines that were read
 pub read_under : (lines : Progress) (text : List ℕ) → Represents lines text → IsTraceUnder lines.interface (early_rows text)
-read_under lines text s = at lines.interface (sym (head_stands lines text s))
+read_under lines text s = at lines.interface (sym (head_represents lines text s))
   where
     at : (o : Option Interface) → early_head text ≡ o → IsTraceUnder o (early_rows text)
     at None h = tt

@@ -54,7 +54,7 @@ course_row m text chunk rest left row after t next c same takes tried = record {
   read = c.read ++ takes.1.taken;
   whole = c.whole ∙ ap (λ x. c.read ++ x) takes.1.whole ∙ sym (append_assoc c.read takes.1.taken left);
   taken = subst (λ x. HasTaken m x next) (append_assoc text c.read takes.1.taken) (record {
-    reads = subst (λ l. Represents l ((text ++ c.read) ++ takes.1.taken)) (sym same) (takes.1.stands (text ++ c.read) c.taken.reads);
+    reads = subst (λ l. Represents l ((text ++ c.read) ++ takes.1.taken)) (sym same) (takes.1.represented (text ++ c.read) c.taken.reads);
     tried = subst (λ l. AreTried m (early_rows ((text ++ c.read) ++ takes.1.taken)) l.interface next.trials) (sym same)
         (subst (λ rs. AreTried m rs after.interface next.trials) (sym (takes.1.rows (text ++ c.read) c.taken.reads)) tried);
   });
@@ -65,7 +65,7 @@ pub course_end : {A C : Type 0} (m : Machine C A) (text chunk rest : List ℕ) (
     → HasTaken m (text ++ chunk) next
 course_end m text chunk rest t next c ends kept same =
     subst (λ x. HasTaken m x next) (course_text m text chunk rest t c) (record {
-      reads = ends.stands (text ++ c.read) c.taken.reads;
+      reads = ends.represented (text ++ c.read) c.taken.reads;
       tried = subst (λ o. AreTried m (early_rows ((text ++ c.read) ++ rest)) next.lines.interface o) (sym same)
           (subst (λ rs. AreTried m rs next.lines.interface t.trials) (sym (ends.rows (text ++ c.read) c.taken.reads)) (next_tried m (text ++ c.read) rest t next.lines c.taken kept));
     })

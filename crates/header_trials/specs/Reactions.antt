@@ -3,7 +3,7 @@ use Rattle.std.specs.Prelude.{ℕ, ◌+◌, ◌-◌, ◌==◌, nat_lt, Bool, tru
 use Rattle.line_model.specs.basics.Octets.{octet}
 use Rattle.line_model.specs.basics.Records.{Item}
 use Rattle.line_model.specs.channels.Gaps.{GapChannel}
-use Rattle.line_model.specs.channels.GapRestart.{GapLine, routing}
+use Rattle.line_model.specs.channels.GapRestart.{GapInterfaceState, routing}
 use Rattle.line_model.specs.declared.interface.Interface.{Interface}
 use Rattle.line_model.specs.declared.packet.Class.{Class}
 use Rattle.line_model.specs.declared.packet.Class.TheVariants.{Clear, Reset, Restart}
@@ -20,7 +20,7 @@ use Rattle.line_model.specs.observer.Observer.{row_step, start, x25}
 use Rattle.line_model.specs.packets.Classes.{packet_class}
 use Rattle.line_model.specs.packets.Says.{gap_of}
 use Rattle.channel_run.specs.Views.{is_adrift}
-use Rattle.restart_epochs.specs.Walks.{turn_of}
+use Rattle.restart_epochs.specs.Walks.{effect_of}
 use Rattle.restart_epochs.specs.declared.walk.ChannelEffect.{ChannelEffect}
 use Rattle.restart_epochs.specs.declared.walk.ChannelEffect.TheVariants.{Ends as EndsEpoch, Stays, ToAll, ToChannel}
 use Rattle.header_trials.specs.Watched.{Watched}
@@ -103,12 +103,12 @@ seen_on_interface None adrift reaction = unless_adrift adrift reaction
 seen_on_interface (Some None) adrift reaction = Hides
 seen_on_interface (Some (Some c)) adrift reaction = Nothing
 
-abbrev pub restart_reaction : (before after : GapLine) → Item → Reaction
+abbrev pub restart_reaction : (before after : GapInterfaceState) → Item → Reaction
 restart_reaction before after r =
-    seen_on_interface (gap_of r.packet) before.adrift (reaction_by_r3 (is_r3 before.line.state) (is_r3 after.line.state) (is_from_dce r.side) r)
+    seen_on_interface (gap_of r.packet) before.adrift (reaction_by_r3 (is_r3 before.level.state) (is_r3 after.level.state) (is_from_dce r.side) r)
 
 -- what a row does, by where it goes
-abbrev pub reaction_on : ChannelEffect → Interface → (before after : GapLine) → (ℕ → GapChannel) → Item → Reaction
+abbrev pub reaction_on : ChannelEffect → Interface → (before after : GapInterfaceState) → (ℕ → GapChannel) → Item → Reaction
 reaction_on (ToChannel k) i before after states r = channel_reaction i k (states k) r
 reaction_on _ i before after states r = restart_reaction before after r
 
@@ -180,20 +180,20 @@ abbrev pub all_hidden : Watched → Watched
 all_hidden w = record w { pending = 0; waits = [] }
 
 -- what a row does, by where it goes
-abbrev pub watch_turn : ChannelEffect → Reaction → Watched → Watched
-watch_turn (ToChannel k) reaction w = noted k reaction w
-watch_turn EndsEpoch reaction w = noted 0 reaction (epoch_ended w)
-watch_turn ToAll reaction w = all_hidden w
-watch_turn Stays reaction w = noted 0 reaction w
+abbrev pub watched_after : ChannelEffect → Reaction → Watched → Watched
+watched_after (ToChannel k) reaction w = noted k reaction w
+watched_after EndsEpoch reaction w = noted 0 reaction (epoch_ended w)
+watched_after ToAll reaction w = all_hidden w
+watched_after Stays reaction w = noted 0 reaction w
 
 -- ---- what some rows do
 
-abbrev pub watched_next : Interface → Observer GapLine GapChannel → Item → Watched → Watched
+abbrev pub watched_next : Interface → Observer GapInterfaceState GapChannel → Item → Watched → Watched
 watched_next i o r w =
-    let turn : ChannelEffect = turn_of r.packet (routing o.line r).route in
-    watch_turn turn (reaction_on turn i o.line (routing o.line r).after o.states r) w
+    let effect : ChannelEffect = effect_of r.packet (routing o.level r).route in
+    watched_after effect (reaction_on effect i o.level (routing o.level r).after o.states r) w
 
-abbrev pub watched_from : Interface → Observer GapLine GapChannel → Watched → List Item → Watched
+abbrev pub watched_from : Interface → Observer GapInterfaceState GapChannel → Watched → List Item → Watched
 watched_from i o w [] = w
 watched_from i o w (r ∷ rs) = watched_from i (after (x25 i) o r) (watched_next i o r w) rs
 

@@ -49,7 +49,7 @@ pub record IsCaughtUp {A C : Type 0} (m : Machine C A) (i : Interface) (gaps cha
   pub interface : m.interface_of c.machine ≡ i
   pub number : m.number_of c.machine ≡ channel
   pub taken : c.gaps ≡ gaps
-  pub stands : m.represents c.machine state
+  pub represented : m.represents c.machine state
 
 -- it represents this state once it applies those that it has not applied
 pub record IsChannel {A C : Type 0} (m : Machine C A) (i : Interface) (gaps channel : ℕ) (state : GapChannel) (c : TriedChannel C) : Type 0 where
@@ -57,7 +57,7 @@ pub record IsChannel {A C : Type 0} (m : Machine C A) (i : Interface) (gaps chan
   pub number : m.number_of c.machine ≡ channel
   pub taken : c.gaps ≤ gaps
   pub before : GapChannel
-  pub stands : m.represents c.machine before
+  pub represented : m.represents c.machine before
   pub state_is : state ≡ caught_up i channel (nat_lt c.gaps gaps) before
 
 -- the entry of an open channel represents its logical channel; where nothing does, it has no rows in its epoch
@@ -98,7 +98,7 @@ pub record IsFew {A C : Type 0} (rs : List Item) (t : Trial A C) : Type 0 where
 -- a trial walked what some rows say under a header: it is where the observer is, and counted what the walk does
 pub record HasWalked {A C : Type 0} (m : Machine C A) (i : Interface) (rs : List Item) (t : Trial A C) : Type 0 where
   pub interface : t.walk.interface ≡ i
-  pub line : t.walk.machine ≡ (observer i rs).line
+  pub level : t.walk.machine ≡ (observer i rs).level
   pub epoch : t.walk.epoch ≡ (observer i rs).epoch
   pub channels : AreChannels m i t.walk.start (observer i rs).epoch (observer i rs).states t.channels
   pub tally : t.tally ≡ tally_of i rs

@@ -5,7 +5,7 @@ ghost use Rattle.line_model.specs.basics.Octets.{octet};
 ghost use Rattle.line_model.specs.declared.fault.Fault.TheVariants.{Memory};
 ghost use Rattle.line_model.specs.packets.Classes.{packet_class};
 ghost use Rattle.line_model.specs.packets.Says.{gap_of};
-ghost use Rattle.header_trials.specs.Reactions.{all_hidden, answered, awaits, begun, blames, closed, epoch_ended, given_up, is_from_dce, is_r3, names_local_error, no_reactions, noted, nothing_watched, passed, reaction_by, reaction_by_r3, reaction_in_r3, reactions_in, restart_reaction, seen_on_channel, seen_on_interface, settled, unless_adrift, wait_in, watch_turn, with_wait};
+ghost use Rattle.header_trials.specs.Reactions.{all_hidden, answered, awaits, begun, blames, closed, epoch_ended, given_up, is_from_dce, is_r3, names_local_error, no_reactions, noted, nothing_watched, passed, reaction_by, reaction_by_r3, reaction_in_r3, reactions_in, restart_reaction, seen_on_channel, seen_on_interface, settled, unless_adrift, wait_in, watched_after, with_wait};
 ghost use Rattle.header_trials.specs.Watched.{IsRoomy};
 
 use channel_run::run::View;
@@ -414,12 +414,12 @@ impl<A: Allocator + Copy> Watch<A> {
     }
 
     /// Records what the next row does. Fails only when memory is refused.
-    pub(crate) fn take(&mut self, turn: ChannelEffect, reaction: Reaction) -> Result<(), Fault>
+    pub(crate) fn take(&mut self, effect: ChannelEffect, reaction: Reaction) -> Result<(), Fault>
         requires { IsRoomy self.old }
-        ensures taken { OnOk result (self.new ≡ watch_turn turn reaction self.old) }
+        ensures taken { OnOk result (self.new ≡ watched_after effect reaction self.old) }
         ensures memory { IfErr result (λ fault. fault ≡ Memory) }
     {
-        match turn {
+        match effect {
             ChannelEffect::ToChannel(channel) => self.note(channel, reaction),
             ChannelEffect::Ends => {
                 self.end_epoch();

@@ -168,15 +168,15 @@ impl<A: Allocator + Copy, C: Channel<A>> Trial<A, C> {
     /// Steps the logical channels that a row goes to, and returns what the row does to an owed indication, there or in
     /// the restart machine; `after` is that machine after the row. The caller lends the list `events`, which has the
     /// events of the row afterwards.
-    fn turn(
+    fn apply(
         &mut self,
-        turn: ChannelEffect,
+        effect: ChannelEffect,
         after: &Restart,
         item: &ItemRef<'_>,
         events: &mut Vec<Event, A>,
     ) -> Result<Reaction, Fault>
-        requires item { IfSome (channel_in turn) (λ k. IsItem self.old.walk.interface k item.now) }
-        requires gap { turn ≡ ToAll → self.old.walk.interface.gaps ≡ true }
+        requires item { IfSome (channel_in effect) (λ k. IsItem self.old.walk.interface k item.now) }
+        requires gap { effect ≡ ToAll → self.old.walk.interface.gaps ≡ true }
         requires gaps { self.old.channels.gaps + 1 < 2 ^ 32 }
         requires channels { (states : ℕ → GapChannel)
             × AreChannels C.Channel self.old.walk.interface self.old.walk.start
@@ -189,21 +189,21 @@ impl<A: Allocator + Copy, C: Channel<A>> Trial<A, C> {
             → AreChannels C.Channel self.old.walk.interface self.old.walk.start
             self.old.walk.epoch states self.old.channels
             → OnOk result (AreChannels C.Channel self.old.walk.interface self.old.walk.start
-            self.old.walk.epoch (states_after turn self.old.walk.interface states item.now) self.new.channels) }
+            self.old.walk.epoch (states_after effect self.old.walk.interface states item.now) self.new.channels) }
         ensures events { (states : ℕ → GapChannel)
             → AreChannels C.Channel self.old.walk.interface self.old.walk.start
             self.old.walk.epoch states self.old.channels
-            → OnOk result (events.new.items ≡ events_after turn self.old.walk.interface
+            → OnOk result (events.new.items ≡ events_after effect self.old.walk.interface
             self.old.walk.epoch states item.now) }
         ensures reaction { (states : ℕ → GapChannel)
             → AreChannels C.Channel self.old.walk.interface self.old.walk.start
             self.old.walk.epoch states self.old.channels
-            → IfOk result (λ reaction. reaction ≡ reaction_on turn self.old.walk.interface
+            → IfOk result (λ reaction. reaction ≡ reaction_on effect self.old.walk.interface
             self.old.walk.machine after.now states item.now) }
         ensures memory { IfErr result (λ fault. fault ≡ Memory) }
     {
         events.clear();
-        match turn {
+        match effect {
             ChannelEffect::ToChannel(channel) => self
                 .channels
                 .step(&self.walk, channel, item, events),
@@ -238,9 +238,9 @@ impl<A: Allocator + Copy, C: Channel<A>> Trial<A, C> {
     {
         let item = item_of_row(&self.walk.interface, row);
         let step = self.walk.step(&item)?;
-        let reaction = self.turn(step.turn, &step.machine, &item, events)?;
+        let reaction = self.apply(step.effect, &step.machine, &item, events)?;
         self.tally.count(&self.walk.interface, &item, step.finding, events.as_slice());
-        self.watch.take(step.turn, reaction)?;
+        self.watch.take(step.effect, reaction)?;
         self.renew(step.epoch);
         self.walk.advance(step);
         self.walk.findings.clear();

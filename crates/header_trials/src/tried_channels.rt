@@ -50,7 +50,7 @@ fn catch_up<A: Allocator + Copy, C: Channel<A>>(
 ) -> Result<(), Fault>
     requires { (i : AnyInterface) × (k : ℕ) × (g : GapChannel)
         × IsChannel C.Channel i gaps k g channel.old × (0 < gaps → i.gaps ≡ true) }
-    ensures stands { (i : AnyInterface) (k : ℕ) (g : GapChannel)
+    ensures represented { (i : AnyInterface) (k : ℕ) (g : GapChannel)
         → IsChannel C.Channel i gaps k g channel.old
         → OnOk result (IsCaughtUp C.Channel i gaps k g channel.new) }
     ensures events { (i : AnyInterface) (k : ℕ) (g : GapChannel)
@@ -78,7 +78,7 @@ fn take_row<A: Allocator + Copy, C: Channel<A>>(
 ) -> Result<Reaction, Fault>
     requires { (i : AnyInterface) × (k : ℕ) × (g : GapChannel)
         × IsChannel C.Channel i gaps k g channel.old × (0 < gaps → i.gaps ≡ true) × IsItem i k item.now }
-    ensures stands { (i : AnyInterface) (k : ℕ) (g : GapChannel)
+    ensures represented { (i : AnyInterface) (k : ℕ) (g : GapChannel)
         → IsChannel C.Channel i gaps k g channel.old
         → OnOk result (IsCaughtUp C.Channel i gaps k (row_step i k g item.now).after channel.new) }
     ensures events { (i : AnyInterface) (k : ℕ) (g : GapChannel)

@@ -30,7 +30,7 @@ cut_words n line false is =
 pub json_line_cut : (line : List ℕ) → json_line (take line_room line) ≡ json_line line
 json_line_cut line = ap object_of (cut_words line_room line (nat_le line_room (length line)) refl)
 
--- a line feed ends a line, whose object comes behind the others
+-- a line feed ends a line, whose object comes after the others
 pub json_lf : (text : List ℕ) → json_text (text ++ 10 ∷ []) ≡ json_text text ++ json_line (begun_line text)
 json_lf text =
     ap (flat_map json_line) (ended-lf text) ∙ flat_map-append json_line (ended_lines text) (begun_line text ∷ [])
@@ -40,7 +40,7 @@ one_more : (v : Bool) (b : ℕ) → v ≡ is_lf b → (text : List ℕ) → (lat
 one_more true b e text = (begun_line text ∷ [], ap (λ x. ended_lines (text ++ x ∷ [])) (eqb-true b 10 (sym e)) ∙ ended-lf text)
 one_more false b e text = ([], ended-more text (b ∷ []) (rw (← e) refl) ∙ sym (append-nil (ended_lines text)))
 
--- the lines of a text stand first among those of a text that goes on from it
+-- the lines of a text come first among those of a text that goes on from it
 more_lines : (text more : List ℕ) → (later : List (List ℕ)) × (ended_lines (text ++ more) ≡ ended_lines text ++ later)
 more_lines text [] = ([], ap ended_lines (append-nil text) ∙ sym (append-nil (ended_lines text)))
 more_lines text (b ∷ more) =
@@ -48,7 +48,7 @@ more_lines text (b ∷ more) =
     let then = more_lines (text ++ b ∷ []) more in
     (first.0 ++ then.0, ap ended_lines (sym (append_assoc text (b ∷ []) more)) ∙ then.1 ∙ ap (λ ls. ls ++ then.0) first.1 ∙ append_assoc (ended_lines text) first.0 then.0)
 
--- the objects of a text stand first among those of a text that goes on from it
+-- the objects of a text come first among those of a text that goes on from it
 pub json_first : (text more : List ℕ) → (rest : List ℕ) × (json_text (text ++ more) ≡ json_text text ++ rest)
 json_first text more =
     let later = more_lines text more in

@@ -1,5 +1,5 @@
 pub mod JsonLemmas
-pub mod StandingLemmas
+pub mod BetweenCallsLemmas
 pub mod MemberLemmas
 pub mod ObjectLemmas
 pub mod ReportLemmas

@@ -66,11 +66,11 @@ ended_apart (x ∷ text) more =
     ∙ onto_apart (is_lf x) x (ended_lines text) (begun_line text) (ended_lines more)
     ∙ ap (λ ls. cond (is_lf x) ([] ∷ ls) (onto_first_line x ls) ++ ended_lines more) (sym (ended-lf text))
 
--- the objects of what stands behind a line feed come behind those of what stands before it
+-- the objects of what comes after a line feed come after those of what comes before it
 pub objects_apart : (text more : List ℕ) → json_text (text ++ 10 ∷ more) ≡ json_text (text ++ 10 ∷ []) ++ json_text more
 objects_apart text more = ap (flat_map json_line) (ended_apart text more) ∙ flat_map-append json_line (ended_lines (text ++ 10 ∷ [])) (ended_lines more)
 
--- lines that are known by their words, one behind the other
+-- lines that are known by their words, one after the other
 pub lines_objects : (lines : List (List (List ℕ))) → AllByRecursion IsLine lines → json_text (flat_map line lines) ≡ flat_map object_of lines
 lines_objects [] h = refl
 lines_objects ([] ∷ lines) h = absurd (h.0)

@@ -1,6 +1,6 @@
 pub mod Forms
 pub mod Shown
 pub mod Json
-pub mod Standing
+pub mod BetweenCalls
 pub mod Cuts
 pub mod Reports

@@ -2,7 +2,7 @@
 
 ghost use Rattle.std.specs.Prelude.{◌≡◌, ℕ, ◌+◌, List, [], ◌∷◌, ◌++◌, Option, OnErr, OnOk, is_err, length, if◌then◌else◌};
 ghost use Rattle.line_model.specs.basics.Written.{has_failed};
-ghost use Rattle.json_lines.specs.Standing.{Goes, Stands};
+ghost use Rattle.json_lines.specs.BetweenCalls.{Goes, IsBetweenCalls};
 
 use crate::objects::put_object;
 use arrayvec::ArrayVec;
@@ -24,7 +24,7 @@ pub struct JsonLines {
 impl JsonLines {
     /// Returns a value that has accepted nothing.
     pub fn new() -> JsonLines
-        ensures stands { (taken : Option (List ℕ) × ℕ) → Stands taken taken result }
+        ensures represented { (taken : Option (List ℕ) × ℕ) → IsBetweenCalls taken taken result }
         ensures given { result.given.bytes ≡ [] }
         ensures refused { result.refused.bytes ≡ [] }
     {
@@ -56,9 +56,9 @@ impl JsonLines {
     /// Accepts bytes, and writes to a sink the objects of the lines that end in them. Once the sink has failed it
     /// refuses all bytes; what was accepted before the sink failed stays accepted.
     pub fn take<W: Sink>(&mut self, sink: &mut W, bytes: &[u8]) -> Result<(), ()>
-        ensures stands { (before : Option (List ℕ) × ℕ)
-            → Stands before (W.taken sink.old, W.failures sink.old) self.old
-            → Stands before (W.taken sink.new, W.failures sink.new) self.new }
+        ensures represented { (before : Option (List ℕ) × ℕ)
+            → IsBetweenCalls before (W.taken sink.old, W.failures sink.old) self.old
+            → IsBetweenCalls before (W.taken sink.new, W.failures sink.new) self.new }
         ensures ok { OnOk result (self.new.given.bytes ≡ self.old.given.bytes ++ bytes.now) }
         ensures err { OnErr result (self.new.given.bytes ≡ self.old.given.bytes) }
         ensures refused { length self.new.refused.bytes

@@ -2,7 +2,7 @@
 //! (`line_model::lending`), has a scan write its report to a `JsonSink`, and gets the sink back from `finish`.
 
 ghost use Rattle.std.specs.Prelude.{◌≡◌, ℕ, List, [], Option};
-ghost use Rattle.json_lines.specs.Standing.{Stands};
+ghost use Rattle.json_lines.specs.BetweenCalls.{IsBetweenCalls};
 
 use crate::lines::JsonLines;
 use line_model::device::Sink;
@@ -18,7 +18,7 @@ use streams::output::Output;
 pub struct JsonSink<S: LentSink> {
     sink: S,
     lines: JsonLines,
-    ghost stands: { Stands S.before (S.taken sink, S.failures sink) lines },
+    ghost represented: { IsBetweenCalls S.before (S.taken sink, S.failures sink) lines },
 }
 
 impl<S: LentSink> JsonSink<S> {

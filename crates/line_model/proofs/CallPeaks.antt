@@ -14,15 +14,15 @@ use Rattle.line_model.specs.observer.MachineEvents.{walk_events}
 use Rattle.line_model.specs.observer.Observer.{event_by}
 use Rattle.line_model.specs.observer.Peak.{Times, how_many, counts, highest, highest_from, times_of, IsPeakOfRows, IsPeakOfTimes}
 use Rattle.line_model.specs.observer.Peak as times
-use Rattle.line_model.specs.pieces.Pieces.{placed, piece_start, step_rows, piece_end, value_of}
-use Rattle.line_model.specs.pieces.Merge.{is_line, belongs, drawn, drawn_apart}
+use Rattle.line_model.specs.pieces.Pieces.{placed, piece_start, step_rows, piece_end, events_of_piece}
+use Rattle.line_model.specs.pieces.Merge.{is_level, belongs, drawn, drawn_apart}
 use Rattle.line_model.specs.pieces.Plan.{plan_of}
 use Rattle.line_model.proofs.Rearranged.{Rearranged}
 use Rattle.line_model.proofs.Rising.{all_append, rises-from_index}
 use Rattle.line_model.proofs.Merged.{all_map, drawn_is_rearranged}
 use Rattle.line_model.proofs.CallsUp.{how_many_append, peak_law}
 use Rattle.line_model.proofs.Planned.{plan_law}
-use Rattle.line_model.proofs.LinePart.{line_none}
+use Rattle.line_model.proofs.LevelPart.{level_none}
 use Rattle.line_model.proofs.CallMarks.{is_risen, marks_calls, risen_marks}
 use Rattle.line_model.proofs.CallRecords.{opens, call_of, calls_drawn, calls_in, walk_fit, calls_apart}
 use Rattle.line_model.proofs.MovesCalls.{MovesCalls}
@@ -117,11 +117,11 @@ module _ (X L S : Type 0) (number : X → ℕ) (m : Machine X L S What) (is_up :
       let rows : IsStrictlyIncreasing (map number rs) = increasing (map number rs) up in
       let span = span_of X number in
       let call = call_of X number in
-      let no_line : filter goes_up (filter is_line vs) ≡ [] =
-      line_none m is_up_event (λ e l x. risen_marks (m.line_events e l x) ∙ ap (how_many is_risen) (moves.unmarked_line e l x)) start rs in
+      let no_line : filter goes_up (filter is_level vs) ≡ [] =
+      level_none m is_up_event (λ e l x. risen_marks (m.level_events e l x) ∙ ap (how_many is_risen) (moves.unmarked_line e l x)) start rs in
       sym (how_many_rearranged (times.is_up_at n) (drawn goes_up span vs) (drawn_apart m start rs plan goes_up span) (drawn_is_rearranged m start rs plan goes_up span is_walk.channels is_walk.fresh is_walk.ready is_plan))
-      ∙ ap (λ l. how_many (times.is_up_at n) (map (λ v. span v (filter (belongs v.epoch v.channel) (filter is_line vs))) l ++ flat_map (λ p. drawn goes_up span (value_of m p.0 p.1 ps)) plan)) no_line
-      ∙ sym (how_many_parts (up_by n) (times.is_up_at n) (calls_in number m start rs) (λ p. drawn goes_up span (value_of m p.0 p.1 ps)) plan
+      ∙ ap (λ l. how_many (times.is_up_at n) (map (λ v. span v (filter (belongs v.epoch v.channel) (filter is_level vs))) l ++ flat_map (λ p. drawn goes_up span (events_of_piece m p.0 p.1 ps)) plan)) no_line
+      ∙ sym (how_many_parts (up_by n) (times.is_up_at n) (calls_in number m start rs) (λ p. drawn goes_up span (events_of_piece m p.0 p.1 ps)) plan
       (every_piece plan (λ p. piece_counts X L S number m is_up moves (piece_start p.0 ps) p.0 p.1 n 0 (step_rows m p.0 p.1 ps) (piece_end p.0 ps) (piece_rises m number p.0 p.1 start rs 0 rise))))
       ∙ ap (how_many (up_by n)) (calls_apart X L S number m is_up moves start rs is_walk rows plan is_plan)
       ∙ how_many_rearranged (up_by n) (drawn opens call vs) (drawn_apart m start rs plan opens call) (drawn_is_rearranged m start rs plan opens call is_walk.channels is_walk.fresh is_walk.ready is_plan)

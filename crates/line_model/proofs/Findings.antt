@@ -16,18 +16,18 @@ use Rattle.line_model.specs.basics.Records.{Item}
 use Rattle.line_model.specs.packets.Classes.{packet_class}
 use Rattle.line_model.specs.observer.Machine.{Machine, Observer}
 use Rattle.line_model.specs.observer.MachineEvents.{RowEvent, stamp, walk_events}
-use Rattle.line_model.specs.pieces.Pieces.{Placed, placed, piece_start, piece_end, piece_value, step_events, step_rows, value_of}
-use Rattle.line_model.specs.pieces.Merge.{is_line, drawn, drawn_apart, OnePerRow}
+use Rattle.line_model.specs.pieces.Pieces.{Placed, placed, piece_start, piece_end, events_of_steps, step_events, step_rows, events_of_piece}
+use Rattle.line_model.specs.pieces.Merge.{is_level, drawn, drawn_apart, OnePerRow}
 use Rattle.line_model.specs.pieces.Plan.{plan_of}
 use Rattle.line_model.specs.channels.RestartMachine.{is_confirm}
 use Rattle.line_model.specs.channels.Channels.{is_open}
 use Rattle.line_model.specs.channels.Gaps.{GapChannel, fresh_at}
 use Rattle.line_model.specs.observer.Observer.{x25, start, event_by, event_of, end_of_epoch, epoch_end, epoch_end_if, is_confirmation, row_step}
 use Rattle.line_model.specs.observer.Report.{findings_of}
-use Rattle.line_model.specs.pieces.Plans.{end_at, end_packet, line_findings, piece_events, piece_of, row_of_end, single_gaps}
+use Rattle.line_model.specs.pieces.Plans.{end_at, end_packet, level_findings, piece_events, piece_of, row_of_end, single_gaps}
 use Rattle.line_model.specs.Laws.{FindingsLaw}
 use Rattle.line_model.proofs.Merged.{merge_law}
-use Rattle.line_model.proofs.SingleGaps.{value_of_single}
+use Rattle.line_model.proofs.SingleGaps.{events_of_single_gaps}
 use Rattle.line_model.proofs.Planned.{plan_law}
 use Rattle.line_model.proofs.OneFinding.{is_finding_event, one_finding}
 use Rattle.line_model.proofs.WalkedRows.{IsWalk, interface_walk}
@@ -61,25 +61,25 @@ findings_are number (u ∷ us) = at u.what (findings_are number us)
 
 -- the findings of the piece of an epoch and a channel
 abbrev pub findings_in : {X L S : Type 0} → (X → ℕ) → Machine X L S What → Observer L S → List X → ℕ × ℕ → List Finding
-findings_in number m start rs p = findings_of (map (event_by number) (value_of m p.0 p.1 (placed m start rs)))
+findings_in number m start rs p = findings_of (map (event_by number) (events_of_piece m p.0 p.1 (placed m start rs)))
 
--- the findings of the line part
+-- the findings of the interface level
 abbrev pub findings_of_line : {X L S : Type 0} → (X → ℕ) → Machine X L S What → Observer L S → List X → List Finding
-findings_of_line number m start rs = findings_of (map (event_by number) (filter is_line (walk_events m start rs)))
+findings_of_line number m start rs = findings_of (map (event_by number) (filter is_level (walk_events m start rs)))
 
 pub findings_apart : {X L S : Type 0} → (number : X → ℕ) (m : Machine X L S What) (start : Observer L S) (rs : List X) (plan : List (ℕ × ℕ))
     → findings_of_line number m start rs ++ flat_map (findings_in number m start rs) plan ≡ drawn_apart m start rs plan is_finding_event (make number)
 findings_apart number m start rs plan =
-    ap (λ l. l ++ flat_map (findings_in number m start rs) plan) (findings_are number (filter is_line (walk_events m start rs)))
-    ∙ ap (λ l. drawn is_finding_event (make number) (filter is_line (walk_events m start rs)) ++ l) (at plan)
+    ap (λ l. l ++ flat_map (findings_in number m start rs) plan) (findings_are number (filter is_level (walk_events m start rs)))
+    ∙ ap (λ l. drawn is_finding_event (make number) (filter is_level (walk_events m start rs)) ++ l) (at plan)
   where
-    at : (qs : List (ℕ × ℕ)) → flat_map (findings_in number m start rs) qs ≡ flat_map (λ p. drawn is_finding_event (make number) (value_of m p.0 p.1 (placed m start rs))) qs
+    at : (qs : List (ℕ × ℕ)) → flat_map (findings_in number m start rs) qs ≡ flat_map (λ p. drawn is_finding_event (make number) (events_of_piece m p.0 p.1 (placed m start rs))) qs
     at [] = refl
     at (q ∷ qs) =
-        ap (λ l. l ++ flat_map (findings_in number m start rs) qs) (findings_are number (value_of m q.0 q.1 (placed m start rs)))
-        ∙ ap (λ l. drawn is_finding_event (make number) (value_of m q.0 q.1 (placed m start rs)) ++ l) (at qs)
+        ap (λ l. l ++ flat_map (findings_in number m start rs) qs) (findings_are number (events_of_piece m q.0 q.1 (placed m start rs)))
+        ∙ ap (λ l. drawn is_finding_event (make number) (events_of_piece m q.0 q.1 (placed m start rs)) ++ l) (at qs)
 
--- the findings of the line part and of the pieces, in the order of their packets, are those of the walk
+-- the findings of the interface level and of the pieces, in the order of their packets, are those of the walk
 pub findings_merged : {X L S : Type 0} → (number : X → ℕ) (m : Machine X L S What) → OnePerRow m is_finding_event → (start : Observer L S) (rs : List X) → IsWalk m start rs → IsStrictlyIncreasing (map number rs)
     → (merged : List Finding) → IsPermutation (findings_of_line number m start rs ++ flat_map (findings_in number m start rs) (plan_of m start rs)) merged
     → IsStrictlyIncreasing (map (λ f. f.packet) merged)
@@ -102,8 +102,8 @@ end_confirms true = refl
 end_confirms false = refl
 
 piece_same : (i : Interface) (e k : ℕ) (g : GapChannel) (rs : List Item) (end : Option Item)
-    → map event_of (piece_value (x25 i) e k g rs (option_map row_of_end (option_map end_at end)))
-    ≡ map event_of (piece_value (x25 i) e k g rs end)
+    → map event_of (events_of_steps (x25 i) e k g rs (option_map row_of_end (option_map end_at end)))
+    ≡ map event_of (events_of_steps (x25 i) e k g rs end)
 piece_same i e k g [] None = refl
 piece_same i e k g [] (Some r) =
     ap (λ b. map event_of (stamp e (Some k) (row_of_end (end_at r)) (epoch_end_if (is_open g.channel) (end_of_epoch (g.restarting && b))))) (end_confirms (is_confirmation r))
@@ -112,28 +112,28 @@ piece_same i e k g (r ∷ rs) end =
     let ws : List (RowEvent Item What) = step_events (x25 i) e k g r ((x25 i).for_all r) in
     let h : GapChannel = (row_step i k g r).after in
     let more = piece_same i e k h rs end in
-    map-append event_of ws (piece_value (x25 i) e k h rs (option_map row_of_end (option_map end_at end)))
+    map-append event_of ws (events_of_steps (x25 i) e k h rs (option_map row_of_end (option_map end_at end)))
     ∙ ap (λ l. map event_of ws ++ l) more
-    ∙ sym (map-append event_of ws (piece_value (x25 i) e k h rs end))
+    ∙ sym (map-append event_of ws (events_of_steps (x25 i) e k h rs end))
 
 -- the events of a piece by its record are those that its channel has in the walk
-pub piece_events_are : (i : Interface) (ps : List (Placed Item)) (n : ℕ) (q : ℕ × ℕ) → piece_events (piece_of i ps (n, q)) ≡ map event_of (value_of (x25 i) q.0 q.1 ps)
+pub piece_events_are : (i : Interface) (ps : List (Placed Item)) (n : ℕ) (q : ℕ × ℕ) → piece_events (piece_of i ps (n, q)) ≡ map event_of (events_of_piece (x25 i) q.0 q.1 ps)
 piece_events_are i ps n q =
     let rows : List Item = step_rows (x25 i) q.0 q.1 ps in
     let g : GapChannel = fresh_at i (piece_start q.0 ps) q.0 q.1 in
     piece_same i q.0 q.1 g (single_gaps rows) (piece_end q.0 ps)
-    ∙ ap (map event_of) (value_of_single i q.0 q.1 (piece_end q.0 ps) g rows)
+    ∙ ap (map event_of) (events_of_single_gaps i q.0 q.1 (piece_end q.0 ps) g rows)
 
 -- what is listed of the plan's pieces is listed of the pieces in the walk
 pub plan_lists : {Y : Type 0} → (f : List Event → List Y) (i : Interface) (ps : List (Placed Item)) (n : ℕ) (qs : List (ℕ × ℕ))
-    → flat_map (λ p. f (piece_events p)) (map (piece_of i ps) (enumerate_from n qs)) ≡ flat_map (λ p. f (map event_of (value_of (x25 i) p.0 p.1 ps))) qs
+    → flat_map (λ p. f (piece_events p)) (map (piece_of i ps) (enumerate_from n qs)) ≡ flat_map (λ p. f (map event_of (events_of_piece (x25 i) p.0 p.1 ps))) qs
 plan_lists f i ps n [] = refl
 plan_lists f i ps n (q ∷ qs) =
     ap (λ l. f l ++ flat_map (λ p. f (piece_events p)) (map (piece_of i ps) (enumerate_from (n + 1) qs))) (piece_events_are i ps n q)
-    ∙ ap (λ l. f (map event_of (value_of (x25 i) q.0 q.1 ps)) ++ l) (plan_lists f i ps (n + 1) qs)
+    ∙ ap (λ l. f (map event_of (events_of_piece (x25 i) q.0 q.1 ps)) ++ l) (plan_lists f i ps (n + 1) qs)
 
 pub findings_law : FindingsLaw
 findings_law i rs said up merged same rising =
     let plan_findings = plan_lists findings_of i (placed (x25 i) (start i) rs) 0 (plan_of (x25 i) (start i) rs) in
     findings_merged (λ r. r.number) (x25 i) (one_finding i) (start i) rs (interface_walk i rs said) up merged
-    (subst (λ l. IsPermutation (line_findings i rs ++ l) merged) plan_findings same) rising
+    (subst (λ l. IsPermutation (level_findings i rs ++ l) merged) plan_findings same) rising

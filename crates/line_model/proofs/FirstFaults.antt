@@ -130,7 +130,7 @@ module _ (form : Rule) where
 
   -- ---- the lines before the fault
 
-  -- a fault stands behind the lines before it
+  -- a fault comes after the lines before it
   pub above : (before ls : List Line) (at : ℕ × Kind) → first_by form before ls ≡ Some at → length before < at.0
   above before [] at h = absurd (cc)
   above before (l ∷ ls) at h = here (kind_by form before 1 l) h (above (before ++ l ∷ []) ls at)

@@ -1,4 +1,4 @@
--- The steps of an interface's channels make turns of their calls.
+-- The steps of an interface's channels have effects on their calls.
 use Rattle.std.proofs.Common.{◌≡◌, ℕ, Bool, true, false, ◌&&◌, Option, Some, None, refl, arith}
 use Rattle.std.specs.Prelude.{is_none}
 use Rattle.std.proofs.lemmas.Bool.{and_from, and_parts}
@@ -14,13 +14,13 @@ use Rattle.line_model.specs.channels.GapRestart.{routing}
 use Rattle.line_model.specs.observer.Observer.{x25, epoch_end_if, is_up, row_step, step_by}
 use Rattle.line_model.proofs.CallSteps.{marks}
 use Rattle.line_model.proofs.GapMachines.{silent}
-use Rattle.line_model.proofs.GapTurns.{GapTurns, gap_turns, is_known, packet_once, packet_turns, suits_certainty}
+use Rattle.line_model.proofs.GapEffects.{GapEffects, gap_effects, is_known, packet_once, packet_effects, suits_certainty}
 use Rattle.line_model.proofs.Handed.{once_above}
 use Rattle.line_model.proofs.Marks.{fresh_closed, fresh_sound, is_sound, is_sound_if, sound_is, up_is}
 use Rattle.line_model.proofs.MovesCalls.{MovesCalls}
 use Rattle.line_model.proofs.Phases.{Closed, phase_of}
 use Rattle.line_model.proofs.RowOpenings.{IsOnce, route_unmarked}
-use Rattle.line_model.proofs.Turns.{end_marks, IsSound}
+use Rattle.line_model.proofs.Effects.{end_marks, IsSound}
 
 -- a channel whose state says whether its call is open, and suits what is certain
 abbrev is_sound_gap : Bool → GapChannel → Bool
@@ -60,15 +60,15 @@ fresh_without : (i : Interface) (b : EpochStart) (e k : ℕ) → phase_of (is_pe
 fresh_without i Restarted e k = fresh_closed i e k
 fresh_without i (Drifting w) e k = drifting_closed (is_permanent i k)
 
-step_of : (i : Interface) (k : ℕ) (g : GapChannel) (r : Item) → is_sound_gap (is_permanent i k) g ≡ true → GapTurns (is_permanent i k) g (row_step i k g r)
+step_of : (i : Interface) (k : ℕ) (g : GapChannel) (r : Item) → is_sound_gap (is_permanent i k) g ≡ true → GapEffects (is_permanent i k) g (row_step i k g r)
 step_of i k g r h = at (gap_of r.packet)
   where
     both : SoundGap (is_permanent i k) g
     both = sound_gap_is (is_permanent i k) g h
 
-    at : (gap : Option (Option ℕ)) → GapTurns (is_permanent i k) g (step_by gap i k g r)
-    at None = packet_turns g.certainty i k r g refl both.sound both.suited
-    at (Some c) = gap_turns i k (is_none c) g both.sound
+    at : (gap : Option (Option ℕ)) → GapEffects (is_permanent i k) g (step_by gap i k g r)
+    at None = packet_effects g.certainty i k r g refl both.sound both.suited
+    at (Some c) = gap_effects i k (is_none c) g both.sound
 
 row_once : (i : Interface) (k : ℕ) (g : GapChannel) (r : Item) (gap : Option (Option ℕ)) → IsOnce (step_by gap i k g r).reported
 row_once i k g r None = packet_once g.certainty i k r g
@@ -87,8 +87,8 @@ moves_calls i = record {
   held = λ k g h. (sound_gap_is (is_permanent i k) g h).sound.held;
   fresh_valid = fresh_valid i;
   fresh_closed = fresh_without i;
-  stays_valid = λ e k g r h. is_sound_gap_if (is_permanent i k) (row_step i k g r).after (step_of i k g r h).turns.sound (step_of i k g r h).suited;
-  turned = λ e k g r h. (step_of i k g r h).turns.turned;
+  stays_valid = λ e k g r h. is_sound_gap_if (is_permanent i k) (row_step i k g r).after (step_of i k g r h).effects.sound (step_of i k g r h).suited;
+  affected = λ e k g r h. (step_of i k g r h).effects.affected;
   opens_once = λ e k g r. row_once i k g r (gap_of r.packet);
   silent = silent i;
   closes = λ e k g r. end_closes (is_open g.channel) _;

@@ -13,28 +13,28 @@ use Rattle.line_model.specs.packets.Says.{gap_of}
 use Rattle.line_model.specs.channels.Channels.{Channel, is_in_transfer, is_open, is_permanent}
 use Rattle.line_model.specs.channels.Gaps.{GapChannel, fresh_at, gap_step, idle_name, left_by_gap, with_largest_terms, is_hidden_by_gap}
 use Rattle.line_model.specs.channels.ChannelStep.{entering}
-use Rattle.line_model.specs.channels.GapRestart.{GapLine, is_of_all}
+use Rattle.line_model.specs.channels.GapRestart.{GapInterfaceState, is_of_all}
 use Rattle.line_model.specs.observer.MachineEvents.{stamp}
 use Rattle.line_model.specs.observer.Observer.{x25, end_of_epoch, epoch_end, epoch_end_if, is_confirmation, row_step, step_by}
-use Rattle.line_model.specs.pieces.Pieces.{StandsOnce, step_events}
+use Rattle.line_model.specs.pieces.Pieces.{OccursOnce, step_events}
 use Rattle.line_model.specs.pieces.Merge.{HasChannels, IsClosed}
 use Rattle.line_model.proofs.Walks.{Decides}
 use Rattle.line_model.proofs.Handed.{all_range, flags, lines, of_said, once_range}
 use Rattle.line_model.proofs.MovesCalls.{steps_are}
 
 -- two states of the restart machine are equal or not
-pub gap_lines : Decides GapLine
+pub gap_lines : Decides GapInterfaceState
 gap_lines k l =
-    elim (lines k.line l.line) [
+    elim (lines k.level l.level) [
       | inl e ↦ elim (flags k.adrift l.adrift) [
-        | inl f ↦ elim (flags k.owed_before l.owed_before) [ inl g ↦ inl (all e f g) | inr n ↦ inr (λ h. n (ap (λ (x : GapLine). x.owed_before) h)) ]
-        | inr n ↦ inr (λ h. n (ap (λ (x : GapLine). x.adrift) h))
+        | inl f ↦ elim (flags k.owed_before l.owed_before) [ inl g ↦ inl (all e f g) | inr n ↦ inr (λ h. n (ap (λ (x : GapInterfaceState). x.owed_before) h)) ]
+        | inr n ↦ inr (λ h. n (ap (λ (x : GapInterfaceState). x.adrift) h))
       ]
-      | inr n ↦ inr (λ h. n (ap (λ (x : GapLine). x.line) h))
+      | inr n ↦ inr (λ h. n (ap (λ (x : GapInterfaceState). x.level) h))
     ]
   where
-    all : k.line ≡ l.line → k.adrift ≡ l.adrift → k.owed_before ≡ l.owed_before → k ≡ l
-    all e f g = λ i. record { line = e i; adrift = f i; owed_before = g i }
+    all : k.level ≡ l.level → k.adrift ≡ l.adrift → k.owed_before ≡ l.owed_before → k ≡ l
+    all e f g = λ i. record { level = e i; adrift = f i; owed_before = g i }
 
 -- a gap leaves a call open, and opens none
 left_open : (i : Interface) (n : ℕ) (c : Channel) → is_open (left_by_gap i n c) ≡ is_open c
@@ -66,7 +66,7 @@ closed_gap i e k g x h closed y = at (gap_of x.packet) h
 
 pub has_channels : (i : Interface) (rs : List Item) → AreSaid i rs → HasChannels (x25 i) rs
 has_channels i rs said = record {
-  once = all_range (λ k. StandsOnce k (range_with_len 1 i.svc)) 1 i.svc (λ k ge lt. once_range 1 i.svc k ge lt);
+  once = all_range (λ k. OccursOnce k (range_with_len 1 i.svc)) 1 i.svc (λ k ge lt. once_range 1 i.svc k ge lt);
   of_rows = of_said i rs said;
   nothing_to_close = closed_fresh i;
   stays_closed = closed_gap i;

@@ -30,7 +30,7 @@ use Rattle.line_model.specs.channels.Gaps.Certainty.{Adrift, Certain, Settled}
 use Rattle.line_model.specs.channels.GapStep.{GapOutcome, accepting_in_doubt, acknowledged_data, adrift_carried, adrift_entry, adrift_fault, adrift_received, adrift_step, adrift_step_by, brought_up, coming_up, completed_for_data, completed_for_receive, counted_in_doubt, counting_in_doubt, data_in_doubt, data_reported, failing_in_doubt, hidden_when_up, is_in_use, is_mixed, is_resetting, may_be_begun, message_in_doubt, packet_step, receive_in_doubt, receive_of, settings_by_form, settings_in_doubt, settled_verdict, transferring_in_doubt, window_in_doubt}
 use Rattle.line_model.specs.observer.MachineEvents.{stamp}
 use Rattle.line_model.specs.observer.Observer.{x25, end_of_epoch, epoch_end_if, event_of, is_confirmation, row_step, step_by}
-use Rattle.line_model.specs.pieces.Pieces.{piece_value}
+use Rattle.line_model.specs.pieces.Pieces.{events_of_steps}
 use Rattle.line_model.proofs.EventWeights.{total, total-append, weight, weighing}
 use Rattle.line_model.proofs.GapMachines.{row_events_are}
 use Rattle.line_model.proofs.RowWeights.{IsMost, ending_none, failing_few, packet_few, settings_none, stamp_weight, verdict_few}
@@ -171,16 +171,16 @@ end_weight a f e k r false h = refl
 -- the events of a piece weigh no more than the most that its rows may
 pub piece_few : (a : ℕ) (f : ℕ → ℕ) (most : Item → ℕ) → ((r : Item) → IsMost a f (most r) r)
     → (i : Interface) (e k : ℕ) (g : GapChannel) (items : List Item) (end : Option Item)
-    → weight (weighing a f) (map event_of (piece_value (x25 i) e k g items end)) ≤ total most items
+    → weight (weighing a f) (map event_of (events_of_steps (x25 i) e k g items end)) ≤ total most items
 piece_few a f most h i e k g [] None = omega arith
 piece_few a f most h i e k g [] (Some r) = let none = end_weight a f e (Some k) r (is_open g.channel) (end_of_epoch (g.restarting && is_confirmation r)) in omega arith
 piece_few a f most h i e k g (r ∷ items) end =
     let ws : List What = (row_step i k g r).reported in
     let d : GapChannel = (row_step i k g r).after in
     let parts =
-    ap (λ vs. weight (weighing a f) (map event_of (vs ++ piece_value (x25 i) e k d items end))) (row_events_are i e k g r)
-    ∙ ap (weight (weighing a f)) (map-append event_of (stamp e (Some k) r ws) (piece_value (x25 i) e k d items end))
-    ∙ total-append (λ v. weighing a f v.what) (map event_of (stamp e (Some k) r ws)) (map event_of (piece_value (x25 i) e k d items end)) in
+    ap (λ vs. weight (weighing a f) (map event_of (vs ++ events_of_steps (x25 i) e k d items end))) (row_events_are i e k g r)
+    ∙ ap (weight (weighing a f)) (map-append event_of (stamp e (Some k) r ws) (events_of_steps (x25 i) e k d items end))
+    ∙ total-append (λ v. weighing a f v.what) (map event_of (stamp e (Some k) r ws)) (map event_of (events_of_steps (x25 i) e k d items end)) in
     let own = stamp_weight a f e (Some k) r ws in
     let few = row_few a f (most r) i k g r (h r) in
     let more = piece_few a f most h i e k d items end in

@@ -6,13 +6,13 @@ use Rattle.std.proofs.lemmas.List.Sorted.{IsPermutation-sym}
 use Rattle.line_model.specs.declared.event.What.{What}
 use Rattle.line_model.specs.basics.Records.{Item}
 use Rattle.line_model.specs.channels.Gaps.{GapChannel}
-use Rattle.line_model.specs.channels.GapRestart.{GapLine}
+use Rattle.line_model.specs.channels.GapRestart.{GapInterfaceState}
 use Rattle.line_model.specs.observer.Machine.{Machine, Observer}
 use Rattle.line_model.specs.observer.MachineEvents.{RowEvent, walk_events}
 use Rattle.line_model.specs.pieces.Merge.{drawn, drawn_apart, OnePerRow}
 use Rattle.line_model.specs.pieces.Plan.{plan_of}
 use Rattle.line_model.specs.pieces.Pieces.{placed}
-use Rattle.line_model.specs.pieces.Plans.{line_findings}
+use Rattle.line_model.specs.pieces.Plans.{level_findings}
 use Rattle.line_model.specs.observer.Report.{findings_of}
 use Rattle.line_model.specs.observer.Calls.{calls_of}
 use Rattle.line_model.specs.observer.Observer.{x25, start, event_by, events, is_up}
@@ -87,14 +87,14 @@ findings_order i rs said up =
     let listed = plan_lists findings_of i (placed (x25 i) (start i) rs) 0 (plan_of (x25 i) (start i) rs) in
     let w = findings_ordered (λ r. r.number) (x25 i) (one_finding i) (start i) rs (interface_walk i rs said) up in
     record {
-      same_findings = subst (λ l. IsPermutation (line_findings i rs ++ l) (findings_of (events i rs))) (sym listed) w.0;
+      same_findings = subst (λ l. IsPermutation (level_findings i rs ++ l) (findings_of (events i rs))) (sym listed) w.0;
       in_order = w.1;
     }
 
 pub calls_law : CallsLaw
 calls_law i rs said up merged same rising =
     let listed = plan_lists calls_of i (placed (x25 i) (start i) rs) 0 (plan_of (x25 i) (start i) rs) in
-    calls_merged Item GapLine GapChannel (λ r. r.number) (x25 i) (is_up i) (moves_calls i) (start i) rs (interface_walk i rs said) up merged
+    calls_merged Item GapInterfaceState GapChannel (λ r. r.number) (x25 i) (is_up i) (moves_calls i) (start i) rs (interface_walk i rs said) up merged
     (subst (λ l. IsPermutation l merged) listed same) rising
 
 pub calls_order : CallsOrderLaw

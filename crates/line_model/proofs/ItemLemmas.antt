@@ -1,4 +1,4 @@
--- Rows in two lists: what is appended to both comes to stand behind the others.
+-- Rows in two lists: what is appended to both comes after the others.
 use Rattle.std.proofs.Common.{◌≡◌, ◌∙◌, ap, ap₂, refl, sym, ℕ, suc, ◌+◌, ◌-◌, ◌≤◌, List, [], ◌∷◌, ◌++◌, length, length-drop, take, drop, arith}
 use Rattle.std.proofs.Math.Seq.{take-add, take-length}
 use Rattle.std.proofs.lemmas.List.{take-append-le, drop-append-le, drop-drop, length-take-le}
@@ -35,7 +35,7 @@ items-append (h ∷ hs) gs os ps e =
     ap₂ (λ l rest. item_of h l ∷ rest) (take-append-le (kept h) os ps few)
     (ap (items_of (hs ++ gs)) (drop-append-le (kept h) os ps few) ∙ items-append hs gs (drop (kept h) os) ps (behind_first h hs os e))
 
--- a head and its octets that are appended are a row behind the others
+-- a head and its octets that are appended are a row after the others
 pub items-push : (hs : List Head) (os : List ℕ) (h : Head) (more : List ℕ) → octets_of hs ≡ length os → kept h ≡ length more → items_of (hs ++ h ∷ []) (os ++ more) ≡ items_of hs os ++ item_of h more ∷ []
 items-push hs os h more e len =
     items-append hs (h ∷ []) os more e
@@ -52,7 +52,7 @@ place-length hs os first count inside =
     let room : count ≤ length (drop first hs) = omega (arith, inside, length-drop first hs) in
     items-length (take count (drop first hs)) os ∙ length-take-le count (drop first hs) room
 
--- of what stands at a place, the first n and the others
+-- of what is at a place, the first n and the others
 pub taken_on : {X : Type 0} (n count place : ℕ) (xs : List X) → n ≤ count → take count (drop place xs) ≡ take n (drop place xs) ++ take (count - n) (drop (place + n) xs)
 taken_on n count place xs few =
     let sum : count ≡ n + (count - n) = omega (arith, few) in

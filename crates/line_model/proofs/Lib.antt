@@ -3,7 +3,7 @@ pub mod LineLemmas
 pub mod FirstFaults
 pub mod FinalFaults
 pub mod Rearranged
-pub mod Lanes
+pub mod ManyStates
 pub mod Walks
 pub mod Pieces
 pub mod Rising
@@ -28,10 +28,10 @@ pub mod EventKinds
 pub mod Every
 pub mod Phases
 pub mod OncePerRow
-pub mod LinePart
+pub mod LevelPart
 pub mod PieceRows
 pub mod CallSteps
-pub mod Turns
+pub mod Effects
 pub mod Moments
 pub mod RowOpenings
 pub mod CallMarks
@@ -51,7 +51,7 @@ pub mod Saying
 pub mod SingleGaps
 pub mod GapMachines
 pub mod GapWeights
-pub mod GapTurns
+pub mod GapEffects
 pub mod GapCalls
 pub mod TextRows
 pub mod WorkedGapTraces

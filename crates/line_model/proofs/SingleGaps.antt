@@ -15,7 +15,7 @@ use Rattle.line_model.specs.channels.Gaps.{GapChannel, drifting, gap_step, idle_
 use Rattle.line_model.specs.channels.GapRestart.{is_gap_of_all, is_of_all}
 use Rattle.line_model.specs.observer.MachineEvents.{RowEvent}
 use Rattle.line_model.specs.observer.Observer.{x25, row_step, step_by}
-use Rattle.line_model.specs.pieces.Pieces.{piece_value, step_events}
+use Rattle.line_model.specs.pieces.Pieces.{events_of_steps, step_events}
 use Rattle.line_model.specs.pieces.Plans.{begins_with_gap, single_gaps}
 
 -- ---- what is said of them
@@ -80,32 +80,32 @@ gap_steps i k g r h = at (gap_of r.packet) h
 
 -- ---- the events of a channel
 
-abbrev value : Interface → (epoch channel : ℕ) → Option Item → GapChannel → List Item → List (RowEvent Item What)
-value i e k end g rs = piece_value (x25 i) e k g rs end
+abbrev events_after : Interface → (epoch channel : ℕ) → Option Item → GapChannel → List Item → List (RowEvent Item What)
+events_after i e k end g rs = events_of_steps (x25 i) e k g rs end
 
 -- rows that begin with a gap of all channels have the same events after another one
 value_after_gap : (i : Interface) (e k : ℕ) (end : Option Item) (g : GapChannel) (r : Item) (rs : List Item) → is_gap_of_all r ≡ true → begins_with_gap rs ≡ true
-    → value i e k end (row_step i k g r).after rs ≡ value i e k end g rs
+    → events_after i e k end (row_step i k g r).after rs ≡ events_after i e k end g rs
 value_after_gap i e k end g r [] h b = absurd (false≢true b)
 value_after_gap i e k end g r (s ∷ rs) h b =
     let first : (row_step i k g r).after ≡ gap_step i k true g = gap_steps i k g r h in
     let same : (row_step i k (row_step i k g r).after s).after ≡ (row_step i k g s).after =
     gap_steps i k (row_step i k g r).after s b ∙ ap (gap_step i k true) first ∙ gap_again i k g ∙ sym (gap_steps i k g s b) in
-    ap (λ q. step_events (x25 i) e k (row_step i k g r).after s q ++ value i e k end (row_step i k (row_step i k g r).after s).after rs) b
-    ∙ ap (λ d. value i e k end d rs) same
-    ∙ ap (λ q. step_events (x25 i) e k g s q ++ value i e k end (row_step i k g s).after rs) (sym b)
+    ap (λ q. step_events (x25 i) e k (row_step i k g r).after s q ++ events_after i e k end (row_step i k (row_step i k g r).after s).after rs) b
+    ∙ ap (λ d. events_after i e k end d rs) same
+    ∙ ap (λ q. step_events (x25 i) e k g s q ++ events_after i e k end (row_step i k g s).after rs) (sym b)
 
-pub value_of_single : (i : Interface) (e k : ℕ) (end : Option Item) (g : GapChannel) (rs : List Item) → value i e k end g (single_gaps rs) ≡ value i e k end g rs
-value_of_single i e k end g [] = refl
-value_of_single i e k end g (r ∷ rs) = at (is_gap_of_all r && begins_with_gap rs) refl (value_of_single i e k end g rs) (value_of_single i e k end (row_step i k g r).after rs)
+pub events_of_single_gaps : (i : Interface) (e k : ℕ) (end : Option Item) (g : GapChannel) (rs : List Item) → events_after i e k end g (single_gaps rs) ≡ events_after i e k end g rs
+events_of_single_gaps i e k end g [] = refl
+events_of_single_gaps i e k end g (r ∷ rs) = at (is_gap_of_all r && begins_with_gap rs) refl (events_of_single_gaps i e k end g rs) (events_of_single_gaps i e k end (row_step i k g r).after rs)
   where
     at : (b : Bool) → (is_gap_of_all r && begins_with_gap rs) ≡ b
-        → value i e k end g (single_gaps rs) ≡ value i e k end g rs
-        → value i e k end (row_step i k g r).after (single_gaps rs) ≡ value i e k end (row_step i k g r).after rs
-        → value i e k end g (elim b as (λ _. List Item) [ true ↦ single_gaps rs | false ↦ r ∷ single_gaps rs ]) ≡ step_events (x25 i) e k g r (is_gap_of_all r) ++ value i e k end (row_step i k g r).after rs
+        → events_after i e k end g (single_gaps rs) ≡ events_after i e k end g rs
+        → events_after i e k end (row_step i k g r).after (single_gaps rs) ≡ events_after i e k end (row_step i k g r).after rs
+        → events_after i e k end g (elim b as (λ _. List Item) [ true ↦ single_gaps rs | false ↦ r ∷ single_gaps rs ]) ≡ step_events (x25 i) e k g r (is_gap_of_all r) ++ events_after i e k end (row_step i k g r).after rs
     at true h here later =
         let w = and_parts (is_gap_of_all r) (begins_with_gap rs) h in
         here
         ∙ sym (value_after_gap i e k end g r rs w.0 w.1)
-        ∙ ap (λ q. step_events (x25 i) e k g r q ++ value i e k end (row_step i k g r).after rs) (sym w.0)
+        ∙ ap (λ q. step_events (x25 i) e k g r q ++ events_after i e k end (row_step i k g r).after rs) (sym w.0)
     at false h here later = ap (λ l. step_events (x25 i) e k g r (is_gap_of_all r) ++ l) later

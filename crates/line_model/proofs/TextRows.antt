@@ -24,7 +24,7 @@ use Rattle.line_model.proofs.LineLemmas.{content-comment, content-line}
 use Rattle.line_model.proofs.Pieces.{filter_append}
 use Rattle.line_model.proofs.TextLemmas.{first_fault-append}
 
--- ---- what stands before a fault
+-- ---- what comes before a fault
 
 lines_first : (text more : List ℕ) → (rest : List Line) × (good_lines (fault (text ++ more)) (lines_of (text ++ more)) ≡ good_lines (early text) (ended_lines text) ++ rest)
 lines_first text more =
@@ -151,7 +151,7 @@ row_lawful i last l r sound writes = at (row_words l) sound writes
 
 -- ---- lines without a fault
 
--- the contents of each of some lines have no fault behind the lines before it
+-- the contents of each of some lines have no fault after the lines before it
 abbrev AreSound : List Line → List Line → Type 0
 AreSound before [] = Unit {0}
 AreSound before (l ∷ ls) = (form_kind before l ≡ None) × AreSound (before ++ l ∷ []) ls
@@ -248,7 +248,7 @@ sound_lines text = at (first_fault [] es) refl
 
 -- ---- the rows of lines without a fault
 
--- behind the header
+-- after the header
 behind_header : (i : Interface) (before ls : List Line) → head_of before ≡ Some i → AreSound before ls → AreRows i (filter_map row_of (content_of ls))
 unfolding head_of contents_kind
 behind_header i before [] h s = tt

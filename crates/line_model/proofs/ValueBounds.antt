@@ -8,11 +8,11 @@ use Rattle.line_model.specs.declared.event.What.TheVariants.{Open, End, Data}
 use Rattle.line_model.specs.declared.event.Event.{Event}
 use Rattle.line_model.specs.basics.Records.{Item, Piece, CallRecord}
 use Rattle.line_model.specs.channels.Gaps.{GapChannel, fresh_at}
-use Rattle.line_model.specs.pieces.Pieces.{piece_value}
+use Rattle.line_model.specs.pieces.Pieces.{events_of_steps}
 use Rattle.line_model.specs.observer.MachineEvents.{RowEvent}
 use Rattle.line_model.specs.observer.Observer.{x25, event_of}
 use Rattle.line_model.specs.observer.Calls.{is_end, is_opening, members, record_of, calls_of}
-use Rattle.line_model.specs.pieces.Plans.{row_of_end, piece_events, value}
+use Rattle.line_model.specs.pieces.Plans.{row_of_end, piece_events, result_of}
 use Rattle.line_model.specs.basics.Bounds.{IsPiece, IsPieceReport}
 use Rattle.line_model.proofs.EventWeights.{total, total-sum_by, accepted_by, octets_by, segments_by, weight, findings_weight, octets_weight, segments_weight, sides_weight, fewer_segments}
 use Rattle.line_model.proofs.PieceCalls.{IsOf, piece_of_one, alongside_all}
@@ -57,11 +57,11 @@ segments_in_call e o a b r later = segments_weight (members e later)
 
 -- ---- all together
 
-pub value_bounds : (p : Piece) → IsPiece p.interface p.channel p.items → IsPieceReport (value p).findings (value p).calls (value p).octets (value p).segments
+pub value_bounds : (p : Piece) → IsPiece p.interface p.channel p.items → IsPieceReport (result_of p).findings (result_of p).calls (result_of p).octets (result_of p).segments
 value_bounds p h =
     let c : GapChannel = fresh_at p.interface p.start p.epoch p.channel in
     let end : Option Item = option_map row_of_end p.end in
-    let vs : List (RowEvent Item What) = piece_value (x25 p.interface) p.epoch p.channel c p.items end in
+    let vs : List (RowEvent Item What) = events_of_steps (x25 p.interface) p.epoch p.channel c p.items end in
     let es : List Event = piece_events p in
     let one = piece_of_one (x25 p.interface) p.epoch p.channel c p.items end in
     let octets = octets_weight es in

@@ -10,8 +10,8 @@ use Rattle.line_model.proofs.GapMachines.{has_channels}
 
 pub record IsWalk {X L S E : Type 0} (m : Machine X L S E) (start : Observer L S) (rs : List X) : Type 0 where
   pub channels : HasChannels m rs
-  pub fresh : start.states ≡ m.fresh (m.start_of start.line) start.epoch
-  pub ready : m.ready start.line ≡ true
+  pub fresh : start.states ≡ m.fresh (m.start_of start.level) start.epoch
+  pub ready : m.ready start.level ≡ true
 
 -- what is said on an interface
 pub interface_walk : (i : Interface) (rs : List Item) → AreSaid i rs → IsWalk (x25 i) (start i) rs

@@ -8,14 +8,14 @@ use Rattle.line_model.specs.basics.Records.{CallRecord, Item, Row}
 use Rattle.line_model.specs.text.Text.{early_head, early_rows, head, rows}
 use Rattle.line_model.specs.observer.MachineEvents.{walk_events}
 use Rattle.line_model.specs.pieces.Shuffle.{IsShuffle, SameWalks}
-use Rattle.line_model.specs.pieces.Pieces.{is_of, placed, value_of}
+use Rattle.line_model.specs.pieces.Pieces.{is_of, placed, events_of_piece}
 use Rattle.line_model.specs.pieces.Merge.{IsPlan, drawn}
 use Rattle.line_model.specs.observer.Peak.{IsPeakOfTimes, how_many, is_up_at, times_of}
 use Rattle.line_model.specs.observer.Calls.{is_up_event, is_end_event, calls_of, up_at}
 use Rattle.line_model.specs.pieces.Plan.{plan_of}
 use Rattle.line_model.specs.observer.Observer.{x25, start, events, peak}
 use Rattle.line_model.specs.observer.Report.{findings_of}
-use Rattle.line_model.specs.pieces.Plans.{plan, value, line_findings, channel_totals}
+use Rattle.line_model.specs.pieces.Plans.{plan, result_of, level_findings, channel_totals}
 use Rattle.line_model.specs.work.Book.{totals_of, IsNumbered}
 use Rattle.line_model.specs.basics.Bounds.{AreRows, AreSaid}
 
@@ -26,7 +26,7 @@ ShuffleLaw = (i : Interface) (xs ys : List Item) → IsShuffle (x25 i) (start i)
 -- the events of each channel in each epoch are those of its piece alone
 abbrev pub PiecesLaw : Type 0
 PiecesLaw = (i : Interface) (rs : List Item) (e k : ℕ) → 1 ≤ e → 1 ≤ k → k ≤ i.svc
-    → filter (is_of e k) (walk_events (x25 i) (start i) rs) ≡ value_of (x25 i) e k (placed (x25 i) (start i) rs)
+    → filter (is_of e k) (walk_events (x25 i) (start i) rs) ≡ events_of_piece (x25 i) e k (placed (x25 i) (start i) rs)
 
 -- the plan has each piece once
 abbrev pub PlanLaw : Type 0
@@ -35,13 +35,13 @@ PlanLaw = (i : Interface) (rs : List Item) → AreSaid i rs → IsPlan (x25 i) (
 -- the findings of the restart machine and of the pieces, in the order of their packets, are those of the walk
 abbrev pub FindingsLaw : Type 0
 FindingsLaw = (i : Interface) (rs : List Item) → AreSaid i rs → IsStrictlyIncreasing (map (λ r. r.number) rs)
-    → (merged : List Finding) → IsPermutation (line_findings i rs ++ flat_map (λ p. (value p).findings) (plan i rs)) merged
+    → (merged : List Finding) → IsPermutation (level_findings i rs ++ flat_map (λ p. (result_of p).findings) (plan i rs)) merged
     → IsStrictlyIncreasing (map (λ f. f.packet) merged)
     → merged ≡ findings_of (events i rs)
 
 -- the findings of the restart machine and of the pieces are those of the walk, which are in the order of their packets
 pub record FindingsOfPieces (i : Interface) (rs : List Item) : Type 0 where
-  pub same_findings : IsPermutation (line_findings i rs ++ flat_map (λ p. (value p).findings) (plan i rs)) (findings_of (events i rs))
+  pub same_findings : IsPermutation (level_findings i rs ++ flat_map (λ p. (result_of p).findings) (plan i rs)) (findings_of (events i rs))
   pub in_order : IsStrictlyIncreasing (map (λ f. f.packet) (findings_of (events i rs)))
 
 abbrev pub FindingsOrderLaw : Type 0
@@ -49,7 +49,7 @@ FindingsOrderLaw = (i : Interface) (rs : List Item) → AreSaid i rs → IsStric
 
 -- the values of the plan's pieces add up to the observer's totals over the channels
 abbrev pub TotalsLaw : Type 0
-TotalsLaw = (i : Interface) (rs : List Item) → AreSaid i rs → totals_of (map value (plan i rs)) ≡ channel_totals i rs
+TotalsLaw = (i : Interface) (rs : List Item) → AreSaid i rs → totals_of (map result_of (plan i rs)) ≡ channel_totals i rs
 
 -- each piece of the plan has its place as its id
 abbrev pub NumbersLaw : Type 0
@@ -65,7 +65,7 @@ PeakLaw = (i : Interface) (rs : List Item) → AreSaid i rs → IsStrictlyIncrea
 -- the calls of the pieces, in the order of their opening packets, are those of the walk
 abbrev pub CallsLaw : Type 0
 CallsLaw = (i : Interface) (rs : List Item) → AreSaid i rs → IsStrictlyIncreasing (map (λ r. r.number) rs)
-    → (merged : List CallRecord) → IsPermutation (flat_map (λ p. (value p).calls) (plan i rs)) merged
+    → (merged : List CallRecord) → IsPermutation (flat_map (λ p. (result_of p).calls) (plan i rs)) merged
     → IsStrictlyIncreasing (map (λ c. c.opened) merged)
     → merged ≡ calls_of (events i rs)
 
@@ -76,7 +76,7 @@ CallsPeakLaw = (i : Interface) (rs : List Item) → AreSaid i rs → IsStrictlyI
 
 -- the calls of the pieces are those of the walk, which are in the order of their opening packets
 pub record CallsOfPieces (i : Interface) (rs : List Item) : Type 0 where
-  pub same_calls : IsPermutation (flat_map (λ p. (value p).calls) (plan i rs)) (calls_of (events i rs))
+  pub same_calls : IsPermutation (flat_map (λ p. (result_of p).calls) (plan i rs)) (calls_of (events i rs))
   pub in_order : IsStrictlyIncreasing (map (λ c. c.opened) (calls_of (events i rs)))
 
 -- the calls of the pieces are those of the walk, in the order of their opening packets

@@ -61,7 +61,7 @@ pub enum Fault {
     Double(u32),
     /// No piece has this id.
     #[error("piece {0} unknown")]
-    Stranger(u32),
+    UnknownPiece(u32),
     /// No report has this id.
     #[error("piece {0} missing")]
     Missing(u32),
@@ -82,7 +82,7 @@ impl Fault {
             Fault::Write => 4,
             Fault::Start => 5,
             Fault::Double(_) => 6,
-            Fault::Stranger(_) => 7,
+            Fault::UnknownPiece(_) => 7,
             Fault::Missing(_) => 8,
         }
     }

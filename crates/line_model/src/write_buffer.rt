@@ -1,6 +1,6 @@
 //! A text on its way to a sink.
 
-ghost use Rattle.std.specs.Prelude.{◌≡◌, ℕ, List, [], ◌<◌, ◌≤◌, Option, OnOk, OnErr, IfErr, false};
+ghost use Rattle.std.specs.Prelude.{◌≡◌, ℕ, List, [], ◌∷◌, ◌<◌, ◌≤◌, Option, OnOk, OnErr, IfErr, false};
 ghost use Rattle.line_model.specs.basics.Device.{with_more};
 ghost use Rattle.line_model.specs.basics.Written.{HasFront, KeepsText, OfWriting, PutsTo, TakesAll, TakesFront, Writes, has_failed, held_bytes};
 
@@ -94,6 +94,7 @@ impl WriteBuffer {
     }
 
     /// Sends what is held, and then puts bytes.
+    #[inline(never)]
     fn put_next<W: Sink>(&mut self, sink: &mut W, bytes: &[u8])
         ensures { PutsTo W.Sink sink.old sink.new self.old self.new bytes.now }
     {
@@ -112,6 +113,17 @@ impl WriteBuffer {
         match self.bytes.try_extend_from_slice(bytes) {
             Ok(()) => {}
             Err(_) => self.put_next(sink, bytes),
+        }
+    }
+
+    /// Puts a byte after those of the text so far, as `put` does.
+    #[inline(always)]
+    pub fn put_byte<W: Sink>(&mut self, sink: &mut W, byte: u8)
+        ensures { PutsTo W.Sink sink.old sink.new self.old self.new (byte ∷ []) }
+    {
+        match self.bytes.try_push(byte) {
+            Ok(()) => {}
+            Err(_) => self.put_next(sink, &[byte]),
         }
     }
 

@@ -12,7 +12,7 @@ use Rattle.line_model.specs.text.Text.{early, early_head, early_rows}
 use Rattle.trace_text.specs.Progress.{Progress}
 use Rattle.trace_text.specs.Represents.{AreKnown, Represents as IsReaderOf, TakesRow, ReadsChunk}
 use Rattle.trace_text.proofs.Grows.{early_head_stays}
-use Rattle.trace_text.proofs.RefusalLemmas.{head_stands, known-here}
+use Rattle.trace_text.proofs.RefusalLemmas.{head_represents, known-here}
 use Rattle.trace_text.proofs.RowsOfText.{early_numbers, early_octets, early_rises}
 use Rattle.live_report.specs.declared.observer.Observer.{Observer}
 use Rattle.live_report.specs.Observing.{AreItems, Represents as IsObserverOf}
@@ -46,7 +46,7 @@ ReadsRow before after chunk rest row = (taken : Row) × TakesRow before after ch
 
 -- what is known of the header stays
 pub header_stays : (reader after : Progress) (text more : List ℕ) (i : Interface) → IsReaderOf reader text → reader.interface ≡ Some i → after.interface ≡ early_head (text ++ more) → after.interface ≡ Some i
-header_stays reader after text more i s h kept = kept ∙ early_head_stays text more i s.sound (sym (head_stands reader text s) ∙ h)
+header_stays reader after text more i s h kept = kept ∙ early_head_stays text more i s.sound (sym (head_represents reader text s) ∙ h)
 
 -- ---- the last row
 
@@ -95,13 +95,13 @@ next_items i reader after text chunk rest row s t =
 -- the row that was read may come next
 pub next_rows : (i : Interface) (reader after : Progress) (text chunk rest : List ℕ) (row : ReadRow) → IsReaderOf reader text → ReadsRow reader after chunk rest row → after.interface ≡ Some i → AreItems i (items_of i (early_rows text) ++ item_read i row ∷ [])
 next_rows i reader after text chunk rest row s t h =
-    let stands = t.1.stands text s in
-    subst (AreItems i) (next_items i reader after text chunk rest row s t) (early_trace i (text ++ t.1.taken) stands.sound (sym (head_stands after (text ++ t.1.taken) stands) ∙ h))
+    let represented = t.1.represented text s in
+    subst (AreItems i) (next_items i reader after text chunk rest row s t) (early_trace i (text ++ t.1.taken) represented.sound (sym (head_represents after (text ++ t.1.taken) represented) ∙ h))
 
 pub observed_row : {A C : Type 0} → (I : C → Interface) (N : C → ℕ) (S : C → GapChannel → Type 0) (i : Interface) (text chunk rest : List ℕ) (row : ReadRow) (reader after : Progress) (o : Observer A C)
     → IsReaderOf reader text → (t : ReadsRow reader after chunk rest row) → after.interface ≡ Some i → IsObserverOf I N S i (items_of i (early_rows text) ++ item_read i row ∷ []) o → IsObserving I N S i (text ++ t.1.taken) after o
 observed_row I N S i text chunk rest row reader after o s t h took = record {
-  reads = t.1.stands text s;
+  reads = t.1.represented text s;
   header = h;
   observes = subst (λ items. IsObserverOf I N S i items o) (sym (next_items i reader after text chunk rest row s t)) took;
 }
@@ -137,7 +137,7 @@ course_end I N S i text chunk rest reader after o out out_after row row_after c 
     let w = c.observing in
     let all = course_text I N S i text chunk rest reader o out out_after row row_after c in
     record {
-      reads = subst (IsReaderOf after) all (t.stands (text ++ c.read) w.reads);
+      reads = subst (IsReaderOf after) all (t.represented (text ++ c.read) w.reads);
       header = header_stays reader after (text ++ c.read) rest i w.reads w.header kept;
       observes = subst (λ x. IsObserverOf I N S i (items_of i (early_rows x)) o) all (subst (λ rows. IsObserverOf I N S i (items_of i rows) o) (sym (t.rows (text ++ c.read) w.reads)) w.observes);
     }

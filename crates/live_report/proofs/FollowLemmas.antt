@@ -119,7 +119,7 @@ taken_first before old new a b whole rest front back h w split l =
     let all : whole ≡ (a ++ front) ++ (back ++ rest) = w ∙ ap (λ xs. a ++ (xs ++ rest)) split ∙ ap (λ xs. a ++ xs) (append_assoc front back rest) ∙ sym (append_assoc a front (back ++ rest)) in
     (length (a ++ front), l ∙ ap (λ o. with_more o front) h ∙ with_more-append before a front ∙ ap (with_more before) (front_of (a ++ front) (back ++ rest) whole all))
 
--- a first part of the second behind the first
+-- a first part of the second after the first
 pub taken_last : (before old mid new : Option (List ℕ)) (a b c whole front back : List ℕ) → whole ≡ a ++ (b ++ c) → old ≡ with_more before a → mid ≡ with_more old b → c ≡ front ++ back → new ≡ with_more mid front → HasFirst before new whole
 taken_last before old mid new a b c whole front back w h k split l =
     taken_first before mid new (a ++ b) c whole [] front back (k ∙ ap (λ o. with_more o b) h ∙ with_more-append before a b)

@@ -4,14 +4,14 @@ use Rattle.std.specs.Option.{option_to_list}
 use Rattle.line_model.specs.declared.interface.Interface.{Interface}
 use Rattle.line_model.specs.declared.finding.Finding.{Finding}
 use Rattle.line_model.specs.declared.fault.Fault.{Fault}
-use Rattle.line_model.specs.declared.fault.Fault.TheVariants.{Memory, Trace, Read, Write, Start, Double, Stranger, Missing}
+use Rattle.line_model.specs.declared.fault.Fault.TheVariants.{Memory, Trace, Read, Write, Start, Double, UnknownPiece, Missing}
 use Rattle.line_model.specs.observer.Machine.{walk}
 use Rattle.line_model.specs.observer.MachineEvents.{walk_events}
 use Rattle.line_model.specs.observer.Observer.{event_of, start, x25}
 use Rattle.line_model.specs.basics.Records.{Row, Item}
 use Rattle.line_model.specs.observer.Report.{findings_of, report_of}
 use Rattle.line_model.specs.text.Text.{early_head, early_rows}
-use Rattle.restart_epochs.proofs.LineFindings.{events_append}
+use Rattle.restart_epochs.proofs.LevelFindings.{events_append}
 use Rattle.trace_text.specs.Represents.{AreKnown}
 use Rattle.live_report.specs.Found.{HasFound, IsFoundUpTo, found, found_at}
 use Rattle.live_report.proofs.FindingLemmas.{findings_append}
@@ -70,10 +70,10 @@ found_refused Read i given all a b k h r = absurd r
 found_refused Write i given all a b k h r = absurd r
 found_refused Start i given all a b k h r = absurd r
 found_refused (Double n) i given all a b k h r = absurd r
-found_refused (Stranger n) i given all a b k h r = absurd r
+found_refused (UnknownPiece n) i given all a b k h r = absurd r
 found_refused (Missing n) i given all a b k h r = absurd r
 
--- behind what a first row found
+-- after what a first row found
 pub found_up_to : (f : Fault) (a b c k l m : List Finding) → HasFound a b k l → IsFoundUpTo f b c l m → IsFoundUpTo f a c k m
 found_up_to Memory a b c k l m f g = record {
   more = f.more ++ g.more;
@@ -93,5 +93,5 @@ found_unheaded Read text all out none r = absurd r
 found_unheaded Write text all out none r = absurd r
 found_unheaded Start text all out none r = absurd r
 found_unheaded (Double n) text all out none r = absurd r
-found_unheaded (Stranger n) text all out none r = absurd r
+found_unheaded (UnknownPiece n) text all out none r = absurd r
 found_unheaded (Missing n) text all out none r = absurd r

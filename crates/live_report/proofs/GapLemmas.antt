@@ -12,8 +12,8 @@ use Rattle.line_model.specs.observer.MachineEvents.{RowEvent}
 use Rattle.line_model.specs.observer.Observer.{x25, event_of, row_step}
 use Rattle.line_model.specs.declared.event.What.{What}
 use Rattle.line_model.specs.packets.Says.{gap_item, gap_items}
-use Rattle.line_model.specs.pieces.Pieces.{piece_value, step_events}
-use Rattle.line_model.specs.pieces.Plans.{begins_with_gap, report_on, single_gaps, value}
+use Rattle.line_model.specs.pieces.Pieces.{events_of_steps, step_events}
+use Rattle.line_model.specs.pieces.Plans.{begins_with_gap, report_on, single_gaps, result_of}
 use Rattle.line_model.proofs.SingleGaps.{gap_again, gap_steps}
 use Rattle.channel_run.specs.Live.{channel_after}
 use Rattle.restart_epochs.specs.OpenRows.{gap_after, last_number, with_gap}
@@ -32,16 +32,16 @@ piece_front i k items more h =
 -- ---- a gap that no row follows
 
 -- it has no events while the epoch goes on
-gap_silent : (i : Interface) (e k : ℕ) (gap : ℕ) (g : GapChannel) (items : List Item) → piece_value (x25 i) e k g (items ++ gap_item gap ∷ []) None ≡ piece_value (x25 i) e k g items None
+gap_silent : (i : Interface) (e k : ℕ) (gap : ℕ) (g : GapChannel) (items : List Item) → events_of_steps (x25 i) e k g (items ++ gap_item gap ∷ []) None ≡ events_of_steps (x25 i) e k g items None
 gap_silent i e k gap g [] = refl
 gap_silent i e k gap g (r ∷ items) = ap (λ (vs : List (RowEvent Item What)). step_events (x25 i) e k g r ((x25 i).for_all r) ++ vs) (gap_silent i e k gap (row_step i k g r).after items)
 
 -- so the result of a piece is the same with it
-pub value_so_far : (gap : ℕ) (p : Piece) → value (record p { items = with_gap gap p.items; end = None }) ≡ value (record p { end = None })
+pub value_so_far : (gap : ℕ) (p : Piece) → result_of (record p { items = with_gap gap p.items; end = None }) ≡ result_of (record p { end = None })
 value_so_far gap p = at (gap_after gap (last_number p.items))
   where
-    at : (o : Option ℕ) → value (record p { items = p.items ++ gap_items o; end = None }) ≡ value (record p { end = None })
-    at None = ap (λ items. value (record p { items = items; end = None })) (append-nil p.items)
+    at : (o : Option ℕ) → result_of (record p { items = p.items ++ gap_items o; end = None }) ≡ result_of (record p { end = None })
+    at None = ap (λ items. result_of (record p { items = items; end = None })) (append-nil p.items)
     at (Some n) = ap (λ vs. report_on p.id p.epoch p.channel (map event_of vs)) (gap_silent p.interface p.epoch p.channel n (fresh_at p.interface p.start p.epoch p.channel) p.items)
 
 -- ---- a channel after rows

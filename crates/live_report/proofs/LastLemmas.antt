@@ -7,25 +7,25 @@ use Rattle.line_model.specs.declared.route.Route.{Route}
 use Rattle.line_model.specs.declared.route.Route.TheVariants.{ToChannel, Leave, Enter, Renew, Found, Pass}
 use Rattle.line_model.specs.basics.Records.{Item}
 use Rattle.line_model.specs.channels.Gaps.{GapChannel}
-use Rattle.line_model.specs.channels.GapRestart.{GapLine, is_of_all, is_ready, routing}
+use Rattle.line_model.specs.channels.GapRestart.{GapInterfaceState, is_of_all, is_ready, routing}
 use Rattle.line_model.specs.observer.Machine.{Observer}
 use Rattle.line_model.specs.observer.Report.{report_of}
 use Rattle.line_model.specs.pieces.Plan.{has_some}
 use Rattle.channel_run.specs.Live.{channel_so_far}
 use Rattle.channel_run.specs.Run.{row_events}
 use Rattle.restart_epochs.specs.OpenRows.{OpenRows, HasMore, last_number, rows_of}
-use Rattle.restart_epochs.specs.Cutting.{Cutting, HasTurned, IsTakenBy, Represents as IsCutterOf, gap_turned, items_out, observer, places, rows_if}
+use Rattle.restart_epochs.specs.Cutting.{Cutting, HasEffect, IsTakenBy, Represents as IsCutterOf, gap_by_effect, items_out, observer, places, rows_if}
 use Rattle.restart_epochs.specs.declared.walk.EpochWalk.{EpochWalk}
 use Rattle.restart_epochs.specs.declared.walk.Step.{Step}
 use Rattle.restart_epochs.specs.declared.walk.ChannelEffect.{ChannelEffect}
-use Rattle.restart_epochs.specs.Walks.{epoch_after, passed, turn_of, IsStep}
+use Rattle.restart_epochs.specs.Walks.{epoch_after, passed, effect_of, IsStep}
 use Rattle.restart_epochs.proofs.GapRows.{last_pushed, no_gap}
 use Rattle.restart_epochs.proofs.OpenChannelSteps.{start_stays}
 use Rattle.restart_epochs.proofs.Routes.{is_to_channel}
 use Rattle.restart_epochs.proofs.Steps.{on_channel, routed_to, routed_none}
 use Rattle.live_report.specs.OpenChannels.{begun_piece}
 use Rattle.live_report.specs.Observing.{epoch_at}
-use Rattle.live_report.specs.Turns.{epoch_of, reached_piece, HasEvents, JudgesBy}
+use Rattle.live_report.specs.Effects.{epoch_of, reached_piece, HasEvents, JudgesBy}
 use Rattle.live_report.specs.JudgedRows.{IsJudge, IsJudgedRow, IsRestart, IsTaker, KnowsLast, taker}
 use Rattle.live_report.specs.declared.judged_row.Judge.{Judge}
 use Rattle.live_report.specs.declared.judged_row.Judge.TheVariants as judge
@@ -53,7 +53,7 @@ same_last (c ∷ a) (d ∷ b) x y h =
 
 -- ---- the last row
 
-pub taker_is : (i : Interface) (to : Option ℕ) (o more : Observer GapLine GapChannel) (j : Judge) → IsJudge i to o more j → taker j ≡ to
+pub taker_is : (i : Interface) (to : Option ℕ) (o more : Observer GapInterfaceState GapChannel) (j : Judge) → IsJudge i to o more j → taker j ≡ to
 taker_is i None o more (judge.Restart before after) h = refl
 taker_is i None o more (judge.Channel k before after accepted) h = absurd h
 taker_is i (Some n) o more (judge.Restart before after) h = absurd h
@@ -69,45 +69,45 @@ knows i rs r l last events is h before x e =
     (subst (λ y. IsJudgedRow i before y l events) same.1 (subst (λ b. IsJudgedRow i b r l events) same.0 h))
 
 -- where a channel has rows in the open epoch, it is open
-pub open_is_ready : (i : Interface) (rs : List Item) (c : Cutting) (k : ℕ) → IsCutterOf i rs c → has_some (rows_of c.open_rows k) ≡ true → is_ready (observer i rs).line ≡ true
-open_is_ready i rs c k s some = at (is_ready (observer i rs).line) refl
+pub open_is_ready : (i : Interface) (rs : List Item) (c : Cutting) (k : ℕ) → IsCutterOf i rs c → has_some (rows_of c.open_rows k) ≡ true → is_ready (observer i rs).level ≡ true
+open_is_ready i rs c k s some = at (is_ready (observer i rs).level) refl
   where
-    at : (b : Bool) → is_ready (observer i rs).line ≡ b → is_ready (observer i rs).line ≡ true
+    at : (b : Bool) → is_ready (observer i rs).level ≡ b → is_ready (observer i rs).level ≡ true
     at true e = e
     at false e = absurd (true≢false (sym some ∙ ap has_some (s.rows k ∙ ap (λ b. rows_if b i (places i rs) (observer i rs).epoch k) e)))
 
 -- what a step makes known of a row
-pub record Judged {B : Type 0} (turn : ChannelEffect) (item : Item) (walk : EpochWalk B) (gap : ℕ) (machine : GapLine) (rows rows_after : OpenRows) (row : JudgedRow) (events : List Event) : Type 0 where
+pub record Judged {B : Type 0} (effect : ChannelEffect) (item : Item) (walk : EpochWalk B) (gap : ℕ) (machine : GapInterfaceState) (rows rows_after : OpenRows) (row : JudgedRow) (events : List Event) : Type 0 where
   pub number : row.number ≡ item.number
   pub side : row.side ≡ item.side
   pub packet : row.packet ≡ item.packet
-  pub judge : JudgesBy turn walk gap machine rows rows_after row.judge
-  pub came : HasEvents turn walk gap rows item events
+  pub judge : JudgesBy effect walk gap machine rows rows_after row.judge
+  pub came : HasEvents effect walk gap rows item events
 
 -- a row that is passed is judged by the restart machine
-passed_judges : {B : Type 0} → (of_all : Bool) (walk : EpochWalk B) (gap : ℕ) (machine : GapLine) (rows after : OpenRows) (by : Judge) → JudgesBy (passed of_all) walk gap machine rows after by → IsRestart walk.machine.line.state machine.line.state by
+passed_judges : {B : Type 0} → (of_all : Bool) (walk : EpochWalk B) (gap : ℕ) (machine : GapInterfaceState) (rows after : OpenRows) (by : Judge) → JudgesBy (passed of_all) walk gap machine rows after by → IsRestart walk.machine.level.state machine.level.state by
 passed_judges true walk gap machine rows after by h = h
 passed_judges false walk gap machine rows after by h = h
 
 -- by what the row did to the channels
 pub last_known : {B : Type 0} → (i : Interface) (rs : List Item) (c a : Cutting) (r : Item) (step : Step) (v : EpochWalk B) (gap : ℕ) (row : JudgedRow) (last : Option JudgedRow) (events : List Event)
-    → IsCutterOf i rs c → IsCutterOf i (rs ++ r ∷ []) a → IsTakenBy r step c a → IsSaid c.interface r → IsStep c.line c.epoch r step
-    → epoch_of v ≡ epoch_at c → gap ≡ c.gap → v.machine ≡ c.line → c.gap ≤ r.number → last ≡ Some row → Judged step.turn r v gap step.machine c.open_rows a.open_rows row events
+    → IsCutterOf i rs c → IsCutterOf i (rs ++ r ∷ []) a → IsTakenBy r step c a → IsSaid c.interface r → IsStep c.level c.epoch r step
+    → epoch_of v ≡ epoch_at c → gap ≡ c.gap → v.machine ≡ c.level → c.gap ≤ r.number → last ≡ Some row → Judged step.effect r v gap step.machine c.open_rows a.open_rows row events
     → (report_of i (rs ++ r ∷ [])).findings ≡ (report_of i rs).findings ++ option_to_list row.finding → KnowsLast i (rs ++ r ∷ []) last events
 last_known {B} i rs c a r step v gap row last events s grown taken said is same same_gap same_machine earlier last_is judged finding =
-    knows i rs r row last events last_is (at (routing c.line r).route refl (subst (λ t. Judged t r v gap step.machine c.open_rows a.open_rows row events) is.turn judged))
+    knows i rs r row last events last_is (at (routing c.level r).route refl (subst (λ t. Judged t r v gap step.machine c.open_rows a.open_rows row events) is.effect judged))
   where
     k : ℕ
     k = packet_channel r.packet
 
-    o : Observer GapLine GapChannel
+    o : Observer GapInterfaceState GapChannel
     o = observer i rs
 
-    more : Observer GapLine GapChannel
+    more : Observer GapInterfaceState GapChannel
     more = observer i (rs ++ r ∷ [])
 
-    routes : (q : Route) → (routing c.line r).route ≡ q → is_to_channel (routing o.line r).route ≡ is_to_channel q
-    routes q e = ap (λ x. is_to_channel (routing x r).route) (sym s.line) ∙ ap is_to_channel e
+    routes : (q : Route) → (routing c.level r).route ≡ q → is_to_channel (routing o.level r).route ≡ is_to_channel q
+    routes q e = ap (λ x. is_to_channel (routing x r).route) (sym s.level) ∙ ap is_to_channel e
 
     no_one : (n : ℕ) → ◌≡◌ {A = Option ℕ} None (Some n) → ⊥
     no_one n h = cc
@@ -115,46 +115,46 @@ last_known {B} i rs c a r step v gap row last events s grown taken said is same 
     some_one : (x y : ℕ) → Some x ≡ Some y → x ≡ y
     some_one x y h = cc
 
-    on_line : (q : Route) → (routing c.line r).route ≡ q → is_to_channel q ≡ false → IsRestart v.machine.line.state step.machine.line.state row.judge → IsJudgedRow i rs r row events
-    on_line q e to judge =
-        let none = routed_none i o.line r (routes q e ∙ to) in
-        let before = ap (λ m. m.line.state) (same_machine ∙ s.line) in
-        let after = ap (λ m. m.line.state) (sym taken.line ∙ grown.line) in
+    on_level : (q : Route) → (routing c.level r).route ≡ q → is_to_channel q ≡ false → IsRestart v.machine.level.state step.machine.level.state row.judge → IsJudgedRow i rs r row events
+    on_level q e to judge =
+        let none = routed_none i o.level r (routes q e ∙ to) in
+        let before = ap (λ m. m.level.state) (same_machine ∙ s.level) in
+        let after = ap (λ m. m.level.state) (sym taken.level ∙ grown.level) in
         record {
           number = judged.number;
           side = judged.side;
           packet = judged.packet;
-          judge = subst (λ n. IsJudge i n o more row.judge) (sym none) (subst (λ x. IsRestart o.line.line.state x row.judge) after (subst (λ x. IsRestart x step.machine.line.state row.judge) before judge));
+          judge = subst (λ n. IsJudge i n o more row.judge) (sym none) (subst (λ x. IsRestart o.level.level.state x row.judge) after (subst (λ x. IsRestart x step.machine.level.state row.judge) before judge));
           finding = finding;
           came = λ n there. absurd (no_one n (sym none ∙ there));
         }
 
     -- after the row of a channel no gap of all channels is left
-    all_read : (routing c.line r).route ≡ ToChannel → items_out a.gap a.open_rows k ≡ rows_of a.open_rows k
+    all_read : (routing c.level r).route ≡ ToChannel → items_out a.gap a.open_rows k ≡ rows_of a.open_rows k
     all_read e =
-        let turn = is.turn ∙ ap (turn_of r.packet) e in
-        let has : HasMore c.gap k r c.open_rows a.open_rows = subst (λ t. HasTurned t r c.gap c.open_rows a.open_rows) turn taken.open_rows in
-        let gap_is : a.gap ≡ c.gap = taken.gap ∙ ap (λ t. gap_turned t r c.gap) turn in
+        let effect = is.effect ∙ ap (effect_of r.packet) e in
+        let has : HasMore c.gap k r c.open_rows a.open_rows = subst (λ t. HasEffect t r c.gap c.open_rows a.open_rows) effect taken.open_rows in
+        let gap_is : a.gap ≡ c.gap = taken.gap ∙ ap (λ t. gap_by_effect t r c.gap) effect in
         no_gap a.gap (rows_of a.open_rows k) (omega (arith, gap_is, earlier, ap last_number has.row, last_pushed (items_out c.gap c.open_rows k) r))
 
-    epoch_kept : (routing c.line r).route ≡ ToChannel → epoch_at a ≡ epoch_at c
+    epoch_kept : (routing c.level r).route ≡ ToChannel → epoch_at a ≡ epoch_at c
     epoch_kept e =
         let epoch = is.epoch ∙ ap (epoch_after c.epoch) e in
         let start = taken.start ∙ start_stays c.epoch step.epoch c.start step.machine epoch in
         λ t. record { interface = taken.counted.interface t; number = (taken.epoch ∙ epoch) t; start = start t }
 
-    on_its_channel : (routing c.line r).route ≡ ToChannel → Judged (turn_of r.packet ToChannel) r v gap step.machine c.open_rows a.open_rows row events → IsJudgedRow i rs r row events
+    on_its_channel : (routing c.level r).route ≡ ToChannel → Judged (effect_of r.packet ToChannel) r v gap step.machine c.open_rows a.open_rows row events → IsJudgedRow i rs r row events
     on_its_channel e j =
         let there = routes ToChannel e in
         let on = on_channel i rs r there in
-        let to = routed_to i o.line r there in
+        let to = routed_to i o.level r there in
         let kept = same ∙ sym (epoch_kept e) in
         let reached = reached_is c v gap k same same_gap in
         let before = ap channel_so_far reached ∙ sym (state_here i rs c k s on.ready) in
-        let after = (λ t. channel_so_far (begun_piece (kept t) k (sym (all_read e) t))) ∙ sym (state_here i (rs ++ r ∷ []) a k grown (ap is_ready on.line ∙ on.ready)) in
+        let after = (λ t. channel_so_far (begun_piece (kept t) k (sym (all_read e) t))) ∙ sym (state_here i (rs ++ r ∷ []) a k grown (ap is_ready on.level ∙ on.ready)) in
         let came : events ≡ row_events i o.epoch k (o.states k) r =
         j.came ∙ ap (λ p. row_events p.interface p.epoch p.channel (channel_so_far p) r) reached
-        ∙ sym (events_on i rs c r s (ap (λ x. is_to_channel (routing x r).route) s.line ∙ there)) in
+        ∙ sym (events_on i rs c r s (ap (λ x. is_to_channel (routing x r).route) s.level ∙ there)) in
         record {
           number = j.number;
           side = j.side;
@@ -167,10 +167,10 @@ last_known {B} i rs c a r step v gap row last events s grown taken said is same 
           came = λ n here. subst (λ m. events ≡ row_events i o.epoch m (o.states m) r) (some_one k n (sym to ∙ here)) came;
         }
 
-    at : (q : Route) → (routing c.line r).route ≡ q → Judged (turn_of r.packet q) r v gap step.machine c.open_rows a.open_rows row events → IsJudgedRow i rs r row events
+    at : (q : Route) → (routing c.level r).route ≡ q → Judged (effect_of r.packet q) r v gap step.machine c.open_rows a.open_rows row events → IsJudgedRow i rs r row events
     at ToChannel e j = on_its_channel e j
-    at (Leave code) e j = on_line (Leave code) e refl j.judge
-    at Enter e j = on_line Enter e refl j.judge
-    at Renew e j = on_line Renew e refl j.judge
-    at (Found state code) e j = on_line (Found state code) e refl j.judge
-    at Pass e j = on_line Pass e refl (passed_judges (is_of_all (gap_of r.packet)) v gap step.machine c.open_rows a.open_rows row.judge j.judge)
+    at (Leave code) e j = on_level (Leave code) e refl j.judge
+    at Enter e j = on_level Enter e refl j.judge
+    at Renew e j = on_level Renew e refl j.judge
+    at (Found state code) e j = on_level (Found state code) e refl j.judge
+    at Pass e j = on_level Pass e refl (passed_judges (is_of_all (gap_of r.packet)) v gap step.machine c.open_rows a.open_rows row.judge j.judge)

@@ -4,7 +4,7 @@ pub mod EndingLemmas
 pub mod FindingLemmas
 pub mod LastLemmas
 pub mod UncountedLemmas
-pub mod StandLemmas
+pub mod RepresentLemmas
 pub mod TakeLemmas
 pub mod WalkLemmas
 pub mod ReportingLemmas

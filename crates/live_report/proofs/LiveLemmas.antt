@@ -13,7 +13,7 @@ use Rattle.line_model.specs.text.Text.{early_rows}
 use Rattle.trace_text.specs.Progress.{Progress}
 use Rattle.trace_text.specs.Represents.{Represents as IsReaderOf, ReadsChunk, TakesRow}
 use Rattle.trace_text.proofs.Grows.{early_head_stays}
-use Rattle.trace_text.proofs.RefusalLemmas.{head_stands, known-here}
+use Rattle.trace_text.proofs.RefusalLemmas.{head_represents, known-here}
 use Rattle.live_report.specs.declared.live.Live.{Live}
 use Rattle.live_report.specs.declared.observer.Observer.{Observer}
 use Rattle.live_report.specs.Observing.{AreItems, Represents as IsObserverOf}
@@ -58,8 +58,8 @@ keeps_rows I N S live text o s keeps h = subst (λ x. IfSome x (λ z. z.keeps_ro
 pub nothing_seen : {A C : Type 0} → (I : C → Interface) (N : C → ℕ) (S : C → GapChannel → Type 0) (live : Live A C) (text : List ℕ) → Represents I N S live text → live.observer ≡ None → early_rows text ≡ []
 nothing_seen I N S live text s h = subst (IsObserved I N S text live.lines.interface) h s.observed
 
-pub stands_observing : {A C : Type 0} → (I : C → Interface) (N : C → ℕ) (S : C → GapChannel → Type 0) (i : Interface) (live : Live A C) (text : List ℕ) (o : Observer A C) → IsObserving I N S i text live.lines o → live.observer ≡ Some o → live.refused ≡ None → o.keeps_rows ≡ live.keeps_rows → (live.keeps_rows ≡ true → IsLastRow (early_rows text) live.rows.last) → Represents I N S live text
-stands_observing I N S i live text o w h running keeps last = record {
+pub represents_observing : {A C : Type 0} → (I : C → Interface) (N : C → ℕ) (S : C → GapChannel → Type 0) (i : Interface) (live : Live A C) (text : List ℕ) (o : Observer A C) → IsObserving I N S i text live.lines o → live.observer ≡ Some o → live.refused ≡ None → o.keeps_rows ≡ live.keeps_rows → (live.keeps_rows ≡ true → IsLastRow (early_rows text) live.rows.last) → Represents I N S live text
+represents_observing I N S i live text o w h running keeps last = record {
   reads = w.reads;
   running = running;
   observed = subst (IsObserved I N S text live.lines.interface) (sym h) (i, w.header, w.observes);
@@ -85,7 +85,7 @@ chunk_text reader after text chunk rest row t = append_assoc text t.1.taken rest
 -- under the header that was read
 pub found_headed : (reader : Progress) (text more : List ℕ) (i : Interface) → IsReaderOf reader text → reader.interface ≡ Some i → (found text ≡ found_at i text) × (found (text ++ more) ≡ found_at i (text ++ more))
 found_headed reader text more i s h =
-    let head = sym (head_stands reader text s) ∙ h in
+    let head = sym (head_represents reader text s) ∙ h in
     (found_under i text head, found_under i (text ++ more) (early_head_stays text more i s.sound head))
 
 pub found_as : {T : Type 0} → (r : Result T Fault) (a b k l m n : List Finding) → l ≡ k → n ≡ m → IsFoundBy r a b k m → IsFoundBy r a b l n

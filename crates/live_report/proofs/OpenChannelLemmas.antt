@@ -26,7 +26,7 @@ pub out_none : {A C : Type 0} → (I : C → Interface) (N : C → ℕ) (S : C �
 out_none I N S e k rows before middle after entry f t l fresh =
     let empty : rows_of rows k ≡ [] = subst (OpenChannelFor I N S (begun_piece e k (rows_of rows k))) (sym t.value) (f.each k) in
     record {
-      stands = subst (λ items. OpenFor I N S entry (begun_piece e k items)) (sym empty) fresh;
+      represented = subst (λ items. OpenFor I N S entry (begun_piece e k items)) (sym empty) fresh;
       others = λ j ne. subst (OpenChannelFor I N S (begun_piece e j (rows_of rows j))) (sym (l.values j ∙ t.others j ne)) (f.each j);
       channels = l.channels ∙ ap (λ ks. insert_key nat_cmp ks k) (t.channels ∙ f.channels) ∙ ap (λ items. with_channel items k rows.channels) (sym empty);
     }
@@ -34,14 +34,14 @@ out_none I N S e k rows before middle after entry f t l fresh =
 pub put_back : {A C : Type 0} → (I : C → Interface) (N : C → ℕ) (S : C → GapChannel → Type 0) (e : OpenEpoch) (gap k : ℕ) (rows more : OpenRows) (item : Item) (before after : ChannelTables (OpenChannel A C)) (entry stepped : OpenChannel A C)
     → IsOutFor I N S e k rows entry before → OpenFor I N S stepped (begun_piece e k (with_gap gap (rows_of rows k) ++ item ∷ [])) → HasPut k stepped before after → HasMore gap k item rows more
     → OpenChannelsFor I N S e more after
-put_back I N S e gap k rows more item before after entry stepped out stands put has = record {
+put_back I N S e gap k rows more item before after entry stepped out represented put has = record {
   channels = put.channels ∙ out.channels ∙ sym has.channels;
   each = λ j. at j (eqb j k) refl;
 }
   where
     at_k : OpenChannelFor I N S (begun_piece e k (rows_of more k)) (value_at after k)
     at_k = subst (λ o. OpenChannelFor I N S (begun_piece e k (rows_of more k)) o) (sym put.value)
-        (subst (λ items. OpenChannelFor I N S (begun_piece e k items) (Some stepped)) (sym has.row) (has_more (with_gap gap (rows_of rows k)) item, stands))
+        (subst (λ items. OpenChannelFor I N S (begun_piece e k items) (Some stepped)) (sym has.row) (has_more (with_gap gap (rows_of rows k)) item, represented))
 
     at : (j : ℕ) (b : Bool) → eqb j k ≡ b → OpenChannelFor I N S (begun_piece e j (rows_of more j)) (value_at after j)
     at j true same = subst (λ n. OpenChannelFor I N S (begun_piece e n (rows_of more n)) (value_at after n)) (sym (eqb-true j k same)) at_k

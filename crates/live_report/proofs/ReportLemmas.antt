@@ -11,7 +11,7 @@ use Rattle.line_model.specs.declared.fault.Fault.TheVariants.{Memory, Trace, Wri
 use Rattle.line_model.specs.declared.totals.Summary.{Summary}
 use Rattle.trace_text.specs.Progress.{Progress}
 use Rattle.trace_text.specs.Represents.{Represents as IsReaderOf, IsFaultOf, IsTextFault, last_row}
-use Rattle.trace_text.proofs.RefusalLemmas.{head_stands}
+use Rattle.trace_text.proofs.RefusalLemmas.{head_represents}
 use Rattle.trace_text.proofs.RowsOfText.{text_numbers, text_octets, text_rises}
 use Rattle.live_report.specs.Observing.{AreItems, last_item}
 use Rattle.live_report.specs.Reports.{IsRefusal, IsReported, IsTaken}
@@ -42,7 +42,7 @@ ended_items i text true row end = ap (items_of i) end.1 ∙ items_more i (early_
 
 -- the header that was read is the text's
 pub whole_header : (reader : Progress) (text : List ℕ) (i : Interface) → IsReaderOf reader text → reader.interface ≡ Some i → head text ≡ Some i
-whole_header reader text i s h = ap head (sym (append-nil text)) ∙ early_head_law text [] i (sym (head_stands reader text s) ∙ h)
+whole_header reader text i s h = ap head (sym (append-nil text)) ∙ early_head_law text [] i (sym (head_represents reader text s) ∙ h)
 
 -- ---- what was written
 

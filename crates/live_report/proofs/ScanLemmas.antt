@@ -86,7 +86,7 @@ walk_kinds was_fed kept fed last f (inl why) = subst IsScanFault (sym why.failur
 walk_kinds was_fed kept fed last f (inr why) = text_scan f why.1
 
 pub walk_kept : (was_fed : List ℕ → Type 0) (kept : Type 0) (fed last : List ℕ) (f : Fault) → (was_fed fed → kept) → HasFailed was_fed fed last f ⊎ IsWalkStop kept fed last f → kept
-walk_kept was_fed kept fed last f is (inl why) = is why.stands
+walk_kept was_fed kept fed last f is (inl why) = is why.represented
 walk_kept was_fed kept fed last f is (inr why) = why.2
 
 no_text_write : (f : Fault) → IsTextFault f → f ≡ Write → ⊥

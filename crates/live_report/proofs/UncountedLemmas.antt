@@ -6,7 +6,7 @@ use Rattle.line_model.specs.declared.event.Event.{Event}
 use Rattle.line_model.specs.declared.interface.Interface.{Interface}
 use Rattle.line_model.specs.basics.Records.{Item}
 use Rattle.line_model.specs.channels.Gaps.{GapChannel}
-use Rattle.line_model.specs.channels.GapRestart.{GapLine}
+use Rattle.line_model.specs.channels.GapRestart.{GapInterfaceState}
 use Rattle.line_model.specs.observer.Machine.{Observer, after, routed, walk}
 use Rattle.line_model.specs.observer.Observer.{start, x25}
 use Rattle.line_model.specs.text.Text.{head, rows}
@@ -30,24 +30,24 @@ use Rattle.channel_run.specs.Run.{data_events, row_events}
 -- ---- why the data of a row was not counted
 
 -- by the channel that it went to
-by_taker : (i : Interface) (o more : Observer GapLine GapChannel) (r : Item) (events : List Event) (taker : Option ℕ) (k : ℕ) (before after : Packed) (accepted : Option ℕ) (answer : Option Reason)
+by_taker : (i : Interface) (o more : Observer GapInterfaceState GapChannel) (r : Item) (events : List Event) (taker : Option ℕ) (k : ℕ) (before after : Packed) (accepted : Option ℕ) (answer : Option Reason)
     → IsJudge i taker o more (judge.Channel k before after accepted) → ((n : ℕ) → taker ≡ Some n → events ≡ row_events i o.epoch n (o.states n) r)
     → ((j : Interface) (c : GapChannel) → IsViewOf j c (view_in before) → answer ≡ reason_on c events) → answer ≡ reason_by i taker o r
 by_taker i o more r events None k before after accepted answer h came by = absurd h
 by_taker i o more r events (Some n) k before after accepted answer h came by = by i (o.states n) h.1 ∙ ap (reason_on (o.states n)) (came n refl)
 
 of_data : (i : Interface) (earlier : List Item) (r : Item) (row : JudgedRow) (events : List Event) → IsJudgedRow i earlier r row events → (b : Bool) → is_data row.packet ≡ b
-    → cond b (reason_by i (routed (x25 i) (observer i earlier).line r) (observer i earlier) r) None ≡ reason_at i (observer i earlier) r
+    → cond b (reason_by i (routed (x25 i) (observer i earlier).level r) (observer i earlier) r) None ≡ reason_at i (observer i earlier) r
 of_data i earlier r row events l b is =
     let o = observer i earlier in
-    ap (λ x. cond x (reason_by i (routed (x25 i) o.line r) o r) None) (sym is ∙ ap is_data l.packet)
+    ap (λ x. cond x (reason_by i (routed (x25 i) o.level r) o r) None) (sym is ∙ ap is_data l.packet)
 
 pub on_channel : (i : Interface) (earlier : List Item) (r : Item) (row : JudgedRow) (events : List Event) (k : ℕ) (before after : Packed) (accepted : Option ℕ) (answer : Option Reason) → IsJudgedRow i earlier r row events
     → is_data row.packet ≡ true → row.judge ≡ judge.Channel k before after accepted → ((j : Interface) (c : GapChannel) → IsViewOf j c (view_in before) → answer ≡ reason_on c events) → answer ≡ reason_at i (observer i earlier) r
 on_channel i earlier r row events k before after accepted answer l data_is by reason =
     let o = observer i earlier in
     let more = observer i (earlier ++ r ∷ []) in
-    let taker = routed (x25 i) o.line r in
+    let taker = routed (x25 i) o.level r in
     by_taker i o more r events taker k before after accepted answer (subst (IsJudge i taker o more) by l.judge) l.came reason ∙ of_data i earlier r row events l true data_is
 
 or_true : (b c : Bool) → c ≡ true → (b || c) ≡ true
@@ -59,7 +59,7 @@ pub has_data : (events : List Event) (epoch k : ℕ) (r : Item) (n : ℕ) → co
 has_data [] epoch k r n = refl
 has_data (e ∷ es) epoch k r n = or_true (is_data_event e.what) (counts_data (es ++ data_events epoch k r (Some n))) (has_data es epoch k r n)
 
-counted_on : (i : Interface) (o more : Observer GapLine GapChannel) (r : Item) (events : List Event) (taker : Option ℕ) (k : ℕ) (before after : Packed) (accepted : Option ℕ)
+counted_on : (i : Interface) (o more : Observer GapInterfaceState GapChannel) (r : Item) (events : List Event) (taker : Option ℕ) (k : ℕ) (before after : Packed) (accepted : Option ℕ)
     → IsJudge i taker o more (judge.Channel k before after accepted) → ((n : ℕ) → taker ≡ Some n → events ≡ row_events i o.epoch n (o.states n) r) → counts_data events ≡ true → None ≡ reason_by i taker o r
 counted_on i o more r events None k before after accepted h came counted = absurd h
 counted_on i o more r events (Some n) k before after accepted h came counted =
@@ -75,13 +75,13 @@ pub was_counted : (i : Interface) (earlier : List Item) (r : Item) (row : Judged
 was_counted i earlier r row events k before after accepted l by counted =
     let o = observer i earlier in
     let more = observer i (earlier ++ r ∷ []) in
-    let taker = routed (x25 i) o.line r in
+    let taker = routed (x25 i) o.level r in
     none_if (is_data r.packet) (reason_by i taker o r) (counted_on i o more r events taker k before after accepted (subst (IsJudge i taker o more) by l.judge) l.came counted)
 
 -- ---- rows one by one
 
 -- those of some rows and of one more
-left_out_more : (i : Interface) (o : Observer GapLine GapChannel) (rs : List Item) (r : Item) → left_out i o (rs ++ r ∷ []) ≡ left_out i o rs ++ left_out_at i (walk (x25 i) o rs) r
+left_out_more : (i : Interface) (o : Observer GapInterfaceState GapChannel) (rs : List Item) (r : Item) → left_out i o (rs ++ r ∷ []) ≡ left_out i o rs ++ left_out_at i (walk (x25 i) o rs) r
 left_out_more i o [] r = append-nil (left_out_at i o r)
 left_out_more i o (x ∷ rs) r =
     ap (λ ds. left_out_at i o x ++ ds) (left_out_more i (after (x25 i) o x) rs r)
@@ -105,7 +105,7 @@ row_octets : (why : Reason) (came : Option Reason) (n : ℕ) → sum_by (λ d. d
 row_octets why None n = omega arith
 row_octets why (Some reason) n = its_octets (is_same why reason) (record { reason = reason; octets = n })
 
-few_packets : (why : Reason) (i : Interface) (o : Observer GapLine GapChannel) (rs : List Item) → length (filter (λ d. is_same why d.reason) (left_out i o rs)) ≤ length rs
+few_packets : (why : Reason) (i : Interface) (o : Observer GapInterfaceState GapChannel) (rs : List Item) → length (filter (λ d. is_same why d.reason) (left_out i o rs)) ≤ length rs
 few_packets why i o [] = omega arith
 few_packets why i o (r ∷ rs) =
     let p : LeftOut → Bool = λ d. is_same why d.reason in
@@ -113,7 +113,7 @@ few_packets why i o (r ∷ rs) =
     let later = left_out i (after (x25 i) o r) rs in
     omega (arith, row_packets why (reason_at i o r) (user_octets i r.length), few_packets why i (after (x25 i) o r) rs, ap (λ (ds : List LeftOut). length ds) (filter-append p here later), length-append (filter p here) (filter p later))
 
-few_octets : (why : Reason) (i : Interface) (o : Observer GapLine GapChannel) (rs : List Item) → sum_by (λ d. d.octets) (filter (λ d. is_same why d.reason) (left_out i o rs)) ≤ sum_by (λ r. r.length) rs
+few_octets : (why : Reason) (i : Interface) (o : Observer GapInterfaceState GapChannel) (rs : List Item) → sum_by (λ d. d.octets) (filter (λ d. is_same why d.reason) (left_out i o rs)) ≤ sum_by (λ r. r.length) rs
 few_octets why i o [] = omega arith
 few_octets why i o (r ∷ rs) =
     let p : LeftOut → Bool = λ d. is_same why d.reason in

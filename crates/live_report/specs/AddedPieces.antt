@@ -3,7 +3,7 @@ use Rattle.std.specs.Prelude.{◌≡◌, ℕ, ◌++◌, List, Option, Result, On
 use Rattle.line_model.specs.basics.Bounds.{IsPiece}
 use Rattle.line_model.specs.basics.Records.{Piece, PieceReport}
 use Rattle.line_model.specs.declared.piece.PieceEnd.{PieceEnd}
-use Rattle.line_model.specs.pieces.Plans.{value}
+use Rattle.line_model.specs.pieces.Plans.{result_of}
 use Rattle.channel_run.specs.declared.run.Channel.{Ghosts as Machine}
 use Rattle.restart_epochs.specs.Cutting.{items_out, pieces_out}
 use Rattle.restart_epochs.specs.ChannelTables.{IsEmpty}
@@ -29,7 +29,7 @@ MayAddPieces m open_channels parts =
 abbrev pub AddsPieces : {A C T E : Type 0} → Machine C A → (end : Option PieceEnd) → OpenChannels A C → (before after : Gathered) → Result T E → Type 0
 AddsPieces m end open_channels before after result =
     (e : OpenEpoch) (rows : OpenRows) (first : List PieceReport) → ChannelsRepresent m e rows open_channels → ArePieces e open_channels.gap rows → IsListing rows → before ≡ gathered first
-    → OnOk result (after ≡ gathered (first ++ map value (pieces_of e open_channels.gap end rows (length first) rows.channels)))
+    → OnOk result (after ≡ gathered (first ++ map result_of (pieces_of e open_channels.gap end rows (length first) rows.channels)))
 
 -- of any such epoch: no channel of it is left
 abbrev pub EmptiesOpenChannels : {A C T E : Type 0} → Machine C A → (before after : OpenChannels A C) → Result T E → Type 0

@@ -5,7 +5,7 @@ use Rattle.line_model.specs.declared.interface.Interface.{Interface}
 use Rattle.line_model.specs.declared.state.RState.{RState}
 use Rattle.line_model.specs.basics.Records.{Item}
 use Rattle.line_model.specs.channels.Gaps.{GapChannel}
-use Rattle.line_model.specs.channels.GapRestart.{GapLine}
+use Rattle.line_model.specs.channels.GapRestart.{GapInterfaceState}
 use Rattle.line_model.specs.observer.Machine.{Observer, routed}
 use Rattle.line_model.specs.observer.Observer.{x25}
 use Rattle.line_model.specs.observer.Report.{report_of}
@@ -35,8 +35,8 @@ IsTaker i k b a _ = ⊥
 
 -- the logical channel that a row went to, or the restart machine where none did, as an observer has it before and after
 -- the row
-abbrev pub IsJudge : Interface → (taker : Option ℕ) → (before after : Observer GapLine GapChannel) → Judge → Type 0
-IsJudge i None b a j = IsRestart b.line.line.state a.line.line.state j
+abbrev pub IsJudge : Interface → (taker : Option ℕ) → (before after : Observer GapInterfaceState GapChannel) → Judge → Type 0
+IsJudge i None b a j = IsRestart b.level.level.state a.level.level.state j
 IsJudge i (Some k) b a j = IsTaker i k (b.states k) (a.states k) j
 
 -- a row after others, as it was judged: its number, its side and its packet, the machine that judged it, what it found,
@@ -45,9 +45,9 @@ pub record IsJudgedRow (i : Interface) (earlier : List Item) (r : Item) (row : J
   pub number : row.number ≡ r.number
   pub side : row.side ≡ r.side
   pub packet : row.packet ≡ r.packet
-  pub judge : IsJudge i (routed (x25 i) (observer i earlier).line r) (observer i earlier) (observer i (earlier ++ r ∷ [])) row.judge
+  pub judge : IsJudge i (routed (x25 i) (observer i earlier).level r) (observer i earlier) (observer i (earlier ++ r ∷ [])) row.judge
   pub finding : (report_of i (earlier ++ r ∷ [])).findings ≡ (report_of i earlier).findings ++ option_to_list row.finding
-  pub came : (k : ℕ) → routed (x25 i) (observer i earlier).line r ≡ Some k → events ≡ row_events i (observer i earlier).epoch k ((observer i earlier).states k) r
+  pub came : (k : ℕ) → routed (x25 i) (observer i earlier).level r ≡ Some k → events ≡ row_events i (observer i earlier).epoch k ((observer i earlier).states k) r
 
 -- a row of which this came, as it was judged
 abbrev pub judged_row : Item → RowOutcome → JudgedRow

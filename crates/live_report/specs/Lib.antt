@@ -1,5 +1,5 @@
 pub mod OpenChannels
-pub mod Turns
+pub mod Effects
 pub mod AddedPieces
 pub mod JudgedRows
 pub mod Uncounted

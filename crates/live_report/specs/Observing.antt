@@ -8,7 +8,7 @@ use Rattle.line_model.specs.packets.Says.{item_read}
 use Rattle.line_model.specs.basics.Bounds.{AreSaid}
 use Rattle.line_model.specs.channels.Gaps.{GapChannel}
 use Rattle.line_model.specs.observer.Report.{report_of}
-use Rattle.line_model.specs.pieces.Plans.{value}
+use Rattle.line_model.specs.pieces.Plans.{result_of}
 use Rattle.line_model.specs.text.Text.{last_or}
 use Rattle.channel_run.specs.declared.run.Channel.{Ghosts as Machine}
 use Rattle.restart_epochs.specs.Cutting.{Cutting, IsCutting, Represents as IsCutterOf, given_of, items_out}
@@ -40,7 +40,7 @@ epoch_at c = record { interface = c.interface; number = c.epoch; start = c.start
 pub record Holds {A C : Type 0} (interface_of : C → Interface) (number_of : C → ℕ) (represents : C → GapChannel → Type 0)
     (c : Cutting) (reports : List PieceReport) (o : Observer A C) : Type 0 where
   pub interface : o.walk.interface ≡ c.interface
-  pub line : o.walk.machine ≡ c.line
+  pub level : o.walk.machine ≡ c.level
   pub epoch : o.walk.epoch ≡ c.epoch
   pub start : o.walk.start ≡ c.start
   pub packets : o.walk.packets ≡ c.packets
@@ -59,7 +59,7 @@ pub record Represents {A C : Type 0} (interface_of : C → Interface) (number_of
   pub bounds : IsCutting cutting
   pub last : cutting.last ≡ last_or 0 (map (λ r. r.number) rs)
   pub octets : cutting.octets ≡ sum_by (λ r. r.length) rs
-  pub holds : Holds interface_of number_of represents cutting (map value (given_of i rs)) o
+  pub holds : Holds interface_of number_of represents cutting (map result_of (given_of i rs)) o
   pub row : o.keeps_rows ≡ true → KnowsLast i rs o.last o.events.items
   pub uncounted : o.uncounted ≡ uncounted_of i rs
 

@@ -35,7 +35,7 @@ pub record OpenFor {A C : Type 0} (interface_of : C → Interface) (number_of : 
   pub live : IsLive interface_of number_of represents entry.live p
   pub last : entry.last ≡ last_number p.items
 
--- what is in the place of a channel: nothing where it has no rows, else an open channel that represents them
+-- what is in the place of a channel: nothing where it has no rows, otherwise an open channel that represents them
 abbrev pub OpenChannelFor : {A C : Type 0} → (C → Interface) → (C → ℕ) → (C → GapChannel → Type 0) → Piece → Option (OpenChannel A C) → Type 0
 OpenChannelFor interface_of number_of represents p None = p.items ≡ []
 OpenChannelFor interface_of number_of represents p (Some entry) = (has_some p.items ≡ true) × OpenFor interface_of number_of represents entry p
@@ -49,7 +49,7 @@ pub record OpenChannelsFor {A C : Type 0} (interface_of : C → Interface) (numb
 -- an open channel was removed from its place, or begun where it had no rows; it is listed
 pub record IsOutFor {A C : Type 0} (interface_of : C → Interface) (number_of : C → ℕ) (represents : C → GapChannel → Type 0)
     (e : OpenEpoch) (channel : ℕ) (rows : OpenRows) (entry : OpenChannel A C) (table : ChannelTables (OpenChannel A C)) : Type 0 where
-  pub stands : OpenFor interface_of number_of represents entry (begun_piece e channel (rows_of rows channel))
+  pub represented : OpenFor interface_of number_of represents entry (begun_piece e channel (rows_of rows channel))
   pub others : (k : ℕ) → k ≢ channel → OpenChannelFor interface_of number_of represents (begun_piece e k (rows_of rows k)) (value_at table k)
   pub channels : table.channels ≡ with_channel (rows_of rows channel) channel rows.channels
 

@@ -13,7 +13,7 @@ use Rattle.line_model.specs.declared.state.ChannelState.{ChannelState}
 use Rattle.line_model.specs.declared.state.ChannelState.TheVariants as state
 use Rattle.line_model.specs.basics.Records.{Item}
 use Rattle.line_model.specs.channels.Gaps.{GapChannel}
-use Rattle.line_model.specs.channels.GapRestart.{GapLine}
+use Rattle.line_model.specs.channels.GapRestart.{GapInterfaceState}
 use Rattle.line_model.specs.observer.Machine.{Observer, after, routed}
 use Rattle.line_model.specs.observer.Observer.{start, x25}
 use Rattle.line_model.specs.observer.Report.{is_finding}
@@ -60,13 +60,13 @@ abbrev pub reason_on : GapChannel → List Event → Option Reason
 reason_on g es = if counts_data es then None else (if has_finding es then Some Finding else Some (reason_of_state g.channel.state (is_adrift g.certainty) g.channel.owed))
 
 -- why a data packet was not counted: where it went to no channel, a restart goes on
-abbrev pub reason_by : Interface → (taker : Option ℕ) → Observer GapLine GapChannel → Item → Option Reason
+abbrev pub reason_by : Interface → (taker : Option ℕ) → Observer GapInterfaceState GapChannel → Item → Option Reason
 reason_by i None o r = Some Restart
 reason_by i (Some k) o r = reason_on (o.states k) (row_events i o.epoch k (o.states k) r)
 
 -- why the data of a row was not counted, by what was known before it; none where it has no data, or where it was counted
-abbrev pub reason_at : Interface → Observer GapLine GapChannel → Item → Option Reason
-reason_at i o r = if is_data r.packet then reason_by i (routed (x25 i) o.line r) o r else None
+abbrev pub reason_at : Interface → Observer GapInterfaceState GapChannel → Item → Option Reason
+reason_at i o r = if is_data r.packet then reason_by i (routed (x25 i) o.level r) o r else None
 
 -- how many octets of user data a data packet has
 abbrev pub user_octets : Interface → (length : ℕ) → ℕ
@@ -82,11 +82,11 @@ abbrev pub left_out_by : (why : Option Reason) → (octets : ℕ) → List LeftO
 left_out_by None n = []
 left_out_by (Some why) n = record { reason = why; octets = n } ∷ []
 
-abbrev pub left_out_at : Interface → Observer GapLine GapChannel → Item → List LeftOut
+abbrev pub left_out_at : Interface → Observer GapInterfaceState GapChannel → Item → List LeftOut
 left_out_at i o r = left_out_by (reason_at i o r) (user_octets i r.length)
 
 -- the data packets of some rows that were not counted, in order
-abbrev pub left_out : Interface → Observer GapLine GapChannel → List Item → List LeftOut
+abbrev pub left_out : Interface → Observer GapInterfaceState GapChannel → List Item → List LeftOut
 left_out i o [] = []
 left_out i o (r ∷ rs) = left_out_at i o r ++ left_out i (after (x25 i) o r) rs
 

@@ -31,7 +31,7 @@ impl<A: Allocator + Copy, C: Channel<A>> Follower<A, C> {
     /// Returns a trace of which nothing was fed. Allocates nothing.
     pub fn new(alloc: A) -> Self
         ensures fed { IsFed C.interface_of C.number_of C.represents result }
-        ensures stands { HasFollowed C.Channel [] result }
+        ensures represented { HasFollowed C.Channel [] result }
     {
         Follower {
             live: Live::new(alloc),
@@ -43,7 +43,7 @@ impl<A: Allocator + Copy, C: Channel<A>> Follower<A, C> {
     /// Reads the rows of a chunk, and writes the lines of what they found.
     fn write_found<K: Sink>(&mut self, chunk: &[u8], sink: &mut K) -> Result<(), Fault>
         requires { (text : List ℕ) × HasFollowed C.Channel text self.old }
-        ensures stands { FollowsOn C.Channel self.old chunk.now self.new result }
+        ensures represented { FollowsOn C.Channel self.old chunk.now self.new result }
         ensures refused { RefusesOn C.Channel self.old chunk.now result }
         ensures findings_written { OfWritten C.Channel self.old (K.taken sink.old) (λ text before.
             OnOk result (HasFindings before (K.taken sink.new) (text ++ chunk.now))) }
@@ -76,7 +76,7 @@ impl<A: Allocator + Copy, C: Channel<A>> Follower<A, C> {
         requires fed { IsFed C.interface_of C.number_of C.represents self.old }
         ensures fed { IsFed C.interface_of C.number_of C.represents self.new }
         // Of any trace text that it was fed: it was fed that text with the chunk.
-        ensures stands { FollowsOn C.Channel self.old chunk.now self.new result }
+        ensures represented { FollowsOn C.Channel self.old chunk.now self.new result }
         ensures refused { RefusesOn C.Channel self.old chunk.now result }
         // A sink with the lines of what was found so far then has those of the text with the chunk.
         ensures findings_written { OfWritten C.Channel self.old (K.taken sink.old) (λ text before.

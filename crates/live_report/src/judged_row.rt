@@ -6,7 +6,7 @@ ghost use Rattle.data_transfer.specs.Packed.{Packed};
 ghost use Rattle.line_model.specs.basics.Records.{Item};
 ghost use Rattle.line_model.specs.declared.event.Event.{Event};
 ghost use Rattle.live_report.specs.JudgedRows.{judged_row, taker};
-ghost use Rattle.live_report.specs.Turns.{with_data};
+ghost use Rattle.live_report.specs.Effects.{with_data};
 ghost use Rattle.live_report.specs.declared.judged_row.Judge.TheVariants.{Channel as OfChannel};
 
 use data_transfer::packed::FlowWord;

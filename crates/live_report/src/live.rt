@@ -52,7 +52,7 @@ impl<A: Allocator + Copy, C: Channel<A>> Live<A, C> {
     /// Returns a trace of which nothing was fed, whose observer keeps no rows. Allocates nothing.
     pub fn new(alloc: A) -> Self
         ensures fed { IsFed C.interface_of C.number_of C.represents result }
-        ensures stands { WasFed C.Channel [] result }
+        ensures represented { WasFed C.Channel [] result }
     {
         Live::begun(alloc, false)
     }
@@ -60,7 +60,7 @@ impl<A: Allocator + Copy, C: Channel<A>> Live<A, C> {
     /// Returns a trace of which nothing was fed, whose observer keeps the row that it read last. Allocates nothing.
     pub fn with_rows(alloc: A) -> Self
         ensures fed { IsFed C.interface_of C.number_of C.represents result }
-        ensures stands { KeepsRowsOf C.Channel [] result }
+        ensures represented { KeepsRowsOf C.Channel [] result }
     {
         Live::begun(alloc, true)
     }
@@ -68,7 +68,7 @@ impl<A: Allocator + Copy, C: Channel<A>> Live<A, C> {
     /// A trace of which nothing was fed.
     fn begun(alloc: A, keeps_rows: bool) -> Self
         ensures fed { IsFed C.interface_of C.number_of C.represents result }
-        ensures stands { WasFed C.Channel [] result }
+        ensures represented { WasFed C.Channel [] result }
         ensures keeps { result.keeps_rows ≡ keeps_rows }
     {
         Live {
@@ -115,7 +115,7 @@ impl<A: Allocator + Copy, C: Channel<A>> Live<A, C> {
     #[inline(always)]
     fn feed_rows(&mut self, chunk: &[u8]) -> Result<(), Fault>
         requires { (text : List ℕ) × WasFed C.Channel text self.old }
-        ensures stands { IsFedOn C.Channel self.old chunk.now self.new result }
+        ensures represented { IsFedOn C.Channel self.old chunk.now self.new result }
         ensures refused { RefusesEarly C.Channel self.old chunk.now result }
         ensures found { OfFed C.Channel self.old (λ text.
             IsFoundBy result self.old.found.items self.new.found.items
@@ -144,7 +144,7 @@ impl<A: Allocator + Copy, C: Channel<A>> Live<A, C> {
     fn begin(&mut self, chunk: &[u8]) -> Result<(), Fault>
         requires fed { (text : List ℕ) × WasFed C.Channel text self.old }
         requires bare { self.old.observer ≡ None }
-        ensures stands { IsFedOn C.Channel self.old chunk.now self.new result }
+        ensures represented { IsFedOn C.Channel self.old chunk.now self.new result }
         ensures refused { RefusesEarly C.Channel self.old chunk.now result }
         ensures found { OfFed C.Channel self.old (λ text.
             IsFoundBy result self.old.found.items self.new.found.items
@@ -186,7 +186,7 @@ impl<A: Allocator + Copy, C: Channel<A>> Live<A, C> {
         requires fed { IsFed C.interface_of C.number_of C.represents self.old }
         ensures fed { IsFed C.interface_of C.number_of C.represents self.new }
         // Of any trace text that it was fed: it was fed that text with the chunk.
-        ensures stands { IsFedOn C.Channel self.old chunk.now self.new result }
+        ensures represented { IsFedOn C.Channel self.old chunk.now self.new result }
         ensures refused { RefusesEarly C.Channel self.old chunk.now result }
         // What the rows of the chunk found comes after what all rows before it did; where memory is refused some first
         // part of it.

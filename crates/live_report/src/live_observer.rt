@@ -35,7 +35,7 @@ impl<A: Allocator + Copy, C: Channel<A>> TraceObserver<A> for Live<A, C> {
         Live::whole(self, &mut Uncounted::none())
     }
 
-    ghost sound = { λ live text stands. stands.0.reads.sound };
+    ghost sound = { λ live text represented. represented.0.reads.sound };
 
-    ghost sized = { λ live text stands. fed_length live.lines text stands.0.reads };
+    ghost sized = { λ live text represented. fed_length live.lines text represented.0.reads };
 }

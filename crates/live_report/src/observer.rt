@@ -5,10 +5,10 @@ ghost use Rattle.line_model.specs.basics.Records as records;
 ghost use Rattle.line_model.specs.declared.fault.Fault.TheVariants.{Memory};
 ghost use Rattle.line_model.specs.declared.interface.Interface.{Interface as AnyInterface};
 ghost use Rattle.line_model.specs.packets.Says.{gap_of, item_read};
-ghost use Rattle.line_model.specs.pieces.Plans.{end_at, value};
+ghost use Rattle.line_model.specs.pieces.Plans.{end_at, result_of};
 ghost use Rattle.restart_epochs.specs.OpenRows.{OpenRows};
 ghost use Rattle.restart_epochs.specs.Walks.{step_to, IsStep};
-ghost use Rattle.restart_epochs.specs.Cutting.{Cutting, ended_by, gap_turned, observer, HasTurned};
+ghost use Rattle.restart_epochs.specs.Cutting.{Cutting, ended_by, gap_by_effect, observer, HasEffect};
 ghost use Rattle.report_merge.specs.Gathered.{gathered};
 ghost use Rattle.channel_run.specs.Live.{channel_so_far};
 ghost use Rattle.channel_run.specs.Views.{IsViewOf};
@@ -16,7 +16,7 @@ ghost use Rattle.live_report.specs.OpenChannels.{ChannelsRepresent};
 ghost use Rattle.live_report.specs.JudgedRows.{IsJudgedRow, judged_row};
 ghost use Rattle.live_report.specs.Uncounted.{AreFew, uncounted_of};
 ghost use Rattle.live_report.specs.declared.judged_row.Judge.TheVariants.{Restart};
-ghost use Rattle.live_report.specs.Turns.{FindsBy, HasEvents, JudgesBy, MayTurn, OfOpen, StandsAt, epoch_of, with_data};
+ghost use Rattle.live_report.specs.Effects.{FindsBy, HasEvents, JudgesBy, MayAffect, OfOpen, RepresentsAt, epoch_of, with_data};
 ghost use Rattle.live_report.specs.Observing.{open_piece, HasKept, HasWalked, IsHolding, IsObserver, MayWalk, ReturnsFinding, ReturnsReport, WalksOn};
 
 use crate::ending::end_channels;
@@ -59,9 +59,9 @@ pub struct Observer<A: Allocator, C: Channel<A>> {
 }
 
 /// What came of a row that goes to no channel, which the restart machine judged in a state.
-fn judged_on_line(before: RState, step: &Step) -> RowOutcome
+fn judged_on_level(before: RState, step: &Step) -> RowOutcome
     ensures { result ≡ record {
-      judge = Restart before step.now.machine.line.state;
+      judge = Restart before step.now.machine.level.state;
       finding = step.now.finding;
     } }
 {
@@ -110,43 +110,43 @@ impl<A: Allocator + Copy, C: Channel<A>> Observer<A, C> {
     /// Steps the channel that a row goes to, or ends the channels that it ends, and returns what came of it. Fails only
     /// when memory is refused.
     #[inline(always)]
-    fn turn(&mut self, step: &Step, item: &ItemRef<'_>) -> Result<RowOutcome, Fault>
+    fn apply(&mut self, step: &Step, item: &ItemRef<'_>) -> Result<RowOutcome, Fault>
         requires room { (rows : OpenRows) × (reports : List records.PieceReport)
-            × StandsAt C.Channel self.old.walk rows self.old.open_channels × (self.old.ended ≡ gathered reports)
-            × MayTurn step.now.turn self.old.walk.interface self.old.open_channels.gap item.now rows }
+            × RepresentsAt C.Channel self.old.walk rows self.old.open_channels × (self.old.ended ≡ gathered reports)
+            × MayAffect step.now.effect self.old.walk.interface self.old.open_channels.gap item.now rows }
         requires pieces { self.old.ended.pieces + length self.old.open_channels.table.channels < 2 ^ 32 }
         ensures walk { self.new.walk ≡ self.old.walk }
         ensures uncounted { self.new.uncounted ≡ self.old.uncounted }
         ensures keeps { self.new.keeps_rows ≡ self.old.keeps_rows }
-        ensures gap { OnOk result (self.new.open_channels.gap ≡ gap_turned step.now.turn item.now self.old.open_channels.gap) }
+        ensures gap { OnOk result (self.new.open_channels.gap ≡ gap_by_effect step.now.effect item.now self.old.open_channels.gap) }
         ensures open_channels { OfOpen C.Channel self.old.walk self.old.open_channels (λ rows. (after : OpenRows)
-            → MayTurn step.now.turn self.old.walk.interface self.old.open_channels.gap item.now rows
-            → HasTurned step.now.turn item.now self.old.open_channels.gap rows after
+            → MayAffect step.now.effect self.old.walk.interface self.old.open_channels.gap item.now rows
+            → HasEffect step.now.effect item.now self.old.open_channels.gap rows after
             → OnOk result (ChannelsRepresent C.Channel (epoch_of self.old.walk) after self.new.open_channels)) }
         ensures ended { OfOpen C.Channel self.old.walk self.old.open_channels (λ rows. (reports : List records.PieceReport)
             → self.old.ended ≡ gathered reports
-            → OnOk result (self.new.ended ≡ gathered (reports ++ map value (ended_by step.now.turn
+            → OnOk result (self.new.ended ≡ gathered (reports ++ map result_of (ended_by step.now.effect
             self.old.walk.interface self.old.walk.epoch self.old.walk.start (end_at item.now) (length reports)
             self.old.open_channels.gap rows)))) }
         ensures judge { OfOpen C.Channel self.old.walk self.old.open_channels (λ rows. (after : OpenRows)
-            → MayTurn step.now.turn self.old.walk.interface self.old.open_channels.gap item.now rows
-            → HasTurned step.now.turn item.now self.old.open_channels.gap rows after
-            → IfOk result (λ row. JudgesBy step.now.turn self.old.walk self.old.open_channels.gap step.now.machine rows after row.judge)) }
+            → MayAffect step.now.effect self.old.walk.interface self.old.open_channels.gap item.now rows
+            → HasEffect step.now.effect item.now self.old.open_channels.gap rows after
+            → IfOk result (λ row. JudgesBy step.now.effect self.old.walk self.old.open_channels.gap step.now.machine rows after row.judge)) }
         ensures finding { OfOpen C.Channel self.old.walk self.old.open_channels (λ rows.
             IfOk result (λ row. FindsBy step.now self.old.walk self.old.open_channels.gap rows item.now row.finding)) }
         ensures events { OfOpen C.Channel self.old.walk self.old.open_channels (λ rows.
-            IfOk result (λ row. HasEvents step.now.turn self.old.walk self.old.open_channels.gap rows item.now
+            IfOk result (λ row. HasEvents step.now.effect self.old.walk self.old.open_channels.gap rows item.now
             (with_data self.old.walk.epoch row.judge item.now self.new.events.items))) }
         ensures memory { IfErr result (λ fault. fault ≡ Memory) }
     {
-        match step.turn {
+        match step.effect {
             ChannelEffect::ToChannel(channel) => {
                 self.open_channels
                     .step(&self.walk, channel, item, &mut self.events)
             }
             ChannelEffect::ToAll => {
                 self.open_channels.gap = item.number;
-                Ok(judged_on_line(self.walk.machine.state(), step))
+                Ok(judged_on_level(self.walk.machine.state(), step))
             }
             ChannelEffect::Ends => {
                 let alloc = *self.events.allocator();
@@ -156,15 +156,15 @@ impl<A: Allocator + Copy, C: Channel<A>> Observer<A, C> {
                     &mut self.open_channels,
                     &mut self.ended,
                 )?;
-                Ok(judged_on_line(self.walk.machine.state(), step))
+                Ok(judged_on_level(self.walk.machine.state(), step))
             }
-            ChannelEffect::Stays => Ok(judged_on_line(self.walk.machine.state(), step)),
+            ChannelEffect::Stays => Ok(judged_on_level(self.walk.machine.state(), step)),
         }
     }
 
     /// Returns the state of the restart machine.
     pub fn restart_state(&self) -> RState
-        ensures { result ≡ self.now.walk.machine.line.state }
+        ensures { result ≡ self.now.walk.machine.level.state }
     {
         self.walk.machine.state()
     }
@@ -229,7 +229,7 @@ impl<A: Allocator + Copy, C: Channel<A>> Observer<A, C> {
     pub fn take(&mut self, row: &ReadRow<A>) -> Result<Option<Finding>, Fault>
         requires room { MayWalk C.Channel self.old (λ i. item_read i row.now ∷ []) }
         // Of any rows that it read: it represents them and this one.
-        ensures stands { WalksOn C.Channel self.old (λ i. item_read i row.now) self.new result }
+        ensures represented { WalksOn C.Channel self.old (λ i. item_read i row.now) self.new result }
         // What was found comes after all that was found before.
         ensures finding { ReturnsFinding C.Channel self.old (λ i. item_read i row.now) result }
         ensures keeps { self.new.keeps_rows ≡ self.old.keeps_rows }
@@ -247,7 +247,7 @@ impl<A: Allocator + Copy, C: Channel<A>> Observer<A, C> {
     /// Reads the next row by a reference to its octets, as `take` does.
     pub(crate) fn take_row(&mut self, row: RowRef<'_>) -> Result<Option<Finding>, Fault>
         requires room { MayWalk C.Channel self.old (λ i. item_read i row ∷ []) }
-        ensures stands { WalksOn C.Channel self.old (λ i. item_read i row.entry) self.new result }
+        ensures represented { WalksOn C.Channel self.old (λ i. item_read i row.entry) self.new result }
         ensures finding { ReturnsFinding C.Channel self.old (λ i. item_read i row.entry) result }
         ensures keeps { self.new.keeps_rows ≡ self.old.keeps_rows }
         ensures memory { IfErr result (λ fault. fault ≡ Memory) }
@@ -265,7 +265,7 @@ impl<A: Allocator + Copy, C: Channel<A>> Observer<A, C> {
     /// Reads the next row by what it says, as `take` does.
     fn take_item(&mut self, item: &ItemRef<'_>) -> Result<Option<Finding>, Fault>
         requires room { MayWalk C.Channel self.old (λ _. item.now ∷ []) }
-        ensures stands { WalksOn C.Channel self.old (λ _. item.now) self.new result }
+        ensures represented { WalksOn C.Channel self.old (λ _. item.now) self.new result }
         ensures finding { ReturnsFinding C.Channel self.old (λ _. item.now) result }
         ensures keeps { self.new.keeps_rows ≡ self.old.keeps_rows }
         ensures memory { IfErr result (λ fault. fault ≡ Memory) }
@@ -285,7 +285,7 @@ impl<A: Allocator + Copy, C: Channel<A>> Observer<A, C> {
     ) -> Result<Option<Finding>, Fault>
         requires room { MayWalk C.Channel self.old (λ _. item.now ∷ []) }
         requires step { IsStep self.old.walk.machine self.old.walk.epoch item.now (step_to channel self.old.walk item.now) }
-        ensures stands { WalksOn C.Channel self.old (λ _. item.now) self.new result }
+        ensures represented { WalksOn C.Channel self.old (λ _. item.now) self.new result }
         ensures finding { ReturnsFinding C.Channel self.old (λ _. item.now) result }
         ensures keeps { self.new.keeps_rows ≡ self.old.keeps_rows }
         ensures memory { IfErr result (λ fault. fault ≡ Memory) }
@@ -320,13 +320,13 @@ impl<A: Allocator + Copy, C: Channel<A>> Observer<A, C> {
     #[inline(never)]
     fn take_by_machine(&mut self, item: &ItemRef<'_>) -> Result<Option<Finding>, Fault>
         requires room { MayWalk C.Channel self.old (λ _. item.now ∷ []) }
-        ensures stands { WalksOn C.Channel self.old (λ _. item.now) self.new result }
+        ensures represented { WalksOn C.Channel self.old (λ _. item.now) self.new result }
         ensures finding { ReturnsFinding C.Channel self.old (λ _. item.now) result }
         ensures keeps { self.new.keeps_rows ≡ self.old.keeps_rows }
         ensures memory { IfErr result (λ fault. fault ≡ Memory) }
     {
         let step = self.walk.step(item)?;
-        let judged = self.turn(&step, item)?;
+        let judged = self.apply(&step, item)?;
         self.keep(&judged, item)?;
         self.walk.advance(step);
         Ok(judged.finding)

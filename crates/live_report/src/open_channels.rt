@@ -6,7 +6,7 @@ ghost use Rattle.line_model.specs.basics.Records.{Item};
 ghost use Rattle.line_model.specs.declared.fault.Fault.TheVariants.{Memory};
 ghost use Rattle.line_model.specs.packets.Says.{gap_item};
 ghost use Rattle.line_model.specs.pieces.Plan.{has_some};
-ghost use Rattle.line_model.specs.pieces.Plans.{value};
+ghost use Rattle.line_model.specs.pieces.Plans.{result_of};
 ghost use Rattle.restart_epochs.specs.ChannelTables.{no_open_channels, HasListed};
 ghost use Rattle.restart_epochs.specs.OpenRows.{OpenRows, rows_of, with_gap, HasMore};
 ghost use Rattle.channel_run.specs.Live.{channel_so_far};
@@ -14,7 +14,7 @@ ghost use Rattle.channel_run.specs.Run.{row_events};
 ghost use Rattle.channel_run.specs.Views.{IsViewOf};
 ghost use Rattle.live_report.specs.AddedPieces.{ArePieces};
 ghost use Rattle.live_report.specs.OpenChannels.{ChannelsRepresent, OpenEpoch, IsOpenFor, IsOut, begun_piece, ended_piece, FindsOn};
-ghost use Rattle.live_report.specs.Turns.{OfOpenChannels, TakesOn, epoch_of, reached_piece, with_data};
+ghost use Rattle.live_report.specs.Effects.{OfOpenChannels, TakesOn, epoch_of, reached_piece, with_data};
 
 use crate::judged_row::{Judge, RowOutcome};
 use channel_run::live::LiveChannel;
@@ -45,7 +45,7 @@ impl<A: Allocator + Copy, C: Channel<A>> OpenChannel<A, C> {
         requires room { (e : OpenEpoch) × (k : ℕ) × (items : List Item)
             × IsOpenFor C.Channel e k items self.old
             × IsPiece e.interface k (with_gap gap items) }
-        ensures stands { (e : OpenEpoch) (k : ℕ) (items : List Item)
+        ensures represented { (e : OpenEpoch) (k : ℕ) (items : List Item)
             → IsOpenFor C.Channel e k items self.old
             → IsPiece e.interface k (with_gap gap items)
             → OnOk result (IsOpenFor C.Channel e k (with_gap gap items) self.new) }
@@ -63,7 +63,7 @@ impl<A: Allocator + Copy, C: Channel<A>> OpenChannel<A, C> {
         requires room { (e : OpenEpoch) × (k : ℕ) × (items : List Item)
             × IsOpenFor C.Channel e k items self.old
             × IsPiece e.interface k (items ++ gap_item gap ∷ []) }
-        ensures stands { (e : OpenEpoch) (k : ℕ) (items : List Item)
+        ensures represented { (e : OpenEpoch) (k : ℕ) (items : List Item)
             → IsOpenFor C.Channel e k items self.old
             → IsPiece e.interface k (items ++ gap_item gap ∷ [])
             → OnOk result (IsOpenFor C.Channel e k (items ++ gap_item gap ∷ []) self.new) }
@@ -89,7 +89,7 @@ impl<A: Allocator + Copy, C: Channel<A>> OpenChannel<A, C> {
         ensures value { IfOk result (λ report. (e : OpenEpoch) (k : ℕ) (items : List Item)
             → IsOpenFor C.Channel e k items entry.value
             → IsPiece e.interface k (with_gap gap items)
-            → report ≡ value (ended_piece id e end k (with_gap gap items))) }
+            → report ≡ result_of (ended_piece id e end k (with_gap gap items))) }
         ensures memory { IfErr result (λ fault. fault ≡ Memory) }
     {
         entry.take_gap(gap, events)?;
@@ -170,7 +170,7 @@ impl<A: Allocator + Copy, C: Channel<A>> OpenChannels<A, C> {
             × ArePieces (epoch_of walk.now) self.old.gap rows
             × IsPiece walk.now.interface channel (with_gap self.old.gap (rows_of rows channel) ++ item.now ∷ []) }
         ensures gap { OnOk result (self.new.gap ≡ self.old.gap) }
-        ensures stands { OfOpenChannels C.Channel walk.now self.old (λ rows. (after : OpenRows)
+        ensures represented { OfOpenChannels C.Channel walk.now self.old (λ rows. (after : OpenRows)
             → HasMore self.old.gap channel item.now rows after
             → IsPiece walk.now.interface channel (rows_of after channel)
             → OnOk result (ChannelsRepresent C.Channel (epoch_of walk.now) after self.new)) }

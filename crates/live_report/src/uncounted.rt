@@ -8,7 +8,7 @@ ghost use Rattle.restart_epochs.specs.Cutting.{observer};
 ghost use Rattle.channel_run.specs.StatusWord.{view_in};
 ghost use Rattle.channel_run.specs.Views.{IsViewOf};
 ghost use Rattle.live_report.specs.JudgedRows.{IsJudgedRow, judged_row};
-ghost use Rattle.live_report.specs.Turns.{with_data};
+ghost use Rattle.live_report.specs.Effects.{with_data};
 ghost use Rattle.live_report.specs.Uncounted.{AreFew, amount_for, counts_data, grown, has_finding, is_data, none_left_out, reason_at, reason_of_state, reason_on, uncounted_of, user_octets, with_one};
 
 use crate::judged_row::{Judge, JudgedRow, RowOutcome};

@@ -203,7 +203,7 @@ asked_step i (code ∷ ys) rest more n l rest_is n_is fits more_is =
     let whole : octets_after code ys ≤ length ys = subst (λ zs. octets_after code zs ≤ length zs) rest_is (rw (← n_is) fits) in
     asked_first i code ys whole ∙ rw (more_is, n_is, rest_is) refl
 
--- what is asked by facilities that were read and by those after them; behind a marker those after them are not read
+-- what is asked by facilities that were read and by those after them; after a marker those after them are not read
 abbrev pub together : (is_marked : Bool) → (read later : Asked) → Asked
 together true a l = a
 together false a l = record {
@@ -255,7 +255,7 @@ together_with i rest a l code zero_not =
       ]
     ]
 
--- one facility more is walked over: read, or not read behind a marker
+-- one facility more is walked over: read, or not read after a marker
 walked : (i : Interface) (code : ℕ) (rest : List ℕ) (m b : Bool) (a l : Asked) → (code == 0) ≡ b →
     together m a (joined i code rest l) ≡ together (m || b) (cond (m || b) a (with_facility i code rest a)) l
 walked i code rest true b a l e = refl

@@ -15,7 +15,7 @@ use Rattle.packet_decode.specs.CallFaults.{facility_field, is_field_cut, tail_fa
 use Rattle.packet_decode.specs.Reading.{ReadsAs, charges_fast, read_of}
 use Rattle.packet_decode.specs.declared.facility.Asked.{Asked}
 
--- faults behind those that do not hold, and behind one that does
+-- faults after those that do not hold, and after one that does
 none_by : (b : Bool) (x : ℕ) (cs ds : List (Bool × ℕ)) → (first_fault cs ≡ None → first_fault (cs ++ ds) ≡ first_fault ds) →
     first_fault ((b, x) ∷ cs) ≡ None → first_fault ((b, x) ∷ cs ++ ds) ≡ first_fault ds
 none_by true x cs ds later h = cc

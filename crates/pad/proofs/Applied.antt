@@ -18,7 +18,7 @@ use Rattle.line_model.specs.channels.Pad.{Pair, form_fault, was_asked, is_reques
 use Rattle.pad.specs.Pairs.{pairs_before}
 use Rattle.pad.specs.Effects.{said, entry_at, events_of, events_back, all_indicated, own_fault}
 use Rattle.pad.specs.MessageEvents.{set_fault, set_events, set_events_by}
-use Rattle.pad.specs.Stands.{Represents, HasEntries}
+use Rattle.pad.specs.Represents.{Represents, HasEntries}
 use Rattle.pad.specs.declared.settings.Settings.{Settings}
 use Rattle.pad.specs.declared.message.MessageCode.{MessageCode}
 use Rattle.pad.specs.declared.message.MessageCode.TheVariants.{Indication, InvitationToClear, Set, Break, Read, Error, SetAndRead, Reselection, ReselectionWithAddress}
@@ -58,12 +58,12 @@ asked_more pad (u ∷ ts) t = ap (λ b. asks pad u || b) (asked_more pad ts t) �
     grouped false b c = refl
 
 -- settings with one message more
-pub stands_more : (s new : Settings) (ts : List PadMessage) (t : PadMessage) → Represents s ts → new.pad ≡ s.pad → new.asked ≡ (s.asked || asks s.pad t) →
+pub represents_more : (s new : Settings) (ts : List PadMessage) (t : PadMessage) → Represents s ts → new.pad ≡ s.pad → new.asked ≡ (s.asked || asks s.pad t) →
     ((ws : List What) → HasEntries s ws → HasEntries new (ws ++ settings_after (message_fault t.from ts t.message) t.from t.message)) →
     Represents new (ts ++ t ∷ [])
-stands_more s new ts t stands pad_is asked_is has_entries = record {
-  asked = asked_is ∙ ap (λ b. b || asks s.pad t) stands.asked ∙ sym (asked_more s.pad ts t) ∙ ap (λ p. was_asked p (ts ++ t ∷ [])) (sym pad_is);
-  entries = λ k below. has_entries (events_of ts) stands.entries k below ∙ ap (λ l. entry_at new.pad (k + 1) l) (sym (events_more ts t));
+represents_more s new ts t represented pad_is asked_is has_entries = record {
+  asked = asked_is ∙ ap (λ b. b || asks s.pad t) represented.asked ∙ sym (asked_more s.pad ts t) ∙ ap (λ p. was_asked p (ts ++ t ∷ [])) (sym pad_is);
+  entries = λ k below. has_entries (events_of ts) represented.entries k below ∙ ap (λ l. entry_at new.pad (k + 1) l) (sym (events_more ts t));
 }
 
 -- contents that speak of one PAD alone
@@ -154,38 +154,38 @@ IsKept s ts x c ps = Represents s (ts ++ record { from = x; message = octets_of 
 
 unasking : (s : Settings) (ts : List PadMessage) (x : Side) (c : MessageCode) (ps : List ℕ) (p : Side) → Represents s ts → is_request (octets_of c ps) ≡ false →
     is_side p s.pad ≡ false → AllOn p (settings_of x (octets_of c ps)) → IsKept s ts x c ps
-unasking s ts x c ps p stands none apart on =
+unasking s ts x c ps p represented none apart on =
     let t : PadMessage = record { from = x; message = octets_of c ps } in
-    stands_more s s ts t stands refl
+    represents_more s s ts t represented refl
     (or_false s.asked (asks s.pad t) (ap (λ b. is_side (other s.pad) x && b && is_none (form_fault (octets_of c ps))) none ∙ not_asked (is_side (other s.pad) x) (is_none (form_fault (octets_of c ps)))))
     (λ ws. entries_apart s p ws (settings_after (message_fault x ts (octets_of c ps)) x (octets_of c ps)) apart (after_on (message_fault x ts (octets_of c ps)) p x (octets_of c ps) on))
 
 own_request : (s : Settings) (ts : List PadMessage) (x : Side) (c : MessageCode) (ps : List ℕ) → Represents s ts → is_side s.pad x ≡ true →
     AllOn (other x) (settings_of x (octets_of c ps)) → IsKept s ts x c ps
-own_request s ts x c ps stands own on =
+own_request s ts x c ps represented own on =
     let t : PadMessage = record { from = x; message = octets_of c ps } in
-    stands_more s s ts t stands refl
+    represents_more s s ts t represented refl
     (or_false s.asked (asks s.pad t) (ap (λ b. b && is_request (octets_of c ps) && is_none (form_fault (octets_of c ps))) (other_swap s.pad x own).1))
     (λ ws. entries_apart s (other x) ws (settings_after (message_fault x ts (octets_of c ps)) x (octets_of c ps)) (other_swap s.pad x own).0 (after_on (message_fault x ts (octets_of c ps)) (other x) x (octets_of c ps) on))
 
 pub nothing : (s : Settings) (ts : List PadMessage) (x : Side) (c : MessageCode) (ps : List ℕ) → Represents s ts → concern_of (is_side s.pad x) c ≡ Nothing →
     IsKept s ts x c ps
-nothing s ts x c ps stands h = by (is_side s.pad x) refl c h
+nothing s ts x c ps represented h = by (is_side s.pad x) refl c h
   where
     by : (b : Bool) → is_side s.pad x ≡ b → (c : MessageCode) → concern_of b c ≡ Nothing → IsKept s ts x c ps
     by true e Indication h = cc
-    by true e Set h = own_request s ts x Set ps stands e (sets_on (length (2 ∷ ps) == 1) x (2 ∷ ps))
-    by true e SetAndRead h = own_request s ts x SetAndRead ps stands e (sets_on (length (6 ∷ ps) == 1) x (6 ∷ ps))
-    by true e Read h = own_request s ts x Read ps stands e tt
-    by false e Indication h = unasking s ts x Indication ps x stands refl (apart_swap s.pad x e) (indicated_on x (pairs_before true ps))
+    by true e Set h = own_request s ts x Set ps represented e (sets_on (length (2 ∷ ps) == 1) x (2 ∷ ps))
+    by true e SetAndRead h = own_request s ts x SetAndRead ps represented e (sets_on (length (6 ∷ ps) == 1) x (6 ∷ ps))
+    by true e Read h = own_request s ts x Read ps represented e tt
+    by false e Indication h = unasking s ts x Indication ps x represented refl (apart_swap s.pad x e) (indicated_on x (pairs_before true ps))
     by false e Set h = cc
     by false e SetAndRead h = cc
     by false e Read h = cc
-    by b e InvitationToClear h = unasking s ts x InvitationToClear ps (other s.pad) stands refl (apart_other s.pad) tt
-    by b e Break h = unasking s ts x Break ps (other s.pad) stands refl (apart_other s.pad) tt
-    by b e Error h = unasking s ts x Error ps (other s.pad) stands refl (apart_other s.pad) tt
-    by b e Reselection h = unasking s ts x Reselection ps (other s.pad) stands refl (apart_other s.pad) tt
-    by b e ReselectionWithAddress h = unasking s ts x ReselectionWithAddress ps (other s.pad) stands refl (apart_other s.pad) tt
+    by b e InvitationToClear h = unasking s ts x InvitationToClear ps (other s.pad) represented refl (apart_other s.pad) tt
+    by b e Break h = unasking s ts x Break ps (other s.pad) represented refl (apart_other s.pad) tt
+    by b e Error h = unasking s ts x Error ps (other s.pad) represented refl (apart_other s.pad) tt
+    by b e Reselection h = unasking s ts x Reselection ps (other s.pad) represented refl (apart_other s.pad) tt
+    by b e ReselectionWithAddress h = unasking s ts x ReselectionWithAddress ps (other s.pad) represented refl (apart_other s.pad) tt
 
 -- the fault of a well formed indication, and of a set
 indication_fault : (x : Side) (ts : List PadMessage) (ps : List ℕ) (a : Bool) → form_fault (0 ∷ ps) ≡ None → was_asked x ts ≡ a →
@@ -308,7 +308,7 @@ reads_is false ReselectionWithAddress h = cc
 pub indicating : (s new : Settings) (ts : List PadMessage) (x : Side) (c : MessageCode) (ps : List ℕ) → Represents s ts → form_fault (octets_of c ps) ≡ None →
     concern_of (is_side s.pad x) c ≡ Indicates → s.asked ≡ true → new.pad ≡ s.pad → new.asked ≡ s.asked →
     ((ws : List What) → HasEntries s ws → HasEntries new (ws ++ all_indicated s.pad ps)) → Represents new (ts ++ record { from = x; message = octets_of c ps } ∷ [])
-indicating s new ts x c ps stands wf h asked pad_is asked_is has_entries =
+indicating s new ts x c ps represented wf h asked pad_is asked_is has_entries =
     let k = indicates_is (is_side s.pad x) c h in
     subst (λ d. form_fault (octets_of d ps) ≡ None → Represents new (ts ++ record { from = x; message = octets_of d ps } ∷ [])) (sym k.1) (at k.0) wf
   where
@@ -316,15 +316,15 @@ indicating s new ts x c ps stands wf h asked pad_is asked_is has_entries =
     at e wf =
         let x_is : x ≡ s.pad = side_is s.pad x e in
         let fault : message_fault x ts (0 ∷ ps) ≡ None =
-        indication_fault x ts ps true wf (ap (λ y. was_asked y ts) x_is ∙ sym stands.asked ∙ asked) in
-        stands_more s new ts (record { from = x; message = 0 ∷ ps }) stands pad_is
+        indication_fault x ts ps true wf (ap (λ y. was_asked y ts) x_is ∙ sym represented.asked ∙ asked) in
+        represents_more s new ts (record { from = x; message = 0 ∷ ps }) represented pad_is
         (asked_is ∙ or_false s.asked (is_side (other s.pad) x && false && is_none (form_fault (0 ∷ ps))) (not_asked (is_side (other s.pad) x) (is_none (form_fault (0 ∷ ps)))))
         (along s new (all_indicated s.pad ps) (settings_after (message_fault x ts (0 ∷ ps)) x (0 ∷ ps))
         (ap (λ p. all_indicated p ps) (sym x_is) ∙ ap (λ f. settings_after f x (0 ∷ ps)) (sym fault)) has_entries)
 
 pub unasked : (s : Settings) (ts : List PadMessage) (x : Side) (c : MessageCode) (ps : List ℕ) → Represents s ts → form_fault (octets_of c ps) ≡ None →
     concern_of (is_side s.pad x) c ≡ Indicates → s.asked ≡ false → IsKept s ts x c ps
-unasked s ts x c ps stands wf h asked =
+unasked s ts x c ps represented wf h asked =
     let k = indicates_is (is_side s.pad x) c h in
     subst (λ d. form_fault (octets_of d ps) ≡ None → IsKept s ts x d ps) (sym k.1) (at k.0) wf
   where
@@ -332,8 +332,8 @@ unasked s ts x c ps stands wf h asked =
     at e wf =
         let x_is : x ≡ s.pad = side_is s.pad x e in
         let fault : message_fault x ts (0 ∷ ps) ≡ Some X4 =
-        indication_fault x ts ps false wf (ap (λ y. was_asked y ts) x_is ∙ sym stands.asked ∙ asked) in
-        stands_more s s ts (record { from = x; message = 0 ∷ ps }) stands refl
+        indication_fault x ts ps false wf (ap (λ y. was_asked y ts) x_is ∙ sym represented.asked ∙ asked) in
+        represents_more s s ts (record { from = x; message = 0 ∷ ps }) represented refl
         (or_false s.asked (is_side (other s.pad) x && false && is_none (form_fault (0 ∷ ps))) (not_asked (is_side (other s.pad) x) (is_none (form_fault (0 ∷ ps)))))
         (along s s [] (settings_after (message_fault x ts (0 ∷ ps)) x (0 ∷ ps)) (ap (λ f. settings_after f x (0 ∷ ps)) (sym fault))
         (λ ws h k below. h k below ∙ ap (λ l. entry_at s.pad (k + 1) l) (sym (append-nil ws))))
@@ -382,25 +382,25 @@ free_fault s ts x c ps h =
 -- the fault of an indication of the PAD
 pub indicating_fault : (s : Settings) (ts : List PadMessage) (x : Side) (c : MessageCode) (ps : List ℕ) (asked : Bool) → Represents s ts → form_fault (octets_of c ps) ≡ None →
     concern_of (is_side s.pad x) c ≡ Indicates → s.asked ≡ asked → cond asked None (Some X4) ≡ own_fault s.pad ts (record { from = x; message = octets_of c ps })
-indicating_fault s ts x c ps asked stands wf h is_asked =
+indicating_fault s ts x c ps asked represented wf h is_asked =
     let k = indicates_is (is_side s.pad x) c h in
     subst (λ d. form_fault (octets_of d ps) ≡ None → cond asked None (Some X4) ≡ own_fault s.pad ts (record { from = x; message = octets_of d ps })) (sym k.1) (at k.0) wf
   where
     at : is_side s.pad x ≡ true → form_fault (0 ∷ ps) ≡ None → cond asked None (Some X4) ≡ own_fault s.pad ts (record { from = x; message = 0 ∷ ps })
     at e wf =
         sym (ap (λ b. elim ((b && true) || (is_side (other s.pad) x && false)) [ true ↦ message_fault x ts (0 ∷ ps) | false ↦ None ]) e
-        ∙ indication_fault x ts ps asked wf (ap (λ y. was_asked y ts) (side_is s.pad x e) ∙ sym stands.asked ∙ is_asked))
+        ∙ indication_fault x ts ps asked wf (ap (λ y. was_asked y ts) (side_is s.pad x e) ∙ sym represented.asked ∙ is_asked))
 
 -- a set for the PAD
 set_for : (s new : Settings) (ts : List PadMessage) (x : Side) (c : MessageCode) (ps : List ℕ) → Represents s ts → form_fault (octets_of c ps) ≡ None →
     is_side s.pad x ≡ false → is_set (octets_of c ps) ≡ true → is_indication (octets_of c ps) ≡ false → is_request (octets_of c ps) ≡ true →
     settings_of x (octets_of c ps) ≡ set_events (other x) ps → new.pad ≡ s.pad → new.asked ≡ true →
     ((ws : List What) → HasEntries s ws → HasEntries new (ws ++ set_events s.pad ps)) → Represents new (ts ++ record { from = x; message = octets_of c ps } ∷ [])
-set_for s new ts x c ps stands wf apart set not_indication request events pad_is asked_is has_entries =
+set_for s new ts x c ps represented wf apart set not_indication request events pad_is asked_is has_entries =
     let m : List ℕ = octets_of c ps in
     let asking : asks s.pad (record { from = x; message = m }) ≡ true =
     ap (λ b. b && is_request m && is_none (form_fault m)) (other_is s.pad x apart).1 ∙ ap (λ b. b && is_none (form_fault m)) request ∙ ap (λ o. is_none o) wf in
-    stands_more s new ts (record { from = x; message = m }) stands pad_is
+    represents_more s new ts (record { from = x; message = m }) represented pad_is
     (asked_is ∙ sym (ap (λ b. s.asked || b) asking ∙ or_true s.asked))
     (along s new (set_events s.pad ps) (settings_after (message_fault x ts m) x m)
     (ap (λ p. set_events p ps) (sym (other_is s.pad x apart).0) ∙ sym events ∙ sym (after_set_fault (list_any is_refusable (pairs_before false ps)) x m)
@@ -413,12 +413,12 @@ set_for s new ts x c ps stands wf apart set not_indication request events pad_is
 pub setting : (s new : Settings) (ts : List PadMessage) (x : Side) (c : MessageCode) (ps : List ℕ) → Represents s ts → form_fault (octets_of c ps) ≡ None →
     concern_of (is_side s.pad x) c ≡ Sets → new.pad ≡ s.pad → new.asked ≡ true →
     ((ws : List What) → HasEntries s ws → HasEntries new (ws ++ set_events s.pad ps)) → Represents new (ts ++ record { from = x; message = octets_of c ps } ∷ [])
-setting s new ts x c ps stands wf h pad_is asked_is has_entries =
+setting s new ts x c ps represented wf h pad_is asked_is has_entries =
     let k = sets_is (is_side s.pad x) c h in
     let P : MessageCode → Type 0 = λ d. form_fault (octets_of d ps) ≡ None → Represents new (ts ++ record { from = x; message = octets_of d ps } ∷ []) in
     elim k.1 [
-      | inl e ↦ subst P (sym e) (λ w. set_for s new ts x Set ps stands w k.0 refl refl refl (events Set refl (length (2 ∷ ps) == 1) (one_octet 2 ps)) pad_is asked_is has_entries) wf
-      | inr e ↦ subst P (sym e) (λ w. set_for s new ts x SetAndRead ps stands w k.0 refl refl refl (events SetAndRead refl (length (6 ∷ ps) == 1) (one_octet 6 ps)) pad_is asked_is has_entries) wf
+      | inl e ↦ subst P (sym e) (λ w. set_for s new ts x Set ps represented w k.0 refl refl refl (events Set refl (length (2 ∷ ps) == 1) (one_octet 2 ps)) pad_is asked_is has_entries) wf
+      | inr e ↦ subst P (sym e) (λ w. set_for s new ts x SetAndRead ps represented w k.0 refl refl refl (events SetAndRead refl (length (6 ∷ ps) == 1) (one_octet 6 ps)) pad_is asked_is has_entries) wf
     ]
   where
     events : (c : MessageCode) → is_indication (octets_of c ps) ≡ false → (b : Bool) → b ≡ (length ps == 0) →
@@ -448,7 +448,7 @@ set_faulted s ts x c ps wf h =
 pub reading : (s new : Settings) (ts : List PadMessage) (x : Side) (c : MessageCode) (ps : List ℕ) → Represents s ts → form_fault (octets_of c ps) ≡ None →
     concern_of (is_side s.pad x) c ≡ Reads → new.pad ≡ s.pad → new.asked ≡ true → ((ws : List What) → HasEntries s ws → HasEntries new ws) →
     Represents new (ts ++ record { from = x; message = octets_of c ps } ∷ [])
-reading s new ts x c ps stands wf h pad_is asked_is has_entries =
+reading s new ts x c ps represented wf h pad_is asked_is has_entries =
     let k = reads_is (is_side s.pad x) c h in
     subst (λ d. form_fault (octets_of d ps) ≡ None → Represents new (ts ++ record { from = x; message = octets_of d ps } ∷ [])) (sym k.1) (at k.0) wf
   where
@@ -460,7 +460,7 @@ reading s new ts x c ps stands wf h pad_is asked_is has_entries =
     at e wf =
         let asking : asks s.pad (record { from = x; message = 4 ∷ ps }) ≡ true =
         ap (λ b. b && true && is_none (form_fault (4 ∷ ps))) (other_is s.pad x e).1 ∙ ap (λ o. is_none o) wf in
-        stands_more s new ts (record { from = x; message = 4 ∷ ps }) stands pad_is
+        represents_more s new ts (record { from = x; message = 4 ∷ ps }) represented pad_is
         (asked_is ∙ sym (ap (λ b. s.asked || b) asking ∙ or_true s.asked))
         (along s new [] (settings_after (message_fault x ts (4 ∷ ps)) x (4 ∷ ps)) (sym (after_none (message_fault x ts (4 ∷ ps)) x (4 ∷ ps) refl))
         (λ ws h k below. has_entries ws h k below ∙ ap (λ l. entry_at new.pad (k + 1) l) (sym (append-nil ws))))
@@ -468,8 +468,8 @@ reading s new ts x c ps stands wf h pad_is asked_is has_entries =
 -- a message with a fault of its own is nothing to a PAD
 pub faulty : (s : Settings) (ts : List PadMessage) (x : Side) (m : List ℕ) → Represents s ts → is_none (form_fault m) ≡ false →
     settings_after (message_fault x ts m) x m ≡ [] → Represents s (ts ++ record { from = x; message = m } ∷ [])
-faulty s ts x m stands faulted none =
-    stands_more s s ts (record { from = x; message = m }) stands refl
+faulty s ts x m represented faulted none =
+    represents_more s s ts (record { from = x; message = m }) represented refl
     (or_false s.asked (is_side (other s.pad) x && is_request m && is_none (form_fault m))
     (ap (λ b. is_side (other s.pad) x && is_request m && b) faulted ∙ last (is_side (other s.pad) x) (is_request m)))
     (along s s [] (settings_after (message_fault x ts m) x m) (sym none) (λ ws h k below. h k below ∙ ap (λ l. entry_at s.pad (k + 1) l) (sym (append-nil ws))))

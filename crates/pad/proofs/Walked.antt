@@ -7,7 +7,7 @@ use Rattle.line_model.specs.basics.Octets.{bits}
 use Rattle.line_model.specs.channels.Pad.{Pair, is_parameter, indicated, asked}
 use Rattle.pad.specs.Pairs.{pairs_before}
 use Rattle.pad.specs.declared.settings.Settings.{Settings}
-use Rattle.pad.specs.Stands.{HasEntries}
+use Rattle.pad.specs.Represents.{HasEntries}
 use Rattle.pad.specs.MessageEvents.{set_events, set_events_by}
 use Rattle.pad.specs.Effects.{indicated_one, asked_one, all_indicated, all_asked}
 

@@ -1,6 +1,6 @@
 pub mod Codes
 pub mod Pairs
 pub mod Effects
-pub mod Stands
+pub mod Represents
 pub mod MessageEvents
 pub mod Concerns

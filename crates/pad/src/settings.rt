@@ -26,14 +26,14 @@ pub struct Settings {
 }
 
 impl Settings {
-    ghost use Rattle.pad.specs.Stands.{Represents, HasEntries};
+    ghost use Rattle.pad.specs.Represents.{Represents, HasEntries};
     ghost use Rattle.pad.specs.MessageEvents.{pad_message, set_fault, set_events};
     ghost use Rattle.line_model.specs.channels.FlowControl.{is_side};
 
     /// Returns the settings of the PAD of a side, of which nothing is known.
     pub fn new(pad: Side) -> Settings
         ensures pad { result.pad ≡ pad }
-        ensures stands { Represents result [] }
+        ensures represented { Represents result [] }
     {
         Settings {
             pad,
@@ -60,7 +60,7 @@ impl Settings {
         ensures pad { self.new.pad ≡ self.old.pad }
         ensures fault { (ts : List PadMessage) → Represents self.old ts
             → result ≡ own_fault self.old.pad ts (pad_message from message.now) }
-        ensures stands { (ts : List PadMessage) → Represents self.old ts
+        ensures represented { (ts : List PadMessage) → Represents self.old ts
             → Represents self.new (ts ++ pad_message from message.now ∷ []) }
         ensures unchanged { result ≡ Some Xcode.X4 → self.new ≡ self.old }
     {

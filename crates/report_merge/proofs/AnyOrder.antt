@@ -7,11 +7,11 @@ use Rattle.std.proofs.lemmas.Bool.Decides.{nat_tests}
 use native.Mathlib.Decide.{ℕ_discrete}
 use mathlib.Core.Logic.{dite}
 use Rattle.line_model.specs.declared.fault.Fault.{Fault}
-use Rattle.line_model.specs.declared.fault.Fault.TheVariants.{Memory, Trace, Read, Write, Start, Double, Stranger, Missing}
+use Rattle.line_model.specs.declared.fault.Fault.TheVariants.{Memory, Trace, Read, Write, Start, Double, UnknownPiece, Missing}
 use Rattle.line_model.specs.declared.interface.Interface.{Interface}
 use Rattle.line_model.specs.declared.finding.Finding.{Finding}
 use Rattle.line_model.specs.basics.Records.{Item, Piece, PieceReport}
-use Rattle.line_model.specs.pieces.Plans.{plan, value}
+use Rattle.line_model.specs.pieces.Plans.{plan, result_of}
 use Rattle.line_model.specs.work.Book.{times, ids_of}
 use Rattle.line_model.proofs.Counting.{bit, times-cons, times-append}
 use Rattle.line_model.proofs.BookTotals.{numbers_law}
@@ -29,7 +29,7 @@ behind : (n : ℕ) (p : Piece) (ps : List Piece) → NumberedFrom n (p ∷ ps) �
 behind n p ps h k q e = omega (arith, h (suc k) q e)
 
 abbrev ids : List Piece → List ℕ
-ids ps = ids_of (map value ps)
+ids ps = ids_of (map result_of ps)
 
 apart : (n x : ℕ) (p : Piece) (ps : List Piece) → NumberedFrom n (p ∷ ps) → n ≢ x → times x (ids (p ∷ ps)) ≡ times x (ids ps)
 apart n x p ps h ne =
@@ -62,7 +62,7 @@ once_between n x (p ∷ ps) h le lt = dite (ℕ_discrete n x)
     let other : n ≢ x = ne in
     apart n x p ps h other ∙ once_between (n + 1) x ps (behind n p ps h) (omega arith) (omega arith))
 
--- ---- what is refused, by how often each id stands
+-- ---- what is refused, by how often each id occurs
 
 unknown_id_none : (n : ℕ) (is : List ℕ) → ((x : ℕ) → n ≤ x → times x is ≡ 0) → unknown_id n is ≡ None
 unknown_id_none n [] h = refl
@@ -81,10 +81,10 @@ none_is_not_some k e = absurd (cc)
 
 -- ---- the values of a plan
 
--- how often an id stands among the reports
-stands : (i : Interface) (rs : List Item) (reports : List PieceReport) → IsPermutation (map value (plan i rs)) reports → (x : ℕ) → times x (ids_of reports) ≡ times x (ids (plan i rs))
-stands i rs reports h x =
-    sum_by-IsPermutation (λ y. bit (y == x)) (ids (plan i rs)) (ids_of reports) (IsPermutation-map (λ r. r.id) (map value (plan i rs)) reports h)
+-- how often an id occurs among the reports
+represented : (i : Interface) (rs : List Item) (reports : List PieceReport) → IsPermutation (map result_of (plan i rs)) reports → (x : ℕ) → times x (ids_of reports) ≡ times x (ids (plan i rs))
+represented i rs reports h x =
+    sum_by-IsPermutation (λ y. bit (y == x)) (ids (plan i rs)) (ids_of reports) (IsPermutation-map (λ r. r.id) (map result_of (plan i rs)) reports h)
 
 numbered : (i : Interface) (rs : List Item) → NumberedFrom 0 (plan i rs)
 numbered i rs k p e = omega (arith, numbers_law i rs k p e)
@@ -94,7 +94,7 @@ pub memory_alone : (i : Interface) (rs : List Item) (reports : List PieceReport)
 memory_alone i rs reports line counts pieces f w refused = at f refused
   where
     count : (x : ℕ) → times x (ids_of reports) ≡ times x (ids (plan i rs))
-    count = stands i rs reports w.values
+    count = represented i rs reports w.values
 
     known : unknown_id pieces (ids_of reports) ≡ None
     known = unknown_id_none pieces (ids_of reports) (λ x le. count x ∙ none_behind 0 x (plan i rs) (numbered i rs) (omega (arith, w.pieces_are)))
@@ -114,7 +114,7 @@ memory_alone i rs reports line counts pieces f w refused = at f refused
 
     at : (f : Fault) → IsRefusal f pieces (ids_of reports) → f ≡ Memory
     at Memory h = refl
-    at (Stranger k) h = absurd (none_is_not_some k (sym known ∙ h))
+    at (UnknownPiece k) h = absurd (none_is_not_some k (sym known ∙ h))
     at (Double k) h = absurd (twice k h.1)
     at (Missing k) h = absurd (omega (arith, h.2.absent, present k h.2.below))
     at (Trace l k) h = absurd h

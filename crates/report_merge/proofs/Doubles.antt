@@ -1,10 +1,10 @@
--- What the marks of the ids say of how often each id stands.
+-- What the marks of the ids say of how often each id occurs.
 use Rattle.std.proofs.Common.{◌≡◌, ◌≢◌, ℕ, ◌<◌, ◌==◌, ◌||◌, Bool, true, false, List, [], ◌∷◌, ◌++◌, refl, sym, ap, ◌∙◌, subst, arith, Some, None, MatchOption, eqb, eq-eqb, ne_eqb, if◌then◌else◌, append_assoc}
 use Rattle.std.proofs.lemmas.List.{append-nil}
 use native.Mathlib.Decide.{ℕ_discrete}
 use mathlib.Core.Logic.{dite}
 use Rattle.line_model.specs.declared.fault.Fault.{Fault}
-use Rattle.line_model.specs.declared.fault.Fault.TheVariants.{Memory, Trace, Read, Write, Start, Double, Stranger, Missing}
+use Rattle.line_model.specs.declared.fault.Fault.TheVariants.{Memory, Trace, Read, Write, Start, Double, UnknownPiece, Missing}
 use Rattle.line_model.specs.work.Book.{times}
 use Rattle.line_model.proofs.Counting.{bit, times-cons, times-append}
 use Rattle.report_merge.specs.Seen.{is_among, double_with, double, IsRefused}
@@ -56,7 +56,7 @@ one_more i front h none x = dite (ℕ_discrete i x)
     let off : bit (eqb i x) ≡ 0 = ap bit (ne_eqb i x ne) in
     omega (arith, times-append x front (i ∷ []), times-cons x i [], off, h x))
 
--- the marks of what stands in front find the first id that stands before it
+-- the marks of what is in front find the first id that comes before it
 doubles : (front ids : List ℕ) (seen : ℕ → Bool) → ((k : ℕ) → seen k ≡ is_among k front) → IsDistinct front
     → MatchOption (double_with seen ids) (IsDistinct (front ++ ids)) (λ i. IsFirstDouble i (front ++ ids))
 doubles front [] seen same h = subst IsDistinct (sym (append-nil front)) h
@@ -79,7 +79,7 @@ distinct_from ids e = subst (λ o. MatchOption o (IsDistinct ids) (λ i. IsFirst
 pub refused_from : (f : Fault) (n : ℕ) (ids : List ℕ) → unknown_id n ids ≡ None → IsRefused f (double ids) → IsRefusal f n ids
 refused_from Memory n ids known h = known
 refused_from (Double i) n ids known h = (known, subst (λ o. MatchOption o (IsDistinct ids) (λ i. IsFirstDouble i ids)) h (double_is ids))
-refused_from (Stranger i) n ids known h = absurd h
+refused_from (UnknownPiece i) n ids known h = absurd h
 refused_from (Missing i) n ids known h = absurd h
 refused_from (Trace l k) n ids known h = absurd h
 refused_from Read n ids known h = absurd h

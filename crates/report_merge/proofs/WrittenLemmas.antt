@@ -46,7 +46,7 @@ any_default [] i d e lt = absurd (omega arith)
 any_default (x ∷ xs) zero d e lt = refl
 any_default (x ∷ xs) (suc i) d e lt = any_default xs i d e (omega arith)
 
--- a loop's turn over lines, for what is true of the texts before and after
+-- a loop's pass over lines, for what is true of the texts before and after
 pub turn : {X B : Type 0} → (f : X → List ℕ) (xs : List X) (i : ℕ) (d : X) (first before after : B → List ℕ → Type 0) → i < length xs
     → (done : List ℕ) × (done ++ flat_map f (drop i xs) ≡ flat_map f xs) × ((b : B) (text : List ℕ) → first b text → before b (text ++ done))
     → ((b : B) (text : List ℕ) → before b text → after b (text ++ f (get_or xs i d)))

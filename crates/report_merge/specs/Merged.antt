@@ -11,11 +11,11 @@ use Rattle.line_model.specs.observer.Accounts.{accounts_of}
 use Rattle.line_model.specs.observer.Calls.{up_at}
 use Rattle.line_model.specs.observer.Peak.{IsPeakOfTimes}
 use Rattle.line_model.specs.observer.Report.{gaps_among, gaps_of, report_of}
-use Rattle.line_model.specs.pieces.Plans.{plan, value, line_findings}
+use Rattle.line_model.specs.pieces.Plans.{plan, result_of, level_findings}
 use Rattle.report_merge.specs.Gathered.{all_calls, piece_findings}
 use Rattle.report_merge.specs.declared.row_counts.RowCounts.{RowCounts}
 
--- the findings of the line and of the pieces
+-- the findings of the interface level and of the pieces
 abbrev pub all_findings : List PieceReport → List Finding → List Finding
 all_findings ps line = line ++ piece_findings ps
 
@@ -40,8 +40,8 @@ IsMerged r ps line rows = IsArranged r (all_findings ps line) (all_calls ps) (su
 pub record IsOfWalk (i : Interface) (rs : List Item) (reports : List PieceReport) (line : List Finding) (counts : RowCounts) (pieces : ℕ) : Type 0 where
   pub said : AreSaid i rs
   pub rising : IsStrictlyIncreasing (0 ∷ map (λ r. r.number) rs)
-  pub values : IsPermutation (map value (plan i rs)) reports
-  pub line_is : line ≡ line_findings i rs
+  pub values : IsPermutation (map result_of (plan i rs)) reports
+  pub line_is : line ≡ level_findings i rs
   pub packets_are : counts.packets ≡ length rs - gaps_of rs
   pub gaps_are : counts.gaps ≡ gaps_among i.gaps rs
   pub pieces_are : pieces ≡ length (plan i rs)

@@ -1,7 +1,7 @@
 -- Which ids of reports are refused (profile).
 use Rattle.std.specs.Prelude.{◌≡◌, ℕ, ◌<◌, ◌≤◌, not, nat_lt, List, ◌∷◌, ◌++◌, find, Option, Some, None}
 use Rattle.line_model.specs.declared.fault.Fault.{Fault}
-use Rattle.line_model.specs.declared.fault.Fault.TheVariants.{Memory, Double, Stranger, Missing}
+use Rattle.line_model.specs.declared.fault.Fault.TheVariants.{Memory, Double, UnknownPiece, Missing}
 use Rattle.line_model.specs.work.Book.{times}
 
 -- the first id that is not below the number of pieces
@@ -28,7 +28,7 @@ pub record IsLeastAbsent (i pieces : ℕ) (ids : List ℕ) : Type 0 where
 
 -- why reports are refused: unknown ids first, then doubles, then what is missing, and refused memory after the unknown ids
 abbrev pub IsRefusal : Fault → (pieces : ℕ) → List ℕ → Type 0
-IsRefusal (Stranger i) n ids = unknown_id n ids ≡ Some i
+IsRefusal (UnknownPiece i) n ids = unknown_id n ids ≡ Some i
 IsRefusal (Double i) n ids = (unknown_id n ids ≡ None) × IsFirstDouble i ids
 IsRefusal (Missing i) n ids = (unknown_id n ids ≡ None) × IsDistinct ids × IsLeastAbsent i n ids
 IsRefusal Memory n ids = unknown_id n ids ≡ None

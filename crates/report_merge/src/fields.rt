@@ -12,7 +12,7 @@ pub fn put_word<W: Sink>(out: &mut WriteBuffer, sink: &mut W, word: &[u8])
     ensures { PutsTo W.Sink sink.old sink.new out.old out.new (word.now ++ 32 ∷ []) }
 {
     out.put(sink, word);
-    out.put(sink, b" ");
+    out.put_byte(sink, b' ');
 }
 
 /// Puts the last word of a line.
@@ -20,7 +20,7 @@ pub fn put_last<W: Sink>(out: &mut WriteBuffer, sink: &mut W, word: &[u8])
     ensures { PutsTo W.Sink sink.old sink.new out.old out.new (word.now ++ 10 ∷ []) }
 {
     out.put(sink, word);
-    out.put(sink, b"\n");
+    out.put_byte(sink, b'\n');
 }
 
 /// Puts a number and a space.

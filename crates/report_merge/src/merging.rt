@@ -57,9 +57,9 @@ fn gather<A: Allocator + Clone, T: Reports<A> + Drop>(
 }
 
 /// Merges the reports of pieces, or of bundles of pieces, in any order, with the findings of the restart machine, for a
-/// trace of these rows and `pieces` pieces. Fails with `Stranger`, the first report whose id is not below `pieces`;
-/// else with `Double`, the first whose id came before it; else with `Missing`, the least absent id; or with `Memory`.
-/// The order of a report is profile.
+/// trace of these rows and `pieces` pieces. Fails with `UnknownPiece`, the first report whose id is not below `pieces`;
+/// otherwise with `Double`, the first whose id came before it; otherwise with `Missing`, the least absent id; or with
+/// `Memory`. The order of a report is profile.
 pub fn merge<A: Allocator + Clone, T: Reports<A> + Drop>(
     alloc: A,
     reports: Vec<T, A>,
@@ -74,7 +74,7 @@ pub fn merge<A: Allocator + Clone, T: Reports<A> + Drop>(
     ensures plan { IfErr result (IsMemoryOfWalk (flat_map T.reports reports.items) line.items rows pieces) }
 {
     if let Some(id) = unknown_id_of(&reports, pieces) {
-        return Err(Fault::Stranger(id));
+        return Err(Fault::UnknownPiece(id));
     }
     let ids = all_ids(alloc.clone()?, &reports)?;
     judge(alloc.clone()?, &ids, pieces)?;

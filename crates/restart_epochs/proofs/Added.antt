@@ -9,8 +9,8 @@ use Rattle.line_model.specs.declared.route.Route.TheVariants.{ToChannel}
 use Rattle.line_model.specs.basics.Bounds.{IsSaid}
 use Rattle.line_model.specs.packets.Says.{packet_channel}
 use Rattle.line_model.specs.basics.Records.{Item}
-use Rattle.line_model.specs.channels.GapRestart.{GapLine, is_ready, routing}
-use Rattle.line_model.specs.pieces.Pieces.{piece_rows, StandsOnce}
+use Rattle.line_model.specs.channels.GapRestart.{GapInterfaceState, is_ready, routing}
+use Rattle.line_model.specs.pieces.Pieces.{piece_rows, OccursOnce}
 use Rattle.line_model.specs.pieces.Plan.{has_some}
 use Rattle.line_model.proofs.Handed.{handed_in_range}
 use Rattle.restart_epochs.specs.OpenRows.{OpenRows, rows_of, with_channel, with_gap, with_part, HasNoOthers}
@@ -25,7 +25,7 @@ use Rattle.restart_epochs.proofs.Pushes.{served}
 use Rattle.restart_epochs.proofs.Routes.{is_to_channel}
 use Rattle.restart_epochs.proofs.Steps.{handed_at}
 
--- ---- parts of channels that stand once
+-- ---- parts of channels that occur once
 
 -- no two parts are of one channel
 abbrev pub AreOnce : List ChannelRows → Type 0
@@ -179,7 +179,7 @@ listed_more n k item rows before after lo hi row others was =
 
 -- ---- of a cutter that represents some rows
 
-listed_in : (i : Interface) (rs : List Item) (c : Cutting) → Represents i rs c → is_ready (observer i rs).line ≡ true → c.open_rows.channels ≡ listed i.svc (rows_of c.open_rows)
+listed_in : (i : Interface) (rs : List Item) (c : Cutting) → Represents i rs c → is_ready (observer i rs).level ≡ true → c.open_rows.channels ≡ listed i.svc (rows_of c.open_rows)
 listed_in i rs c s ready =
     let n = (observer i rs).epoch in
     s.channels ∙ ap (λ b. channels_if b i (places i rs) n) ready
@@ -188,26 +188,26 @@ listed_in i rs c s ready =
 
 -- it lists the channels that have rows
 pub lists : (i : Interface) (rs : List Item) (c : Cutting) → Represents i rs c → c.open_rows.channels ≡ listed i.svc (rows_of c.open_rows)
-lists i rs c s = at (is_ready (observer i rs).line) refl
+lists i rs c s = at (is_ready (observer i rs).level) refl
   where
-    at : (b : Bool) → is_ready (observer i rs).line ≡ b → c.open_rows.channels ≡ listed i.svc (rows_of c.open_rows)
+    at : (b : Bool) → is_ready (observer i rs).level ≡ b → c.open_rows.channels ≡ listed i.svc (rows_of c.open_rows)
     at true e = listed_in i rs c s e
     at false e = s.channels ∙ ap (λ b. channels_if b i (places i rs) (observer i rs).epoch) e
         ∙ sym (none_listed (λ k. has_some (rows_of c.open_rows k)) (range_with_len 1 i.svc) (λ k. ap has_some (s.rows k ∙ ap (λ b. rows_if b i (places i rs) (observer i rs).epoch k) e)))
 
-once_within : (k a n : ℕ) → StandsOnce k (range_with_len a n) → (a ≤ k) × (k < a + n)
+once_within : (k a n : ℕ) → OccursOnce k (range_with_len a n) → (a ≤ k) × (k < a + n)
 once_within k a zero once = absurd once
 once_within k a (suc n) (inl w) = let here = w.0 in (omega (arith, here), omega (arith, here))
 once_within k a (suc n) (inr w) = let rest = once_within k (a + 1) n w.1 in (omega (arith, rest.0), omega (arith, rest.1))
 
 -- its rows are on channels of the interface
 pub within_open : (i : Interface) (rs : List Item) (c : Cutting) → Represents i rs c → (k : ℕ) → has_some (rows_of c.open_rows k) ≡ true → (1 ≤ k) × (k ≤ i.svc)
-within_open i rs c s k some = at (is_ready (observer i rs).line) refl
+within_open i rs c s k some = at (is_ready (observer i rs).level) refl
   where
     n : ℕ
     n = (observer i rs).epoch
 
-    at : (b : Bool) → is_ready (observer i rs).line ≡ b → (1 ≤ k) × (k ≤ i.svc)
+    at : (b : Bool) → is_ready (observer i rs).level ≡ b → (1 ≤ k) × (k ≤ i.svc)
     at true e =
         let is = s.rows k ∙ ap (λ b. rows_if b i (places i rs) n k) e in
         let w = once_within k 1 i.svc (served i rs s.said n k (λ none. true≢false (sym some ∙ ap has_some is ∙ some_taken i rs n k ∙ ap has_some none))) in
@@ -215,7 +215,7 @@ within_open i rs c s k some = at (is_ready (observer i rs).line) refl
     at false e = absurd (true≢false (sym some ∙ ap has_some (s.rows k ∙ ap (λ b. rows_if b i (places i rs) n k) e)))
 
 -- the interface is in r1, and the channels are the interface's
-pub channel_within : (i : Interface) (l : GapLine) (item : Item) → (routing l item).route ≡ ToChannel → IsSaid i item → (1 ≤ packet_channel item.packet) × (packet_channel item.packet ≤ i.svc)
+pub channel_within : (i : Interface) (l : GapInterfaceState) (item : Item) → (routing l item).route ≡ ToChannel → IsSaid i item → (1 ≤ packet_channel item.packet) × (packet_channel item.packet ≤ i.svc)
 channel_within i l item to said =
     let h = ap is_to_channel to in
     handed_in_range i item (packet_channel item.packet) said (handed_at l item h)
@@ -255,11 +255,11 @@ same_bounds c after u h =
     same_recorded (inl none) = inl (u.gap ∙ none)
     same_recorded (inr are) = inr (ap (λ (i : Interface). i.gaps) u.interface ∙ are)
 
-pub same_stands : (i : Interface) (rs : List Item) (c after : Cutting) → IsUnchanged c after → Represents i rs c → Represents i rs after
-same_stands i rs c after u s = record {
+pub same_represents : (i : Interface) (rs : List Item) (c after : Cutting) → IsUnchanged c after → Represents i rs c → Represents i rs after
+same_represents i rs c after u s = record {
   said = s.said;
   interface = u.interface ∙ s.interface;
-  line = u.line ∙ s.line;
+  level = u.level ∙ s.level;
   epoch = u.epoch ∙ s.epoch;
   start = u.start ∙ s.start;
   packets = u.packets ∙ s.packets;

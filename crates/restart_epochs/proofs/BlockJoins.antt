@@ -13,19 +13,19 @@ use Rattle.line_model.specs.basics.Bounds.{IsPiece, IsSaid, all_octets}
 use Rattle.line_model.specs.basics.Records.{Item, Piece}
 use Rattle.line_model.specs.observer.Report.{gaps_of}
 use Rattle.line_model.specs.pieces.Plans.{end_at}
-use Rattle.line_model.specs.channels.GapRestart.{GapLine, is_gap_of_all, routing, start_by}
+use Rattle.line_model.specs.channels.GapRestart.{GapInterfaceState, is_gap_of_all, routing, start_by}
 use Rattle.line_model.specs.packets.Says.{packet_channel}
 use Rattle.line_model.specs.pieces.Plan.{has_some}
 use Rattle.line_model.specs.text.Text.{last_or}
 use Rattle.restart_epochs.specs.BlockCuts.{AreAllOut, AreFit, BlockRows, Comes, EpochRows, FitsEpoch, HasCut, IsBehind, IsCutApart, IsJoined, both, epoch_ended, gap_joined, gap_left, items_ended, joined, open_channels_both, listed, parts_of, pieces_at, pieces_ended, pieces_of, rows_after, rows_on, with_parts}
-use Rattle.restart_epochs.specs.Cutting.{Cutting, HasTurned, IsCutting, IsTakenBy, IsUnchanged, Represents, ended_by, gap_turned, given_after, given_of, items_out, pieces_out}
+use Rattle.restart_epochs.specs.Cutting.{Cutting, HasEffect, IsCutting, IsTakenBy, IsUnchanged, Represents, ended_by, gap_by_effect, given_after, given_of, items_out, pieces_out}
 use Rattle.restart_epochs.specs.ChannelTables.{open_channel_at}
 use Rattle.restart_epochs.specs.OpenRows.{OpenRows, last_number, no_rows, rows_in, rows_of, with_gap, with_part, HasMore, IsSame}
-use Rattle.restart_epochs.specs.Walks.{IsStep, epoch_after, passed, start_after, start_joined, turn_of}
+use Rattle.restart_epochs.specs.Walks.{IsStep, epoch_after, passed, start_after, start_joined, effect_of}
 use Rattle.restart_epochs.specs.declared.walk.Step.{Step}
 use Rattle.restart_epochs.specs.declared.walk.ChannelEffect.{ChannelEffect}
-use Rattle.restart_epochs.specs.declared.walk.ChannelEffect as turns
-use Rattle.restart_epochs.proofs.Added.{channel_within, listed_more, lists, same_bounds, same_stands, some_behind, within_open}
+use Rattle.restart_epochs.specs.declared.walk.ChannelEffect as effects
+use Rattle.restart_epochs.proofs.Added.{channel_within, listed_more, lists, same_bounds, same_represents, some_behind, within_open}
 use Rattle.restart_epochs.proofs.Bounds.{channel_piece}
 use Rattle.restart_epochs.proofs.Comings.{come_behind, come_first, come_up, numbers}
 use Rattle.restart_epochs.proofs.GapRows.{joined_later, last_pushed, part_more, part_none, part_some}
@@ -89,11 +89,11 @@ kept_up c bounds (e ∷ es) k = (omega arith, omega arith)
 -- ---- what a row does to both
 
 -- the row changed the cutter that was joined as it did the block's
-record TurnedBoth (turn : ChannelEffect) (item : Item) (c : Cutting) (b b' : BlockRows) : Type 0 where
-  rows : HasTurned turn item (joined c b).gap (joined c b).open_rows (joined c b').open_rows
-  gap : (joined c b').gap ≡ gap_turned turn item (joined c b).gap
-  pieces : pieces_ended c b' ≡ pieces_ended c b ++ ended_by turn c.interface (c.epoch + b.epoch) (joined c b).start (end_at item) (joined c b).given (joined c b).gap (joined c b).open_rows
-  count : (joined c b').given ≡ given_after turn (joined c b).given (joined c b).open_rows
+record AffectedBoth (effect : ChannelEffect) (item : Item) (c : Cutting) (b b' : BlockRows) : Type 0 where
+  rows : HasEffect effect item (joined c b).gap (joined c b).open_rows (joined c b').open_rows
+  gap : (joined c b').gap ≡ gap_by_effect effect item (joined c b).gap
+  pieces : pieces_ended c b' ≡ pieces_ended c b ++ ended_by effect c.interface (c.epoch + b.epoch) (joined c b).start (end_at item) (joined c b).given (joined c b).gap (joined c b).open_rows
+  count : (joined c b').given ≡ given_after effect (joined c b).given (joined c b).open_rows
   listed : b'.rows.channels ≡ listed c.interface.svc (rows_of b'.rows)
   fit : AreFit c.interface c.epoch c.gap c.open_rows b'.ended
   behind : IsBehind c.last b'
@@ -151,9 +151,9 @@ behind_on last b b' item k lt kept more was = record {
         inr (omega (arith, lt, number))
     at j false e = subst (λ l. (l ≡ []) ⊎ (last < last_number l)) (sym (more.others j (eqb-false j k e))) (was.rows j)
 
-turned_on : (c : Cutting) (b b' : BlockRows) (item : Item) (k : ℕ) → IsCutting c → c.last < item.number → is_gap_of_all item ≡ false → 1 ≤ k → k ≤ c.interface.svc → IsBefore c b → b'.gap ≡ b.gap → b'.ended ≡ b.ended → HasMore b.gap k item b.rows b'.rows
-    → TurnedBoth (turns.TheVariants.ToChannel k) item c b b'
-turned_on c b b' item k bounds lt own lo hi was kept same more = record {
+affected_on : (c : Cutting) (b b' : BlockRows) (item : Item) (k : ℕ) → IsCutting c → c.last < item.number → is_gap_of_all item ≡ false → 1 ≤ k → k ≤ c.interface.svc → IsBefore c b → b'.gap ≡ b.gap → b'.ended ≡ b.ended → HasMore b.gap k item b.rows b'.rows
+    → AffectedBoth (effects.TheVariants.ToChannel k) item c b b'
+affected_on c b b' item k bounds lt own lo hi was kept same more = record {
   rows = on_channel_both c b b' item k bounds own lo hi was same more;
   gap = same_gap c b b' same kept;
   pieces = same_pieces c b b' same;
@@ -175,8 +175,8 @@ kept_listed n b b' kept was = ap (λ (o : OpenRows). o.channels) kept ∙ was �
 kept_behind : (last : ℕ) (b b' : BlockRows) → (b'.gap ≡ 0) ⊎ (last < b'.gap) → b'.rows ≡ b.rows → IsBehind last b → IsBehind last b'
 kept_behind last b b' gap kept was = record { gap = gap; rows = λ k. subst (λ (o : OpenRows). (rows_of o k ≡ []) ⊎ (last < last_number (rows_of o k))) (sym kept) (was.rows k) }
 
-turned_not : (c : Cutting) (b b' : BlockRows) (item : Item) → IsBefore c b → b'.gap ≡ b.gap → b'.ended ≡ b.ended → b'.rows ≡ b.rows → TurnedBoth turns.TheVariants.Stays item c b b'
-turned_not c b b' item was at same kept = record {
+affected_not : (c : Cutting) (b b' : BlockRows) (item : Item) → IsBefore c b → b'.gap ≡ b.gap → b'.ended ≡ b.ended → b'.rows ≡ b.rows → AffectedBoth effects.TheVariants.Stays item c b b'
+affected_not c b b' item was at same kept = record {
   rows = kept_both c b b' same kept;
   gap = same_gap c b b' same at;
   pieces = same_pieces c b b' same;
@@ -186,8 +186,8 @@ turned_not c b b' item was at same kept = record {
   behind = kept_behind c.last b b' (subst (λ n. (n ≡ 0) ⊎ (c.last < n)) (sym at) was.behind.gap) kept was.behind;
 }
 
-turned_all : (c : Cutting) (b b' : BlockRows) (item : Item) → c.last < item.number → IsBefore c b → b'.gap ≡ item.number → b'.ended ≡ b.ended → b'.rows ≡ b.rows → TurnedBoth turns.TheVariants.ToAll item c b b'
-turned_all c b b' item lt was at same kept = record {
+affected_all : (c : Cutting) (b b' : BlockRows) (item : Item) → c.last < item.number → IsBefore c b → b'.gap ≡ item.number → b'.ended ≡ b.ended → b'.rows ≡ b.rows → AffectedBoth effects.TheVariants.ToAll item c b b'
+affected_all c b b' item lt was at same kept = record {
   rows = kept_both c b b' same kept;
   gap = ap (gap_joined (gap_left c.gap b'.ended)) at ∙ joined_later (gap_left c.gap b'.ended) item.number (omega (arith, lt));
   pieces = same_pieces c b b' same;
@@ -198,9 +198,9 @@ turned_all c b b' item lt was at same kept = record {
 }
 
 -- what is passed
-turned_passed : (all : Bool) (c : Cutting) (b b' : BlockRows) (item : Item) → c.last < item.number → IsBefore c b → b'.gap ≡ gap_turned (passed all) item b.gap → HasCut (passed all) item b.epoch b.start b.gap b.ended b'.ended b.rows b'.rows → TurnedBoth (passed all) item c b b'
-turned_passed true c b b' item lt was at cut = turned_all c b b' item lt was at cut.0 cut.1
-turned_passed false c b b' item lt was at cut = turned_not c b b' item was at cut.0 cut.1
+affected_passed : (all : Bool) (c : Cutting) (b b' : BlockRows) (item : Item) → c.last < item.number → IsBefore c b → b'.gap ≡ gap_by_effect (passed all) item b.gap → HasCut (passed all) item b.epoch b.start b.gap b.ended b'.ended b.rows b'.rows → AffectedBoth (passed all) item c b b'
+affected_passed true c b b' item lt was at cut = affected_all c b b' item lt was at cut.0 cut.1
+affected_passed false c b b' item lt was at cut = affected_not c b b' item was at cut.0 cut.1
 
 -- the epoch that ends with it
 abbrev ended_rows : BlockRows → Item → EpochRows
@@ -216,7 +216,7 @@ ended_items c b item parts k =
 
 ended_fits : (i : Interface) (rows : List Item) (c : Cutting) (b : BlockRows) (item : Item) → Represents i rows (joined c b) → IsCutting (joined c b) → b.rows.channels ≡ listed c.interface.svc (rows_of b.rows)
     → ((k : ℕ) → rows_on k (ended_rows b item).parts ≡ rows_of b.rows k) → FitsEpoch c.interface c.epoch (gap_left c.gap b.ended) (rows_after c.open_rows b.ended) (ended_rows b item)
-ended_fits i rows c b item stands bounds was parts =
+ended_fits i rows c b item represented bounds was parts =
     let g = gap_left c.gap b.ended in
     let o = rows_after c.open_rows b.ended in
     let each : (k : ℕ) → rows_of (joined c b).open_rows k ≡ with_parts g o (ended_rows b item).parts k = λ k. both_rows c.interface.svc g o b.rows k ∙ ap (with_part g (rows_of o k)) (sym (parts k)) in
@@ -227,14 +227,14 @@ ended_fits i rows c b item stands bounds was parts =
     record {
       epochs = omega (arith, packets, last, epochs);
       pieces = λ k. subst (IsPiece c.interface k) (sym (ended_items c b item parts k)) (channel_piece (joined c b) k bounds);
-      channels = λ k some. subst (λ (j : Interface). (1 ≤ k) × (k ≤ j.svc)) (sym stands.interface)
-          (within_open i rows (joined c b) stands k (ap has_some (each k) ∙ part_some g (rows_of o k) (rows_on k (ended_rows b item).parts) ∙ some_behind (rows_of o k) (rows_on k (ended_rows b item).parts) some));
+      channels = λ k some. subst (λ (j : Interface). (1 ≤ k) × (k ≤ j.svc)) (sym represented.interface)
+          (within_open i rows (joined c b) represented k (ap has_some (each k) ∙ part_some g (rows_of o k) (rows_on k (ended_rows b item).parts) ∙ some_behind (rows_of o k) (rows_on k (ended_rows b item).parts) some));
       parts = ap (parts_of (rows_of b.rows)) was ∙ ap (λ f. parts_of f (listed c.interface.svc f)) fun;
     }
 
-turned_ends : (i : Interface) (rows : List Item) (c : Cutting) (b b' : BlockRows) (item : Item) → Represents i rows (joined c b) → IsCutting (joined c b) → IsBefore c b
-    → b'.gap ≡ 0 → b'.ended ≡ b.ended ++ ended_rows b item ∷ [] → AreAllOut b.rows b'.rows → TurnedBoth turns.TheVariants.Ends item c b b'
-turned_ends i rows c b b' item stands bounds was at one out =
+affected_ends : (i : Interface) (rows : List Item) (c : Cutting) (b b' : BlockRows) (item : Item) → Represents i rows (joined c b) → IsCutting (joined c b) → IsBefore c b
+    → b'.gap ≡ 0 → b'.ended ≡ b.ended ++ ended_rows b item ∷ [] → AreAllOut b.rows b'.rows → AffectedBoth effects.TheVariants.Ends item c b b'
+affected_ends i rows c b b' item represented bounds was at one out =
     let n = c.interface.svc in
     let g = gap_left c.gap b.ended in
     let o = rows_after c.open_rows b.ended in
@@ -256,26 +256,26 @@ turned_ends i rows c b b' item stands bounds was at one out =
           ap (λ (l : List Piece). length l) more ∙ length-append (pieces_ended c b) _ ∙ ap (λ m. length (pieces_ended c b) + m) (out-length c.interface (c.epoch + b.epoch) c1.start (Some (end_at item)) (items_out c1.gap c1.open_rows) c1.given c1.open_rows.channels) in
           omega (arith, all);
       listed = out.channels ∙ sym (none_listed (λ k. has_some (rows_of b'.rows k)) (range_with_len 1 n) (λ k. ap has_some (out.none k)));
-      fit = subst (AreFit c.interface c.epoch c.gap c.open_rows) (sym one) (fit_more c.interface c.epoch c.gap c.open_rows b.ended e was.fit (ended_fits i rows c b item stands bounds was.listed out.parts));
+      fit = subst (AreFit c.interface c.epoch c.gap c.open_rows) (sym one) (fit_more c.interface c.epoch c.gap c.open_rows b.ended e was.fit (ended_fits i rows c b item represented bounds was.listed out.parts));
       behind = record { gap = inl at; rows = λ k. inl (out.none k) };
     }
 
-turned_both : (i : Interface) (rs items : List Item) (c : Cutting) (b b' : BlockRows) (item : Item) → IsCutting c → c.last < item.number → IsJoined i rs c items b → IsSaid c.interface item → (route : Route) → (routing b.line item).route ≡ route
-    → b'.gap ≡ gap_turned (turn_of item.packet route) item b.gap → HasCut (turn_of item.packet route) item b.epoch b.start b.gap b.ended b'.ended b.rows b'.rows → TurnedBoth (turn_of item.packet route) item c b b'
-turned_both i rs items c b b' item bounds lt h said route is at cut = by route is at cut
+affected_both : (i : Interface) (rs items : List Item) (c : Cutting) (b b' : BlockRows) (item : Item) → IsCutting c → c.last < item.number → IsJoined i rs c items b → IsSaid c.interface item → (route : Route) → (routing b.level item).route ≡ route
+    → b'.gap ≡ gap_by_effect (effect_of item.packet route) item b.gap → HasCut (effect_of item.packet route) item b.epoch b.start b.gap b.ended b'.ended b.rows b'.rows → AffectedBoth (effect_of item.packet route) item c b b'
+affected_both i rs items c b b' item bounds lt h said route is at cut = by route is at cut
   where
     was : IsBefore c b
     was = record { listed = h.listed; fit = h.fit; behind = h.behind }
 
-    by : (q : Route) → (routing b.line item).route ≡ q → b'.gap ≡ gap_turned (turn_of item.packet q) item b.gap → HasCut (turn_of item.packet q) item b.epoch b.start b.gap b.ended b'.ended b.rows b'.rows → TurnedBoth (turn_of item.packet q) item c b b'
+    by : (q : Route) → (routing b.level item).route ≡ q → b'.gap ≡ gap_by_effect (effect_of item.packet q) item b.gap → HasCut (effect_of item.packet q) item b.epoch b.start b.gap b.ended b'.ended b.rows b'.rows → AffectedBoth (effect_of item.packet q) item c b b'
     by ToChannel is at cut =
-        let w = channel_within c.interface b.line item is said in
-        turned_on c b b' item (packet_channel item.packet) bounds lt (not_for_all b.line item (ap is_to_channel is)) w.0 w.1 was at cut.0 cut.1
-    by (Leave code) is at cut = turned_ends i (rs ++ items) c b b' item h.stands h.bounds was at cut.0 cut.1
-    by Renew is at cut = turned_ends i (rs ++ items) c b b' item h.stands h.bounds was at cut.0 cut.1
-    by Enter is at cut = turned_not c b b' item was at cut.0 cut.1
-    by (Found s n) is at cut = turned_not c b b' item was at cut.0 cut.1
-    by Pass is at cut = turned_passed (is_gap_of_all item) c b b' item lt was at cut
+        let w = channel_within c.interface b.level item is said in
+        affected_on c b b' item (packet_channel item.packet) bounds lt (not_for_all b.level item (ap is_to_channel is)) w.0 w.1 was at cut.0 cut.1
+    by (Leave code) is at cut = affected_ends i (rs ++ items) c b b' item h.represented h.bounds was at cut.0 cut.1
+    by Renew is at cut = affected_ends i (rs ++ items) c b b' item h.represented h.bounds was at cut.0 cut.1
+    by Enter is at cut = affected_not c b b' item was at cut.0 cut.1
+    by (Found s n) is at cut = affected_not c b b' item was at cut.0 cut.1
+    by Pass is at cut = affected_passed (is_gap_of_all item) c b b' item lt was at cut
 
 -- ---- a row more
 
@@ -297,7 +297,7 @@ next_epoch n (Found s c) = inl refl
 next_epoch n Pass = inl refl
 
 -- how the open epoch began
-start_raised : (a n next : ℕ) (before later : EpochStart) (machine : GapLine) → (next ≡ n) ⊎ (next ≡ n + 1)
+start_raised : (a n next : ℕ) (before later : EpochStart) (machine : GapInterfaceState) → (next ≡ n) ⊎ (next ≡ n + 1)
     → start_joined next before (start_after n later next machine) ≡ start_after (a + n) (start_joined n before later) (a + next) machine
 start_raised a n next before later machine (inl same) =
     ap (start_joined next before) (start_stays n next later machine same) ∙ ap (λ m. start_joined m before later) same
@@ -315,7 +315,7 @@ start_raised a n next before later machine (inr more) =
 
 -- a block's rows, and the same with one row more
 pub record IsBlockTaken (item : Item) (step : Step) (b b' : BlockRows) : Type 0 where
-  pub line : b'.line ≡ step.machine
+  pub level : b'.level ≡ step.machine
   pub epoch : b'.epoch ≡ step.epoch
   pub start : b'.start ≡ start_after b.epoch b.start step.epoch step.machine
   pub packets : b'.packets ≡ b.packets + 1
@@ -323,18 +323,18 @@ pub record IsBlockTaken (item : Item) (step : Step) (b b' : BlockRows) : Type 0 
   pub last : b'.last ≡ item.number
   pub octets : b'.octets ≡ b.octets + item.length
   pub findings : b'.findings ≡ b.findings ++ option_to_list step.finding
-  pub gap : b'.gap ≡ gap_turned step.turn item b.gap
-  pub cut : HasCut step.turn item b.epoch b.start b.gap b.ended b'.ended b.rows b'.rows
+  pub gap : b'.gap ≡ gap_by_effect step.effect item b.gap
+  pub cut : HasCut step.effect item b.epoch b.start b.gap b.ended b'.ended b.rows b'.rows
 
 last_row : (n m last number : ℕ) → n ≡ m + 1 → cond (n == 0) last number ≡ number
 last_row n m last number h = ap (λ b. cond b last number) (ne_eqb n 0 (λ none. omega (arith, h, none)))
 
 -- the step of the cutter that was joined
 abbrev step_joined : Cutting → Step → Step
-step_joined c step = record { machine = step.machine; epoch = c.epoch + step.epoch; finding = step.finding; gap = step.gap; turn = step.turn }
+step_joined c step = record { machine = step.machine; epoch = c.epoch + step.epoch; finding = step.finding; gap = step.gap; effect = step.effect }
 
-taken_joined : (c : Cutting) (b b' : BlockRows) (item : Item) (step : Step) → IsStep b.line b.epoch item step → IsBlockTaken item step b b' → TurnedBoth step.turn item c b b' → IsTakenBy item (step_joined c step) (joined c b) (joined c b')
-taken_joined c b b' item step is t turned = record {
+taken_joined : (c : Cutting) (b b' : BlockRows) (item : Item) (step : Step) → IsStep b.level b.epoch item step → IsBlockTaken item step b b' → AffectedBoth step.effect item c b b' → IsTakenBy item (step_joined c step) (joined c b) (joined c b')
+taken_joined c b b' item step is t affected = record {
   counted = record {
     interface = refl;
     packets = omega (arith, t.packets);
@@ -342,53 +342,53 @@ taken_joined c b b' item step is t turned = record {
     last = ap (λ m. cond (b'.packets == 0) c.last m) t.last ∙ last_row b'.packets b.packets c.last item.number t.packets;
     octets = omega (arith, t.octets);
   };
-  line = t.line;
+  level = t.level;
   epoch = ap (λ m. c.epoch + m) t.epoch;
   start = (λ j. start_joined (t.epoch j) c.start (t.start j))
-      ∙ start_raised c.epoch b.epoch step.epoch c.start b.start step.machine (subst (λ n. (n ≡ b.epoch) ⊎ (n ≡ b.epoch + 1)) (sym is.epoch) (next_epoch b.epoch (routing b.line item).route));
+      ∙ start_raised c.epoch b.epoch step.epoch c.start b.start step.machine (subst (λ n. (n ≡ b.epoch) ⊎ (n ≡ b.epoch + 1)) (sym is.epoch) (next_epoch b.epoch (routing b.level item).route));
   findings = ap (λ l. c.findings ++ l) t.findings ∙ sym (append_assoc c.findings b.findings (option_to_list step.finding));
-  given = turned.count;
-  gap = turned.gap;
-  open_rows = turned.rows;
+  given = affected.count;
+  gap = affected.gap;
+  open_rows = affected.rows;
 }
 
-more_joined : (i : Interface) (rs items : List Item) (c : Cutting) (b b' : BlockRows) (item : Item) (step : Step) → IsCutting c → IsStep b.line b.epoch item step → IsBlockTaken item step b b' → Comes c.interface c.last c.octets (items ++ item ∷ []) → IsJoined i rs c items b
+more_joined : (i : Interface) (rs items : List Item) (c : Cutting) (b b' : BlockRows) (item : Item) (step : Step) → IsCutting c → IsStep b.level b.epoch item step → IsBlockTaken item step b b' → Comes c.interface c.last c.octets (items ++ item ∷ []) → IsJoined i rs c items b
     → IsJoined i rs c (items ++ item ∷ []) b'
 more_joined i rs items c b b' item step bounds is t come h =
     let c1 = joined c b in
     let c2 = joined c b' in
     let next : Comes c.interface (last_or c.last (numbers items)) (c.octets + all_octets items) (item ∷ []) = come_behind c.interface c.last c.octets items (item ∷ []) come in
-    let route = (routing b.line item).route in
+    let route = (routing b.level item).route in
     let rising : c1.last < item.number = subst (λ n. n < item.number) (sym h.last) next.0 in
     let lt : c.last < item.number = let first = next.0 in let up = come_up c.interface c.last c.octets items (come_first c.interface c.last c.octets items (item ∷ []) come) in omega (arith, first, up) in
-    let turned : TurnedBoth step.turn item c b b' = subst (λ turn. TurnedBoth turn item c b b') (sym is.turn)
-    (turned_both i rs items c b b' item bounds lt h next.2 route refl (t.gap ∙ ap (λ turn. gap_turned turn item b.gap) is.turn) (subst (λ turn. HasCut turn item b.epoch b.start b.gap b.ended b'.ended b.rows b'.rows) is.turn t.cut)) in
+    let affected : AffectedBoth step.effect item c b b' = subst (λ effect. AffectedBoth effect item c b b') (sym is.effect)
+    (affected_both i rs items c b b' item bounds lt h next.2 route refl (t.gap ∙ ap (λ effect. gap_by_effect effect item b.gap) is.effect) (subst (λ effect. HasCut effect item b.epoch b.start b.gap b.ended b'.ended b.rows b'.rows) is.effect t.cut)) in
     let step1 = step_joined c step in
-    let is1 : IsStep c1.line c1.epoch item step1 = record { machine = is.machine; epoch = ap (λ m. c.epoch + m) is.epoch ∙ epoch_raised c.epoch b.epoch route; finding = is.finding; gap = is.gap; turn = is.turn } in
-    let took : IsTakenBy item step1 c1 c2 = taken_joined c b b' item step is t turned in
-    let pushed : Pushed i (rs ++ items) item (ended_by step.turn c1.interface c1.epoch c1.start (end_at item) c1.given c1.gap c1.open_rows) c2 = takes i (rs ++ items) c1 c2 item step1 h.stands h.bounds rising next.2 is1 took in
+    let is1 : IsStep c1.level c1.epoch item step1 = record { machine = is.machine; epoch = ap (λ m. c.epoch + m) is.epoch ∙ epoch_raised c.epoch b.epoch route; finding = is.finding; gap = is.gap; effect = is.effect } in
+    let took : IsTakenBy item step1 c1 c2 = taken_joined c b b' item step is t affected in
+    let pushed : Pushed i (rs ++ items) item (ended_by step.effect c1.interface c1.epoch c1.start (end_at item) c1.given c1.gap c1.open_rows) c2 = takes i (rs ++ items) c1 c2 item step1 h.represented h.bounds rising next.2 is1 took in
     let few : c1.octets + item.length ≤ 2147483648 = let all = next.3 in omega (arith, all, h.octets) in
     record {
-      stands = subst (λ l. Represents i l c2) (append_assoc rs items (item ∷ [])) pushed.stands;
+      represented = subst (λ l. Represents i l c2) (append_assoc rs items (item ∷ [])) pushed.represented;
       bounds = taken_bounds c1 c2 item step1 h.bounds next.2 rising next.1 few is1 took;
-      given = ap (given_of i) (sym (append_assoc rs items (item ∷ []))) ∙ pushed.given ∙ ap (λ l. l ++ ended_by step.turn c1.interface c1.epoch c1.start (end_at item) c1.given c1.gap c1.open_rows) h.given
-          ∙ append_assoc (given_of i rs) (pieces_ended c b) (ended_by step.turn c1.interface c1.epoch c1.start (end_at item) c1.given c1.gap c1.open_rows) ∙ ap (λ l. given_of i rs ++ l) (sym turned.pieces);
+      given = ap (given_of i) (sym (append_assoc rs items (item ∷ []))) ∙ pushed.given ∙ ap (λ l. l ++ ended_by step.effect c1.interface c1.epoch c1.start (end_at item) c1.given c1.gap c1.open_rows) h.given
+          ∙ append_assoc (given_of i rs) (pieces_ended c b) (ended_by step.effect c1.interface c1.epoch c1.start (end_at item) c1.given c1.gap c1.open_rows) ∙ ap (λ l. given_of i rs ++ l) (sym affected.pieces);
       last = took.counted.last ∙ sym (ap (last_or c.last) (map-append (λ (x : Item). x.number) items (item ∷ [])) ∙ last_or-add c.last item.number (numbers items));
       octets = let sum = sum_by_push (λ (x : Item). x.length) items item in omega (arith, took.counted.octets, h.octets, sum);
-      listed = turned.listed;
-      fit = turned.fit;
-      behind = turned.behind;
+      listed = affected.listed;
+      fit = affected.fit;
+      behind = affected.behind;
     }
 
-pub cut_more : (l : GapLine) (items : List Item) (b b' : BlockRows) (item : Item) (step : Step) → IsStep b.line b.epoch item step → IsBlockTaken item step b b' → IsCutApart l items b → IsCutApart l (items ++ item ∷ []) b'
-cut_more l items b b' item step is t apart i rs c stands bounds line come =
-    more_joined i rs items c b b' item step bounds is t come (apart i rs c stands bounds line (come_first c.interface c.last c.octets items (item ∷ []) come))
+pub cut_more : (l : GapInterfaceState) (items : List Item) (b b' : BlockRows) (item : Item) (step : Step) → IsStep b.level b.epoch item step → IsBlockTaken item step b b' → IsCutApart l items b → IsCutApart l (items ++ item ∷ []) b'
+cut_more l items b b' item step is t apart i rs c represented bounds level come =
+    more_joined i rs items c b b' item step bounds is t come (apart i rs c represented bounds level (come_first c.interface c.last c.octets items (item ∷ []) come))
 
 -- ---- before the first row
 
 -- no row of a block was read
-pub record IsBlockBegun (l : GapLine) (b : BlockRows) : Type 0 where
-  pub line : b.line ≡ l
+pub record IsBlockBegun (l : GapInterfaceState) (b : BlockRows) : Type 0 where
+  pub level : b.level ≡ l
   pub epoch : b.epoch ≡ 0
   pub packets : b.packets ≡ 0
   pub gaps : b.gaps ≡ 0
@@ -402,7 +402,7 @@ pub record IsBlockBegun (l : GapLine) (b : BlockRows) : Type 0 where
 begun_last : (n last other : ℕ) → n ≡ 0 → cond (n == 0) last other ≡ last
 begun_last n last other h = ap (λ b. cond b last other) (eq-eqb n 0 h)
 
-begun_joined : (i : Interface) (rs : List Item) (c : Cutting) (b : BlockRows) → Represents i rs c → IsBlockBegun c.line b → IsUnchanged c (joined c b)
+begun_joined : (i : Interface) (rs : List Item) (c : Cutting) (b : BlockRows) → Represents i rs c → IsBlockBegun c.level b → IsUnchanged c (joined c b)
 begun_joined i rs c b s h =
     let n = c.interface.svc in
     let rows : (k : ℕ) → rows_of (joined c b).open_rows k ≡ rows_of c.open_rows k = λ k.
@@ -410,7 +410,7 @@ begun_joined i rs c b s h =
     let fun : rows_of (joined c b).open_rows ≡ rows_of c.open_rows = λ j k. rows k j in
     record {
       interface = refl;
-      line = h.line;
+      level = h.level;
       epoch = omega (arith, h.epoch);
       start = ap (λ m. start_joined m c.start b.start) h.epoch;
       given = ap (λ es. c.given + length (pieces_of c.interface c.epoch c.start c.given c.gap c.open_rows es)) h.ended ∙ omega arith;
@@ -423,12 +423,12 @@ begun_joined i rs c b s h =
       open_rows = record { rows = rows; channels = ap (listed n) fun ∙ ap (λ (j : Interface). listed j.svc (rows_of c.open_rows)) s.interface ∙ sym (lists i rs c s) };
     }
 
-pub cut_begun : (l : GapLine) (b : BlockRows) → IsBlockBegun l b → IsCutApart l [] b
-cut_begun l b h i rs c s bounds line come =
-    let same = begun_joined i rs c b s (subst (λ m. IsBlockBegun m b) (sym line) h) in
+pub cut_begun : (l : GapInterfaceState) (b : BlockRows) → IsBlockBegun l b → IsCutApart l [] b
+cut_begun l b h i rs c s bounds level come =
+    let same = begun_joined i rs c b s (subst (λ m. IsBlockBegun m b) (sym level) h) in
     let all : rs ++ [] ≡ rs = append-nil rs in
     record {
-      stands = subst (λ rows. Represents i rows (joined c b)) (sym all) (same_stands i rs c (joined c b) same s);
+      represented = subst (λ rows. Represents i rows (joined c b)) (sym all) (same_represents i rs c (joined c b) same s);
       bounds = same_bounds c (joined c b) same bounds;
       given = ap (given_of i) all ∙ sym (append-nil (given_of i rs)) ∙ ap (λ es. given_of i rs ++ pieces_of c.interface c.epoch c.start c.given c.gap c.open_rows es) (sym h.ended);
       last = same.last;

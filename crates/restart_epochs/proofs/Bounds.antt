@@ -10,7 +10,7 @@ use Rattle.std.proofs.lemmas.List.Sums.{sum_by_push}
 use Rattle.line_model.specs.declared.interface.Interface.{Interface}
 use Rattle.line_model.specs.basics.Records.{Item}
 use Rattle.line_model.specs.declared.finding.Finding.{Finding}
-use Rattle.line_model.specs.channels.GapRestart.{GapLine}
+use Rattle.line_model.specs.channels.GapRestart.{GapInterfaceState}
 use Rattle.line_model.specs.observer.Report.{gaps_of}
 use Rattle.line_model.specs.packets.Says.{gap_of}
 use Rattle.line_model.specs.basics.Bounds.{IsItem, IsPiece}
@@ -104,7 +104,7 @@ kept_bounds c c' k item h kept is rising number octets =
 counted_octets : (c c' : Cutting) (r : Item) → IsCounted r c c' → c.octets + r.length ≤ 2147483648 → c'.octets ≤ 2147483648
 counted_octets c c' r counted h = omega (arith, h, counted.octets)
 
-pub stepped_bounds : (c c' : Cutting) (r : Item) (machine : GapLine) (epoch gap : ℕ) (found : List Finding) → IsCutting c → IsStepped r machine epoch gap found c c' → gap ≤ r.number → (gap ≡ 0) ⊎ (c.interface.gaps ≡ true) → epoch ≤ c.epoch + 1 → c.last < r.number → r.number ≤ 999999999 → c.octets + r.length ≤ 2147483648 → IsCutting c'
+pub stepped_bounds : (c c' : Cutting) (r : Item) (machine : GapInterfaceState) (epoch gap : ℕ) (found : List Finding) → IsCutting c → IsStepped r machine epoch gap found c c' → gap ≤ r.number → (gap ≡ 0) ⊎ (c.interface.gaps ≡ true) → epoch ≤ c.epoch + 1 → c.last < r.number → r.number ≤ 999999999 → c.octets + r.length ≤ 2147483648 → IsCutting c'
 stepped_bounds c c' r machine epoch gap found h step le recorded next rising number octets =
     let rows = h.rows in
     let epochs = h.epochs in
@@ -131,7 +131,7 @@ left_open_channel : (i : Interface) (k n a u : ℕ) (items was : List Item) (P :
 left_open_channel i k n a u items was P h (inl none) = subst (IsChannelRows i k n a u) (sym none) (no_items i k n a u)
 left_open_channel i k n a u items was P h (inr same) = subst (IsChannelRows i k n a u) (sym same.0) h
 
-pub left_bounds : (c c' : Cutting) (r : Item) (machine : GapLine) (epoch : ℕ) (found : List Finding) → IsCutting c → IsLeft r machine epoch found c c' → epoch ≤ c.epoch + 1 → c.last < r.number → r.number ≤ 999999999 → c.octets + r.length ≤ 2147483648 → IsCutting c'
+pub left_bounds : (c c' : Cutting) (r : Item) (machine : GapInterfaceState) (epoch : ℕ) (found : List Finding) → IsCutting c → IsLeft r machine epoch found c c' → epoch ≤ c.epoch + 1 → c.last < r.number → r.number ≤ 999999999 → c.octets + r.length ≤ 2147483648 → IsCutting c'
 left_bounds c c' r machine epoch found h left next rising number octets =
     let rows = h.rows in
     let epochs = h.epochs in

@@ -38,7 +38,7 @@ pub come_first : (i : Interface) (last octets : ℕ) (xs ys : List Item) → Com
 come_first i last octets [] ys h = let all = come_few i last octets ys h in omega (arith, all)
 come_first i last octets (x ∷ xs) ys h = (h.0, h.1, h.2, come_first i x.number (octets + x.length) xs ys h.3)
 
--- those behind them
+-- those after them
 pub come_behind : (i : Interface) (last octets : ℕ) (xs ys : List Item) → Comes i last octets (xs ++ ys) → Comes i (last_or last (numbers xs)) (octets + all_octets xs) ys
 come_behind i last octets [] ys h = subst (λ n. Comes i last n ys) (omega arith) h
 come_behind i last octets (x ∷ xs) ys h =

@@ -1,4 +1,4 @@
--- What rows say, by the packets that stand beside them.
+-- What rows say, by the packets beside them.
 use Rattle.std.proofs.Common.{◌≡◌, refl, ap, sym, ◌∙◌, List, [], ◌∷◌, ◌++◌, map, length}
 use Rattle.std.specs.List.{zip}
 use Rattle.std.proofs.lemmas.List.{map-append}

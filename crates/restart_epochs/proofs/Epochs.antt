@@ -6,7 +6,7 @@ use Rattle.std.proofs.lemmas.Bool.{and_right, ne_eqb}
 use Rattle.std.proofs.lemmas.List.{map-append}
 use Rattle.line_model.specs.declared.interface.Interface.{Interface}
 use Rattle.line_model.specs.basics.Records.{Item}
-use Rattle.line_model.specs.channels.GapRestart.{GapLine, is_gap_of_all, start_by}
+use Rattle.line_model.specs.channels.GapRestart.{GapInterfaceState, is_gap_of_all, start_by}
 use Rattle.line_model.specs.channels.Gaps.{GapChannel}
 use Rattle.line_model.specs.observer.Machine.{Machine, Observer, after, channel_unless, walk}
 use Rattle.line_model.specs.pieces.Shuffle.{is_channel}
@@ -96,7 +96,7 @@ later_end n e (p ∷ ps) lt h =
     let le = h.0 in
     ap (λ b. cond b (Some p.row) (piece_end e ps)) (and_right p.leaves (eqb p.epoch e) (ne_eqb p.epoch e (λ same. omega (arith, same, le, lt)))) ∙ later_end n e ps lt h.1
 
-pub later_start : (n e : ℕ) (l : GapLine) (ps : List (Placed Item)) → n < e → AllByRecursion (λ p. p.epoch ≤ n) ps → epoch_start e l ps ≡ start_by l
+pub later_start : (n e : ℕ) (l : GapInterfaceState) (ps : List (Placed Item)) → n < e → AllByRecursion (λ p. p.epoch ≤ n) ps → epoch_start e l ps ≡ start_by l
 later_start n e l [] lt h = refl
 later_start n e l (p ∷ ps) lt h =
     let le = h.0 in
@@ -120,16 +120,16 @@ start_kept e (q ∷ ps) p h = at (start_kept e ps p) (eqb q.epoch e) refl
         ap (λ s. cond (eqb q.epoch e) q.start s) (more left)
 
 -- the next row is one of the epoch, and was placed by this interface level
-pub start_next : (e : ℕ) (l : GapLine) (ps : List (Placed Item)) (p : Placed Item) → eqb p.epoch e ≡ true → p.start ≡ start_by l → piece_start e (ps ++ p ∷ []) ≡ epoch_start e l ps
+pub start_next : (e : ℕ) (l : GapInterfaceState) (ps : List (Placed Item)) (p : Placed Item) → eqb p.epoch e ≡ true → p.start ≡ start_by l → piece_start e (ps ++ p ∷ []) ≡ epoch_start e l ps
 start_next e l [] p h s = ap (λ b. cond b p.start (piece_start {X = Item} e [])) h ∙ s
 start_next e l (q ∷ ps) p h s = ap (λ t. cond (eqb q.epoch e) q.start t) (start_next e l ps p h s)
 
-pub started_next : (e : ℕ) (l l' : GapLine) (ps : List (Placed Item)) (p : Placed Item) → eqb p.epoch e ≡ true → p.start ≡ start_by l → epoch_start e l' (ps ++ p ∷ []) ≡ epoch_start e l ps
+pub started_next : (e : ℕ) (l l' : GapInterfaceState) (ps : List (Placed Item)) (p : Placed Item) → eqb p.epoch e ≡ true → p.start ≡ start_by l → epoch_start e l' (ps ++ p ∷ []) ≡ epoch_start e l ps
 started_next e l l' [] p h s = ap (λ b. cond b p.start (start_by l')) h ∙ s
 started_next e l l' (q ∷ ps) p h s = ap (λ t. cond (eqb q.epoch e) q.start t) (started_next e l l' ps p h s)
 
 -- an epoch of which a channel has rows
-started_some : (e k : ℕ) (l : GapLine) (ps : List (Placed Item)) → has_some (piece_rows e k ps) ≡ true → epoch_start e l ps ≡ piece_start e ps
+started_some : (e k : ℕ) (l : GapInterfaceState) (ps : List (Placed Item)) → has_some (piece_rows e k ps) ≡ true → epoch_start e l ps ≡ piece_start e ps
 started_some e k l [] h = absurd (true≢false (sym h))
 started_some e k l (q ∷ ps) h = at (started_some e k l ps) (eqb q.epoch e) refl
   where
@@ -142,7 +142,7 @@ started_some e k l (q ∷ ps) h = at (started_some e k l ps) (eqb q.epoch e) ref
         let some : has_some (piece_rows e k ps) ≡ true = sym (ap (λ b. has_some (map (λ (p : Placed Item). p.row) (cond b (q ∷ rest) rest))) (and_right (is_channel k q.channel) (eqb q.epoch e) is)) ∙ h in
         ap (λ s. cond (eqb q.epoch e) q.start s) (more some)
 
-pub begun_or_bare : (e : ℕ) (l : GapLine) (ps : List (Placed Item)) (ks : List ℕ) → (filter (λ k. has_some (piece_rows e k ps)) ks ≡ []) ⊎ (epoch_start e l ps ≡ piece_start e ps)
+pub begun_or_bare : (e : ℕ) (l : GapInterfaceState) (ps : List (Placed Item)) (ks : List ℕ) → (filter (λ k. has_some (piece_rows e k ps)) ks ≡ []) ⊎ (epoch_start e l ps ≡ piece_start e ps)
 begun_or_bare e l ps [] = inl refl
 begun_or_bare e l ps (k ∷ ks) = at (has_some (piece_rows e k ps)) refl (begun_or_bare e l ps ks)
   where
@@ -161,10 +161,10 @@ begun_or_bare e l ps (k ∷ ks) = at (has_some (piece_rows e k ps)) refl (begun_
 AreOwn : List (Placed Item) → Type 0
 AreOwn ps = AllByRecursion (λ p. is_gap_of_all p.row ≡ true → p.channel ≡ None) ps
 
-places_own : (i : Interface) (o : Observer GapLine GapChannel) (rs : List Item) → AreOwn (placed (x25 i) o rs)
+places_own : (i : Interface) (o : Observer GapInterfaceState GapChannel) (rs : List Item) → AreOwn (placed (x25 i) o rs)
 unfolding AreOwn
 places_own i o [] = tt
-places_own i o (r ∷ rs) = (λ gap. ap (λ b. cond ((x25 i).ready o.line) (channel_unless (x25 i) r b) None) gap ∙ same ((x25 i).ready o.line), places_own i (after (x25 i) o r) rs)
+places_own i o (r ∷ rs) = (λ gap. ap (λ b. cond ((x25 i).ready o.level) (channel_unless (x25 i) r b) None) gap ∙ same ((x25 i).ready o.level), places_own i (after (x25 i) o r) rs)
   where
     same : (b : Bool) → (let q : Option ℕ = cond b None None in q) ≡ None
     same true = refl

@@ -41,7 +41,7 @@ pub both_last : (rows later : List Item) → cond (length later == 0) (last_numb
 both_last rows [] = ap last_number (sym (append-nil rows))
 both_last rows (r ∷ rs) = ap (λ b. cond b (last_number rows) (last_number (r ∷ rs))) (ne_eqb (length (r ∷ rs)) 0 (λ e. omega (arith, e))) ∙ sym (last_later rows r rs)
 
--- ---- the last gap of all channels behind some rows
+-- ---- the last gap of all channels after some rows
 
 abbrev gap_if : (later : Bool) → ℕ → Option ℕ
 gap_if b gap = elim b [ true ↦ Some gap | false ↦ None ]
@@ -58,7 +58,7 @@ no_gap gap rows le = ap (λ o. rows ++ gap_items o) (none_after gap (last_number
 pub one_gap : (gap : ℕ) (rows : List Item) → last_number rows < gap → with_gap gap rows ≡ rows ++ gap_item gap ∷ []
 one_gap gap rows lt = ap (λ o. rows ++ gap_items o) (one_after gap (last_number rows) lt)
 
--- the gap stands behind the rows, or not
+-- the gap comes after the rows, or not
 pub before_or_after : (gap : ℕ) (rows : List Item) → (gap ≤ last_number rows) ⊎ (last_number rows < gap)
 before_or_after gap rows = at (nat_lt (last_number rows) gap) refl
   where
@@ -66,7 +66,7 @@ before_or_after gap rows = at (nat_lt (last_number rows) gap) refl
     at true e = inr (ltb-true (last_number rows) gap e)
     at false e = inl (ltb-false (last_number rows) gap e)
 
--- behind a row that came after it there is no gap
+-- after a row that came after it there is no gap
 pub gap_pushed : (gap : ℕ) (rows : List Item) (item : Item) → gap ≤ item.number → with_gap gap (rows ++ item ∷ []) ≡ rows ++ item ∷ []
 gap_pushed gap rows item le = let last = last_pushed rows item in no_gap gap (rows ++ item ∷ []) (omega (arith, le, last))
 
@@ -97,13 +97,13 @@ part_bare later = at (begins_with_row later)
 pub joined_later : (gap later : ℕ) → 0 < later → gap_joined gap later ≡ later
 joined_later gap later lt = ap (λ b. cond b gap later) (ne_eqb later 0 (λ none. omega (arith, lt, none)))
 
--- the last gap behind rows that stand behind others
+-- the last gap after rows that come after others
 later_gap : (g h last number : ℕ) → g ≤ last → (h ≡ 0) ⊎ (last < h) → last < number → gap_after (gap_joined g h) number ≡ gap_after h number
 later_gap g h last number le (inl none) lt =
     ap (λ k. gap_after (gap_joined g k) number) none ∙ none_after g number (omega (arith, le, lt)) ∙ sym (none_after h number (omega (arith, none, lt)))
 later_gap g h last number le (inr above) lt = ap (λ k. gap_after k number) (joined_later g h (omega (arith, above)))
 
--- one row more behind later ones
+-- one row more after later ones
 pub part_more : (g h last : ℕ) (rows later : List Item) (item : Item) → is_gap_of_all item ≡ false → last_number rows ≤ last → g ≤ last → (h ≡ 0) ⊎ (last < h) → (later ≡ []) ⊎ (last < last_number later)
     → with_part g rows (with_gap h later ++ item ∷ []) ≡ with_gap (gap_joined g h) (with_part g rows later) ++ item ∷ []
 part_more g h last rows [] item own up le (inl none) behind =

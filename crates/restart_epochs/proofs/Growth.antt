@@ -133,15 +133,15 @@ pub same_below : (i : Interface) (ps : List (Placed Item)) (p : Placed Item) (ep
 same_below i ps p epoch e at lt = same_other i ps p epoch e at (λ q. omega (arith, q, lt))
 
 -- nor one that ended, of which the row may be
-pub same_line : (i : Interface) (ps : List (Placed Item)) (p : Placed Item) (e : ℕ) → p.channel ≡ None → p.all ≡ false → p.leaves ≡ false → is_some (piece_end e ps) ≡ true → SameEpoch i e ps (ps ++ p ∷ [])
-same_line i ps p e line alone stays ended = record {
+pub same_level : (i : Interface) (ps : List (Placed Item)) (p : Placed Item) (e : ℕ) → p.channel ≡ None → p.all ≡ false → p.leaves ≡ false → is_some (piece_end e ps) ≡ true → SameEpoch i e ps (ps ++ p ∷ [])
+same_level i ps p e level alone stays ended = record {
   start = start_kept e ps p ended;
-  rows = λ k. rows_same e k ps p (ap (λ c. is_channel k c && eqb p.epoch e) line);
-  steps = λ k. steps_same i e k ps p (ap (λ b. b && eqb p.epoch e) (steps_none p k line alone (is_gap_of_all p.row)));
+  rows = λ k. rows_same e k ps p (ap (λ c. is_channel k c && eqb p.epoch e) level);
+  steps = λ k. steps_same i e k ps p (ap (λ b. b && eqb p.epoch e) (steps_none p k level alone (is_gap_of_all p.row)));
   end = end_same e ps p (stays_in p e stays);
 }
 
--- the pieces of an epoch that is left come behind those before it
+-- the pieces of an epoch that is left come after those before it
 pub leave_pieces : (i : Interface) (ps : List (Placed Item)) (p : Placed Item) (epoch : ℕ) → 1 ≤ epoch → p.epoch ≡ epoch
     → pieces_to i (ps ++ p ∷ []) epoch ≡ pieces_to i ps (epoch - 1) ++ pieces_in i (ps ++ p ∷ []) (length (pieces_to i ps (epoch - 1))) epoch
 leave_pieces i ps p zero lo at = absurd (omega (arith, lo))

@@ -1,4 +1,4 @@
--- The pieces that are complete stand first in the plan of the rows that come, whatever they are.
+-- The pieces that are complete come first in the plan of the rows that come, whatever they are.
 use Rattle.std.proofs.Common.{◌≡◌, ◌∙◌, sym, ap, subst, refl, ℕ, zero, suc, ◌+◌, ◌-◌, ◌<◌, ◌≤◌, ◌⊎◌, inl, inr, Bool, true, false, true≢false, eqb, List, [], ◌∷◌, ◌++◌, length, arith, append-nil, append_assoc}
 use Rattle.std.proofs.lemmas.Bool.{eqb-true, eqb-false}
 use Rattle.line_model.specs.declared.interface.Interface.{Interface}
@@ -13,32 +13,32 @@ use Rattle.restart_epochs.specs.Cutting.{observer, places, given_of, EndsOf}
 use Rattle.restart_epochs.specs.Walks.{epoch_after}
 use Rattle.restart_epochs.proofs.Routes.{fits, fits_route, is_leaving, is_to_channel}
 use Rattle.restart_epochs.proofs.Epochs.{place_of, places_more}
-use Rattle.restart_epochs.proofs.Steps.{on_channel, on_line, unready_alone}
+use Rattle.restart_epochs.proofs.Steps.{on_channel, on_level, unready_alone}
 use Rattle.restart_epochs.proofs.Cuts.{SameEpoch, pieces_to, pieces_in, keys_to, pieces_more, pieces_to_same, plan_is}
-use Rattle.restart_epochs.proofs.Growth.{ends_by, ends_nothing, ends_same, whole_epochs, given_pieces, same_below, same_line}
+use Rattle.restart_epochs.proofs.Growth.{ends_by, ends_nothing, ends_same, whole_epochs, given_pieces, same_below, same_level}
 
 -- ---- the epochs of any rows
 
 abbrev Ends : Interface → List Item → Type 0
-Ends i rs = EndsOf (places i rs) (observer i rs).epoch (is_ready (observer i rs).line)
+Ends i rs = EndsOf (places i rs) (observer i rs).epoch (is_ready (observer i rs).level)
 
 ends_one : (i : Interface) (rs : List Item) (r : Item) → Ends i rs → Ends i (rs ++ r ∷ [])
-ends_one i rs r h = at (is_to_channel (routing (observer i rs).line r).route) refl
+ends_one i rs r h = at (is_to_channel (routing (observer i rs).level r).route) refl
   where
-    ends_here : (epoch : ℕ) (ready : Bool) → (observer i (rs ++ r ∷ [])).epoch ≡ epoch → is_ready (observer i (rs ++ r ∷ [])).line ≡ ready → EndsOf (places i rs ++ place_of i rs r ∷ []) epoch ready → Ends i (rs ++ r ∷ [])
-    ends_here epoch ready e l s = subst (λ ps. EndsOf ps (observer i (rs ++ r ∷ [])).epoch (is_ready (observer i (rs ++ r ∷ [])).line)) (sym (places_more i rs r))
-        (subst (λ n. EndsOf (places i rs ++ place_of i rs r ∷ []) n (is_ready (observer i (rs ++ r ∷ [])).line)) (sym e) (subst (EndsOf (places i rs ++ place_of i rs r ∷ []) epoch) (sym l) s))
+    ends_here : (epoch : ℕ) (ready : Bool) → (observer i (rs ++ r ∷ [])).epoch ≡ epoch → is_ready (observer i (rs ++ r ∷ [])).level ≡ ready → EndsOf (places i rs ++ place_of i rs r ∷ []) epoch ready → Ends i (rs ++ r ∷ [])
+    ends_here epoch ready e l s = subst (λ ps. EndsOf ps (observer i (rs ++ r ∷ [])).epoch (is_ready (observer i (rs ++ r ∷ [])).level)) (sym (places_more i rs r))
+        (subst (λ n. EndsOf (places i rs ++ place_of i rs r ∷ []) n (is_ready (observer i (rs ++ r ∷ [])).level)) (sym e) (subst (EndsOf (places i rs ++ place_of i rs r ∷ []) epoch) (sym l) s))
 
-    at : (b : Bool) → is_to_channel (routing (observer i rs).line r).route ≡ b → Ends i (rs ++ r ∷ [])
+    at : (b : Bool) → is_to_channel (routing (observer i rs).level r).route ≡ b → Ends i (rs ++ r ∷ [])
     at true to =
         let on = on_channel i rs r to in
-        ends_here (observer i rs).epoch (is_ready (observer i rs).line) on.epoch (ap is_ready on.line) (ends_same (places i rs) (place_of i rs r) (observer i rs).epoch (is_ready (observer i rs).line) h refl on.leaves)
+        ends_here (observer i rs).epoch (is_ready (observer i rs).level) on.epoch (ap is_ready on.level) (ends_same (places i rs) (place_of i rs r) (observer i rs).epoch (is_ready (observer i rs).level) h refl on.leaves)
     at false to =
-        let on = on_line i rs r to in
+        let on = on_level i rs r to in
         let o = observer i rs in
-        let route : Route = (routing o.line r).route in
-        ends_here (epoch_after o.epoch route) (is_ready (routing o.line r).after) on.epoch (ap is_ready on.line)
-        (ends_by (places i rs) (place_of i rs r) o.epoch route (is_ready o.line) (is_ready (routing o.line r).after) (fits o.line r) to h refl on.leaves)
+        let route : Route = (routing o.level r).route in
+        ends_here (epoch_after o.epoch route) (is_ready (routing o.level r).after) on.epoch (ap is_ready on.level)
+        (ends_by (places i rs) (place_of i rs r) o.epoch route (is_ready o.level) (is_ready (routing o.level r).after) (fits o.level r) to h refl on.leaves)
 
 ends_from : (i : Interface) (rs more : List Item) → Ends i rs → Ends i (rs ++ more)
 ends_from i rs [] h = subst (Ends i) (sym (append-nil rs)) h
@@ -51,7 +51,7 @@ ends_of i rs = ends_from i [] rs ends_nothing
 
 -- an epoch that no row will be of any more
 abbrev IsShut : Interface → List Item → ℕ → Type 0
-IsShut i rs e = (e < (observer i rs).epoch) ⊎ ((e ≡ (observer i rs).epoch) × (is_ready (observer i rs).line ≡ false))
+IsShut i rs e = (e < (observer i rs).epoch) ⊎ ((e ≡ (observer i rs).epoch) × (is_ready (observer i rs).level ≡ false))
 
 -- an epoch that stays as it is, and shut
 record Kept (i : Interface) (rs more : List Item) (e : ℕ) : Type 0 where
@@ -90,9 +90,9 @@ shut_at e n next epoch a b same at ready (inl lt) = inl (omega (arith, same, at,
 shut_at e n next epoch a b same at ready (inr w) = inr (same ∙ w.0 ∙ sym at, ready ∙ w.1)
 
 keeps_one : (i : Interface) (rs : List Item) (r : Item) (e : ℕ) → IsShut i rs e → Kept i rs (rs ++ r ∷ []) e
-keeps_one i rs r e s = at (is_to_channel (routing (observer i rs).line r).route) refl s
+keeps_one i rs r e s = at (is_to_channel (routing (observer i rs).level r).route) refl s
   where
-    at : (b : Bool) → is_to_channel (routing (observer i rs).line r).route ≡ b → IsShut i rs e → Kept i rs (rs ++ r ∷ []) e
+    at : (b : Bool) → is_to_channel (routing (observer i rs).level r).route ≡ b → IsShut i rs e → Kept i rs (rs ++ r ∷ []) e
     at true h (inl lt) = record {
       same = with_place i rs r e (same_below i (places i rs) (place_of i rs r) (observer i rs).epoch e refl lt);
       shut = inl (subst (λ n. e < n) (sym (on_channel i rs r h).epoch) lt);
@@ -102,16 +102,16 @@ keeps_one i rs r e s = at (is_to_channel (routing (observer i rs).line r).route)
         let o = observer i rs in
         record {
           same = with_place i rs r e (same_below i (places i rs) (place_of i rs r) o.epoch e refl lt);
-          shut = inl (subst (λ n. e < n) (sym (on_line i rs r h).epoch) (still_below (routing o.line r).route e o.epoch lt));
+          shut = inl (subst (λ n. e < n) (sym (on_level i rs r h).epoch) (still_below (routing o.level r).route e o.epoch lt));
         }
     at false h (inr w) =
         let o = observer i rs in
-        let on = on_line i rs r h in
-        let a : Bool = is_ready (routing o.line r).after in
-        let is = behind o.epoch (is_ready o.line) a (routing o.line r).route w.1 (fits o.line r) in
+        let on = on_level i rs r h in
+        let a : Bool = is_ready (routing o.level r).after in
+        let is = behind o.epoch (is_ready o.level) a (routing o.level r).route w.1 (fits o.level r) in
         record {
-          same = with_place i rs r e (same_line i (places i rs) (place_of i rs r) e on.channel (unready_alone i o.line r w.1) (on.leaves ∙ is.stays) (ap (λ n. is_some (piece_end n (places i rs))) w.0 ∙ (ends_of i rs).left w.1));
-          shut = shut_at e o.epoch (epoch_after o.epoch (routing o.line r).route) (observer i (rs ++ r ∷ [])).epoch a (is_ready (observer i (rs ++ r ∷ [])).line) w.0 on.epoch (ap is_ready on.line) is.shut;
+          same = with_place i rs r e (same_level i (places i rs) (place_of i rs r) e on.channel (unready_alone i o.level r w.1) (on.leaves ∙ is.stays) (ap (λ n. is_some (piece_end n (places i rs))) w.0 ∙ (ends_of i rs).left w.1));
+          shut = shut_at e o.epoch (epoch_after o.epoch (routing o.level r).route) (observer i (rs ++ r ∷ [])).epoch a (is_ready (observer i (rs ++ r ∷ [])).level) w.0 on.epoch (ap is_ready on.level) is.shut;
         }
 
 keeps : (i : Interface) (rs more : List Item) (e : ℕ) → IsShut i rs e → Kept i rs (rs ++ more) e
@@ -140,7 +140,7 @@ further i ps n (suc d) =
     let one : List Piece = pieces_in i ps (length (keys_to i ps (n + d))) (n + d + 1) in
     (before.0 ++ one, sym (append_assoc (pieces_to i ps n) before.0 one) ∙ ap (λ l. l ++ one) before.1 ∙ sym (pieces_more i ps (n + d)) ∙ ap (pieces_to i ps) next)
 
-shut_to : (i : Interface) (rs : List Item) (ready : Bool) → is_ready (observer i rs).line ≡ ready → 1 ≤ (observer i rs).epoch → (e : ℕ) → e ≤ whole_epochs (observer i rs).epoch ready → IsShut i rs e
+shut_to : (i : Interface) (rs : List Item) (ready : Bool) → is_ready (observer i rs).level ≡ ready → 1 ≤ (observer i rs).epoch → (e : ℕ) → e ≤ whole_epochs (observer i rs).epoch ready → IsShut i rs e
 shut_to i rs true h lo e le = inl (omega (arith, lo, le))
 shut_to i rs false h lo e le = at (eqb e (observer i rs).epoch) refl
   where
@@ -155,13 +155,13 @@ reached i rs e (inr w) = let same = w.0 in omega (arith, same)
 pub given_first : (i : Interface) (rs more : List Item) → (rest : List Piece) × (given_of i rs ++ rest ≡ plan i (rs ++ more))
 given_first i rs more =
     let ends = ends_of i rs in
-    let n : ℕ = whole_epochs (observer i rs).epoch (is_ready (observer i rs).line) in
-    let shut : (e : ℕ) → e ≤ n → IsShut i rs e = shut_to i rs (is_ready (observer i rs).line) refl ends.begun in
+    let n : ℕ = whole_epochs (observer i rs).epoch (is_ready (observer i rs).level) in
+    let shut : (e : ℕ) → e ≤ n → IsShut i rs e = shut_to i rs (is_ready (observer i rs).level) refl ends.begun in
     let same : pieces_to i (places i (rs ++ more)) n ≡ pieces_to i (places i rs) n = pieces_to_same i (places i rs) (places i (rs ++ more)) n (λ e le. (keeps i rs more e (shut e le)).same) in
     let le : n ≤ (observer i (rs ++ more)).epoch = reached i (rs ++ more) n (keeps i rs more n (shut n (omega arith))).shut in
     let all = further i (places i (rs ++ more)) n ((observer i (rs ++ more)).epoch - n) in
     let whole : n + ((observer i (rs ++ more)).epoch - n) ≡ (observer i (rs ++ more)).epoch = omega (arith, le) in (
       all.0,
-      ap (λ l. l ++ all.0) (given_pieces i rs (is_ready (observer i rs).line) ends ∙ sym same)
+      ap (λ l. l ++ all.0) (given_pieces i rs (is_ready (observer i rs).level) ends ∙ sym same)
           ∙ all.1 ∙ ap (pieces_to i (places i (rs ++ more))) whole ∙ sym (plan_is i (rs ++ more)),
     )

@@ -9,7 +9,7 @@ use Rattle.restart_epochs.specs.Cutting.{Cutting, IsCutting, IsUnchanged, Repres
 use Rattle.restart_epochs.specs.OpenRows.{OpenRows, rows_of, with_part}
 use Rattle.restart_epochs.specs.Walks.{start_joined}
 use Rattle.restart_epochs.specs.declared.block_cut.BlockCut.{BlockCut}
-use Rattle.restart_epochs.proofs.Added.{AreOnce, added_rows, are_within, lists, parts_listed, parts_once, same_bounds, same_stands, some_behind, within_open}
+use Rattle.restart_epochs.proofs.Added.{AreOnce, added_rows, are_within, lists, parts_listed, parts_once, same_bounds, same_represents, some_behind, within_open}
 use Rattle.restart_epochs.proofs.BlockJoins.{both_rows}
 use Rattle.restart_epochs.proofs.Comings.{all_come}
 use Rattle.restart_epochs.proofs.GapRows.{part_some}
@@ -23,7 +23,7 @@ pub record IsHung {A : Type 0} (c : Cutting) (b : BlockCut A) (c' : Cutting) (ou
   pub added : AreAdded gap b.tail.items between c'.open_rows
   pub joined : c'.gap ≡ gap_joined gap b.gap
   pub interface : c'.interface ≡ c.interface
-  pub line : c'.line ≡ b.walk.machine
+  pub level : c'.level ≡ b.walk.machine
   pub epoch : c'.epoch ≡ c.epoch + b.walk.epoch
   pub start : c'.start ≡ start_joined b.walk.epoch c.start b.walk.start
   pub packets : c'.packets ≡ c.packets + b.walk.packets
@@ -40,13 +40,13 @@ pub record MayHang {A : Type 0} (c : Cutting) (b : BlockCut A) : Type 0 where
   pub interface : Interface
   pub rows : List Item
   pub items : List Item
-  pub stands : Represents interface rows c
+  pub represented : Represents interface rows c
   pub bounds : IsCutting c
-  pub cut : IsBlockCut c.line items b
+  pub cut : IsBlockCut c.level items b
   pub joins : IsJoined interface rows c items (block_rows b cut.rows)
 
-abbrev pub may_hang : {A : Type 0} (i : Interface) (rows items : List Item) (c : Cutting) (b : BlockCut A) → Represents i rows c → IsCutting c → IsBlockCut c.line items b → MayCome c items → MayHang c b
-may_hang i rows items c b stands bounds cut come = record { interface = i; rows = rows; items = items; stands = stands; bounds = bounds; cut = cut; joins = cut.cut i rows c stands bounds refl (all_come c items come) }
+abbrev pub may_hang : {A : Type 0} (i : Interface) (rows items : List Item) (c : Cutting) (b : BlockCut A) → Represents i rows c → IsCutting c → IsBlockCut c.level items b → MayCome c items → MayHang c b
+may_hang i rows items c b represented bounds cut come = record { interface = i; rows = rows; items = items; represented = represented; bounds = bounds; cut = cut; joins = cut.cut i rows c represented bounds refl (all_come c items come) }
 
 pub may_end : {A : Type 0} (c : Cutting) (b : BlockCut A) → MayHang c b → MayEndAll c.interface c.epoch c.start c.given c.gap c.open_rows b.ended.items
 may_end c b m =
@@ -54,8 +54,8 @@ may_end c b m =
     let rows = m.joins.bounds.rows in
     let last = m.joins.bounds.last in
     record {
-      channels = lists m.interface m.rows c m.stands ∙ ap (λ (j : Interface). listed j.svc (rows_of c.open_rows)) (sym m.stands.interface);
-      others = (listing m.interface m.rows c m.stands).others;
+      channels = lists m.interface m.rows c m.represented ∙ ap (λ (j : Interface). listed j.svc (rows_of c.open_rows)) (sym m.represented.interface);
+      others = (listing m.interface m.rows c m.represented).others;
       ids = omega (arith, ids, rows, last);
       fit = m.joins.fit;
     }
@@ -84,11 +84,11 @@ hung_same c c' b out out' m h =
     let rows : (k : ℕ) → rows_of c'.open_rows k ≡ rows_of all.open_rows k = λ k.
     added_rows h.gap b.tail.items h.between c'.open_rows h.added (tail_once c b m) k ∙ (λ j. with_part (h.ended.left j) (h.ended.rows k j) (tail k j)) ∙ sym (both_rows n g o m.cut.rows k) in
     let within : (k : ℕ) → has_some (rows_on k b.tail.items) ≡ true → (1 ≤ k) × (k ≤ n) = λ k some.
-    subst (λ (j : Interface). (1 ≤ k) × (k ≤ j.svc)) (sym m.joins.stands.interface)
-    (within_open m.interface (m.rows ++ m.items) all m.joins.stands k (ap has_some (both_rows n g o m.cut.rows k ∙ ap (with_part g (rows_of o k)) (sym (tail k))) ∙ part_some g (rows_of o k) (rows_on k b.tail.items) ∙ some_behind (rows_of o k) (rows_on k b.tail.items) some)) in
+    subst (λ (j : Interface). (1 ≤ k) × (k ≤ j.svc)) (sym m.joins.represented.interface)
+    (within_open m.interface (m.rows ++ m.items) all m.joins.represented k (ap has_some (both_rows n g o m.cut.rows k ∙ ap (with_part g (rows_of o k)) (sym (tail k))) ∙ part_some g (rows_of o k) (rows_on k b.tail.items) ∙ some_behind (rows_of o k) (rows_on k b.tail.items) some)) in
     record {
       interface = h.interface;
-      line = h.line;
+      level = h.level;
       epoch = h.epoch;
       start = h.start;
       given = h.ended.count;
@@ -107,14 +107,14 @@ hung_same c c' b out out' m h =
 pub hung_bounds : {A : Type 0} (c c' : Cutting) (b : BlockCut A) (out out' : List Piece) → MayHang c b → IsHung c b c' out out' → IsCutting c'
 hung_bounds c c' b out out' m h = same_bounds (joined c (block_rows b m.cut.rows)) c' (hung_same c c' b out out' m h) m.joins.bounds
 
-pub hung_taken : {A : Type 0} (i : Interface) (rows items : List Item) (c c' : Cutting) (b : BlockCut A) (out out' : List Piece) → Represents i rows c → IsCutting c → IsBlockCut c.line items b → MayCome c items → IsHung c b c' out out' → HasTakenAll items c c' out out'
-hung_taken i rows items c c' b out out' stands bounds cut come h =
+pub hung_taken : {A : Type 0} (i : Interface) (rows items : List Item) (c c' : Cutting) (b : BlockCut A) (out out' : List Piece) → Represents i rows c → IsCutting c → IsBlockCut c.level items b → MayCome c items → IsHung c b c' out out' → HasTakenAll items c c' out out'
+hung_taken i rows items c c' b out out' represented bounds cut come h =
     let may : (j : Interface) (rs : List Item) → Represents j rs c → MayHang c b = λ j rs s. may_hang j rs items c b s bounds cut come in
-    let m = may i rows stands in
+    let m = may i rows represented in
     record {
       interface = h.interface;
       last = h.last ∙ m.joins.last;
       octets = h.octets ∙ m.joins.octets;
-      stands = λ j rs s. let n = may j rs s in same_stands j (rs ++ items) (joined c (block_rows b cut.rows)) c' (hung_same c c' b out out' n h) n.joins.stands;
+      represented = λ j rs s. let n = may j rs s in same_represents j (rs ++ items) (joined c (block_rows b cut.rows)) c' (hung_same c c' b out out' n h) n.joins.represented;
       appended = λ j rs s. record { more = pieces_ended c (block_rows b cut.rows); out_has = h.ended.pieces; known_has = (may j rs s).joins.given };
     }

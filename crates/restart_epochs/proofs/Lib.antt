@@ -1,11 +1,11 @@
 pub mod Routes
-pub mod KeptLine
+pub mod KeptLevel
 pub mod GapRows
 pub mod Epochs
 pub mod Steps
 pub mod Cuts
 pub mod Growth
-pub mod LineFindings
+pub mod LevelFindings
 pub mod OpenChannelSteps
 pub mod Listed
 pub mod Pushes

@@ -11,7 +11,7 @@ use Rattle.restart_epochs.specs.ChannelTables.{open_channel_at}
 use Rattle.restart_epochs.specs.OpenRows.{OpenRows, rows_in, rows_of, with_channel, with_gap, HasMore, IsListing}
 use Rattle.restart_epochs.specs.Cutting.{Cutting, Represents, IsCutting, observer, places, rows_if, channels_if, no_cutting, taken_rows}
 use Rattle.restart_epochs.proofs.Epochs.{some_taken}
-use Rattle.restart_epochs.proofs.Pushes.{none_taken, stands_nothing}
+use Rattle.restart_epochs.proofs.Pushes.{none_taken, represents_nothing}
 use Rattle.restart_epochs.proofs.Bounds.{no_items}
 
 -- what a test lets through passes it
@@ -30,9 +30,9 @@ all_some i rs e o rows (k ∷ ks) all = (ap has_some (rows k) ∙ some_taken i r
 
 -- a cutter lists the channels that have rows
 pub listing : (i : Interface) (rs : List Item) (c : Cutting) → Represents i rs c → IsListing c.open_rows
-listing i rs c s = at (is_ready (observer i rs).line) refl
+listing i rs c s = at (is_ready (observer i rs).level) refl
   where
-    at : (b : Bool) → is_ready (observer i rs).line ≡ b → IsListing c.open_rows
+    at : (b : Bool) → is_ready (observer i rs).level ≡ b → IsListing c.open_rows
     at true e =
         let n = (observer i rs).epoch in
         let rows : (k : ℕ) → rows_of c.open_rows k ≡ taken_rows (step_rows (x25 i) n k (places i rs)) = λ k. s.rows k ∙ ap (λ b. rows_if b i (places i rs) n k) e in
@@ -48,8 +48,8 @@ listing i rs c s = at (is_ready (observer i rs).line) refl
     }
 
 -- outside r1 no channel has rows
-pub bare : (i : Interface) (rs : List Item) (c : Cutting) → Represents i rs c → is_ready c.line ≡ false → (k : ℕ) → rows_of c.open_rows k ≡ []
-bare i rs c s h k = s.rows k ∙ ap (λ b. rows_if b i (places i rs) (observer i rs).epoch k) (ap is_ready (sym s.line) ∙ h)
+pub bare : (i : Interface) (rs : List Item) (c : Cutting) → Represents i rs c → is_ready c.level ≡ false → (k : ℕ) → rows_of c.open_rows k ≡ []
+bare i rs c s h k = s.rows k ∙ ap (λ b. rows_if b i (places i rs) (observer i rs).epoch k) (ap is_ready (sym s.level) ∙ h)
 
 -- open channels of which one has these rows
 abbrev pub open_channels_with : List (Option (List Item)) → ℕ → List Item → List (Option (List Item))
@@ -74,7 +74,7 @@ with_other (open_channel ∷ open_channels) zero rows (suc j) ne = refl
 with_other (open_channel ∷ open_channels) (suc k) rows zero ne = refl
 with_other (open_channel ∷ open_channels) (suc k) rows (suc j) ne = with_other open_channels k rows j (λ e. ne (ap suc e))
 
--- the rows with one more, behind the last gap of all channels
+-- the rows with one more, after the last gap of all channels
 abbrev pub rows_with : OpenRows → (gap channel : ℕ) → Item → OpenRows
 rows_with o gap k item = record { open_channels = open_channels_with o.open_channels k (with_gap gap (rows_of o k) ++ item ∷ []); channels = with_channel (rows_of o k) k o.channels }
 
@@ -85,7 +85,7 @@ has_one_more o gap k item =
 
 -- before the first row
 pub nothing_cut : (i : Interface) → Represents i [] (no_cutting i)
-nothing_cut i = stands_nothing i (no_cutting i) refl refl refl refl refl refl refl refl refl (λ k. refl) refl
+nothing_cut i = represents_nothing i (no_cutting i) refl refl refl refl refl refl refl refl refl (λ k. refl) refl
 
 pub nothing_bound : (i : Interface) → IsCutting (no_cutting i)
 nothing_bound i = record {

@@ -6,7 +6,7 @@ use Rattle.std.proofs.lemmas.Bool.{ne_eqb, eq-eqb, eqb-true, eqb-false}
 use Rattle.line_model.specs.declared.interface.Interface.{Interface}
 use Rattle.line_model.specs.declared.gap.EpochStart.{EpochStart}
 use Rattle.line_model.specs.basics.Records.{Item}
-use Rattle.line_model.specs.channels.GapRestart.{GapLine, is_gap_of_all, is_ready, start_by}
+use Rattle.line_model.specs.channels.GapRestart.{GapInterfaceState, is_gap_of_all, is_ready, start_by}
 use Rattle.line_model.specs.observer.Observer.{x25}
 use Rattle.line_model.specs.observer.Report.{gaps_of}
 use Rattle.line_model.specs.packets.Says.{gap_item, gap_of}
@@ -31,34 +31,34 @@ gaps_counted rs r n m e h =
 
 -- ---- how the epoch began
 
-abbrev start_if : (same : Bool) → EpochStart → GapLine → EpochStart
+abbrev start_if : (same : Bool) → EpochStart → GapInterfaceState → EpochStart
 start_if b start machine = elim b [ true ↦ start | false ↦ start_by machine ]
 
-pub start_stays : (epoch next : ℕ) (start : EpochStart) (machine : GapLine) → next ≡ epoch → start_after epoch start next machine ≡ start
+pub start_stays : (epoch next : ℕ) (start : EpochStart) (machine : GapInterfaceState) → next ≡ epoch → start_after epoch start next machine ≡ start
 start_stays epoch next start machine same = ap (λ b. start_if b start machine) (eq-eqb next epoch same)
 
-pub start_anew : (epoch next : ℕ) (start : EpochStart) (machine : GapLine) → epoch < next → start_after epoch start next machine ≡ start_by machine
+pub start_anew : (epoch next : ℕ) (start : EpochStart) (machine : GapInterfaceState) → epoch < next → start_after epoch start next machine ≡ start_by machine
 start_anew epoch next start machine lt = ap (λ b. start_if b start machine) (ne_eqb next epoch (λ same. omega (arith, same, lt)))
 
-pub start_more : (i : Interface) (rs : List Item) (r : Item) (start : EpochStart) (next : ℕ) (l' : GapLine) → (observer i (rs ++ r ∷ [])).epoch ≡ next → (observer i (rs ++ r ∷ [])).line ≡ l'
+pub start_more : (i : Interface) (rs : List Item) (r : Item) (start : EpochStart) (next : ℕ) (l' : GapInterfaceState) → (observer i (rs ++ r ∷ [])).epoch ≡ next → (observer i (rs ++ r ∷ [])).level ≡ l'
     → (next ≡ (observer i rs).epoch) ⊎ (next ≡ (observer i rs).epoch + 1) → AllByRecursion (λ p. p.epoch ≤ (observer i rs).epoch) (places i rs)
-    → start ≡ start_after (observer i rs).epoch (epoch_start (observer i rs).epoch (observer i rs).line (places i rs)) next l'
-    → start ≡ epoch_start (observer i (rs ++ r ∷ [])).epoch (observer i (rs ++ r ∷ [])).line (places i (rs ++ r ∷ []))
-start_more i rs r start next l' epoch line which within is =
-    is ∙ at which ∙ (λ j. epoch_start (sym epoch j) (sym line j) (sym (places_more i rs r) j))
+    → start ≡ start_after (observer i rs).epoch (epoch_start (observer i rs).epoch (observer i rs).level (places i rs)) next l'
+    → start ≡ epoch_start (observer i (rs ++ r ∷ [])).epoch (observer i (rs ++ r ∷ [])).level (places i (rs ++ r ∷ []))
+start_more i rs r start next l' epoch level which within is =
+    is ∙ at which ∙ (λ j. epoch_start (sym epoch j) (sym level j) (sym (places_more i rs r) j))
   where
     at : (next ≡ (observer i rs).epoch) ⊎ (next ≡ (observer i rs).epoch + 1)
-        → start_after (observer i rs).epoch (epoch_start (observer i rs).epoch (observer i rs).line (places i rs)) next l' ≡ epoch_start next l' (places i rs ++ place_of i rs r ∷ [])
+        → start_after (observer i rs).epoch (epoch_start (observer i rs).epoch (observer i rs).level (places i rs)) next l' ≡ epoch_start next l' (places i rs ++ place_of i rs r ∷ [])
     at (inl same) =
         let o = observer i rs in
         let p = place_of i rs r in
-        start_stays o.epoch next (epoch_start o.epoch o.line (places i rs)) l' same
-        ∙ sym (started_next o.epoch o.line l' (places i rs) p (eq-eqb o.epoch o.epoch refl) refl)
+        start_stays o.epoch next (epoch_start o.epoch o.level (places i rs)) l' same
+        ∙ sym (started_next o.epoch o.level l' (places i rs) p (eq-eqb o.epoch o.epoch refl) refl)
         ∙ ap (λ n. epoch_start n l' (places i rs ++ p ∷ [])) (sym same)
     at (inr one) =
         let o = observer i rs in
         let p = place_of i rs r in
-        start_anew o.epoch next (epoch_start o.epoch o.line (places i rs)) l' (omega (arith, one))
+        start_anew o.epoch next (epoch_start o.epoch o.level (places i rs)) l' (omega (arith, one))
         ∙ sym (later_start o.epoch next l' (places i rs ++ p ∷ []) (omega (arith, one)) (within_more (places i rs) p o.epoch within refl))
 
 -- ---- the rows of a channel
@@ -79,7 +79,7 @@ keeps_gap steps gap rows r all says lt h = (
 )
 
 -- of a cutter in r1
-pub keeps_now : (i : Interface) (rs : List Item) (c : Cutting) → Represents i rs c → is_ready (observer i rs).line ≡ true → (k : ℕ) → Keeps (step_rows (x25 i) (observer i rs).epoch k (places i rs)) c.gap (rows_of c.open_rows k)
+pub keeps_now : (i : Interface) (rs : List Item) (c : Cutting) → Represents i rs c → is_ready (observer i rs).level ≡ true → (k : ℕ) → Keeps (step_rows (x25 i) (observer i rs).epoch k (places i rs)) c.gap (rows_of c.open_rows k)
 keeps_now i rs c s ready k =
     let o = observer i rs in
     (s.rows k ∙ ap (λ b. rows_if b i (places i rs) o.epoch k) ready, s.items k ∙ ap (λ b. items_if b i (places i rs) o.epoch k) ready)
@@ -111,10 +111,10 @@ keeps_all i ps p e gap k is says at all rows lt was =
 none_stepped : (i : Interface) (ps : List (Placed Item)) (p : Placed Item) (e k : ℕ) → p.channel ≡ None → p.all ≡ false → step_rows (x25 i) e k (ps ++ p ∷ []) ≡ step_rows (x25 i) e k ps
 none_stepped i ps p e k none alone = steps_same i e k ps p (ap (λ b. b && eqb p.epoch e) (steps_none p k none alone (is_gap_of_all p.row)))
 
-pub line_rows : (i : Interface) (ps : List (Placed Item)) (p : Placed Item) (e k : ℕ) (ready : Bool) → p.channel ≡ None → p.all ≡ false → rows_if ready i (ps ++ p ∷ []) e k ≡ rows_if ready i ps e k
-line_rows i ps p e k true none alone = ap taken_rows (none_stepped i ps p e k none alone)
-line_rows i ps p e k false none alone = refl
+pub level_rows : (i : Interface) (ps : List (Placed Item)) (p : Placed Item) (e k : ℕ) (ready : Bool) → p.channel ≡ None → p.all ≡ false → rows_if ready i (ps ++ p ∷ []) e k ≡ rows_if ready i ps e k
+level_rows i ps p e k true none alone = ap taken_rows (none_stepped i ps p e k none alone)
+level_rows i ps p e k false none alone = refl
 
-pub line_items : (i : Interface) (ps : List (Placed Item)) (p : Placed Item) (e k : ℕ) (ready : Bool) → p.channel ≡ None → p.all ≡ false → items_if ready i (ps ++ p ∷ []) e k ≡ items_if ready i ps e k
-line_items i ps p e k true none alone = ap single_gaps (none_stepped i ps p e k none alone)
-line_items i ps p e k false none alone = refl
+pub level_items : (i : Interface) (ps : List (Placed Item)) (p : Placed Item) (e k : ℕ) (ready : Bool) → p.channel ≡ None → p.all ≡ false → items_if ready i (ps ++ p ∷ []) e k ≡ items_if ready i ps e k
+level_items i ps p e k true none alone = ap single_gaps (none_stepped i ps p e k none alone)
+level_items i ps p e k false none alone = refl

@@ -1,4 +1,4 @@
--- The pieces of the open epoch come behind those that were given out.
+-- The pieces of the open epoch come after those that were given out.
 use Rattle.std.proofs.Common.{◌≡◌, ◌∙◌, ap, sym, subst, ℕ, List, [], ◌++◌, Result, Ok, Err, None}
 use Rattle.std.specs.Prelude.{IfOk}
 use Rattle.line_model.specs.declared.interface.Interface.{Interface}

@@ -7,7 +7,7 @@ use Rattle.line_model.specs.basics.Records.{Item, Piece}
 use Rattle.line_model.specs.declared.gap.EpochStart.{EpochStart}
 use Rattle.line_model.specs.declared.piece.PieceEnd.{PieceEnd}
 use Rattle.line_model.specs.pieces.Plans.{end_at}
-use Rattle.line_model.specs.channels.GapRestart.{GapLine}
+use Rattle.line_model.specs.channels.GapRestart.{GapInterfaceState}
 use Rattle.line_model.specs.declared.finding.Finding.{Finding}
 use Rattle.line_model.specs.declared.interface.Interface.{Interface}
 use Rattle.line_model.specs.pieces.Plan.{has_some}
@@ -60,7 +60,7 @@ listed n rows = filter (λ k. has_some (rows k)) (range_with_len 1 n)
 -- did, how many rows there are and how many of them are gaps, the number of the last, their octets, the findings of the restart
 -- machine, the epochs that ended, and of the epoch that is open the last gap of all channels and the rows
 pub record BlockRows : Type 0 where
-  pub line : GapLine
+  pub level : GapInterfaceState
   pub epoch : ℕ
   pub start : EpochStart
   pub packets : ℕ
@@ -115,7 +115,7 @@ pieces_ended c b = pieces_of c.interface c.epoch c.start c.given c.gap c.open_ro
 abbrev pub joined : Cutting → BlockRows → Cutting
 joined c b = record {
   interface = c.interface;
-  line = b.line;
+  level = b.level;
   epoch = c.epoch + b.epoch;
   start = start_joined b.epoch c.start b.start;
   given = c.given + length (pieces_ended c b);
@@ -162,7 +162,7 @@ pub record IsBehind (last : ℕ) (b : BlockRows) : Type 0 where
 -- a cutter that has read some rows, with the rows of a block, has read both, and the pieces that are complete with
 -- them are those of the block
 pub record IsJoined (i : Interface) (rs : List Item) (c : Cutting) (items : List Item) (b : BlockRows) : Type 0 where
-  pub stands : Represents i (rs ++ items) (joined c b)
+  pub represented : Represents i (rs ++ items) (joined c b)
   pub bounds : IsCutting (joined c b)
   pub given : given_of i (rs ++ items) ≡ given_of i rs ++ pieces_ended c b
   pub last : (joined c b).last ≡ last_or c.last (map (λ it. it.number) items)
@@ -173,8 +173,8 @@ pub record IsJoined (i : Interface) (rs : List Item) (c : Cutting) (items : List
 
 -- rows were cut after a restart machine: wherever they come after the rows of a cutter with this machine, the cutter with the rows of the
 -- block has read them too
-abbrev pub IsCutApart : GapLine → List Item → BlockRows → Type 0
-IsCutApart l items b = (i : Interface) (rs : List Item) (c : Cutting) → Represents i rs c → IsCutting c → c.line ≡ l → Comes c.interface c.last c.octets items → IsJoined i rs c items b
+abbrev pub IsCutApart : GapInterfaceState → List Item → BlockRows → Type 0
+IsCutApart l items b = (i : Interface) (rs : List Item) (c : Cutting) → Represents i rs c → IsCutting c → c.level ≡ l → Comes c.interface c.last c.octets items → IsJoined i rs c items b
 
 -- all rows were removed, and their parts have each of them
 pub record AreAllOut (before after : OpenRows) : Type 0 where
@@ -200,7 +200,7 @@ pub record HasTakenAll (items : List Item) (before after : Cutting) (out out_aft
   pub interface : after.interface ≡ before.interface
   pub last : after.last ≡ last_or before.last (map (λ it. it.number) items)
   pub octets : after.octets ≡ before.octets + all_octets items
-  pub stands : (i : Interface) (rs : List Item) → Represents i rs before → Represents i (rs ++ items) after
+  pub represented : (i : Interface) (rs : List Item) → Represents i rs before → Represents i (rs ++ items) after
   pub appended : (i : Interface) (rs : List Item) → Represents i rs before → HasAppended out out_after (given_of i rs) (given_of i (rs ++ items))
 
 -- a channel that gets rows is among the channels

@@ -1,18 +1,18 @@
 -- What a block's cutter has read, and what a block has.
 use Rattle.std.specs.Prelude.{◌≡◌, ℕ, List}
 use Rattle.line_model.specs.basics.Records.{Item}
-use Rattle.line_model.specs.channels.GapRestart.{GapLine}
+use Rattle.line_model.specs.channels.GapRestart.{GapInterfaceState}
 use Rattle.restart_epochs.specs.BlockCuts.{BlockRows, HasCut, IsCutApart, parts_of, rows_on}
-use Rattle.restart_epochs.specs.Cutting.{gap_turned}
+use Rattle.restart_epochs.specs.Cutting.{gap_by_effect}
 use Rattle.restart_epochs.specs.OpenRows.{OpenRows, rows_of}
 use Rattle.restart_epochs.specs.declared.block_cut.BlockCut.{BlockCut}
 use Rattle.restart_epochs.specs.declared.block_cut.BlockCutter.{BlockCutter}
 use Rattle.restart_epochs.specs.declared.walk.ChannelEffect.{ChannelEffect}
 
 -- a block's cutter has read these rows after a restart machine
-abbrev pub IsCutSoFar : {A : Type 0} → GapLine → List Item → BlockCutter A → Type 0
+abbrev pub IsCutSoFar : {A : Type 0} → GapInterfaceState → List Item → BlockCutter A → Type 0
 IsCutSoFar l items s = IsCutApart l items (record {
-  line = s.walk.machine;
+  level = s.walk.machine;
   epoch = s.walk.epoch;
   start = s.walk.start;
   packets = s.walk.packets;
@@ -28,7 +28,7 @@ IsCutSoFar l items s = IsCutApart l items (record {
 -- the rows of a block; those of its open epoch are in a table
 abbrev pub block_rows : {A : Type 0} → BlockCut A → OpenRows → BlockRows
 block_rows b rows = record {
-  line = b.walk.machine;
+  level = b.walk.machine;
   epoch = b.walk.epoch;
   start = b.walk.start;
   packets = b.walk.packets;
@@ -42,14 +42,14 @@ block_rows b rows = record {
 }
 
 -- a block has these rows, cut after a restart machine
-pub record IsBlockCut {A : Type 0} (l : GapLine) (items : List Item) (b : BlockCut A) : Type 0 where
+pub record IsBlockCut {A : Type 0} (l : GapInterfaceState) (items : List Item) (b : BlockCut A) : Type 0 where
   pub rows : OpenRows
   pub parts : b.tail.items ≡ parts_of (rows_of rows) rows.channels
   pub tail : (k : ℕ) → rows_on k b.tail.items ≡ rows_of rows k
   pub cut : IsCutApart l items (block_rows b rows)
 
 -- what a row did to a block's cutter, except for what it counts
-abbrev pub BlockTurned : {A : Type 0} → ChannelEffect → Item → (before after : BlockCutter A) → Type 0
-BlockTurned turn item before after =
-    (after.walk ≡ before.walk) × (after.gap ≡ gap_turned turn item before.gap)
-    × HasCut turn item before.walk.epoch before.walk.start before.gap before.ended.items after.ended.items before.rows after.rows
+abbrev pub HasBlockEffect : {A : Type 0} → ChannelEffect → Item → (before after : BlockCutter A) → Type 0
+HasBlockEffect effect item before after =
+    (after.walk ≡ before.walk) × (after.gap ≡ gap_by_effect effect item before.gap)
+    × HasCut effect item before.walk.epoch before.walk.start before.gap before.ended.items after.ended.items before.rows after.rows

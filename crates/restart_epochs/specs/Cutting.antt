@@ -5,7 +5,7 @@ use Rattle.line_model.specs.declared.finding.Finding.{Finding}
 use Rattle.line_model.specs.basics.Records.{Item, Piece}
 use Rattle.line_model.specs.declared.gap.EpochStart.{EpochStart}
 use Rattle.line_model.specs.declared.piece.PieceEnd.{PieceEnd}
-use Rattle.line_model.specs.channels.GapRestart.{GapLine, is_gap_of_all, is_ready, start_by}
+use Rattle.line_model.specs.channels.GapRestart.{GapInterfaceState, is_gap_of_all, is_ready, start_by}
 use Rattle.line_model.specs.channels.Gaps.{GapChannel}
 use Rattle.line_model.specs.observer.Machine.{Observer, walk}
 use Rattle.line_model.specs.pieces.Pieces.{Placed, placed, piece_rows, piece_end, step_rows}
@@ -13,7 +13,7 @@ use Rattle.line_model.specs.pieces.Plan.{has_some}
 use Rattle.std.specs.List.{range_with_len, AllByRecursion}
 use Rattle.line_model.specs.observer.Observer.{x25, start}
 use Rattle.line_model.specs.observer.Report.{gaps_of}
-use Rattle.line_model.specs.pieces.Plans.{plan, line_findings, single_gaps}
+use Rattle.line_model.specs.pieces.Plans.{plan, level_findings, single_gaps}
 use Rattle.line_model.specs.basics.Bounds.{AreSaid, IsItem, all_octets}
 use Rattle.restart_epochs.specs.OpenRows.{OpenRows, begins_with_row, last_number, no_rows, rows_of, with_gap, IsSame, HasMore}
 use Rattle.restart_epochs.specs.Walks.{start_after}
@@ -22,7 +22,7 @@ use Rattle.restart_epochs.specs.declared.walk.ChannelEffect.{ChannelEffect}
 use Rattle.restart_epochs.specs.declared.walk.ChannelEffect.TheVariants.{ToChannel, ToAll, Ends}
 
 -- the observer of an interface after some rows
-abbrev pub observer : Interface → List Item → Observer GapLine GapChannel
+abbrev pub observer : Interface → List Item → Observer GapInterfaceState GapChannel
 observer i rs = walk (x25 i) (start i) rs
 
 -- the rows with their epochs and channels
@@ -38,7 +38,7 @@ given_of i rs = filter (λ p. is_some p.end) (plan i rs)
 -- the number of the last gap of all channels, or 0, and the rows
 pub record Cutting : Type 0 where
   pub interface : Interface
-  pub line : GapLine
+  pub level : GapInterfaceState
   pub epoch : ℕ
   pub start : EpochStart
   pub given : ℕ
@@ -54,9 +54,9 @@ pub record Cutting : Type 0 where
 abbrev pub no_cutting : Interface → Cutting
 no_cutting i = record {
   interface = i;
-  line = (start i).line;
+  level = (start i).level;
   epoch = 1;
-  start = start_by (start i).line;
+  start = start_by (start i).level;
   given = 0;
   packets = 0;
   gaps = 0;
@@ -89,7 +89,7 @@ pub record IsCutting (c : Cutting) : Type 0 where
 -- the same rows were pushed
 pub record IsUnchanged (before after : Cutting) : Type 0 where
   pub interface : after.interface ≡ before.interface
-  pub line : after.line ≡ before.line
+  pub level : after.level ≡ before.level
   pub epoch : after.epoch ≡ before.epoch
   pub start : after.start ≡ before.start
   pub given : after.given ≡ before.given
@@ -114,7 +114,7 @@ abbrev pub channels_in : Interface → List (Placed Item) → ℕ → List ℕ
 channels_in i ps e = filter (λ k. has_some (piece_rows e k ps)) (range_with_len 1 i.svc)
 
 -- how an epoch began, or begins with the next row
-abbrev pub epoch_start : (epoch : ℕ) → GapLine → List (Placed Item) → EpochStart
+abbrev pub epoch_start : (epoch : ℕ) → GapInterfaceState → List (Placed Item) → EpochStart
 epoch_start e l [] = start_by l
 epoch_start e l (p ∷ ps) = if p.epoch == e then p.start else epoch_start e l ps
 
@@ -143,17 +143,17 @@ channels_if false i ps e = []
 pub record Represents (i : Interface) (rs : List Item) (c : Cutting) : Type 0 where
   pub said : AreSaid i rs
   pub interface : c.interface ≡ i
-  pub line : c.line ≡ (observer i rs).line
+  pub level : c.level ≡ (observer i rs).level
   pub epoch : c.epoch ≡ (observer i rs).epoch
-  pub start : c.start ≡ epoch_start (observer i rs).epoch (observer i rs).line (places i rs)
+  pub start : c.start ≡ epoch_start (observer i rs).epoch (observer i rs).level (places i rs)
   pub packets : c.packets ≡ length rs
   pub gaps : c.gaps ≡ gaps_of rs
-  pub findings : c.findings ≡ line_findings i rs
+  pub findings : c.findings ≡ level_findings i rs
   pub given : c.given ≡ length (given_of i rs)
-  pub rows : (k : ℕ) → rows_of c.open_rows k ≡ rows_if (is_ready (observer i rs).line) i (places i rs) (observer i rs).epoch k
-  pub items : (k : ℕ) → with_gap c.gap (rows_of c.open_rows k) ≡ items_if (is_ready (observer i rs).line) i (places i rs) (observer i rs).epoch k
-  pub channels : c.open_rows.channels ≡ channels_if (is_ready (observer i rs).line) i (places i rs) (observer i rs).epoch
-  pub epochs : EndsOf (places i rs) (observer i rs).epoch (is_ready (observer i rs).line)
+  pub rows : (k : ℕ) → rows_of c.open_rows k ≡ rows_if (is_ready (observer i rs).level) i (places i rs) (observer i rs).epoch k
+  pub items : (k : ℕ) → with_gap c.gap (rows_of c.open_rows k) ≡ items_if (is_ready (observer i rs).level) i (places i rs) (observer i rs).epoch k
+  pub channels : c.open_rows.channels ≡ channels_if (is_ready (observer i rs).level) i (places i rs) (observer i rs).epoch
+  pub epochs : EndsOf (places i rs) (observer i rs).epoch (is_ready (observer i rs).level)
 
 -- of any rows of an interface that the cutter has read
 abbrev pub OfCut : Cutting → (Interface → List Item → Type 0) → Type 0
@@ -192,7 +192,7 @@ pub record IsCounted (r : Item) (before after : Cutting) : Type 0 where
 -- a row was kept on its channel
 pub record IsKeptOn (channel : ℕ) (item : Item) (before after : Cutting) : Type 0 where
   pub counted : IsCounted item before after
-  pub line : after.line ≡ before.line
+  pub level : after.level ≡ before.level
   pub epoch : after.epoch ≡ before.epoch
   pub start : after.start ≡ before.start
   pub given : after.given ≡ before.given
@@ -201,9 +201,9 @@ pub record IsKeptOn (channel : ℕ) (item : Item) (before after : Cutting) : Typ
   pub open_rows : HasMore before.gap channel item before.open_rows after.open_rows
 
 -- a row stepped the restart machine, which did not leave r1; this is the last gap of all channels now
-pub record IsStepped (r : Item) (machine : GapLine) (next_epoch next_gap : ℕ) (found : List Finding) (before after : Cutting) : Type 0 where
+pub record IsStepped (r : Item) (machine : GapInterfaceState) (next_epoch next_gap : ℕ) (found : List Finding) (before after : Cutting) : Type 0 where
   pub counted : IsCounted r before after
-  pub line : after.line ≡ machine
+  pub level : after.level ≡ machine
   pub epoch : after.epoch ≡ next_epoch
   pub start : after.start ≡ start_after before.epoch before.start next_epoch machine
   pub given : after.given ≡ before.given
@@ -216,9 +216,9 @@ abbrev pub IsEmptied : OpenRows → OpenRows → Type 0
 IsEmptied before after = (k : ℕ) → (rows_of after k ≡ []) ⊎ ((rows_of after k ≡ rows_of before k) × AllByRecursion (λ j. j ≢ k) before.channels)
 
 -- a row ended its epoch, whose pieces were given out
-pub record IsLeft (r : Item) (machine : GapLine) (next_epoch : ℕ) (found : List Finding) (before after : Cutting) : Type 0 where
+pub record IsLeft (r : Item) (machine : GapInterfaceState) (next_epoch : ℕ) (found : List Finding) (before after : Cutting) : Type 0 where
   pub counted : IsCounted r before after
-  pub line : after.line ≡ machine
+  pub level : after.level ≡ machine
   pub epoch : after.epoch ≡ next_epoch
   pub start : after.start ≡ start_after before.epoch before.start next_epoch machine
   pub given : after.given ≡ before.given + length before.open_rows.channels
@@ -228,16 +228,16 @@ pub record IsLeft (r : Item) (machine : GapLine) (next_epoch : ℕ) (found : Lis
   pub emptied : IsEmptied before.open_rows after.open_rows
 
 -- what a row did to the rows of the open epoch, where this was the last gap of all channels
-abbrev pub HasTurned : ChannelEffect → Item → (gap : ℕ) → (before after : OpenRows) → Type 0
-HasTurned (ToChannel channel) item gap before after = HasMore gap channel item before after
-HasTurned Ends item gap before after = (after.channels ≡ []) × IsEmptied before after
-HasTurned _ item gap before after = IsSame before after
+abbrev pub HasEffect : ChannelEffect → Item → (gap : ℕ) → (before after : OpenRows) → Type 0
+HasEffect (ToChannel channel) item gap before after = HasMore gap channel item before after
+HasEffect Ends item gap before after = (after.channels ≡ []) × IsEmptied before after
+HasEffect _ item gap before after = IsSame before after
 
 -- the last gap of all channels in the open epoch after a row, or 0
-abbrev pub gap_turned : ChannelEffect → Item → (gap : ℕ) → ℕ
-gap_turned ToAll item gap = item.number
-gap_turned Ends item gap = 0
-gap_turned _ item gap = gap
+abbrev pub gap_by_effect : ChannelEffect → Item → (gap : ℕ) → ℕ
+gap_by_effect ToAll item gap = item.number
+gap_by_effect Ends item gap = 0
+gap_by_effect _ item gap = gap
 
 -- how many pieces were given out after a row
 abbrev pub given_after : ChannelEffect → (given : ℕ) → OpenRows → ℕ
@@ -247,13 +247,13 @@ given_after _ given rows = given
 -- the row of a step was read
 pub record IsTakenBy (item : Item) (step : Step) (before after : Cutting) : Type 0 where
   pub counted : IsCounted item before after
-  pub line : after.line ≡ step.machine
+  pub level : after.level ≡ step.machine
   pub epoch : after.epoch ≡ step.epoch
   pub start : after.start ≡ start_after before.epoch before.start step.epoch step.machine
   pub findings : after.findings ≡ before.findings ++ option_to_list step.finding
-  pub given : after.given ≡ given_after step.turn before.given before.open_rows
-  pub gap : after.gap ≡ gap_turned step.turn item before.gap
-  pub open_rows : HasTurned step.turn item before.gap before.open_rows after.open_rows
+  pub given : after.given ≡ given_after step.effect before.given before.open_rows
+  pub gap : after.gap ≡ gap_by_effect step.effect item before.gap
+  pub open_rows : HasEffect step.effect item before.gap before.open_rows after.open_rows
 
 -- the same pieces were appended to both lists
 pub record HasAppended (out out_after known known_after : List Piece) : Type 0 where
@@ -264,7 +264,7 @@ pub record HasAppended (out out_after known known_after : List Piece) : Type 0 w
 -- a row was read: of any rows that were read before, the cutter represents them and this one, and the pieces that are
 -- complete were appended to those that were
 pub record IsTaken (item : Item) (before after : Cutting) (out out_after : List Piece) : Type 0 where
-  pub stands : (i : Interface) (rs : List Item) → Represents i rs before → Represents i (rs ++ item ∷ []) after
+  pub represented : (i : Interface) (rs : List Item) → Represents i rs before → Represents i (rs ++ item ∷ []) after
   pub given : (i : Interface) (rs : List Item) (ps : List Piece) → Represents i rs before → out ≡ ps ++ given_of i rs → out_after ≡ ps ++ given_of i (rs ++ item ∷ [])
   pub appended : (i : Interface) (rs : List Item) → Represents i rs before → HasAppended out out_after (given_of i rs) (given_of i (rs ++ item ∷ []))
   pub counted : IsCounted item before after

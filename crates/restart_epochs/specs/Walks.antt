@@ -10,7 +10,7 @@ use Rattle.line_model.specs.declared.route.Route.TheVariants.{Enter, Found, Leav
 use Rattle.line_model.specs.declared.route.Route as route
 use Rattle.line_model.specs.packets.Says.{gap_of, packet_channel}
 use Rattle.line_model.specs.basics.Records.{Item}
-use Rattle.line_model.specs.channels.GapRestart.{GapLine, is_of_all, routing, start_by}
+use Rattle.line_model.specs.channels.GapRestart.{GapInterfaceState, is_of_all, routing, start_by}
 use Rattle.line_model.specs.observer.Observer.{start}
 use Rattle.line_model.specs.declared.packet.Packet.{Packet}
 use Rattle.std.specs.Vec.{vec_len, vec_capacity}
@@ -32,7 +32,7 @@ epoch_after epoch Renew = epoch + 1
 epoch_after epoch _ = epoch
 
 -- how an epoch began after a row, by how the one before it began; the next one begins as the restart machine says
-abbrev pub start_after : (epoch : ℕ) → EpochStart → (next_epoch : ℕ) → GapLine → EpochStart
+abbrev pub start_after : (epoch : ℕ) → EpochStart → (next_epoch : ℕ) → GapInterfaceState → EpochStart
 start_after epoch start next_epoch machine = elim (next_epoch == epoch) [ true ↦ start | false ↦ start_by machine ]
 
 -- a row that is passed does nothing to the logical channels, unless it is a gap of them all
@@ -41,12 +41,12 @@ passed true = ToAll
 passed false = Stays
 
 -- what a row of this packet does to the logical channels, by its route
-abbrev pub turn_of : Packet → Route → ChannelEffect
-turn_of packet route.TheVariants.ToChannel = ToChannel (packet_channel packet)
-turn_of packet (Leave code) = Ends
-turn_of packet Renew = Ends
-turn_of packet route.TheVariants.Pass = passed (is_of_all (gap_of packet))
-turn_of packet _ = Stays
+abbrev pub effect_of : Packet → Route → ChannelEffect
+effect_of packet route.TheVariants.ToChannel = ToChannel (packet_channel packet)
+effect_of packet (Leave code) = Ends
+effect_of packet Renew = Ends
+effect_of packet route.TheVariants.Pass = passed (is_of_all (gap_of packet))
+effect_of packet _ = Stays
 
 -- the logical channel that a row goes to
 abbrev pub channel_in : ChannelEffect → Option ℕ
@@ -54,16 +54,16 @@ channel_in (ToChannel channel) = Some channel
 channel_in _ = None
 
 -- what a row does to a walk in this state of the restart machine and this epoch
-pub record IsStep (line : GapLine) (before : ℕ) (item : Item) (step : Step) : Type 0 where
-  pub machine : step.machine ≡ (routing line item).after
-  pub epoch : step.epoch ≡ epoch_after before (routing line item).route
-  pub finding : option_to_list step.finding ≡ route_finding item (routing line item).route
+pub record IsStep (level : GapInterfaceState) (before : ℕ) (item : Item) (step : Step) : Type 0 where
+  pub machine : step.machine ≡ (routing level item).after
+  pub epoch : step.epoch ≡ epoch_after before (routing level item).route
+  pub finding : option_to_list step.finding ≡ route_finding item (routing level item).route
   pub gap : step.gap ≡ is_some (gap_of item.packet)
-  pub turn : step.turn ≡ turn_of item.packet (routing line item).route
+  pub effect : step.effect ≡ effect_of item.packet (routing level item).route
 
 -- what a row does to a walk that goes to a logical channel: the restart machine and the epoch stay
 abbrev pub step_to : {A : Type 0} → (channel : ℕ) → EpochWalk A → Item → Step
-step_to channel w item = record { machine = w.machine; epoch = w.epoch; finding = None; gap = is_some (gap_of item.packet); turn = ToChannel channel }
+step_to channel w item = record { machine = w.machine; epoch = w.epoch; finding = None; gap = is_some (gap_of item.packet); effect = ToChannel channel }
 
 -- the walk has room for what a step finds
 abbrev pub HasRoom : {A : Type 0} → EpochWalk A → Step → Type 0
@@ -72,15 +72,15 @@ HasRoom w step = vec_len w.findings + length (option_to_list step.finding) ≤ v
 -- before the first row
 pub record IsFresh {A : Type 0} (i : Interface) (w : EpochWalk A) : Type 0 where
   pub interface : w.interface ≡ i
-  pub machine : w.machine ≡ (start i).line
+  pub machine : w.machine ≡ (start i).level
   pub epoch : w.epoch ≡ 1
-  pub start : w.start ≡ start_by (start i).line
+  pub start : w.start ≡ start_by (start i).level
   pub packets : w.packets ≡ 0
   pub gaps : w.gaps ≡ 0
   pub findings : w.findings.items ≡ []
 
 -- before the first row of a block, where the restart machine is this
-pub record IsFreshBlock {A : Type 0} (l : GapLine) (w : EpochWalk A) : Type 0 where
+pub record IsFreshBlock {A : Type 0} (l : GapInterfaceState) (w : EpochWalk A) : Type 0 where
   pub machine : w.machine ≡ l
   pub epoch : w.epoch ≡ 0
   pub packets : w.packets ≡ 0

@@ -2,8 +2,8 @@
 
 ghost use Rattle.std.specs.Prelude.{◌≡◌, ◌+◌, ◌<◌, ◌++◌, ◌∷◌, ◌==◌, ◌^◌, [], List, IfOk, IfSome, OnOk, cond};
 ghost use Rattle.line_model.specs.basics.Records as records;
-ghost use Rattle.line_model.specs.channels.GapRestart.{GapLine};
-ghost use Rattle.restart_epochs.specs.BlockStates.{BlockTurned, IsBlockCut, IsCutSoFar};
+ghost use Rattle.line_model.specs.channels.GapRestart.{GapInterfaceState};
+ghost use Rattle.restart_epochs.specs.BlockStates.{HasBlockEffect, IsBlockCut, IsCutSoFar};
 
 use crate::parts::{EndedRows, Part, end_at};
 use crate::restart::Restart;
@@ -93,10 +93,10 @@ impl<A: Allocator + Copy> BlockCutter<A> {
     }
 
     /// Keeps a row that goes to a channel, and ends the epoch where a row does.
-    fn turn(&mut self, turn: ChannelEffect, item: &ItemRef<'_>) -> Result<(), AllocError>
-        ensures { OnOk result (BlockTurned turn item.now self.old self.new) }
+    fn apply(&mut self, effect: ChannelEffect, item: &ItemRef<'_>) -> Result<(), AllocError>
+        ensures { OnOk result (HasBlockEffect effect item.now self.old self.new) }
     {
-        match turn {
+        match effect {
             ChannelEffect::ToChannel(channel) => self.rows.push(self.gap, channel, item),
             ChannelEffect::ToAll => {
                 self.gap = item.number;
@@ -120,14 +120,14 @@ impl<A: Allocator + Copy> BlockCutter<A> {
 
     /// Reads the next row. Fails when memory is refused, or a count would overflow its type; drop the cutter then.
     pub fn push(&mut self, item: &ItemRef<'_>) -> Result<(), AllocError>
-        ensures { (l : GapLine) (items : List records.Item) → IsCutSoFar l items self.old
+        ensures { (l : GapInterfaceState) (items : List records.Item) → IsCutSoFar l items self.old
             → OnOk result (IsCutSoFar l (items ++ item.now ∷ []) self.new) }
     {
         let Some(octets) = self.octets_with(item) else {
             return Err(AllocError);
         };
         let step = self.walk.step(item)?;
-        self.turn(step.turn, item)?;
+        self.apply(step.effect, item)?;
         self.walk.advance(step);
         self.last = item.number;
         self.octets = octets;
@@ -136,7 +136,7 @@ impl<A: Allocator + Copy> BlockCutter<A> {
 
     /// Returns the rows as they were cut, and the lists for the next cutter. Fails only when memory is refused.
     pub fn end(self) -> Result<(BlockCut<A>, RowsByChannel<A>), AllocError>
-        ensures { (l : GapLine) (items : List records.Item) → IsCutSoFar l items self
+        ensures { (l : GapInterfaceState) (items : List records.Item) → IsCutSoFar l items self
             → IfOk result (λ cut. IsBlockCut l items cut.0) }
     {
         let BlockCutter {

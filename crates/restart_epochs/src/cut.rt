@@ -5,7 +5,7 @@ ghost use Rattle.std.specs.List.Sorted.{IsStrictlyIncreasing};
 ghost use Rattle.line_model.specs.basics.Bounds.{AreRows};
 ghost use Rattle.line_model.specs.observer.Report.{gaps_among, gaps_of};
 ghost use Rattle.line_model.specs.packets.Says.{items_of};
-ghost use Rattle.line_model.specs.pieces.Plans.{plan, line_findings};
+ghost use Rattle.line_model.specs.pieces.Plans.{plan, level_findings};
 ghost use Rattle.line_model.specs.declared.fault.Fault.TheVariants.{Memory};
 
 use crate::cutter::{Cut, Cutter};
@@ -30,7 +30,7 @@ pub fn cut<A: Allocator + Copy + Send + Sync>(
     ensures pieces { IfOk result (λ cut. cut.pieces.items
         ≡ plan interface.now (items_of interface.now rows.items)) }
     ensures interface_findings { IfOk result (λ cut. cut.interface_findings.items
-        ≡ line_findings interface.now (items_of interface.now rows.items)) }
+        ≡ level_findings interface.now (items_of interface.now rows.items)) }
     ensures packets { IfOk result (λ cut. cut.packets
         ≡ length rows.items - gaps_of (items_of interface.now rows.items)) }
     ensures gaps { IfOk result (λ cut. cut.gaps

@@ -34,7 +34,7 @@ impl<A: Allocator> Model for Cutter<A> {
 
     ghost view = { λ c. record {
       interface = c.walk.interface;
-      line = c.walk.machine;
+      level = c.walk.machine;
       epoch = c.walk.epoch;
       start = c.walk.start;
       given = c.pieces.given;
@@ -49,7 +49,7 @@ impl<A: Allocator> Model for Cutter<A> {
 
     ghost invariant = { λ c. IsCutting (record {
       interface = c.walk.interface;
-      line = c.walk.machine;
+      level = c.walk.machine;
       epoch = c.walk.epoch;
       start = c.walk.start;
       given = c.pieces.given;
@@ -75,7 +75,7 @@ pub struct Cut<A: Allocator = Global> {
 
 impl<A: Allocator + Copy> Cutter<A> {
     ghost use Rattle.line_model.specs.observer.Report.{gaps_among, gaps_of};
-    ghost use Rattle.line_model.specs.pieces.Plans.{plan, line_findings};
+    ghost use Rattle.line_model.specs.pieces.Plans.{plan, level_findings};
     ghost use Rattle.line_model.specs.basics.Records as records;
     ghost use Rattle.line_model.specs.declared.interface.Interface.{Interface as AnyInterface};
     ghost use Rattle.line_model.specs.declared.fault.Fault.TheVariants.{Memory};
@@ -83,7 +83,7 @@ impl<A: Allocator + Copy> Cutter<A> {
 
     /// Returns a cutter before the first row. Allocates nothing.
     pub fn new(alloc: A, interface: &Interface) -> Self
-        ensures stands { Represents interface.now [] result }
+        ensures represented { Represents interface.now [] result }
         ensures last { result.last ≡ 0 }
         ensures octets { result.octets ≡ 0 }
     {
@@ -107,7 +107,7 @@ impl<A: Allocator + Copy> Cutter<A> {
         requires number { item.now.number ≤ 999999999 }
         requires octets { self.old.octets + item.now.length ≤ 2 ^ 31 }
         // Of any rows that it has read: it represents them and this one.
-        ensures stands { OfCut self.old (λ i rows.
+        ensures represented { OfCut self.old (λ i rows.
             OnOk result (Represents i (rows ++ item.now ∷ []) self.new)) }
         // The pieces that are complete were appended to those that were.
         ensures given { (i : AnyInterface) (rows : List records.Item) (pieces : List records.Piece)
@@ -122,7 +122,7 @@ impl<A: Allocator + Copy> Cutter<A> {
             × IsUnchanged self.old self.new × (out.new.items ≡ out.old.items)) }
     {
         let step = self.walk.step(item)?;
-        self.pieces.turn(&self.walk, step.turn, item, out)?;
+        self.pieces.apply(&self.walk, step.effect, item, out)?;
         self.walk.advance(step);
         self.last = item.number;
         self.octets += item.length as u32;
@@ -153,7 +153,7 @@ impl<A: Allocator + Copy> Cutter<A> {
 
     /// Returns the findings of the restart machine so far.
     pub fn interface_findings(&self) -> &[Finding]
-        ensures { OfCut self.now (λ i rows. result.now ≡ line_findings i rows) }
+        ensures { OfCut self.now (λ i rows. result.now ≡ level_findings i rows) }
     {
         self.walk.findings.as_slice()
     }
@@ -192,7 +192,7 @@ impl<A: Allocator + Copy> Cutter<A> {
         ensures pieces { OfCut self (λ i rows.
             IfOk result (λ cut. given_of i rows ++ cut.pieces.items ≡ plan i rows)) }
         ensures interface_findings { OfCut self (λ i rows.
-            IfOk result (λ cut. cut.interface_findings.items ≡ line_findings i rows)) }
+            IfOk result (λ cut. cut.interface_findings.items ≡ level_findings i rows)) }
         ensures packets { OfCut self (λ i rows. IfOk result (λ cut. cut.packets ≡ length rows - gaps_of rows)) }
         ensures gaps { OfCut self (λ i rows. IfOk result (λ cut. cut.gaps ≡ gaps_among i.gaps rows)) }
         ensures few { OfCut self (λ i rows.

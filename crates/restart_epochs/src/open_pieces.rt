@@ -4,7 +4,7 @@ ghost use Rattle.std.specs.Prelude.{◌≡◌, ℕ, ◌<◌, ◌+◌, ◌^◌, �
 ghost use Rattle.line_model.specs.basics.Bounds.{IsPiece};
 ghost use Rattle.line_model.specs.pieces.Plans.{end_at};
 ghost use Rattle.restart_epochs.specs.OpenRows.{IsSame};
-ghost use Rattle.restart_epochs.specs.Cutting.{ended_by, gap_turned, given_after, items_out, pieces_out, HasTurned, IsEmptied};
+ghost use Rattle.restart_epochs.specs.Cutting.{ended_by, gap_by_effect, given_after, items_out, pieces_out, HasEffect, IsEmptied};
 ghost use Rattle.restart_epochs.specs.BlockCuts.{HasEnded, HaveEnded, MayEnd, MayEndAll};
 
 use crate::channel_rows::ChannelRows;
@@ -31,24 +31,24 @@ pub struct OpenPieces<A: Allocator> {
 impl<A: Allocator + Copy> OpenPieces<A> {
     /// Keeps a row that goes to a channel, and appends the pieces that a row ends. Of a gap of all channels only the
     /// number is kept. Fails only when memory is refused, and nothing has changed then.
-    pub fn turn(
+    pub fn apply(
         &mut self,
         walk: &EpochWalk<A>,
-        turn: ChannelEffect,
+        effect: ChannelEffect,
         item: &ItemRef<'_>,
         out: &mut Vec<Piece<A>, A>,
     ) -> Result<(), AllocError>
         requires ids { self.old.given + length self.old.rows.channels < 2 ^ 32 }
         requires pieces { (k : ℕ) → IsPiece walk.now.interface k (items_out self.old.gap self.old.rows k) }
-        ensures rows { OnOk result (HasTurned turn item.now self.old.gap self.old.rows self.new.rows) }
-        ensures gap { OnOk result (self.new.gap ≡ gap_turned turn item.now self.old.gap) }
-        ensures count { OnOk result (self.new.given ≡ given_after turn self.old.given self.old.rows) }
+        ensures rows { OnOk result (HasEffect effect item.now self.old.gap self.old.rows self.new.rows) }
+        ensures gap { OnOk result (self.new.gap ≡ gap_by_effect effect item.now self.old.gap) }
+        ensures count { OnOk result (self.new.given ≡ given_after effect self.old.given self.old.rows) }
         ensures given { OnOk result (out.new.items ≡ out.old.items
-            ++ ended_by turn walk.now.interface walk.now.epoch walk.now.start (end_at item.now) self.old.given self.old.gap self.old.rows) }
+            ++ ended_by effect walk.now.interface walk.now.epoch walk.now.start (end_at item.now) self.old.given self.old.gap self.old.rows) }
         ensures refused { OnErr result ((self.new.given ≡ self.old.given) × (self.new.gap ≡ self.old.gap)
             × IsSame self.old.rows self.new.rows × (out.new.items ≡ out.old.items)) }
     {
-        match turn {
+        match effect {
             ChannelEffect::ToChannel(channel) => keep_row(
                 *walk.findings.allocator(),
                 self.gap,

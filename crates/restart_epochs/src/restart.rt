@@ -5,8 +5,8 @@ ghost use Rattle.std.specs.Bool.{OnTrue};
 ghost use Rattle.line_model.specs.packets.Classes.{packet_class};
 ghost use Rattle.line_model.specs.packets.Says.{gap_of, packet_channel};
 ghost use Rattle.line_model.specs.observer.Observer.{start};
-ghost use Rattle.line_model.specs.channels.RestartMachine.{restart_fault, restart_move, restart_error, restart_step, passes_joining, line_step};
-ghost use Rattle.line_model.specs.channels.GapRestart.{adrift_confirmation, adrift_restart, gap_in, gap_line_step, gap_on, is_of_restart, line_in_r1_with, line_takes, routing_by, start_by};
+ghost use Rattle.line_model.specs.channels.RestartMachine.{restart_fault, restart_move, restart_error, restart_step, passes_joining, level_step};
+ghost use Rattle.line_model.specs.channels.GapRestart.{adrift_confirmation, adrift_restart, gap_in, gap_level_step, gap_on, is_of_restart, level_in_r1_with, level_takes, routing_by, start_by};
 
 use line_model::diagnostic::{PACKET_TOO_LONG, PACKET_TOO_SHORT};
 use line_model::gap::EpochStart;
@@ -31,20 +31,20 @@ pub struct Restart {
 }
 
 impl Model for Restart {
-    ghost use Rattle.line_model.specs.channels.GapRestart.{GapLine};
+    ghost use Rattle.line_model.specs.channels.GapRestart.{GapInterfaceState};
 
-    ghost Value = { GapLine };
+    ghost Value = { GapInterfaceState };
 
     ghost view = { λ r. record {
-      line = record { state = r.state; owed = r.owed; joining = r.joining };
+      level = record { state = r.state; owed = r.owed; joining = r.joining };
       adrift = r.adrift;
       owed_before = r.owed_before;
     } };
 
     ghost inverse = { λ g. record {
-      state = g.line.state;
-      owed = g.line.owed;
-      joining = g.line.joining;
+      state = g.level.state;
+      owed = g.level.owed;
+      joining = g.level.joining;
       adrift = g.adrift;
       owed_before = g.owed_before;
     } };
@@ -82,7 +82,7 @@ fn is_of_restart(class: Class) -> bool
 impl Restart {
     /// Returns the machine before the first row.
     pub fn first(interface: &Interface) -> Self
-        ensures { result ≡ (start interface.now).line }
+        ensures { result ≡ (start interface.now).level }
     {
         Restart {
             state: RState::R1,
@@ -95,7 +95,7 @@ impl Restart {
 
     /// Returns the machine as it enters r1.
     fn in_r1(adrift: bool, owed_before: bool) -> Self
-        ensures { result ≡ line_in_r1_with adrift owed_before }
+        ensures { result ≡ level_in_r1_with adrift owed_before }
     {
         Restart {
             state: RState::R1,
@@ -119,7 +119,7 @@ impl Restart {
 
     /// Returns the state of the machine.
     pub fn state(&self) -> RState
-        ensures { result ≡ self.now.line.state }
+        ensures { result ≡ self.now.level.state }
     {
         self.state
     }
@@ -152,7 +152,7 @@ impl Restart {
 
     /// Steps by a gap of all channels. Outside r1 the other packet of the restart may be missing in it.
     fn pass_gap(&mut self) -> Route
-        ensures { record { route = result; after = self.new } ≡ gap_in self.old.line.state self.old }
+        ensures { record { route = result; after = self.new } ≡ gap_in self.old.level.state self.old }
     {
         match self.state {
             RState::R1 => {
@@ -167,7 +167,7 @@ impl Restart {
 
     /// Returns where a gap of a channel goes: to the channel in r1.
     fn hand_on_gap(&self) -> Route
-        ensures { record { route = result; after = self.now } ≡ gap_on self.now.line.state self.now }
+        ensures { record { route = result; after = self.now } ≡ gap_on self.now.level.state self.now }
     {
         match self.state {
             RState::R1 => Route::ToChannel,
@@ -178,7 +178,7 @@ impl Restart {
     /// Steps by a packet of a class, and returns where it goes.
     fn step_by_class(&mut self, class: Class, length: usize, side: Side) -> Route
         ensures { record { route = result; after = self.new }
-            ≡ gap_line_step self.old side class length }
+            ≡ gap_level_step self.old side class length }
     {
         if self.adrift && self.state == RState::R1 && is_of_restart(class) {
             self.restart_adrift(class, length, side)
@@ -219,7 +219,7 @@ impl Restart {
     /// Steps by a packet, by the table of the restart machine.
     fn step_by_table(&mut self, class: Class, length: usize, side: Side) -> Route
         ensures { record { route = result; after = self.new }
-            ≡ line_takes self.old (line_step self.old.line side class length) }
+            ≡ level_takes self.old (level_step self.old.level side class length) }
     {
         let name = self.state.name();
         let action = match side {
@@ -240,7 +240,7 @@ impl Restart {
 
     /// Whether a packet confirms a restart before the trace.
     fn passes(&self, class: Class) -> bool
-        ensures { result ≡ passes_joining self.now.line class }
+        ensures { result ≡ passes_joining self.now.level class }
     {
         match class {
             Class::RestartConfirm => self.joining,
@@ -251,7 +251,7 @@ impl Restart {
     /// Does what an entry of the table says.
     fn act(&mut self, class: Class, length: usize, side: Side, action: Action) -> Route
         ensures { record { route = result; after = self.new }
-            ≡ line_takes self.old (restart_step self.old.line side class length action) }
+            ≡ level_takes self.old (restart_step self.old.level side class length action) }
     {
         match action {
             Action::Move(state) => match fault(class, length) {
@@ -271,7 +271,7 @@ impl Restart {
     /// Moves to a state.
     fn enter(&mut self, state: StateName) -> Route
         ensures { record { route = result; after = self.new }
-            ≡ line_takes self.old (restart_move self.old.line.state state) }
+            ≡ level_takes self.old (restart_move self.old.level.state state) }
     {
         let left = self.state == RState::R1;
         self.owed = false;
@@ -294,7 +294,7 @@ impl Restart {
     /// Handles an error: one of the DTE has the DCE restart.
     fn fail(&mut self, side: Side, code: u8) -> Route
         ensures { record { route = result; after = self.new }
-            ≡ line_takes self.old (restart_error self.old.line side code) }
+            ≡ level_takes self.old (restart_error self.old.level side code) }
     {
         let state = self.state;
         if side == Side::N {

@@ -4,7 +4,7 @@
 ghost use Rattle.std.specs.Prelude.{option_to_list, ◌≡◌, ◌<◌, ◌+◌, ◌^◌, ◌++◌, IfOk, IfSome, OnOk, OnErr, is_some};
 ghost use Rattle.line_model.specs.channels.GapRestart.{is_of_all};
 ghost use Rattle.line_model.specs.packets.Says.{gap_of};
-ghost use Rattle.restart_epochs.specs.Walks.{epoch_after, passed, route_finding, start_after, start_joined, step_to, turn_of, HasJoined, HasRoom, IsAdvanced, IsFresh, IsFreshBlock, IsSameWalk, IsStep};
+ghost use Rattle.restart_epochs.specs.Walks.{epoch_after, passed, route_finding, start_after, start_joined, step_to, effect_of, HasJoined, HasRoom, IsAdvanced, IsFresh, IsFreshBlock, IsSameWalk, IsStep};
 
 use crate::restart::{Restart, Route, packet_channel};
 use line_model::finding::{Code, Finding};
@@ -40,7 +40,7 @@ pub struct Step {
     /// Whether the row is a gap.
     pub gap: bool,
     /// What it does to the logical channels.
-    pub turn: ChannelEffect,
+    pub effect: ChannelEffect,
 }
 
 /// A walk over the rows of a trace, except for what is on the logical channels.
@@ -128,7 +128,7 @@ impl<A: Allocator> EpochWalk<A> {
                 epoch: self.epoch,
                 finding: None,
                 gap: is_gap(&item.packet),
-                turn: ChannelEffect::ToChannel(channel),
+                effect: ChannelEffect::ToChannel(channel),
             });
         }
         self.step_by_machine(item)
@@ -162,7 +162,7 @@ impl<A: Allocator> EpochWalk<A> {
             epoch: next_epoch(self.epoch, route),
             finding: finding_of(route, item),
             gap: is_gap(&item.packet),
-            turn: turn_by(route, &item.packet),
+            effect: effect_by(route, &item.packet),
         })
     }
 
@@ -235,7 +235,7 @@ pub fn is_gap(packet: &Packet) -> bool
 }
 
 /// What a row that the restart machine passes does to the logical channels.
-fn turn_passed(packet: &Packet) -> ChannelEffect
+fn effect_of_passed(packet: &Packet) -> ChannelEffect
     ensures { result ≡ passed (is_of_all (gap_of packet.now)) }
 {
     match packet {
@@ -245,13 +245,13 @@ fn turn_passed(packet: &Packet) -> ChannelEffect
 }
 
 /// What a row does to the logical channels, by its route.
-fn turn_by(route: Route, packet: &Packet) -> ChannelEffect
-    ensures { result ≡ turn_of packet.now route }
+fn effect_by(route: Route, packet: &Packet) -> ChannelEffect
+    ensures { result ≡ effect_of packet.now route }
 {
     match route {
         Route::ToChannel => ChannelEffect::ToChannel(packet_channel(packet)),
         Route::Leave(_) | Route::Renew => ChannelEffect::Ends,
-        Route::Pass => turn_passed(packet),
+        Route::Pass => effect_of_passed(packet),
         Route::Enter | Route::Found(..) => ChannelEffect::Stays,
     }
 }

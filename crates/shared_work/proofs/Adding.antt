@@ -9,7 +9,7 @@ use mathlib.Core.Logic.{dite}
 use Rattle.line_model.specs.basics.Records.{PieceReport}
 use Rattle.line_model.specs.declared.totals.Totals.{Totals}
 use Rattle.line_model.specs.declared.fault.Fault.{Fault}
-use Rattle.line_model.specs.declared.fault.Fault.TheVariants.{Memory, Trace, Read, Write, Start, Double, Stranger, Missing}
+use Rattle.line_model.specs.declared.fault.Fault.TheVariants.{Memory, Trace, Read, Write, Start, Double, UnknownPiece, Missing}
 use Rattle.line_model.specs.work.Book.{KnownPlan, IsValue, ids_of, times}
 use Rattle.line_model.proofs.Counting.{bit, times-cons, times-append, pigeons}
 use Rattle.line_model.proofs.Posts.{length-ids}
@@ -66,7 +66,7 @@ one_forgotten ids ids' id some updates x = dite (ℕ_discrete id x)
 times-take : (ids : List ℕ) (i : ℕ) → i < length ids → (x : ℕ) → times x (take (i + 1) ids) ≡ times x (take i ids) + bit (eqb (get_or ids i 0) x)
 times-take ids i lt x = omega (arith, ap (times x) (take_more ids i 0 lt), times-append x (take i ids) (get_or ids i 0 ∷ []), times-cons x (get_or ids i 0) [])
 
--- one more stands among all than among those before it
+-- one more is among all than among those before it
 more_of_all : (ids : List ℕ) (i : ℕ) → i < length ids → times (get_or ids i 0) (take i ids) + 1 ≤ times (get_or ids i 0) ids
 more_of_all ids i lt =
     let id = get_or ids i 0 in
@@ -74,8 +74,8 @@ more_of_all ids i lt =
     let here : bit (eqb id id) ≡ 1 = ap bit (eq-eqb id id refl) in
     omega (arith, split, times-append id (take (i + 1) ids) (drop (i + 1) ids), times-take ids i lt id, here)
 
-pub stands : (ids : List ℕ) (i : ℕ) → i < length ids → 0 < times (get_or ids i 0) ids
-stands ids i lt = omega (arith, more_of_all ids i lt)
+pub represented : (ids : List ℕ) (i : ℕ) → i < length ids → 0 < times (get_or ids i 0) ids
+represented ids i lt = omega (arith, more_of_all ids i lt)
 
 pub none_more : (known : List Bool) (ids : List ℕ) (i : ℕ) → i < length ids → ((x : ℕ) → 0 < times x (take i ids) → is_known known x ≡ false) → is_known known (get_or ids i 0) ≡ false
     → (x : ℕ) → 0 < times x (take (i + 1) ids) → is_known known x ≡ false
@@ -91,12 +91,12 @@ pub twice : (before now : List Bool) (ids : List ℕ) (i : ℕ) → i < length i
     → (0 < times (get_or ids i 0) ids) × (1 < once_known before (get_or ids i 0) + times (get_or ids i 0) ids)
 twice before now ids i lt noted some =
     let one : bit (is_known now (get_or ids i 0)) ≡ 1 = ap bit some in
-    (stands ids i lt, omega (arith, noted (get_or ids i 0), one, more_of_all ids i lt))
+    (represented ids i lt, omega (arith, noted (get_or ids i 0), one, more_of_all ids i lt))
 
 pub known_once : (known : List Bool) (ids : List ℕ) (i : ℕ) → i < length ids → is_known known (get_or ids i 0) ≡ true → (0 < times (get_or ids i 0) ids) × (1 < once_known known (get_or ids i 0) + times (get_or ids i 0) ids)
 known_once known ids i lt some =
     let one : bit (is_known known (get_or ids i 0)) ≡ 1 = ap bit some in
-    (stands ids i lt, omega (arith, one, stands ids i lt))
+    (represented ids i lt, omega (arith, one, represented ids i lt))
 
 pub forgotten_more : (before now after : List Bool) (ids : List ℕ) (i : ℕ) → i < length ids → ((x : ℕ) → times x ids ≤ once_known before x) → HasNoted now (take i ids) before → HasFlag now after (get_or ids i 0) false → HasNoted after (take (i + 1) ids) before
 forgotten_more before now after ids i lt all forgotten updates x =
@@ -175,7 +175,7 @@ few_posts plan rs ids sums book = omega (arith, length-ids rs, pigeons (ids_of r
 pub refused : (rs : List PieceReport) (ids : List Bool) (ps : List PieceReport) (f : Fault) → AreIdsOf rs ids → IsNoteRefusal f ids (ids_of ps) → IsPostRefusal f rs ps
 refused rs ids ps (Double id) known h = (h.0, omega (arith, known id, h.1))
 refused rs ids ps Memory known h = λ x some. let none : bit (is_known ids x) ≡ 0 = ap bit (h x some) in omega (arith, known x, none)
-refused rs ids ps (Stranger k) known h = h
+refused rs ids ps (UnknownPiece k) known h = h
 refused rs ids ps (Missing k) known h = h
 refused rs ids ps (Trace l k) known h = h
 refused rs ids ps Read known h = h
@@ -185,7 +185,7 @@ refused rs ids ps Start known h = h
 pub post_fault : (rs ps : List PieceReport) (f : Fault) → IsPostRefusal f rs ps → IsPostFault f ps
 post_fault rs ps (Double id) h = h.0
 post_fault rs ps Memory h = tt
-post_fault rs ps (Stranger k) h = h
+post_fault rs ps (UnknownPiece k) h = h
 post_fault rs ps (Missing k) h = h
 post_fault rs ps (Trace l k) h = h
 post_fault rs ps Read h = h

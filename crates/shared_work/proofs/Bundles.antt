@@ -209,7 +209,7 @@ took_jobs plan (p ∷ ps) v w is took =
 pub took_end : (plan : KnownPlan) (v w : QueueNotes) → TookAll plan v (finish ∷ []) w → Took plan v finish w
 took_end plan v w took = subst (Took plan v finish) (sym took.2) took.1
 
--- at a full queue the feeder knows what stands in it
+-- at a full queue the feeder knows what is in it
 pub bundles_line : (plan : KnownPlan) (port : ℕ) (v : QueueNotes) → v.record_of.feeds ≡ true → Learns (AreBundled plan) port v (AreInQueue plan v.record_of)
 bundles_line plan port v feeds items views h at = (noted_line plan port v feeds (line_of items) views h.0 at, h.1)
 

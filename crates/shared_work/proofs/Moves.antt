@@ -137,7 +137,7 @@ feeds_end plan n port v feeds items views room h at =
       refl,
     )
 
--- at a full queue the feeder knows what stands in it
+-- at a full queue the feeder knows what is in it
 pub learns_line : (plan : KnownPlan) (port : ℕ) (v : Record) → v.feeds ≡ true → Learns (IsKept plan) port v (IsInQueue plan v)
 learns_line plan port v feeds items views h at =
     let k = h.1 in

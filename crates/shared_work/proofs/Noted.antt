@@ -204,7 +204,7 @@ merge plan items views fed port other v both h kept mine = record {
       (λ j u _ e. set_each (Knows fed) views port both mine (λ i y _ s. h.each i y s) j u e);
 }
 
--- where the other pass stands
+-- where the other pass is
 there : (views : List QueueNotes) (port other : ℕ) (both u : QueueNotes) → ¬ (other ≡ port) → get_elem? (set views port both) other ≡ some u → get_elem? views other ≡ some u
 there views port other both u apart at = ⊎_elim (λ (x : (other ≡ port) × (both ≡ u)). absurd (apart x.0)) (λ (x : (other ≢ port) × (get_elem? views other ≡ some u)). x.1) (at_set views port other both u at)
 

@@ -16,7 +16,7 @@ last_read kept = drop kept.start kept.latest
 abbrev pub bytes_of : Kept → List ℕ
 bytes_of kept = kept.before ++ kept.latest
 
--- what it has is the end of the bytes that were given: all of them where it says so, else 65,536 or more
+-- what it has is the end of the bytes that were given: all of them where it says so, otherwise 65,536 or more
 pub record IsEndOf (given : List ℕ) (kept : Kept) : Type 0 where
   pub gone : List ℕ
   pub parts : given ≡ gone ++ bytes_of kept

@@ -37,8 +37,8 @@ pub struct OpenRefusal {
     pub reason: io::Error,
 }
 
-/// Bytes of a refused text, with the faulty line among them: the lines that the source was given back, or else the last
-/// bytes that it gave, at least 65,536, or all where it gave fewer.
+/// Bytes of a refused text, with the faulty line among them: the lines that the source was given back, if any, or the
+/// last bytes that it gave, at least 65,536, or all where it gave fewer.
 #[derive(Drop)]
 pub struct LastText {
     pub text: Vec<u8>,
@@ -74,7 +74,7 @@ pub trait Input: RoomSource {
     /// Returns the first bytes that it gave, or fewer where memory was refused.
     fn begun(&self) -> &FirstBytes;
 
-    /// Returns the lines that it was given back, or else the last bytes that it gave. Fails only when memory is
+    /// Returns the lines that it was given back, if any, or the last bytes that it gave. Fails only when memory is
     /// refused.
     fn last_text(&self, alloc: Global) -> Result<LastText, AllocError>;
 

@@ -117,7 +117,7 @@ impl<'a, R: Opener + Clock, I: Read + Drop, W: Write + Drop> FileInput<'a, R, I,
         self.standard.read(&mut self.last_bytes)
     }
 
-    /// Reads from the file that was opened, else from standard input.
+    /// Reads from the file that was opened, otherwise from standard input.
     fn read_some(&mut self) -> io::Result<()>
         ensures few { length (last_read self.new.last_bytes) ≤ 2 ^ 16 }
         ensures given { OnOk result (Gives (⟦<FileInput<'a, R, I, W> as Source>⟧.left self.old)
@@ -135,7 +135,7 @@ impl<'a, R: Opener + Clock, I: Read + Drop, W: Write + Drop> FileInput<'a, R, I,
         }
     }
 
-    /// Reads into a room from the file that was opened, else from standard input.
+    /// Reads into a room from the file that was opened, otherwise from standard input.
     fn read_room(&mut self, room: &mut [u8]) -> io::Result<usize>
         requires room { length room.old ≡ 2 ^ 16 }
         ensures few { IfOk result (λ n. n ≤ 2 ^ 16) }

@@ -16,7 +16,7 @@ struct Supply {
     held: AtomicU64,
 }
 
-/// Whether the next growth is refused; else its block is counted.
+/// Whether the next growth is refused; otherwise its block is counted.
 fn refuses(supply: &Supply) -> bool {
     let number = supply.asked.fetch_add(1, Ordering::SeqCst);
     let first = supply.first.load(Ordering::SeqCst);

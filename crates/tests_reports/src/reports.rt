@@ -265,8 +265,8 @@ fn refusal(alloc: Global, third: Option<u32>, pieces: u32) -> Result<Option<Faul
 /// The ids of the piece 3, how many pieces the plan has, and why the reports are refused.
 const REFUSALS: [(Option<u32>, u32, Fault); 4] = [
     (Some(5), 12, Fault::Double(5)),
-    (Some(5), 11, Fault::Stranger(11)),
-    (Some(12), 12, Fault::Stranger(12)),
+    (Some(5), 11, Fault::UnknownPiece(11)),
+    (Some(12), 12, Fault::UnknownPiece(12)),
     (None, 12, Fault::Missing(3)),
 ];
 

@@ -16,7 +16,7 @@ const FAULTS: [(Fault, u8, &str); 10] = [
     (Fault::Write, 4, "write failed"),
     (Fault::Start, 5, "thread refused"),
     (Fault::Double(0), 6, "piece 0 posted twice"),
-    (Fault::Stranger(12), 7, "piece 12 unknown"),
+    (Fault::UnknownPiece(12), 7, "piece 12 unknown"),
     (Fault::Missing(3), 8, "piece 3 missing"),
 ];
 

@@ -207,7 +207,7 @@ fn join_both<R: Wait>(
 }
 
 #[test]
-fn the_end_of_each_worker_comes_behind_the_pieces(rt: HostRuntime) -> Result<(), Fail> {
+fn the_end_of_each_worker_comes_after_the_pieces(rt: HostRuntime) -> Result<(), Fail> {
     let (work, mut feeder) = Work::<Brand>::new(rt.alloc(), 4)?;
     let mut one = work.split(&mut feeder);
     let mut other = work.split(&mut feeder);

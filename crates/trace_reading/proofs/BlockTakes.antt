@@ -18,19 +18,19 @@ use Rattle.trace_reading.specs.declared.text_cutter.TextCutter.{TextCutter}
 use Rattle.trace_reading.specs.TextBlocks.{BlockView, IsReadAs}
 use Rattle.trace_reading.specs.TextCuts.{AreCut, HasCut, HasTaken, IsCutTo, given_in, known_pieces}
 use Rattle.live_report.specs.Observing.{AreItems}
-use Rattle.trace_text.proofs.RefusalLemmas.{head_stands}
+use Rattle.trace_text.proofs.RefusalLemmas.{head_represents}
 use Rattle.live_report.proofs.ChunkLemmas.{early_trace}
 use Rattle.trace_reading.proofs.Heads.{cut_of, known_under}
 use Rattle.trace_reading.proofs.Firsts.{appended_as}
 
--- a row cutter is where rows were read after
+-- a row cutter, after rows that were read
 pub record IsAt {A : Type 0} (start : Start) (f : RowCutter A) : Type 0 where
   pub interface : f.interface ≡ start.interface
-  pub machine : f.cutter.line ≡ start.machine
+  pub machine : f.cutter.level ≡ start.machine
 
-pub at_start : {A : Type 0} (start : Start) (was : Option (RowCutter A)) (f : RowCutter A) → MatchOption was ⊥ (λ g. (g.interface ≡ start.interface) × (g.cutter.line ≡ start.machine)) → was ≡ Some f → IsAt start f
+pub at_start : {A : Type 0} (start : Start) (was : Option (RowCutter A)) (f : RowCutter A) → MatchOption was ⊥ (λ g. (g.interface ≡ start.interface) × (g.cutter.level ≡ start.machine)) → was ≡ Some f → IsAt start f
 at_start start was f at is =
-    let here = subst (λ o. MatchOption o ⊥ (λ g. (g.interface ≡ start.interface) × (g.cutter.line ≡ start.machine))) is at in
+    let here = subst (λ o. MatchOption o ⊥ (λ g. (g.interface ≡ start.interface) × (g.cutter.level ≡ start.machine))) is at in
     record { interface = here.0; machine = here.1 }
 
 -- the reader went past a block whose rows the row cutter of the text may be given
@@ -41,7 +41,7 @@ pub record Passes {A : Type 0} (text bytes : List ℕ) (lines after : Progress) 
   pub passed : HasPassed lines after text bytes rs
   pub before : HasCut (items_of f.interface (early_rows text)) f
   pub trace : AreItems f.interface (items_of f.interface (early_rows text) ++ items_of f.interface rs)
-  pub cut : IsBlockCut f.cutter.line (items_of f.interface rs) rows.cut
+  pub cut : IsBlockCut f.cutter.level (items_of f.interface rs) rows.cut
 
 pub passes : {A : Type 0} (text bytes : List ℕ) (start : Start) (c : TextCutter A) (lines after : Progress) (rows : BlockRows A) (f : RowCutter A) → HasTaken text c → IsReadAs start bytes rows → lines ≡ c.lines → c.row_cutter ≡ Some f → IsAt start f
     → ((rs : List Row) → Represents lines text → lines.interface ≡ Some f.interface → IsBlock f.interface bytes rs → IsSpanOf bytes rs rows.span → HasPassed lines after text bytes rs) → Passes text bytes c.lines after rows f
@@ -55,8 +55,8 @@ passes text bytes start c lines after rows f t read is_lines is_cutter at pass =
       header = cut.header;
       passed = subst (λ l. HasPassed l after text bytes read.rows) is_lines there;
       before = cut.cut;
-      trace = subst (AreItems f.interface) (ap (items_of f.interface) there.rows_are ∙ items_more f.interface (early_rows text) read.rows) (early_trace f.interface (text ++ bytes) there.stands.sound (sym (head_stands after (text ++ bytes) there.stands) ∙ there.interface ∙ ap (λ l. l.interface) is_lines ∙ cut.header));
-      cut = subst (λ i. IsBlockCut f.cutter.line (items_of i read.rows) rows.cut) (sym at.interface)
+      trace = subst (AreItems f.interface) (ap (items_of f.interface) there.rows_are ∙ items_more f.interface (early_rows text) read.rows) (early_trace f.interface (text ++ bytes) there.represented.sound (sym (head_represents after (text ++ bytes) there.represented) ∙ there.interface ∙ ap (λ l. l.interface) is_lines ∙ cut.header));
+      cut = subst (λ i. IsBlockCut f.cutter.level (items_of i read.rows) rows.cut) (sym at.interface)
           (subst (λ l. IsBlockCut l (items_of start.interface read.rows) rows.cut) (sym at.machine) read.cut);
     }
 
@@ -68,7 +68,7 @@ block_taken text bytes lines after rows f next c p cut kept is_lines is_cutter =
     let all : HasCut (items_of next.interface (early_rows (text ++ bytes))) next =
     subst (λ i. HasCut (items_of i (early_rows (text ++ bytes))) next) (sym kept) (subst (λ items. HasCut items next) (sym (ap (items_of f.interface) p.passed.rows_are ∙ items_more f.interface (early_rows text) p.rs)) cut) in
     record {
-      reads = subst (λ l. Represents l (text ++ bytes)) (sym is_lines) p.passed.stands;
+      reads = subst (λ l. Represents l (text ++ bytes)) (sym is_lines) p.passed.represented;
       cut = subst (AreCut (early_rows (text ++ bytes)) c.lines.interface) (sym is_cutter) (header, all);
     }
 
@@ -77,7 +77,7 @@ pub block_pieces : {A : Type 0} (text bytes : List ℕ) (lines after : Progress)
 block_pieces text bytes lines after rows f out out_after p more =
     appended_as out out_after (known_pieces text) (known_pieces (text ++ bytes)) (given_in f.interface text) (given_of f.interface (items_of f.interface (early_rows text) ++ items_of f.interface p.rs))
     (known_under lines text f.interface p.reads p.header)
-    (known_under after (text ++ bytes) f.interface p.passed.stands (p.passed.interface ∙ p.header) ∙ ap (given_of f.interface) (ap (items_of f.interface) p.passed.rows_are ∙ items_more f.interface (early_rows text) p.rs)) more
+    (known_under after (text ++ bytes) f.interface p.passed.represented (p.passed.interface ∙ p.header) ∙ ap (given_of f.interface) (ap (items_of f.interface) p.passed.rows_are ∙ items_more f.interface (early_rows text) p.rs)) more
 
 -- ---- a block that was read apart
 

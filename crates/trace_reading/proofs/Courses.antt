@@ -19,7 +19,7 @@ use Rattle.trace_text.proofs.SourceLemmas.{all_sound as sound_at_end}
 use Rattle.shared_work.specs.queue.Passes.{PassView, QueueId}
 use Rattle.shared_work.specs.declared.queue.rule.Record.{Record}
 use Rattle.workers.specs.Workers.{HasFed}
-use Rattle.trace_reading.specs.TextBlocks.{StandsAt}
+use Rattle.trace_reading.specs.TextBlocks.{IsPartAt}
 use Rattle.trace_reading.specs.TextCuts.{HasTaken, IsPlanOf}
 use Rattle.trace_reading.specs.Readings.{HasFedOn, HasRead, HasSentNone, IsFaultWithin, IsFedTextOf, IsHeld, IsPlanBegunSo, IsReadEnd, IsReadOf, IsReadingFault, IsRefusedText, in_flight, lag_of}
 use Rattle.trace_reading.specs.declared.feeding.Read.{Read}
@@ -58,14 +58,14 @@ nothing_fed known queue pass sent room c begun taken none no_ends no_pieces same
           queue_is = same;
           no_ends = no_ends;
         };
-        place = none_stands known sent room begun;
+        place = none_represents known sent room begun;
       };
       near = omega arith;
     }
   where
-    none_stands : (known : Option (List ℕ)) (sent : ℕ) (room : List ℕ) → HasSentNone sent room → IfSome known (λ whole. StandsAt whole sent room)
-    none_stands None sent room begun = tt
-    none_stands (Some whole) sent room begun = record { before = []; rest = whole; is = ap (λ xs. xs ++ whole) (sym begun.room_is); place_is = sym begun.sent_is }
+    none_represents : (known : Option (List ℕ)) (sent : ℕ) (room : List ℕ) → HasSentNone sent room → IfSome known (λ whole. IsPartAt whole sent room)
+    none_represents None sent room begun = tt
+    none_represents (Some whole) sent room begun = record { before = []; rest = whole; is = ap (λ xs. xs ++ whole) (sym begun.room_is); place_is = sym begun.sent_is }
 
 -- ---- the plan of the text
 
@@ -102,7 +102,7 @@ shown_taken (Some whole) left text taken all e h shown = h
 
 fault_stays : (text more : List ℕ) (f : Fault) → IsFaultOf (early text) f → IsFaultOf (early (text ++ more)) f
 fault_stays text more Memory h = tt
-fault_stays text more (Trace line kind) h = early-append text more (line, kind) h
+fault_stays text more (Trace level kind) h = early-append text more (level, kind) h
 fault_stays text more _ h = absurd h
 
 pub fault_wider : (known : Option (List ℕ)) (few size : ℕ) (f : Fault) → few ≤ size → IsFaultWithin known few f → IsFaultWithin known size f
@@ -120,7 +120,7 @@ fault_at (Some whole) text f begins h kinds = record { kinds = kinds; fault = su
 
 reading_fault : (f : Fault) → IsTextFault f → IsReadingFault f
 reading_fault Memory h = tt
-reading_fault (Trace line kind) h = tt
+reading_fault (Trace level kind) h = tt
 reading_fault _ h = absurd h
 
 no_read_fault : (f : Fault) → IsTextFault f → f ≡ ReadFailed → ⊥
@@ -197,11 +197,11 @@ abbrev pub Stop : {A : Type 0} → (known : Option (List ℕ)) → (queue : Queu
 Stop known queue start pass sent room c fed last f = HasFailed (λ text. IsFedTextOf known queue start pass text sent room c) fed last f ⊎ IsRefusedText known start pass (length (fed ++ last)) f
 
 pub stop_held : {A : Type 0} (known : Option (List ℕ)) (queue : QueueId) (start pass : PassView) (sent : ℕ) (room : List ℕ) (c : TextCutter A) (fed last : List ℕ) (f : Fault) → Stop known queue start pass sent room c fed last f → f ≡ ReadFailed → IsHeld known queue pass sent room c
-stop_held known queue start pass sent room c fed last f (inl why) e = why.stands.held
+stop_held known queue start pass sent room c fed last f (inl why) e = why.represented.held
 stop_held known queue start pass sent room c fed last f (inr why) e = absurd (no_read_fault f why.refusal.kinds e)
 
 pub stop_fed : {A : Type 0} (known : Option (List ℕ)) (queue : QueueId) (start pass : PassView) (sent : ℕ) (room : List ℕ) (c : TextCutter A) (fed last : List ℕ) (f : Fault) → Stop known queue start pass sent room c fed last f → HasFedOn start pass
-stop_fed known queue start pass sent room c fed last f (inl why) = why.stands.fed
+stop_fed known queue start pass sent room c fed last f (inl why) = why.represented.fed
 stop_fed known queue start pass sent room c fed last f (inr why) = why.fed
 
 -- the fault by which the text is refused then
@@ -216,7 +216,7 @@ stop_read {A = A} known before after asked failed queue start pass sent room c f
     at (inl why) = ended (read why.failure)
       where
         size : length (u.fed ++ u.last) ≡ sent + length room
-        size = ap (λ (xs : List ℕ). length xs) (ap (λ xs. u.fed ++ xs) why.none ∙ append-nil u.fed) ∙ why.stands.size
+        size = ap (λ (xs : List ℕ). length xs) (ap (λ xs. u.fed ++ xs) why.none ∙ append-nil u.fed) ∙ why.represented.size
 
         sound_given : (all rest : List ℕ) → known ≡ Some all → all ≡ (u.fed ++ u.last) ++ rest → IfSome known (λ whole. early (take (sent + length room) whole) ≡ None) → early (u.fed ++ u.last) ≡ None
         sound_given all rest k whole h =

@@ -37,7 +37,7 @@ come_text i text part lines f rest out out_after c = append_assoc text c.read re
 pub cut_row : {A : Type 0} (i : Interface) (text chunk rest : List ℕ) (row : ReadRow) (lines after : Progress) (f : RowCutter A) → Represents lines text → (t : ReadsRow lines after chunk rest row) → after.interface ≡ Some f.interface → f.interface ≡ i
     → HasCut (items_of i (early_rows text) ++ item_read i row ∷ []) f → IsCutTo (text ++ t.1.taken) after f
 cut_row i text chunk rest row lines after f s t header same cut = record {
-  reads = t.1.stands text s;
+  reads = t.1.represented text s;
   header = header;
   cut = subst (λ j. HasCut (items_of j (early_rows (text ++ t.1.taken))) f) (sym same) (subst (λ items. HasCut items f) (sym (next_items i lines after text chunk rest row s t)) cut);
 }
@@ -65,7 +65,7 @@ pub come_end : {A : Type 0} (i : Interface) (text part rest : List ℕ) (lines a
 come_end i text part rest lines after f out out_after c t kept =
     let all = come_text i text part lines f rest out out_after c in
     record {
-      reads = subst (Represents after) all (t.stands (text ++ c.read) c.cut.reads);
+      reads = subst (Represents after) all (t.represented (text ++ c.read) c.cut.reads);
       header = header_stays lines after (text ++ c.read) rest f.interface c.cut.reads c.cut.header kept;
       cut = subst (λ x. HasCut (items_of f.interface (early_rows x)) f) all (subst (λ rows. HasCut (items_of f.interface rows) f) (sym (t.rows (text ++ c.read) c.cut.reads)) c.cut.cut);
     }

@@ -54,12 +54,12 @@ first_cut text chunk rest row lines after i f s none t kept same cut = cut_row i
 pub first_pieces : (i : Interface) (text chunk rest : List ℕ) (row : ReadRow) (lines after last : Progress) (out now out_after : List Piece) → Represents lines text → early_rows text ≡ [] → (t : ReadsRow lines after chunk rest row)
     → HasAppended out now (given_of i []) (given_of i ([] ++ item_read i row ∷ [])) → HasAppended now out_after (given_in i (text ++ t.1.taken)) (given_in i ((text ++ t.1.taken) ++ rest))
     → Represents last (text ++ chunk) → last.interface ≡ Some i → HasAppended out out_after (known_pieces text) (known_pieces (text ++ chunk))
-first_pieces i text chunk rest row lines after last out now out_after s none t first more stands header =
+first_pieces i text chunk rest row lines after last out now out_after s none t first more represented header =
     let all = chunk_text lines after text chunk rest row t in
     let here : given_of i ([] ++ item_read i row ∷ []) ≡ given_in i (text ++ t.1.taken) = ap (λ rows. given_of i (items_of i rows ++ item_read i row ∷ [])) (sym none) ∙ ap (given_of i) (sym (next_items i lines after text chunk rest row s t)) in
     let both = appended_next out now out_after (given_of i []) (given_in i (text ++ t.1.taken)) (given_in i ((text ++ t.1.taken) ++ rest)) (subst (HasAppended out now (given_of i [])) here first) more in
     let from = subst (λ ps. HasAppended out out_after ps (given_in i ((text ++ t.1.taken) ++ rest))) (none_of i ∙ sym (none_known text none)) both in
-    subst (HasAppended out out_after (known_pieces text)) (ap (given_in i) all ∙ sym (known_under last (text ++ chunk) i stands header)) from
+    subst (HasAppended out out_after (known_pieces text)) (ap (given_in i) all ∙ sym (known_under last (text ++ chunk) i represented header)) from
 
 -- ---- the text has ended
 

@@ -5,14 +5,14 @@ use Rattle.line_model.specs.basics.Records.{Row}
 use Rattle.line_model.specs.text.Text.{early_rows}
 use Rattle.trace_text.specs.Progress.{Progress}
 use Rattle.trace_text.specs.Represents.{Represents}
-use Rattle.trace_text.proofs.RefusalLemmas.{head_stands}
+use Rattle.trace_text.proofs.RefusalLemmas.{head_represents}
 use Rattle.trace_reading.specs.declared.text_cutter.RowCutter.{RowCutter}
 use Rattle.trace_reading.specs.declared.text_cutter.TextCutter.{TextCutter}
 use Rattle.trace_reading.specs.TextCuts.{AreCut, HasTaken, IsCutTo, given_in, known_of, known_pieces}
 
 -- the pieces of a text whose header is known
 pub known_under : (reader : Progress) (text : List ℕ) (i : Interface) → Represents reader text → reader.interface ≡ Some i → known_pieces text ≡ given_in i text
-known_under reader text i s h = ap (λ o. known_of o text) (sym (head_stands reader text s) ∙ h)
+known_under reader text i s h = ap (λ o. known_of o text) (sym (head_represents reader text s) ∙ h)
 
 pub cut_of : {A : Type 0} (c : TextCutter A) (text : List ℕ) (f : RowCutter A) → HasTaken text c → c.row_cutter ≡ Some f → IsCutTo text c.lines f
 cut_of c text f t h =

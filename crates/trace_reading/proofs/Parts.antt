@@ -13,7 +13,7 @@ use Rattle.trace_text.specs.FedBytes.{fed_length}
 use Rattle.trace_text.specs.Sources.{BeginsSo}
 use Rattle.shared_work.specs.queue.Passes.{PassView, QueueId}
 use Rattle.workers.specs.Workers.{HasFed}
-use Rattle.trace_reading.specs.TextBlocks.{StandsAt}
+use Rattle.trace_reading.specs.TextBlocks.{IsPartAt}
 use Rattle.trace_reading.specs.TextCuts.{HasTaken, IsPlanOf, known_pieces}
 use Rattle.trace_reading.specs.Readings.{HasFedOn, IsFaultWithin, IsFedSoFar, IsHeld, in_flight}
 use Rattle.trace_reading.specs.declared.text_cutter.TextCutter.{TextCutter}
@@ -24,7 +24,7 @@ same_front : (xs ys us vs : List ℕ) → xs ++ us ≡ ys ++ vs → length xs �
 same_front xs ys us vs e n = sym (take-append_seam xs us) ∙ ap (take (length xs)) e ∙ ap (λ k. take k (ys ++ vs)) n ∙ take-append_seam ys vs
 
 -- bytes that come after those that were consumed
-pub begins_more : (known : Option (List ℕ)) (taken bytes : List ℕ) (place : ℕ) → BeginsSo known taken → place ≡ length taken → IfSome known (λ whole. StandsAt whole place bytes) → BeginsSo known (taken ++ bytes)
+pub begins_more : (known : Option (List ℕ)) (taken bytes : List ℕ) (place : ℕ) → BeginsSo known taken → place ≡ length taken → IfSome known (λ whole. IsPartAt whole place bytes) → BeginsSo known (taken ++ bytes)
 begins_more None taken bytes place begins at s = tt
 begins_more (Some whole) taken bytes place begins at s =
     let whole_is = sym (append_assoc s.before bytes s.rest) ∙ sym s.is ∙ begins.1 in
@@ -61,18 +61,18 @@ fed_both a b c first more = record { kept = fed_on a.record_of b.record_of c.rec
 
 -- ---- bytes of the text that come one after the other
 
-pub stands_front : (known : Option (List ℕ)) (place : ℕ) (bytes lines more : List ℕ) → bytes ≡ lines ++ more → IfSome known (λ whole. StandsAt whole place bytes) → IfSome known (λ whole. StandsAt whole place lines)
-stands_front None place bytes lines more e s = tt
-stands_front (Some whole) place bytes lines more e s = record {
+pub represents_front : (known : Option (List ℕ)) (place : ℕ) (bytes lines more : List ℕ) → bytes ≡ lines ++ more → IfSome known (λ whole. IsPartAt whole place bytes) → IfSome known (λ whole. IsPartAt whole place lines)
+represents_front None place bytes lines more e s = tt
+represents_front (Some whole) place bytes lines more e s = record {
   before = s.before;
   rest = more ++ s.rest;
   is = s.is ∙ ap (λ xs. (s.before ++ xs) ++ s.rest) e ∙ ap (λ xs. xs ++ s.rest) (sym (append_assoc s.before lines more)) ∙ append_assoc (s.before ++ lines) more s.rest;
   place_is = s.place_is;
 }
 
-pub stands_back : (known : Option (List ℕ)) (place next : ℕ) (bytes lines more : List ℕ) → bytes ≡ lines ++ more → next ≡ place + length lines → IfSome known (λ whole. StandsAt whole place bytes) → IfSome known (λ whole. StandsAt whole next more)
-stands_back None place next bytes lines more e at s = tt
-stands_back (Some whole) place next bytes lines more e at s = record {
+pub represents_back : (known : Option (List ℕ)) (place next : ℕ) (bytes lines more : List ℕ) → bytes ≡ lines ++ more → next ≡ place + length lines → IfSome known (λ whole. IsPartAt whole place bytes) → IfSome known (λ whole. IsPartAt whole next more)
+represents_back None place next bytes lines more e at s = tt
+represents_back (Some whole) place next bytes lines more e at s = record {
   before = s.before ++ lines;
   rest = s.rest;
   is = s.is ∙ ap (λ xs. (s.before ++ xs) ++ s.rest) e ∙ ap (λ xs. xs ++ s.rest) (sym (append_assoc s.before lines more));
@@ -80,9 +80,9 @@ stands_back (Some whole) place next bytes lines more e at s = record {
 }
 
 -- a chunk comes after them
-pub stands_more : (known : Option (List ℕ)) (text chunk bytes : List ℕ) (place : ℕ) → BeginsSo known (text ++ chunk) → length text ≡ place + length bytes → IfSome known (λ whole. StandsAt whole place bytes) → IfSome known (λ whole. StandsAt whole place (bytes ++ chunk))
-stands_more None text chunk bytes place begins size s = tt
-stands_more (Some whole) text chunk bytes place begins size s =
+pub represents_more : (known : Option (List ℕ)) (text chunk bytes : List ℕ) (place : ℕ) → BeginsSo known (text ++ chunk) → length text ≡ place + length bytes → IfSome known (λ whole. IsPartAt whole place bytes) → IfSome known (λ whole. IsPartAt whole place (bytes ++ chunk))
+represents_more None text chunk bytes place begins size s = tt
+represents_more (Some whole) text chunk bytes place begins size s =
     let front = same_front (s.before ++ bytes) text s.rest (chunk ++ begins.0) (sym s.is ∙ begins.1 ∙ append_assoc text chunk begins.0) (length-append s.before bytes ∙ ap (λ n. n + length bytes) s.place_is ∙ sym size) in
     record {
       before = s.before;
@@ -97,9 +97,9 @@ pub more_sent : {A : Type 0} (known : Option (List ℕ)) (queue : QueueId) (pass
 more_sent known queue pass sent more c so le = record { taken = so.taken; begins = so.begins; cut = so.cut; within = omega (arith, le, so.within); queue_is = so.queue_is; no_ends = so.no_ends }
 
 -- all that was sent on was consumed, and nothing comes after it
-none_stands : {A : Type 0} (known : Option (List ℕ)) (queue : QueueId) (pass : PassView) (sent : ℕ) (room : List ℕ) (c : TextCutter A) → IsFedSoFar known queue pass sent c → bytes_fed c.lines ≡ sent → room ≡ [] → IfSome known (λ whole. StandsAt whole sent room)
-none_stands None queue pass sent room c so all none = tt
-none_stands (Some whole) queue pass sent room c so all none = record {
+none_represents : {A : Type 0} (known : Option (List ℕ)) (queue : QueueId) (pass : PassView) (sent : ℕ) (room : List ℕ) (c : TextCutter A) → IsFedSoFar known queue pass sent c → bytes_fed c.lines ≡ sent → room ≡ [] → IfSome known (λ whole. IsPartAt whole sent room)
+none_represents None queue pass sent room c so all none = tt
+none_represents (Some whole) queue pass sent room c so all none = record {
   before = so.taken;
   rest = so.begins.0;
   is = so.begins.1 ∙ ap (λ xs. xs ++ so.begins.0) (sym (append-nil so.taken) ∙ ap (λ xs. so.taken ++ xs) (sym none));
@@ -108,7 +108,7 @@ none_stands (Some whole) queue pass sent room c so all none = record {
 
 pub held_none : {A T : Type 0} (r : Result T Fault) (known : Option (List ℕ)) (queue : QueueId) (pass : PassView) (sent : ℕ) (room : List ℕ) (c : TextCutter A) → room ≡ [] → OnOk r (IsFedSoFar known queue pass sent c) → OnOk r (bytes_fed c.lines ≡ sent) → OnOk r (IsHeld known queue pass sent room c)
 held_none (Err f) known queue pass sent room c none so all = tt
-held_none (Ok u) known queue pass sent room c none so all = record { cut = so; place = none_stands known queue pass sent room c so all none }
+held_none (Ok u) known queue pass sent room c none so all = record { cut = so; place = none_represents known queue pass sent room c so all none }
 
 pub size_none : {T : Type 0} (r : Result T Fault) (sent total : ℕ) (room : List ℕ) → room ≡ [] → OnOk r (sent ≡ total) → OnOk r (sent + length room ≡ total)
 size_none (Err f) sent total room none h = tt
@@ -118,7 +118,7 @@ size_none (Ok u) sent total room none h = let empty : length room ≡ 0 = ap (λ
 pub held_after : {A T : Type 0} (r : Result T Fault) (known : Option (List ℕ)) (queue next_queue : QueueId) (pass after : PassView) (sent next : ℕ) (lines room : List ℕ) (c d : TextCutter A) → IsHeld known queue pass sent (lines ++ room) c → OnOk r (IsFedSoFar known next_queue after next d) → OnOk r (next ≡ sent + length lines)
     → OnOk r (IsHeld known next_queue after next room d)
 held_after (Err f) known queue next_queue pass after sent next lines room c d held so at = tt
-held_after (Ok u) known queue next_queue pass after sent next lines room c d held so at = record { cut = so; place = stands_back known sent next (lines ++ room) lines room refl at held.place }
+held_after (Ok u) known queue next_queue pass after sent next lines room c d held so at = record { cut = so; place = represents_back known sent next (lines ++ room) lines room refl at held.place }
 
 -- the same is held where nothing was sent on
 pub held_same : {A : Type 0} (known : Option (List ℕ)) (queue same_queue : QueueId) (pass : PassView) (sent now : ℕ) (room rest : List ℕ) (c d : TextCutter A) → IsHeld known queue pass sent room c → now ≡ sent → d ≡ c → same_queue ≡ queue → room ≡ rest → IsHeld known same_queue pass now rest d
@@ -127,7 +127,7 @@ held_same known queue same_queue pass sent now room rest c d h at text work is =
 
 -- a chunk was put after what is held
 pub held_more : {A : Type 0} (known : Option (List ℕ)) (queue : QueueId) (pass : PassView) (sent : ℕ) (text chunk room : List ℕ) (c : TextCutter A) → BeginsSo known (text ++ chunk) → length text ≡ sent + length room → IsHeld known queue pass sent room c → IsHeld known queue pass sent (room ++ chunk) c
-held_more known queue pass sent text chunk room c begins size h = record { cut = h.cut; place = stands_more known text chunk room sent begins size h.place }
+held_more known queue pass sent text chunk room c begins size h = record { cut = h.cut; place = represents_more known text chunk room sent begins size h.place }
 
 -- all that was consumed is sound
 pub taken_sound : {A : Type 0} (known : Option (List ℕ)) (queue : QueueId) (pass : PassView) (sent size : ℕ) (c : TextCutter A) → IsFedSoFar known queue pass sent c → bytes_fed c.lines ≡ size → IfSome known (λ whole. early (take size whole) ≡ None)

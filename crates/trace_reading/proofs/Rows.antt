@@ -54,7 +54,7 @@ may_come before rs f cut sound =
       rising = index-from_rises (f.cutter.last ∷ map (λ (x : Item). x.number) rs) (subst (λ n. RisesFrom n (map (λ (x : Item). x.number) rs)) (sym cut.counting.last) (rises_after 0 (map (λ (x : Item). x.number) before) (map (λ (x : Item). x.number) rs) rises));
       numbers = all_behind (λ x. x.number ≤ 999999999) before rs sound.numbers;
       octets = omega (arith, octets, few, sum_by-append (λ (x : Item). x.length) before rs);
-      said = subst (λ i. AreSaid i rs) (sym cut.stands.interface) (said_behind f.interface before rs sound.said);
+      said = subst (λ i. AreSaid i rs) (sym cut.represented.interface) (said_behind f.interface before rs sound.said);
     }
 
 -- a row that may be given to the cutter
@@ -87,15 +87,15 @@ counts_more rs more c d h last octets =
 
 -- a row was cut
 pub cut_more : {A : Type 0} (f : RowCutter A) (next : Cutting) (before : List Item) (r : Item) → IsCounting before f.cutter → IsCutterOf f.interface (before ++ r ∷ []) next → IsCounted r f.cutter next → HasCut {A = A} (before ++ r ∷ []) (record { interface = f.interface; cutter = next })
-cut_more f next before r counting stands counted = record {
-  stands = stands;
+cut_more f next before r counting represented counted = record {
+  represented = represented;
   counting = counts_more before (r ∷ []) f.cutter next counting counted.last (omega (arith, counted.octets, sum_by-cons (λ (x : Item). x.length) r []));
 }
 
 -- several rows were cut
 pub all_cut : {A : Type 0} (before rs : List Item) (f : RowCutter A) (next : Cutting) (out out_after : List Piece) → HasCut before f → HasTakenAll rs f.cutter next out out_after → HasCut {A = A} (before ++ rs) (record { interface = f.interface; cutter = next })
 all_cut before rs f next out out_after cut taken = record {
-  stands = taken.stands f.interface before cut.stands;
+  represented = taken.represented f.interface before cut.represented;
   counting = counts_more before rs f.cutter next cut.counting taken.last taken.octets;
 }
 

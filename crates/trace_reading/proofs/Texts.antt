@@ -6,7 +6,7 @@ use Rattle.line_model.specs.declared.fault.Kind.{Kind}
 use Rattle.line_model.specs.declared.fault.Fault.{Fault}
 use Rattle.line_model.specs.declared.fault.Fault.TheVariants.{Memory}
 use Rattle.line_model.specs.work.Book.{KnownPlan}
-use Rattle.line_model.specs.pieces.Plans.{plan, line_findings}
+use Rattle.line_model.specs.pieces.Plans.{plan, level_findings}
 use Rattle.line_model.specs.basics.Records.{Row, Piece}
 use Rattle.line_model.specs.packets.Says.{items_of}
 use Rattle.line_model.specs.traces.Traces.{trace_plan}
@@ -26,10 +26,10 @@ use Rattle.trace_reading.proofs.Nexts.{given_next}
 pub plan_of_head : (text : List ℕ) (i : Interface) → head text ≡ Some i → trace_plan text ≡ plan i (items_of i (rows text))
 plan_of_head text i h = ap (λ (o : Option Interface). elim o as (λ _. List Piece) [ None ↦ [] | Some j ↦ plan j (items_of j (rows text)) ]) h
 
-stands_first : (known : KnownPlan) (i : Interface) (given : List ℕ) (rs : List Row) → early given ≡ None → early_head given ≡ Some i → early_rows given ≡ rs → IsPlanOf known given
+represents_first : (known : KnownPlan) (i : Interface) (given : List ℕ) (rs : List Row) → early given ≡ None → early_head given ≡ Some i → early_rows given ≡ rs → IsPlanOf known given
     → IfSome known (λ ps. (rest : List Piece) × (given_of i (items_of i rs) ++ rest ≡ ps))
-stands_first None i given rs sound e same h = tt
-stands_first (Some ps) i given rs sound e same h =
+represents_first None i given rs sound e same h = tt
+represents_first (Some ps) i given rs sound e same h =
     let all = early_rows_law given h.0 in
     let first = given_first i (items_of i rs) (items_of i all.0) in
     (first.0, first.1 ∙ ap (plan i) (sym (items_more i rs all.0)) ∙ ap (λ l. plan i (items_of i (l ++ all.0))) (sym same) ∙ ap (λ l. plan i (items_of i l)) (sym all.1) ∙ sym (plan_of_head (given ++ h.0) i (early_head_law given h.0 i e)) ∙ sym h.1)
@@ -53,7 +53,7 @@ read_of text i j rs fed r sound e same is cut =
       cut = record {
         interface = refl;
         all = cut.all ∙ (λ k. plan (here k) (items_of (here k) (sym is k)));
-        interface_findings = cut.interface_findings ∙ (λ k. line_findings (here k) (items_of (here k) (sym is k)));
+        interface_findings = cut.interface_findings ∙ (λ k. level_findings (here k) (items_of (here k) (sym is k)));
         packets = cut.packets ∙ (λ k. length (items_of (here k) (sym is k)) - gaps_of (items_of (here k) (sym is k)));
         gaps = cut.gaps ∙ (λ k. gaps_among (here k).gaps (items_of (here k) (sym is k)));
         pieces = cut.pieces;
@@ -80,8 +80,8 @@ part_next known text part pieces n sound count more planned = at (early_head (te
     at : (o : Option Interface) → early_head (text ++ part) ≡ o → ArePlanned known n pieces
     at None h = none_next known pieces n (nothing_more (known_pieces text) pieces (sym more ∙ ap (λ o. known_of o (text ++ part)) h))
     at (Some i) h = given_next known i (items_of i (early_rows (text ++ part))) (known_pieces text) pieces n count (sym more ∙ ap (λ o. known_of o (text ++ part)) h)
-        (stands_first known i (text ++ part) (early_rows (text ++ part)) sound h refl planned)
+        (represents_first known i (text ++ part) (early_rows (text ++ part)) sound h refl planned)
 
 -- those that are complete with the last line
-pub line_next : (known : KnownPlan) (text : List ℕ) (i : Interface) (pieces : List Piece) (n : ℕ) → head text ≡ Some i → n ≡ length (known_pieces text) → given_of i (items_of i (rows text)) ≡ known_pieces text ++ pieces → IfSome known (λ ps. ps ≡ trace_plan text) → ArePlanned known n pieces
-line_next known text i pieces n header count more planned = given_next known i (items_of i (rows text)) (known_pieces text) pieces n count (sym more) (ends_with known i text (rows text) header refl planned)
+pub level_next : (known : KnownPlan) (text : List ℕ) (i : Interface) (pieces : List Piece) (n : ℕ) → head text ≡ Some i → n ≡ length (known_pieces text) → given_of i (items_of i (rows text)) ≡ known_pieces text ++ pieces → IfSome known (λ ps. ps ≡ trace_plan text) → ArePlanned known n pieces
+level_next known text i pieces n header count more planned = given_next known i (items_of i (rows text)) (known_pieces text) pieces n count (sym more) (ends_with known i text (rows text) header refl planned)

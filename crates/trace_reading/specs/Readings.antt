@@ -4,7 +4,7 @@ use Rattle.line_model.specs.basics.Records.{Item, Piece}
 use Rattle.line_model.specs.declared.interface.Interface.{Interface}
 use Rattle.line_model.specs.observer.Report.{gaps_among, gaps_of}
 use Rattle.line_model.specs.text.Text.{early, fault, head, rows}
-use Rattle.line_model.specs.pieces.Plans.{plan, line_findings}
+use Rattle.line_model.specs.pieces.Plans.{plan, level_findings}
 use Rattle.line_model.specs.packets.Says.{items_of}
 use Rattle.line_model.specs.traces.Traces.{trace_plan}
 use Rattle.std.specs.Option.{option_map}
@@ -17,7 +17,7 @@ use Rattle.line_model.specs.declared.fault.Fault.{Fault}
 use Rattle.line_model.specs.declared.fault.Fault.TheVariants.{Memory, Trace, Read as ReadFailed}
 use Rattle.shared_work.specs.queue.Passes.{PassView, QueueId}
 use Rattle.workers.specs.Workers.{HasFed}
-use Rattle.trace_reading.specs.TextBlocks.{StandsAt}
+use Rattle.trace_reading.specs.TextBlocks.{IsPartAt}
 use Rattle.trace_reading.specs.TextCuts.{IsFedTo}
 use Rattle.trace_reading.specs.declared.text_cutter.TextCutter.{TextCutter}
 use Rattle.trace_reading.specs.declared.feeding.FedText.{FedText}
@@ -27,7 +27,7 @@ use Rattle.trace_reading.specs.declared.feeding.Read.{Read}
 pub record IsCutOf {A : Type 0} (i : Interface) (rs : List Item) (fed : List Piece) (r : Read A) : Type 0 where
   pub interface : r.interface ≡ i
   pub all : fed ≡ plan i rs
-  pub interface_findings : r.interface_findings.items ≡ line_findings i rs
+  pub interface_findings : r.interface_findings.items ≡ level_findings i rs
   pub packets : r.counts.packets ≡ length rs - gaps_of rs
   pub gaps : r.counts.gaps ≡ gaps_among i.gaps rs
   pub pieces : r.pieces ≡ length fed
@@ -45,7 +45,7 @@ in_flight = 16 * 2 ^ 18
 -- the faults that reading a text may meet
 abbrev pub IsReadingFault : Fault → Type 0
 IsReadingFault Memory = Unit {0}
-IsReadingFault (Trace line kind) = Unit {0}
+IsReadingFault (Trace level kind) = Unit {0}
 IsReadingFault ReadFailed = Unit {0}
 IsReadingFault _ = ⊥
 
@@ -66,7 +66,7 @@ pub record IsFedSoFar {A : Type 0} (known : Option (List ℕ)) (queue : QueueId)
 -- `sent` bytes of the text that a source shows were sent on, a first part of them was cut, and these bytes come after them
 pub record IsHeld {A : Type 0} (known : Option (List ℕ)) (queue : QueueId) (pass : PassView) (sent : ℕ) (room : List ℕ) (c : TextCutter A) : Type 0 where
   pub cut : IsFedSoFar known queue pass sent c
-  pub place : IfSome known (λ whole. StandsAt whole sent room)
+  pub place : IfSome known (λ whole. IsPartAt whole sent room)
 
 -- how many bytes of a text were read: those that were sent on, and those in the room
 abbrev pub bytes_read : {P A R : Type 0} → FedText P A R → ℕ

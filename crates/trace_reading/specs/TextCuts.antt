@@ -21,7 +21,7 @@ pub record IsCounting (rs : List Item) (c : Cutting) : Type 0 where
 
 -- the cutter was given these rows
 pub record HasCut {A : Type 0} (rs : List Item) (f : RowCutter A) : Type 0 where
-  pub stands : IsCutterOf f.interface rs f.cutter
+  pub represented : IsCutterOf f.interface rs f.cutter
   pub counting : IsCounting rs f.cutter
 
 -- a text was read so far, and the rows of the lines that an LF ended were cut

@@ -1,7 +1,7 @@
 //! Blocks of the trace text: whole lines that any thread reads.
 
 ghost use Rattle.std.specs.Prelude.{◌≡◌, ◌++◌, ◌∷◌, [], List, ℕ, IfSome, OnOk, cond};
-ghost use Rattle.line_model.specs.channels.GapRestart.{GapLine};
+ghost use Rattle.line_model.specs.channels.GapRestart.{GapInterfaceState};
 ghost use Rattle.line_model.specs.basics.Records as records;
 ghost use Rattle.line_model.specs.packets.Says.{read_row};
 ghost use Rattle.trace_reading.specs.TextBlocks.{AreRead, HasReadTo, IsReadAs};
@@ -55,13 +55,13 @@ pub struct Block<P: TraceText, A: Allocator = Global> {
 
 impl<P: TraceText, A: Allocator> Model for Block<P, A> {
     ghost use Rattle.std.specs.Prelude.{IfSome};
-    ghost use Rattle.trace_reading.specs.TextBlocks.{BlockView, StandsAt};
+    ghost use Rattle.trace_reading.specs.TextBlocks.{BlockView, IsPartAt};
 
     ghost Value = { BlockView };
 
     ghost view = { λ b. record { place = b.place; start = b.start; bytes = b.bytes.items } };
 
-    ghost invariant = { λ b. IfSome P.text (λ whole. StandsAt whole b.place b.bytes.items) };
+    ghost invariant = { λ b. IfSome P.text (λ whole. IsPartAt whole b.place b.bytes.items) };
 }
 
 /// What the rows of a block say, by epoch and channel, and what the reader of the text has to know of it.
@@ -80,13 +80,13 @@ pub struct ReadBlock<P: TraceText, A: Allocator = Global> {
 
 impl<P: TraceText, A: Allocator> Model for ReadBlock<P, A> {
     ghost use Rattle.std.specs.Prelude.{IfSome};
-    ghost use Rattle.trace_reading.specs.TextBlocks.{BlockView, IsReadAs, StandsAt};
+    ghost use Rattle.trace_reading.specs.TextBlocks.{BlockView, IsReadAs, IsPartAt};
 
     ghost Value = { BlockView };
 
     ghost view = { λ r. r.block };
 
-    ghost invariant = { λ r. IfSome P.text (λ whole. StandsAt whole r.block.place r.block.bytes) × IfSome r.rows (IsReadAs r.block.start r.block.bytes) };
+    ghost invariant = { λ r. IfSome P.text (λ whole. IsPartAt whole r.block.place r.block.bytes) × IfSome r.rows (IsReadAs r.block.start r.block.bytes) };
 }
 
 /// The rows that were read of a block so far.
@@ -123,7 +123,7 @@ impl<A: Allocator + Copy> RowsSoFar<A> {
     /// Adds a row.
     fn add(&mut self, row: &ReadRow<A>) -> Result<(), AllocError>
         ensures interface { self.new.interface ≡ self.old.interface }
-        ensures added { (l : GapLine) (rows : List records.Row) (next : records.Row)
+        ensures added { (l : GapInterfaceState) (rows : List records.Row) (next : records.Row)
             → AreRead l rows self.old → row.now ≡ read_row next
             → OnOk result (AreRead l (rows ++ next ∷ []) self.new) }
     {
@@ -141,7 +141,7 @@ impl<A: Allocator + Copy> RowsSoFar<A> {
         row: &mut ReadRow<A>,
     ) -> Result<(), Fault>
         ensures interface { self.new.interface ≡ self.old.interface }
-        ensures added { (l : GapLine) (text : List ℕ) → HasReadTo l text lines.old self.old
+        ensures added { (l : GapInterfaceState) (text : List ℕ) → HasReadTo l text lines.old self.old
             → OnOk result (HasReadTo l (text ++ bytes.now) lines.new self.new) }
     {
         let mut rest = bytes;

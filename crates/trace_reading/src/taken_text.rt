@@ -4,7 +4,7 @@ ghost use Rattle.std.specs.Prelude.{◌≡◌, ◌+◌, ◌-◌, ◌≤◌, ◌^
 ghost use Rattle.std.specs.Option.{option_map};
 ghost use Rattle.trace_text.specs.Progress.{bytes_fed};
 ghost use Rattle.trace_reading.specs.Readings.{HasFedOn, IsFaultWithin, IsFedSoFar};
-ghost use Rattle.trace_reading.specs.TextBlocks.{IsBlockAt, StandsAt};
+ghost use Rattle.trace_reading.specs.TextBlocks.{IsBlockAt, IsPartAt};
 ghost use Rattle.line_model.specs.traces.Traces.{trace_plan};
 
 use crate::block_queues::MOST_BLOCKS;
@@ -135,7 +135,7 @@ impl<'a, P: Plan + TraceText, A: Allocator + Copy, R: Wait + Clock> TakenText<'a
     pub fn take(&mut self, bytes: &[u8], pass: &mut FeederPass<A>) -> Result<(), Fault>
         requires plan { P.pieces ≡ option_map trace_plan P.text }
         requires ready { IsFedSoFar P.text self.old.work.now.queue pass.old self.old.sent self.old.text }
-        requires place { IfSome P.text (λ whole. StandsAt whole self.old.sent bytes.now) }
+        requires place { IfSome P.text (λ whole. IsPartAt whole self.old.sent bytes.now) }
         ensures fed { HasFedOn pass.old pass.new }
         ensures taken { OnOk result (IsFedSoFar P.text self.new.work.now.queue pass.new self.new.sent self.new.text) }
         ensures sent { OnOk result (self.new.sent ≡ self.old.sent + length bytes.now) }
@@ -155,7 +155,7 @@ impl<'a, P: Plan + TraceText, A: Allocator + Copy, R: Wait + Clock> TakenText<'a
     pub fn take_lines(&mut self, lines: Vec<u8, A>, pass: &mut FeederPass<A>) -> Result<(), Fault>
         requires plan { P.pieces ≡ option_map trace_plan P.text }
         requires ready { IsFedSoFar P.text self.old.work.now.queue pass.old self.old.sent self.old.text }
-        requires place { IfSome P.text (λ whole. StandsAt whole self.old.sent lines.items) }
+        requires place { IfSome P.text (λ whole. IsPartAt whole self.old.sent lines.items) }
         ensures fed { HasFedOn pass.old pass.new }
         ensures taken { OnOk result (IsFedSoFar P.text self.new.work.now.queue pass.new self.new.sent self.new.text) }
         ensures sent { OnOk result (self.new.sent ≡ self.old.sent + length lines.items) }
@@ -172,7 +172,7 @@ impl<'a, P: Plan + TraceText, A: Allocator + Copy, R: Wait + Clock> TakenText<'a
     pub fn hand_out(&mut self, lines: Vec<u8, A>, pass: &mut FeederPass<A>) -> Result<(), Fault>
         requires plan { P.pieces ≡ option_map trace_plan P.text }
         requires ready { IsFedSoFar P.text self.old.work.now.queue pass.old self.old.sent self.old.text }
-        requires place { IfSome P.text (λ whole. StandsAt whole self.old.sent lines.items) }
+        requires place { IfSome P.text (λ whole. IsPartAt whole self.old.sent lines.items) }
         requires few { self.old.sent + length lines.items ≤ 2 ^ 30 }
         ensures fed { HasFedOn pass.old pass.new }
         ensures taken { OnOk result (IsFedSoFar P.text self.new.work.now.queue pass.new self.new.sent self.new.text) }

@@ -21,7 +21,7 @@ use Rattle.trace_scan.specs.Follow.{IsFollowRefusal, IsFollowed, IsRefusedAfter,
 use Rattle.live_report.proofs.ScanLemmas.{report_scan}
 
 pub nothing_followed : {A C : Type 0} (m : Machine C A) (taken : Option (List ℕ)) (n : ℕ) (f : Follower A C) → HasFollowed m [] f → IsFollowed m taken taken n n [] f
-nothing_followed m taken n f s = record { stands = s; shown = nothing_written taken; rising = omega arith }
+nothing_followed m taken n f s = record { represented = s; shown = nothing_written taken; rising = omega arith }
 
 -- what has followed a text may be fed and ended
 pub fed_of : {A C : Type 0} (m : Machine C A) (text : List ℕ) (f : Follower A C) → HasFollowed m text f → IsFed m.interface_of m.number_of m.represents f
@@ -31,7 +31,7 @@ fed_of m text f s = record { fed = λ running. (text, s); kinds = subst (λ o. I
 
 pub follow_fed : {A C T : Type 0} (m : Machine C A) (r : Result T Fault) (before taken next : Option (List ℕ)) (x y z : ℕ) (text bytes : List ℕ) (f g : Follower A C) → IsFollowed m before taken x y text f → OnOk r (HasFollowed m (text ++ bytes) g) → OnOk r (HasFindings before next (text ++ bytes)) → y ≤ z
     → OnOk r (IsFollowed m before next x z (text ++ bytes) g)
-follow_fed m (Ok u) before taken next x y z text bytes f g was s shown rises = record { stands = s; shown = shown; rising = omega (arith, was.rising, rises) }
+follow_fed m (Ok u) before taken next x y z text bytes f g was s shown rises = record { represented = s; shown = shown; rising = omega (arith, was.rising, rises) }
 follow_fed m (Err e) before taken next x y z text bytes f g was s shown rises = tt
 
 pub follow_refused : {T : Type 0} (r : Result T Fault) (before taken : Option (List ℕ)) (x y z : ℕ) (text last : List ℕ) → x ≤ y → y ≤ z → IfErr r (IsRefusalOf (early (text ++ last))) → HasFirst before taken (found_text (text ++ last)) → (z ≡ y → IfErr r (HasFindingsAtLine before taken (text ++ last)))
@@ -85,7 +85,7 @@ stop_failed before taken well given sound shown = record { refusal = λ rest. so
 stop_is : {A C : Type 0} (m : Machine C A) (before taken : Option (List ℕ)) (x z : ℕ) (g : Follower A C) (fed last : List ℕ) (f : Fault) → early fed ≡ None → length last ≤ 2 ^ 16 → IsFollowStop m before taken x z g fed last f → Stop before taken (z ≡ x) (fed ++ last) f
 stop_is m before taken x z g fed last f sound few (inl why) =
     subst (Stop before taken (z ≡ x) (fed ++ last)) (sym why.failure)
-    (subst (λ xs. Stop before taken (z ≡ x) (fed ++ xs) Read) (sym why.none) (subst (λ xs. Stop before taken (z ≡ x) xs Read) (sym (append-nil fed)) (stop_failed before taken (z ≡ x) fed sound why.stands.shown)))
+    (subst (λ xs. Stop before taken (z ≡ x) (fed ++ xs) Read) (sym why.none) (subst (λ xs. Stop before taken (z ≡ x) xs Read) (sym (append-nil fed)) (stop_failed before taken (z ≡ x) fed sound why.represented.shown)))
 stop_is m before taken x z g fed last f sound few (inr why) = record {
   refusal = λ rest. follow_refusal fed last rest f sound few why.refusal;
   shown = λ rest. written_of before taken (z ≡ x) (fed ++ last) rest f why.kinds why.first why.at_line;

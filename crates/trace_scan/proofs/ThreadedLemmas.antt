@@ -18,7 +18,7 @@ use Rattle.line_model.proofs.Saying.{all_said, said_numbers}
 use Rattle.line_model.specs.basics.Device.{with_more}
 use Rattle.line_model.specs.text.Text.{fault, rows}
 use Rattle.line_model.specs.traces.Traces.{trace_plan, trace_report}
-use Rattle.line_model.specs.pieces.Plans.{plan, channel_totals, value}
+use Rattle.line_model.specs.pieces.Plans.{plan, channel_totals, result_of}
 use Rattle.line_model.specs.work.Book.{KnownPlan, AreOf}
 use Rattle.line_model.proofs.Posts.{whole}
 use Rattle.line_model.proofs.TextLemmas.{early-nothing}
@@ -148,5 +148,5 @@ runs_are known ran workers text fed read g r w =
     let ps : List Piece = plan read.interface (items_of read.interface (rows text)) in
     let is_plan : ps ≡ trace_plan text = sym (ap (λ o. elim o as (λ _. List Piece) [ None ↦ [] | Some i ↦ plan i (items_of i (rows text)) ]) r.header) in
     let runs : All (IsRunOfOne ran ps) (reports_of g) = subst (λ l. All (IsRunOfOne ran l) (reports_of g)) r.cut.all w.runs in
-    let same = IsPermutation-sym (map value ps) (reports_of g) (of_walk known ran workers text fed read g r w).values in
-    subst (λ l. All (IsRunOfOne ran l) (map value l)) is_plan (All-permutation (IsRunOfOne ran ps) (reports_of g) (map value ps) same runs)
+    let same = IsPermutation-sym (map result_of ps) (reports_of g) (of_walk known ran workers text fed read g r w).values in
+    subst (λ l. All (IsRunOfOne ran l) (map result_of l)) is_plan (All-permutation (IsRunOfOne ran ps) (reports_of g) (map result_of ps) same runs)

@@ -30,7 +30,7 @@ IsWrittenOf before taken well given rest _ = HasFirst before taken (found_text g
 
 -- a follower was fed this text, and the sink has the lines of what was found; it failed `old` times before, and `now` times by then
 pub record IsFollowed {A C : Type 0} (machine : Machine C A) (before taken : Option (List ℕ)) (old now : ℕ) (text : List ℕ) (f : Follower A C) : Type 0 where
-  pub stands : HasFollowed machine text f
+  pub represented : HasFollowed machine text f
   pub shown : HasFindings before taken text
   pub rising : old ≤ now
 

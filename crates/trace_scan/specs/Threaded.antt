@@ -5,7 +5,7 @@ use Rattle.line_model.specs.declared.fault.Fault.TheVariants.{Memory, Trace, Rea
 use Rattle.line_model.specs.basics.Records.{Piece, PieceReport}
 use Rattle.line_model.specs.work.Book.{KnownPlan}
 use Rattle.line_model.specs.packets.Says.{items_of}
-use Rattle.line_model.specs.pieces.Plans.{channel_totals, value}
+use Rattle.line_model.specs.pieces.Plans.{channel_totals, result_of}
 use Rattle.line_model.specs.traces.Traces.{trace_plan}
 use Rattle.line_model.specs.text.Text.{head, rows}
 use Rattle.line_model.specs.declared.totals.Totals.{Totals}
@@ -30,7 +30,7 @@ pub record AreScanParts {A : Type 0} (plan : KnownPlan) (ran : Piece → PieceRe
 
 -- each report of the text's pieces was made in this way
 abbrev pub AreRuns : (ran : Piece → PieceReport → Type 0) → List ℕ → Type 0
-AreRuns ran text = All (IsRunOfOne ran (trace_plan text)) (map value (trace_plan text))
+AreRuns ran text = All (IsRunOfOne ran (trace_plan text)) (map result_of (trace_plan text))
 
 -- the faults that may stop reading and working
 abbrev pub IsStopFault : Fault → Type 0

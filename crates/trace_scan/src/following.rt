@@ -43,12 +43,12 @@ impl<A: Allocator + Copy, C: Channel<A>, K: Sink> Consumer<K> for Following<A, C
         self.follower.feed(chunk, sink)
     }
 
-    ghost sound = { λ first start now sink text fed. all_sound 0 text fed.stands.live.reads.sound };
+    ghost sound = { λ first start now sink text fed. all_sound 0 text fed.represented.live.reads.sound };
 
     ghost sized = { λ first start now sink text fed. fed_length now.follower.live.lines text
-        fed.stands.live.reads };
+        fed.represented.live.reads };
 
-    ghost few = { λ first start now sink text fed. few_bytes text fed.stands.live.reads.sound };
+    ghost few = { λ first start now sink text fed. few_bytes text fed.represented.live.reads.sound };
 }
 
 /// Walks a trace in one thread, and writes its findings and, after the source has ended, the rest of the report: the

@@ -16,9 +16,9 @@ pub struct OpenGate;
 
 impl Gate for OpenGate {
     ghost use Rattle.std.specs.Prelude.{◌≡◌};
-    ghost use Rattle.line_model.specs.pieces.Plans.{value};
+    ghost use Rattle.line_model.specs.pieces.Plans.{result_of};
 
-    ghost ran = { λ gate piece report. report ≡ value piece };
+    ghost ran = { λ gate piece report. report ≡ result_of piece };
 
     fn run<A: Allocator + Copy>(
         &self,

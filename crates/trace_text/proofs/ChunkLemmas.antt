@@ -10,15 +10,15 @@ use Rattle.line_model.proofs.TextLemmas.{HasNoLf}
 use Rattle.trace_text.specs.Progress.{Progress, bytes_fed}
 use Rattle.trace_text.specs.Represents.{Represents, AreKnown, HasAppended, IsAppended, IsAtLine, IsFaultOf, IsHeadKept, ReadsChunk, TakesRow}
 use Rattle.trace_text.specs.Steps.{with_more, EndsLine}
-use Rattle.trace_text.proofs.FeedLemmas.{begun-stands, line-passes, line-row, line-size, line-stands, rows-begun}
+use Rattle.trace_text.proofs.FeedLemmas.{begun-represented, line-passes, line-row, line-size, line-represented, rows-begun}
 use Rattle.trace_text.proofs.Grows.{early_head_stays}
-use Rattle.trace_text.proofs.RefusalLemmas.{head_alike, head_stands, head_stopped, known-here, refused-appended}
+use Rattle.trace_text.proofs.RefusalLemmas.{head_alike, head_represents, head_stopped, known-here, refused-appended}
 
 -- after the bytes `fed` of the chunk, of which `rest` is left, the reader represents the text with them, and their rows came to a list
 pub record Fed (before after : Progress) (rows more : List Row) (chunk rest : List ℕ) : Type 0 where
   pub fed : List ℕ
   pub whole : chunk ≡ fed ++ rest
-  pub stands : (text : List ℕ) → Represents before text → Represents after (text ++ fed)
+  pub represented : (text : List ℕ) → Represents before text → Represents after (text ++ fed)
   pub appended : (text : List ℕ) → Represents before text → HasAppended rows more (early_rows text) (early_rows (text ++ fed))
   pub size : bytes_fed after ≡ bytes_fed before + length fed
 
@@ -26,14 +26,14 @@ pub record Fed (before after : Progress) (rows more : List Row) (chunk rest : Li
 pub record Taken (before after : Progress) (chunk rest : List ℕ) : Type 0 where
   pub fed : List ℕ
   pub whole : chunk ≡ fed ++ rest
-  pub stands : (text : List ℕ) → Represents before text → Represents after (text ++ fed)
+  pub represented : (text : List ℕ) → Represents before text → Represents after (text ++ fed)
   pub size : bytes_fed after ≡ bytes_fed before + length fed
 
 -- the same, where no line that ended wrote a row
 pub record Passed (before after : Progress) (chunk rest : List ℕ) : Type 0 where
   pub fed : List ℕ
   pub whole : chunk ≡ fed ++ rest
-  pub stands : (text : List ℕ) → Represents before text → Represents after (text ++ fed)
+  pub represented : (text : List ℕ) → Represents before text → Represents after (text ++ fed)
   pub rows : (text : List ℕ) → Represents before text → early_rows (text ++ fed) ≡ early_rows text
   pub size : bytes_fed after ≡ bytes_fed before + length fed
 
@@ -49,7 +49,7 @@ pub passed-none : (v : Progress) (chunk : List ℕ) → Passed v v chunk chunk
 passed-none v chunk = record {
   fed = [];
   whole = refl;
-  stands = λ text s. rw append-nil s;
+  represented = λ text s. rw append-nil s;
   rows = λ text s. ap early_rows (append-nil text);
   size = omega arith;
 }
@@ -58,8 +58,8 @@ pub passed-more : (before after next : Progress) (row : Row) (chunk rest front b
 passed-more before after next row chunk rest front back p e h line = record {
   fed = p.fed ++ front ++ 10 ∷ [];
   whole = p.whole ∙ ap (λ xs. p.fed ++ xs) e ∙ sym (append_assoc p.fed front (10 ∷ back)) ∙ sym (append_assoc (p.fed ++ front) (10 ∷ []) back);
-  stands = λ text s. rw (← append_assoc text (p.fed ++ front) (10 ∷ []), ← append_assoc text p.fed front) (line-stands after next front row false line h (text ++ p.fed) (p.stands text s));
-  rows = λ text s. rw (← append_assoc text (p.fed ++ front) (10 ∷ []), ← append_assoc text p.fed front) (line-passes after next front row line h (text ++ p.fed) (p.stands text s) ∙ p.rows text s);
+  represented = λ text s. rw (← append_assoc text (p.fed ++ front) (10 ∷ []), ← append_assoc text p.fed front) (line-represented after next front row false line h (text ++ p.fed) (p.represented text s));
+  rows = λ text s. rw (← append_assoc text (p.fed ++ front) (10 ∷ []), ← append_assoc text p.fed front) (line-passes after next front row line h (text ++ p.fed) (p.represented text s) ∙ p.rows text s);
   size = omega (arith, p.size, line-size after next front row false line, length-append (p.fed ++ front) (10 ∷ []), length-append p.fed front);
 }
 
@@ -67,17 +67,17 @@ pub takes-row : (before after next : Progress) (row : Row) (chunk rest front bac
 takes-row before after next row chunk rest front back p e h line = record {
   taken = p.fed ++ front ++ 10 ∷ [];
   whole = p.whole ∙ ap (λ xs. p.fed ++ xs) e ∙ sym (append_assoc p.fed front (10 ∷ back)) ∙ sym (append_assoc (p.fed ++ front) (10 ∷ []) back);
-  stands = λ text s. rw (← append_assoc text (p.fed ++ front) (10 ∷ []), ← append_assoc text p.fed front) (line-stands after next front row true line h (text ++ p.fed) (p.stands text s));
-  rows = λ text s. rw (← append_assoc text (p.fed ++ front) (10 ∷ []), ← append_assoc text p.fed front) (line-row after next front row line h (text ++ p.fed) (p.stands text s) ∙ ap (λ xs. xs ++ row ∷ []) (p.rows text s));
+  represented = λ text s. rw (← append_assoc text (p.fed ++ front) (10 ∷ []), ← append_assoc text p.fed front) (line-represented after next front row true line h (text ++ p.fed) (p.represented text s));
+  rows = λ text s. rw (← append_assoc text (p.fed ++ front) (10 ∷ []), ← append_assoc text p.fed front) (line-row after next front row line h (text ++ p.fed) (p.represented text s) ∙ ap (λ xs. xs ++ row ∷ []) (p.rows text s));
 }
 
 -- the rest of a chunk, without an LF
 pub reads-chunk : (before after u : Progress) (chunk rest : List ℕ) → Passed before after chunk rest → HasNoLf rest → u ≡ with_more after rest → size_kind after.start 0 (length after.begun + length rest) ≡ None → ReadsChunk before u chunk
 reads-chunk before after u chunk rest p h e k =
-    let stands = λ (text : List ℕ) (s : Represents before text). begun-stands after u (text ++ p.fed) rest e (p.stands text s) h k in
+    let represented = λ (text : List ℕ) (s : Represents before text). begun-represented after u (text ++ p.fed) rest e (p.represented text s) h k in
     record {
-      stands = λ text s. rw (whole_chunk text p.fed rest chunk p.whole) at (stands text s);
-      rows = λ text s. rw (whole_chunk text p.fed rest chunk p.whole) at (rows-begun u after (text ++ p.fed) rest (p.stands text s) (stands text s) h ∙ p.rows text s);
+      represented = λ text s. rw (whole_chunk text p.fed rest chunk p.whole) at (represented text s);
+      rows = λ text s. rw (whole_chunk text p.fed rest chunk p.whole) at (rows-begun u after (text ++ p.fed) rest (p.represented text s) (represented text s) h ∙ p.rows text s);
     }
 
 -- the rows of a chunk
@@ -92,7 +92,7 @@ pub fed-none : (v : Progress) (rows : List Row) (chunk : List ℕ) → Fed v v r
 fed-none v rows chunk = record {
   fed = [];
   whole = refl;
-  stands = λ text s. rw append-nil s;
+  represented = λ text s. rw append-nil s;
   appended = λ text s. record { more = []; out_has = sym (append-nil rows); known_has = ap early_rows (append-nil text) ∙ sym (append-nil (early_rows text)) };
   size = omega arith;
 }
@@ -101,10 +101,10 @@ pub fed-more : (before after next : Progress) (rows more most : List Row) (row :
 fed-more before after next rows more most row chunk rest back f t size grown = record {
   fed = f.fed ++ t.taken;
   whole = f.whole ∙ ap (λ xs. f.fed ++ xs) t.whole ∙ sym (append_assoc f.fed t.taken back);
-  stands = λ text s. rw (← append_assoc text f.fed t.taken) (t.stands (text ++ f.fed) (f.stands text s));
+  represented = λ text s. rw (← append_assoc text f.fed t.taken) (t.represented (text ++ f.fed) (f.represented text s));
   appended = λ text s. rw (← append_assoc text f.fed t.taken)
       (appended-on rows more most (early_rows text) (early_rows (text ++ f.fed)) (early_rows ((text ++ f.fed) ++ t.taken)) (f.appended text s)
-      (record { more = row ∷ []; out_has = grown; known_has = t.rows (text ++ f.fed) (f.stands text s) }));
+      (record { more = row ∷ []; out_has = grown; known_has = t.rows (text ++ f.fed) (f.represented text s) }));
   size = omega (arith, f.size, size, ap (λ (xs : List ℕ). length xs) t.whole, length-append t.taken back, length-append f.fed t.taken);
 }
 
@@ -113,7 +113,7 @@ pub all-fed : (before after next : Progress) (rows more : List Row) (chunk rest 
 all-fed before after next rows more chunk rest f r text s =
     rw (whole_chunk text f.fed rest chunk f.whole)
     at (appended-on rows more more (early_rows text) (early_rows (text ++ f.fed)) (early_rows ((text ++ f.fed) ++ rest)) (f.appended text s)
-    (record { more = []; out_has = sym (append-nil more); known_has = r.rows (text ++ f.fed) (f.stands text s) ∙ sym (append-nil (early_rows (text ++ f.fed))) }))
+    (record { more = []; out_has = sym (append-nil more); known_has = r.rows (text ++ f.fed) (f.represented text s) ∙ sym (append-nil (early_rows (text ++ f.fed))) }))
 
 -- a row stands after the header
 taken_head : (o : Option Interface) (given more : List ℕ) → early given ≡ None → early_head given ≡ o → is_some o ≡ true → o ≡ early_head (given ++ more)
@@ -122,24 +122,24 @@ taken_head None given more h e k = cc
 
 pub row-head : (before next : Progress) (chunk rest : List ℕ) (row : Row) → TakesRow before next chunk rest row → is_some next.interface ≡ true → (text : List ℕ) → Represents before text → next.interface ≡ early_head (text ++ chunk)
 row-head before next chunk rest row t k text s =
-    let after = t.stands text s in
-    rw (whole_chunk text t.taken rest chunk t.whole) at (taken_head next.interface (text ++ t.taken) rest after.sound (sym (head_stands next (text ++ t.taken) after)) k)
+    let after = t.represented text s in
+    rw (whole_chunk text t.taken rest chunk t.whole) at (taken_head next.interface (text ++ t.taken) rest after.sound (sym (head_represents next (text ++ t.taken) after)) k)
 
 -- a refusal after some lines
 pub known-so-far : (before after : Progress) (chunk rest : List ℕ) (f : Fault) (p : Passed before after chunk rest) (text : List ℕ) → Represents before text → IsAtLine (after.ended + 1) f → IsFaultOf (early ((text ++ p.fed) ++ rest)) f →
     AreKnown (early_rows text) (early_rows (text ++ chunk)) f
 known-so-far before after chunk rest f p text s l h =
     subst (λ (xs : List ℕ). AreKnown (early_rows text) (early_rows xs) f) (whole_chunk text p.fed rest chunk p.whole)
-    (subst (λ (known : List Row). AreKnown known (early_rows ((text ++ p.fed) ++ rest)) f) (p.rows text s) (known-here after (text ++ p.fed) rest f (p.stands text s) l h))
+    (subst (λ (known : List Row). AreKnown known (early_rows ((text ++ p.fed) ++ rest)) f) (p.rows text s) (known-here after (text ++ p.fed) rest f (p.represented text s) l h))
 
 abbrev pub passed-taken : {before after : Progress} {chunk rest : List ℕ} → Passed before after chunk rest → Taken before after chunk rest
-passed-taken p = record { fed = p.fed; whole = p.whole; stands = p.stands; size = p.size }
+passed-taken p = record { fed = p.fed; whole = p.whole; represented = p.represented; size = p.size }
 
 pub head-so-far : (T : Type 0) (before after : Progress) (chunk rest : List ℕ) (f : Fault) (kept : Option Interface) (p : Taken before after chunk rest) (text : List ℕ) → Represents before text → IsAtLine (after.ended + 1) f → IsFaultOf (early ((text ++ p.fed) ++ rest)) f →
     kept ≡ after.interface → IsHeadKept {T = T} (Err f) kept (early_head (text ++ chunk))
 head-so-far T before after chunk rest f kept p text s l h e =
     subst (λ (xs : List ℕ). IsHeadKept {T = T} (Err f) kept (early_head xs)) (whole_chunk text p.fed rest chunk p.whole)
-    (head_stopped T after (text ++ p.fed) rest f kept (p.stands text s) l h e)
+    (head_stopped T after (text ++ p.fed) rest f kept (p.represented text s) l h e)
 
 -- a refusal after some rows
 pub fed-refused : (T : Type 0) (before after : Progress) (rows more : List Row) (chunk rest : List ℕ) (f : Fault) (fed : Fed before after rows more chunk rest) (text : List ℕ) → Represents before text →
@@ -151,7 +151,7 @@ fed-refused T before after rows more chunk rest f fed text s k =
 pub fed-no-memory : (T : Type 0) (before after : Progress) (rows more : List Row) (chunk rest : List ℕ) (fed : Fed before after rows more chunk rest) (text : List ℕ) → Represents before text →
     IsAppended {T = T} (Err Memory) rows more (early_rows text) (early_rows (text ++ chunk))
 fed-no-memory T before after rows more chunk rest fed text s =
-    fed-refused T before after rows more chunk rest Memory fed text s (known-here after (text ++ fed.fed) rest Memory (fed.stands text s) tt tt)
+    fed-refused T before after rows more chunk rest Memory fed text s (known-here after (text ++ fed.fed) rest Memory (fed.represented text s) tt tt)
 
 pub fed-head : (T U : Type 0) (before after : Progress) (rows more : List Row) (chunk rest : List ℕ) (f : Fault) (kept : Option Interface) (fed : Fed before after rows more chunk rest) (text : List ℕ) → Represents before text →
     IsHeadKept {T = U} (Err f) kept (early_head ((text ++ fed.fed) ++ rest)) → IsHeadKept {T = T} (Err f) kept (early_head (text ++ chunk))

@@ -47,8 +47,8 @@ pub ended-part : (text : List ℕ) → IsEnded text (ended_part text)
 ended-part text = more_ended [] text (record { lines = refl; begun = refl })
 
 -- the reader without the line begun represents it
-part-stands : (v : Progress) (text : List ℕ) → Represents v text → Represents (record v { begun = [] }) (ended_part text)
-part-stands v text s =
+part-represented : (v : Progress) (text : List ℕ) → Represents v text → Represents (record v { begun = [] }) (ended_part text)
+part-represented v text s =
     let e = ended-part text in
     let same = sym e.lines in
     let small : size_of (ended_lines (ended_part text)) ≤ 1073741824 = omega (arith, ap size_of e.lines, (size_kind-none (size_of (ended_lines text)) 0 (length (begun_line text)) (size-sound text s.sound)).1) in
@@ -64,7 +64,7 @@ part-stands v text s =
     }
 
 part-ends : (v : Progress) (text : List ℕ) → Represents v text → EndsText (record v { begun = [] }) v.ended (ended_part text)
-part-ends v text s = ends-empty (record v { begun = [] }) (ended_part text) (part-stands v text s) refl
+part-ends v text s = ends-empty (record v { begun = [] }) (ended_part text) (part-represented v text s) refl
 
 pub part-header : (v : Progress) (text : List ℕ) (interface : Interface) → Represents v text → v.interface ≡ Some interface → (fault (ended_part text) ≡ None) × (head (ended_part text) ≡ Some interface)
 part-header v text interface s h = end-header (record v { begun = [] }) v.ended (ended_part text) interface (part-ends v text s) h
@@ -74,13 +74,13 @@ part-missing v text s h = end-missing (record v { begun = [] }) v.ended (ended_p
 
 same_rows : (v : Progress) (text : List ℕ) → Represents v text → early_rows (ended_part text) ≡ early_rows text
 same_rows v text s =
-    rows-sound (ended_part text) (part-stands v text s).sound ∙ ap rows_in (ended-part text).lines ∙ sym (rows-sound text s.sound)
+    rows-sound (ended_part text) (part-represented v text s).sound ∙ ap rows_in (ended-part text).lines ∙ sym (rows-sound text s.sound)
 
 rows_at : (o : Option Interface) (v : Progress) (text : List ℕ) → v.interface ≡ o → Represents v text → rows (ended_part text) ≡ early_rows text
 rows_at (Some i) v text h s =
-    rows-all (ended_part text) (part-header v text i s h).0 ∙ empty-rows (record v { begun = [] }) (ended_part text) (part-stands v text s) refl ∙ append-nil (early_rows (ended_part text)) ∙ same_rows v text s
+    rows-all (ended_part text) (part-header v text i s h).0 ∙ empty-rows (record v { begun = [] }) (ended_part text) (part-represented v text s) refl ∙ append-nil (early_rows (ended_part text)) ∙ same_rows v text s
 rows_at None v text h s =
-    known-end (ended_part text) (Trace (v.ended + 1) HeaderMissing) (part-stands v text s).sound (part-missing v text s h) ∙ same_rows v text s
+    known-end (ended_part text) (Trace (v.ended + 1) HeaderMissing) (part-represented v text s).sound (part-missing v text s h) ∙ same_rows v text s
 
 pub part-rows : (v : Progress) (text : List ℕ) → Represents v text → rows (ended_part text) ≡ early_rows text
 part-rows v text s = rows_at v.interface v text refl s

@@ -284,7 +284,7 @@ at_rows i reader e =
     record {
       heading = heading_of i;
       is = is;
-      stands = rw e (record {
+      represented = rw e (record {
         ended = sym is.lines;
         start = omega (arith, size_of-ended (heading_of i), is.bytes, ap (λ (l : Line). length l) is.whole);
         interface = sym (heading_head i (heading_of i) is);

@@ -84,7 +84,7 @@ passes i text block rows reader after span may s headed is of e =
     let sound : early (text ++ block) ≡ None = early-none (text ++ block)
     (ap (first_fault []) at.lines ∙ first_fault-append [] (ended_lines text) (ended_lines block) ∙ ap (λ o. option_or o (first_fault (ended_lines text) (ended_lines block))) (no_fault text s.sound) ∙ f.sound)
     (rw (at.begun, is.whole) (size_kind-zero (size_of (ended_lines (text ++ block))) (omega (arith, all, ap size_of at.lines, size_of-append (ended_lines text) (ended_lines block))))) in
-    let stands : Represents (record { ended = reader.ended + span.lines; start = reader.start + span.bytes; interface = reader.interface; last = last_after reader.last rows; begun = reader.begun; refused = reader.refused }) (text ++ block) = record {
+    let represented : Represents (record { ended = reader.ended + span.lines; start = reader.start + span.bytes; interface = reader.interface; last = last_after reader.last rows; begun = reader.begun; refused = reader.refused }) (text ++ block) = record {
       ended = omega (arith, s.ended, of.lines, ap (λ (ls : List (List ℕ)). length ls) at.lines, length-append (ended_lines text) (ended_lines block));
       start = omega (arith, s.start, of.bytes, bytes, ap size_of at.lines, size_of-append (ended_lines text) (ended_lines block));
       interface = s.interface ∙ sym f.head ∙ ap head_of (sym at.lines);
@@ -95,7 +95,7 @@ passes i text block rows reader after span may s headed is of e =
       running = s.running;
     } in
     record {
-      stands = rw e stands;
+      represented = rw e represented;
       interface = ap (λ (p : Progress). p.interface) e;
       rows_are = rows-sound (text ++ block) sound ∙ ap rows_in at.lines ∙ f.rows_are ∙ ap (λ rs. rs ++ rows) (sym (rows-sound text s.sound));
     }

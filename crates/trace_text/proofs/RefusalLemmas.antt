@@ -12,7 +12,7 @@ use Rattle.line_model.specs.text.RowLine.{row_of}
 use Rattle.line_model.specs.text.Text.{Line, is_lf, is_comment, content_of, early, early_head, early_rows, head, head_in, head_of, ended_lines, begun_line, first_fault, good_lines, line_kind, rows_in}
 use Rattle.line_model.specs.declared.fault.Kind.{Kind}
 use Rattle.line_model.specs.declared.fault.Fault.{Fault}
-use Rattle.line_model.specs.declared.fault.Fault.TheVariants.{Memory, Trace, Read, Write, Start, Double, Stranger, Missing}
+use Rattle.line_model.specs.declared.fault.Fault.TheVariants.{Memory, Trace, Read, Write, Start, Double, UnknownPiece, Missing}
 use Rattle.line_model.proofs.TextLemmas.{ended-lf, ended-more, first_fault-append}
 use Rattle.line_model.proofs.TextRows.{early_head_law}
 use Rattle.trace_text.specs.Progress.{Progress}
@@ -121,7 +121,7 @@ known-here v text more Read s l h = absurd h
 known-here v text more Write s l h = absurd h
 known-here v text more Start s l h = absurd h
 known-here v text more (Double i) s l h = absurd h
-known-here v text more (Stranger i) s l h = absurd h
+known-here v text more (UnknownPiece i) s l h = absurd h
 known-here v text more (Missing i) s l h = absurd h
 
 pub appended-none : (out known : List Row) → HasAppended out out known known
@@ -135,7 +135,7 @@ refused-appended T Read out out' known known' all a k = absurd k
 refused-appended T Write out out' known known' all a k = absurd k
 refused-appended T Start out out' known known' all a k = absurd k
 refused-appended T (Double i) out out' known known' all a k = absurd k
-refused-appended T (Stranger i) out out' known known' all a k = absurd k
+refused-appended T (UnknownPiece i) out out' known known' all a k = absurd k
 refused-appended T (Missing i) out out' known known' all a k = absurd k
 
 grown : (out out' first known known' : List Row) → HasAppended out out' known known' → out ≡ first ++ known → out' ≡ first ++ known'
@@ -192,13 +192,13 @@ head_stopped T v text more Read kept s l h e = absurd h
 head_stopped T v text more Write kept s l h e = absurd h
 head_stopped T v text more Start kept s l h e = absurd h
 head_stopped T v text more (Double i) kept s l h e = absurd h
-head_stopped T v text more (Stranger i) kept s l h e = absurd h
+head_stopped T v text more (UnknownPiece i) kept s l h e = absurd h
 head_stopped T v text more (Missing i) kept s l h e = absurd h
 
 -- what it represents says the interface
-pub head_stands : (v : Progress) (text : List ℕ) → Represents v text → v.interface ≡ early_head text
+pub head_represents : (v : Progress) (text : List ℕ) → Represents v text → v.interface ≡ early_head text
 unfolding early_head
-head_stands v text s = s.interface ∙ ap (λ at. head_of (good_lines at (ended_lines text))) (sym s.sound)
+head_represents v text s = s.interface ∙ ap (λ at. head_of (good_lines at (ended_lines text))) (sym s.sound)
 
 some_same : {T : Type 0} (a b : T) → Some a ≡ Some b → a ≡ b
 some_same a b h = cc
@@ -209,7 +209,7 @@ known_head (Some j) i h = some_same j i (h j refl)
 
 -- the header that is known is that of the whole text
 pub whole_head : (lines : Progress) (text : List ℕ) (i : Interface) → Represents lines text → head text ≡ Some i → IfSome lines.interface (λ j. j ≡ i)
-whole_head lines text i s e = known_head lines.interface i (λ j h. sym (ap head (sym (append-nil text)) ∙ early_head_law text [] j (sym (head_stands lines text s) ∙ h)) ∙ e)
+whole_head lines text i s e = known_head lines.interface i (λ j h. sym (ap head (sym (append-nil text)) ∙ early_head_law text [] j (sym (head_represents lines text s) ∙ h)) ∙ e)
 
 -- whatever the call returns else
 pub head_alike : (T U : Type 0) (f : Fault) (kept head : Option Interface) → IsHeadKept {T = U} (Err f) kept head → IsHeadKept {T = T} (Err f) kept head
@@ -219,7 +219,7 @@ head_alike T U Read kept head h = h
 head_alike T U Write kept head h = h
 head_alike T U Start kept head h = h
 head_alike T U (Double i) kept head h = h
-head_alike T U (Stranger i) kept head h = h
+head_alike T U (UnknownPiece i) kept head h = h
 head_alike T U (Missing i) kept head h = h
 
 -- it refused nothing

@@ -66,7 +66,7 @@ failed_read lag left after next asked was_fed refused r sound kept same = record
   given = subst (λ xs. IsGiven left next xs) (sym (append-nil r.text)) (subst (λ o. IsGiven left o r.text) (sym kept) r.source);
   before = subst (λ o. IsGiven left o r.text) (sym same) r.source;
   sound = sound;
-  why = inl (record { failure = refl; none = refl; stands = r.fed });
+  why = inl (record { failure = refl; none = refl; represented = r.fed });
 }
 
 -- a text of which no line is faulty so far is no longer than a text may be

@@ -22,7 +22,7 @@ pub record IsHeading (i : Interface) (heading : List ℕ) : Type 0 where
 pub record IsAtRows (i : Interface) (reader : Progress) : Type 0 where
   pub heading : List ℕ
   pub is : IsHeading i heading
-  pub stands : Represents reader heading
+  pub represented : Represents reader heading
 
 -- the number of the first of some rows, or 0
 abbrev pub first_number : List Row → ℕ
@@ -62,6 +62,6 @@ may_pass reader span = is_between_lines reader && (may_follow reader.last span.f
 
 -- a reader passed a block: it represents the text with the block, which has the rows of the block more
 pub record HasPassed (before after : Progress) (text block : List ℕ) (rows : List Row) : Type 0 where
-  pub stands : Represents after (text ++ block)
+  pub represented : Represents after (text ++ block)
   pub interface : after.interface ≡ before.interface
   pub rows_are : early_rows (text ++ block) ≡ early_rows text ++ rows

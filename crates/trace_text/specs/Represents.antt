@@ -58,12 +58,12 @@ AreKnown known all _ = ⊥
 pub record TakesRow (before after : Progress) (chunk rest : List ℕ) (row : Row) : Type 0 where
   pub taken : List ℕ
   pub whole : chunk ≡ taken ++ rest
-  pub stands : (text : List ℕ) → Represents before text → Represents after (text ++ taken)
+  pub represented : (text : List ℕ) → Represents before text → Represents after (text ++ taken)
   pub rows : (text : List ℕ) → Represents before text → early_rows (text ++ taken) ≡ early_rows text ++ row ∷ []
 
 -- a chunk was read to its end, and no line that ends in it writes a row
 pub record ReadsChunk (before after : Progress) (chunk : List ℕ) : Type 0 where
-  pub stands : (text : List ℕ) → Represents before text → Represents after (text ++ chunk)
+  pub represented : (text : List ℕ) → Represents before text → Represents after (text ++ chunk)
   pub rows : (text : List ℕ) → Represents before text → early_rows (text ++ chunk) ≡ early_rows text
 
 -- the row of a last line that no LF ended, if it has one

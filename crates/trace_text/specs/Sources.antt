@@ -31,7 +31,7 @@ pub record IsFedAll (lag : ℕ) (left after asked : Option (List ℕ)) (was_fed 
 pub record HasFailed (was_fed : List ℕ → Type 0) (fed last : List ℕ) (returned : Fault) : Type 0 where
   pub failure : returned ≡ Read
   pub none : last ≡ []
-  pub stands : was_fed fed
+  pub represented : was_fed fed
 
 -- what a source gave before its last call was fed, and except for at most the last `lag` bytes no line of it is known to be faulty; then that
 -- call failed, or what it gave was refused

@@ -26,7 +26,7 @@ pub trait TraceObserver<A: Allocator>: Drop {
     /// memory is refused.
     fn feed(&mut self, chunk: &[u8]) -> Result<(), Fault>
         requires fed { (text : List ℕ) × represents self.old text }
-        ensures stands { (text : List ℕ) → represents self.old text
+        ensures represented { (text : List ℕ) → represents self.old text
             → OnOk result (represents self.new (text ++ chunk.now)) }
         ensures refused { (text : List ℕ) → represents self.old text
             → IfErr result (IsFaultOf (early (text ++ chunk.now))) }

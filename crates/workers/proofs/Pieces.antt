@@ -3,7 +3,7 @@ use Rattle.std.proofs.Common.{◌≡◌, ℕ, suc, zero, List, [], ◌∷◌, �
 use Rattle.std.specs.Prelude.{All, slice_get}
 use Rattle.line_model.specs.basics.Records.{Piece}
 use Rattle.std.proofs.lemmas.List.{map-append}
-use Rattle.line_model.specs.pieces.Plans.{value}
+use Rattle.line_model.specs.pieces.Plans.{result_of}
 use Rattle.line_model.specs.work.Book.{KnownPlan, IsPlanned, IsValue}
 use Rattle.line_model.specs.basics.Records.{PieceReport}
 use Rattle.line_model.specs.work.Work.{numbers_of}
@@ -23,7 +23,7 @@ has-back : (xs ys : List Piece) (p : Piece) → HasPiece ys p → HasPiece (xs +
 has-back [] ys p h = h
 has-back (x ∷ xs) ys p h = let r = has-back xs ys p h in (suc r.0, r.1)
 
--- pieces that were added stand there
+-- pieces that were added are there
 pub has-added : (before added : List Piece) → All (HasPiece (before ++ added)) added
 has-added before added k d lt = has-back before added _ (has-own added k d lt)
   where
@@ -51,7 +51,7 @@ fed-one fed [] p k all e = absurd (cc)
 fed-one fed (x ∷ xs) p zero all e = subst (IsFed fed) (some-is x p e) (all 0 x (omega arith))
 fed-one fed (x ∷ xs) p (suc k) all e = fed-one fed xs p k (λ j d lt. all (suc j) d (omega arith)) e
 
--- the value of a piece that a witness knows of is that of a piece that was fed
+-- the result of a piece that a witness knows of is that of a piece that was fed
 pub value-of-fed : (fed pieces : List Piece) (r : PieceReport) → All (IsFed fed) pieces → IsValueOfOne pieces r → IsValue (Some fed) r
 value-of-fed fed pieces r all v = subst (IsValue (Some fed)) (sym v.2) (value_is (Some fed) v.0 (refl, fed-one fed pieces v.0 v.1.0 all v.1.1))
 
@@ -59,15 +59,15 @@ pub run-of-fed : (ran : Piece → PieceReport → Type 0) (fed pieces : List Pie
 run-of-fed ran fed pieces r all v = (v.0, (v.0.id, fed-one fed pieces v.0 v.1.0 all v.1.1), v.2, v.3)
 
 -- the values of pieces, and of one more
-pub value_more : (rs : List PieceReport) (r : PieceReport) (ps : List Piece) (p : Piece) → rs ≡ map value ps → r ≡ value p → rs ++ r ∷ [] ≡ map value (ps ++ p ∷ [])
-value_more rs r ps p all one = (λ i. all i ++ one i ∷ []) ∙ sym (map-append value ps (p ∷ []))
+pub value_more : (rs : List PieceReport) (r : PieceReport) (ps : List Piece) (p : Piece) → rs ≡ map result_of ps → r ≡ result_of p → rs ++ r ∷ [] ≡ map result_of (ps ++ p ∷ [])
+value_more rs r ps p all one = (λ i. all i ++ one i ∷ []) ∙ sym (map-append result_of ps (p ∷ []))
 
-pub values_are : (plan : KnownPlan) (ps : List Piece) → All (λ p. IsPlanned plan p.id p) ps → All (IsValue plan) (map value ps)
+pub values_are : (plan : KnownPlan) (ps : List Piece) → All (λ p. IsPlanned plan p.id p) ps → All (IsValue plan) (map result_of ps)
 values_are plan [] all k d lt = absurd (omega arith)
 values_are plan (p ∷ ps) all zero d lt = value_is plan p (all 0 p (omega arith))
 values_are plan (p ∷ ps) all (suc k) d lt = values_are plan ps (λ j q below. all (suc j) q (omega arith)) k d (omega arith)
 
-pub runs_of : (ran : Piece → PieceReport → Type 0) (pieces ps : List Piece) → All (HasPiece pieces) ps → All (λ p. ran p (value p)) ps → All (IsRunOfOne ran pieces) (map value ps)
+pub runs_of : (ran : Piece → PieceReport → Type 0) (pieces ps : List Piece) → All (HasPiece pieces) ps → All (λ p. ran p (result_of p)) ps → All (IsRunOfOne ran pieces) (map result_of ps)
 runs_of ran pieces [] all runs k d lt = absurd (omega arith)
 runs_of ran pieces (p ∷ ps) all runs zero d lt = (p, all 0 p (omega arith), refl, runs 0 p (omega arith))
 runs_of ran pieces (p ∷ ps) all runs (suc k) d lt = runs_of ran pieces ps (λ j q below. all (suc j) q (omega arith)) (λ j q below. runs (suc j) q (omega arith)) k d (omega arith)

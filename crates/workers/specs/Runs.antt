@@ -20,12 +20,12 @@ pub record IsJoined {A : Type 0} (id : QueueId) (count : ℕ) (v : Record) (j : 
   pub fault : MatchOption j.fault (sum_by (λ s. s.posts) j.shares.items ≡ length j.pass.record_of.taken) (λ f. f ≡ Memory)
   pub all : 0 < count → IsAccounted j.pass.record_of
 
--- the task became this by the pieces that were fed, which the pass knows. Without a fault there are this count of shares, with a post for each piece; else memory ran out
+-- the task became this by the pieces that were fed, which the pass knows. Without a fault there are this count of shares, with a post for each piece; otherwise memory ran out
 pub record IsRunOutcome {T A : Type 0} (gives : List Piece → T → Type 0) (count : ℕ) (id : QueueId) (r : RunOutcome T Totals A) : Type 0 where
   pub queue : r.pass.queue ≡ id
   pub became : gives r.pass.pieces r.task
   pub fault : MatchOption r.fault ((vec_len r.shares ≡ count) × (sum_by (λ s. s.posts) r.shares.items ≡ r.pass.record_of.fed)) (λ f. f ≡ Memory)
 
--- the task came back without a turn: memory ran out, or a thread was refused
+-- the task ended before it ran: memory ran out, or a thread was refused
 abbrev pub CameBack : {T : Type 0} → (unfed : T → T → Type 0) → (task : T) → (T × Fault) → Type 0
 CameBack unfed task e = unfed task e.0 × ((e.1 ≡ Memory) ⊎ (e.1 ≡ Start))

@@ -16,7 +16,7 @@ pub record IsWorkerStart {A : Type 0} (id : QueueId) (s : WorkerStart Totals A) 
   pub fresh : s.pass.record_of ≡ worker [] false 0
   pub share : s.share.posts ≡ 0
 
--- its pass, of this queue, has its end. Without a fault each piece that it took was posted; else memory ran out
+-- its pass, of this queue, has its end. Without a fault each piece that it took was posted; otherwise memory ran out
 pub record IsWorkerOutcome {A : Type 0} (id : QueueId) (d : WorkerOutcome Totals A) : Type 0 where
   pub queue : d.pass.queue ≡ id
   pub finished : d.pass.record_of.finished ≡ true

@@ -1,7 +1,7 @@
 //! How a worker runs a piece, and the other work that it does.
 
 ghost use Rattle.std.specs.Prelude.{◌≡◌, All, IfOk, MatchResult, OnOk, map};
-ghost use Rattle.line_model.specs.pieces.Plans.{value};
+ghost use Rattle.line_model.specs.pieces.Plans.{result_of};
 ghost use Rattle.line_model.specs.declared.fault.Fault.TheVariants.{Memory};
 
 use line_model::fault::Fault;
@@ -20,7 +20,7 @@ pub trait Gate: Sync {
 
     /// Returns the report of the piece. Fails only when memory is refused.
     fn run<A: Allocator + Copy>(&self, alloc: A, piece: &Piece<A>) -> Result<PieceReport<A>, Fault>
-        ensures value { MatchResult result (λ r. r ≡ value piece.now) (λ fault. fault ≡ Memory) }
+        ensures value { MatchResult result (λ r. r ≡ result_of piece.now) (λ fault. fault ≡ Memory) }
         ensures ran { IfOk result (ran self.now piece.now) };
 
     /// Returns the reports of the pieces of a bundle, in the bundle's order. Fails only when memory is refused.
@@ -29,9 +29,9 @@ pub trait Gate: Sync {
         alloc: A,
         bundle: &Bundle<A>,
     ) -> Result<BundleReport<A>, Fault>
-        ensures values { MatchResult result (λ reports. reports ≡ map value bundle.now) (λ fault. fault
+        ensures values { MatchResult result (λ reports. reports ≡ map result_of bundle.now) (λ fault. fault
             ≡ Memory) }
-        ensures ran { OnOk result (All (λ piece. ran self.now piece (value piece)) bundle.now) }
+        ensures ran { OnOk result (All (λ piece. ran self.now piece (result_of piece)) bundle.now) }
     {
         let (front, last) = bundle.parts();
         let mut reports = BundleReport::new(alloc);

@@ -2,7 +2,7 @@
 
 ghost use Rattle.std.specs.Prelude.{ℕ, ◌≡◌, ◌+◌, ◌-◌, ◌<◌, ◌≤◌, ◌||◌, ◌&&◌, not, List, None, IfNone, IfOk, option_map, false, vec_len, vec_capacity};
 ghost use Rattle.line_model.specs.channels.Channels.{Channel, is_in_transfer, is_open, is_permanent};
-ghost use Rattle.channel_machine.specs.TermsStand.{opened_of};
+ghost use Rattle.channel_machine.specs.TermsRepresent.{opened_of};
 ghost use Rattle.line_model.specs.channels.ChannelStep.{and_then};
 ghost use Rattle.line_model.specs.channels.FlowControl.{is_side};
 ghost use Rattle.line_model.specs.declared.state.Side.TheVariants.{T};
@@ -14,7 +14,7 @@ ghost use Rattle.line_model.specs.packets.Classes.{header_length, packet_class};
 ghost use Rattle.channel_machine.specs.Sizes.{largest_length};
 ghost use Rattle.channel_machine.specs.GapSteps.{carried_on};
 ghost use Rattle.channel_machine.specs.Reached.{IsUnanswered};
-ghost use Rattle.channel_machine.specs.Channels.{Stands, Does, Comes, IsUnchanged, IsMemory};
+ghost use Rattle.channel_machine.specs.Channels.{StatusRepresents, Does, Comes, IsUnchanged, IsMemory};
 
 use crate::channel::StatusChannel;
 use crate::events::EventOrigin;
@@ -99,7 +99,7 @@ impl<A: Allocator + Clone, S: StatusStore> StatusChannel<A, S> {
 
     /// Returns the indication that the channel owes.
     pub(crate) fn owed(&self) -> Owed
-        ensures { (c : Channel) → Stands self.now c → result ≡ owed_by c }
+        ensures { (c : Channel) → StatusRepresents self.now c → result ≡ owed_by c }
     {
         if self.status.is_owed() {
             indication_of(self.status.state())
@@ -110,7 +110,7 @@ impl<A: Allocator + Clone, S: StatusStore> StatusChannel<A, S> {
 
     /// Returns whether the channel is in a state of data transfer.
     pub(crate) fn is_in_transfer(&self) -> bool
-        ensures { (c : Channel) → Stands self.now c
+        ensures { (c : Channel) → StatusRepresents self.now c
             → result ≡ is_in_transfer c }
     {
         matches!(self.status.state(), ChannelState::Transfer(_))
@@ -125,7 +125,7 @@ impl<A: Allocator + Clone, S: StatusStore> StatusChannel<A, S> {
 
     /// Returns whether the channel has a call, or needs none.
     pub(crate) fn is_in_use(&self) -> bool
-        ensures { (c : Channel) → Stands self.now c
+        ensures { (c : Channel) → StatusRepresents self.now c
             → result ≡ is_in_use self.now.terms.interface self.now.channel c }
     {
         self.is_permanent() || self.status.call().is_some()
@@ -133,7 +133,7 @@ impl<A: Allocator + Clone, S: StatusStore> StatusChannel<A, S> {
 
     /// Returns whether a call is open that is not up.
     pub(crate) fn is_calling(&self) -> bool
-        ensures { (c : Channel) → Stands self.now c
+        ensures { (c : Channel) → StatusRepresents self.now c
             → result ≡ (is_open c && not (is_in_transfer c)) }
     {
         self.status.call().is_some() && !self.is_in_transfer()
@@ -141,7 +141,7 @@ impl<A: Allocator + Clone, S: StatusStore> StatusChannel<A, S> {
 
     /// Returns whether the side that called accepts: then another call may be hidden.
     pub(crate) fn is_own_acceptance(&self, side: Side) -> bool
-        ensures { (c : Channel) → Stands self.now c
+        ensures { (c : Channel) → StatusRepresents self.now c
             → result ≡ is_own_acceptance side c.opening }
     {
         match self.status.call() {
@@ -152,14 +152,14 @@ impl<A: Allocator + Clone, S: StatusStore> StatusChannel<A, S> {
 
     /// Returns whether another call may be hidden after a packet that brings the call up, if it is not.
     pub(crate) fn is_hidden_when_up(&self, adrift: &WhileAdrift) -> bool
-        ensures { (c : Channel) → Stands self.now c → result ≡ hidden_when_up adrift.now c }
+        ensures { (c : Channel) → StatusRepresents self.now c → result ≡ hidden_when_up adrift.now c }
     {
         adrift.is_hidden() || !self.is_in_transfer()
     }
 
     /// Returns whether another call may be hidden after an acceptance of a side.
     pub(crate) fn is_hidden_when_accepted(&self, adrift: &WhileAdrift, side: Side) -> bool
-        ensures { (c : Channel) → Stands self.now c
+        ensures { (c : Channel) → StatusRepresents self.now c
             → result ≡ (adrift.now.hidden || is_own_acceptance side c.opening) }
     {
         adrift.is_hidden() || self.is_own_acceptance(side)
@@ -167,7 +167,7 @@ impl<A: Allocator + Clone, S: StatusStore> StatusChannel<A, S> {
 
     /// Returns whether a side resets.
     pub(crate) fn is_resetting(&self, side: Side) -> bool
-        ensures { (c : Channel) → Stands self.now c → result ≡ is_resetting side c.state }
+        ensures { (c : Channel) → StatusRepresents self.now c → result ≡ is_resetting side c.state }
     {
         match side {
             Side::T => self.status.state() == ChannelState::Transfer(DState::D2),
@@ -177,7 +177,7 @@ impl<A: Allocator + Clone, S: StatusStore> StatusChannel<A, S> {
 
     /// Returns whether another call may be hidden after the open one, where a gap comes.
     pub(crate) fn is_hidden_by_gap(&self) -> bool
-        ensures { (c : Channel) → Stands self.now c
+        ensures { (c : Channel) → StatusRepresents self.now c
             → result ≡ is_hidden_by_gap self.now.terms.interface self.now.channel c }
     {
         !self.is_permanent() && self.status.call().is_some()
@@ -187,8 +187,8 @@ impl<A: Allocator + Clone, S: StatusStore> StatusChannel<A, S> {
     pub(crate) fn drift(&mut self)
         ensures interface { self.new.terms.interface ≡ self.old.terms.interface }
         ensures channel { self.new.channel ≡ self.old.channel }
-        ensures stands { (c : Channel) → Stands self.old c
-            → Stands self.new (left_by_gap self.old.terms.interface self.old.channel c) }
+        ensures represented { (c : Channel) → StatusRepresents self.old c
+            → StatusRepresents self.new (left_by_gap self.old.terms.interface self.old.channel c) }
     {
         let state = self.idle_name();
         let terms = self.status.terms();
@@ -201,7 +201,7 @@ impl<A: Allocator + Clone, S: StatusStore> StatusChannel<A, S> {
 
     /// Returns the state that says only whether a call is open and whether it came up.
     fn idle_name(&self) -> StateName
-        ensures { (c : Channel) → Stands self.now c → result ≡ idle_name
+        ensures { (c : Channel) → StatusRepresents self.now c → result ≡ idle_name
             (is_permanent self.now.terms.interface self.now.channel || is_in_transfer c) c.opening }
     {
         if self.is_permanent() || self.is_in_transfer() {
@@ -214,7 +214,7 @@ impl<A: Allocator + Clone, S: StatusStore> StatusChannel<A, S> {
     /// Brings up a call that was not up, by a packet other than an acceptance.
     pub(crate) fn bring_up(&mut self, origin: EventOrigin, events: &mut Vec<Event, A>)
         requires room { vec_len events.old < vec_capacity events.old }
-        ensures does { (c : Channel) → Stands self.old c
+        ensures does { (c : Channel) → StatusRepresents self.old c
             → Does origin self.old self.new events.old.items events.new.items
             (brought_up self.old.terms.interface c) }
         ensures capacity { vec_capacity events.new ≡ vec_capacity events.old }
@@ -228,7 +228,7 @@ impl<A: Allocator + Clone, S: StatusStore> StatusChannel<A, S> {
     /// Brings a call up under the largest terms.
     pub(crate) fn come_up(&mut self, origin: EventOrigin, events: &mut Vec<Event, A>)
         requires room { vec_len events.old < vec_capacity events.old }
-        ensures does { (c : Channel) → Stands self.old c
+        ensures does { (c : Channel) → StatusRepresents self.old c
             → Does origin self.old self.new events.old.items events.new.items
             (coming_up (largest_terms self.old.terms.interface) c) }
         ensures capacity { vec_capacity events.new ≡ vec_capacity events.old }
@@ -250,7 +250,7 @@ impl<A: Allocator + Clone, S: StatusStore> StatusChannel<A, S> {
     ) -> Result<(), Fault>
         requires usable { IsUsable self.old.terms.interface fields.now }
         ensures does { (c : Channel) (xs : List ℕ) → shown fields.now ≡ fields_of xs
-            → (hidden ≡ false → IsUnanswered c) → Stands self.old c
+            → (hidden ≡ false → IsUnanswered c) → StatusRepresents self.old c
             → IfOk result (λ _. Does origin self.old self.new events.old.items events.new.items
             (coming_up (terms_of_acceptance hidden self.old.terms.interface xs) c)) }
         ensures unchanged { IsUnchanged result self.old self.new events.old.items events.new.items }
@@ -294,7 +294,7 @@ impl<A: Allocator + Clone, S: StatusStore> StatusChannel<A, S> {
     ) -> Result<(), Fault>
         requires usable { IsUsable self.old.terms.interface fields.now }
         ensures does { (c : Channel) (xs : List ℕ) → shown fields.now ≡ fields_of xs
-            → IfNone c.opening (c.accepting ≡ None) → Stands self.old c
+            → IfNone c.opening (c.accepting ≡ None) → StatusRepresents self.old c
             → IfOk result (λ _. Does origin self.old self.new events.old.items events.new.items
             (adrift_call side xs c)) }
         ensures unchanged { IsUnchanged result self.old self.new events.old.items events.new.items }

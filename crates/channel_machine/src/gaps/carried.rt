@@ -1,4 +1,4 @@
-//! The numbers of packets of data transfer on a channel adrift.
+//! The numbers of data transfer packets on a channel that is adrift.
 
 ghost use Rattle.std.specs.Prelude.{◌≡◌, ◌<◌, ◌+◌, ◌%◌, None};
 ghost use Rattle.line_model.specs.channels.Channels.{of_side, other};
@@ -72,7 +72,7 @@ impl WhileAdrift {
         WhileAdrift { hidden, ..self }
     }
 
-    /// The last data packet of a side.
+    /// Returns the last data packet of a side.
     fn last(&self, side: Side) -> Option<LastData>
         ensures { result ≡ of_side side self.now.last }
     {
@@ -127,7 +127,7 @@ impl WhileAdrift {
     }
 }
 
-/// What is kept of a data packet.
+/// Returns what is kept of a data packet.
 fn last_data(modulus: u8, header: &DataHeader) -> LastData
     requires modulus { 0 < modulus }
     ensures { result ≡ record { next = (header.now.send + 1) % modulus; receive = header.now.receive } }
@@ -139,7 +139,7 @@ fn last_data(modulus: u8, header: &DataHeader) -> LastData
     }
 }
 
-/// A data packet after which its side sent another P(R).
+/// Returns a data packet with the P(R) that its side sent after it.
 fn with_receive(receive: u8, last: Option<LastData>) -> Option<LastData>
     ensures { result ≡ with_receive receive last }
 {

@@ -2,7 +2,7 @@
 
 ghost use Rattle.std.specs.Prelude.{◌≡◌, ◌⊎◌, ◌<◌, IfOk, false, true};
 ghost use Rattle.line_model.specs.channels.FlowControl.{Counts, count_data};
-ghost use Rattle.data_transfer.specs.FlowResidues.{Stands, outstanding};
+ghost use Rattle.data_transfer.specs.FlowResidues.{ResiduesRepresent, outstanding};
 ghost use Rattle.channel_machine.specs.SettledNumbers.{AreNumbered, IsFirst, IsWidest};
 
 use data_transfer::flow::Flow;
@@ -41,7 +41,7 @@ pub(crate) fn judge_next(
     window: u8,
 ) -> Result<Flow, u8>
     requires widest { IsWidest flow }
-    ensures numbers { (c : Counts) → Stands flow c → window < flow.modulus
+    ensures numbers { (c : Counts) → ResiduesRepresent flow c → window < flow.modulus
         → AreNumbered result flow.modulus false side
         (count_data flow.modulus window c side header.now.send header.now.receive) }
     ensures widest { IfOk result (λ f. IsWidest f) }

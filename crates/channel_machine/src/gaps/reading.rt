@@ -4,7 +4,7 @@ ghost use Rattle.std.specs.Prelude.{◌≡◌, ◌≤◌, IfOk};
 ghost use Rattle.std.specs.Result.{result_err};
 ghost use Rattle.line_model.specs.basics.Bounds.{IsSaid};
 ghost use Rattle.line_model.specs.channels.Channels.{Channel};
-ghost use Rattle.channel_machine.specs.Channels.{Stands};
+ghost use Rattle.channel_machine.specs.Channels.{StatusRepresents};
 ghost use Rattle.channel_machine.specs.Contents.{AreOf, AreUsable};
 ghost use Rattle.line_model.specs.channels.GapStep.{adrift_fault};
 ghost use Rattle.line_model.specs.packets.Classes.{packet_class};
@@ -26,7 +26,7 @@ impl<A: Allocator + Clone, S: StatusStore> StatusChannel<A, S> {
     /// allows it.
     pub(crate) fn read_adrift<'a>(&self, item: &ItemRef<'a>) -> Result<Contents<'a>, u8>
         requires said { IsSaid self.now.terms.interface item.now }
-        ensures fault { (c : Channel) → Stands self.now c
+        ensures fault { (c : Channel) → StatusRepresents self.now c
             → result_err result ≡ adrift_fault self.now.terms.interface self.now.channel c item.now }
         ensures contents { IfOk result (λ r. AreOf r item.now) }
         ensures usable { IfOk result (λ r. AreUsable r self.now.terms.interface) }

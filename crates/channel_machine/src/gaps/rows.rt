@@ -10,7 +10,7 @@ ghost use Rattle.line_model.specs.channels.Channels.{Channel, is_permanent, is_t
 ghost use Rattle.line_model.specs.channels.ChannelStep.{ending, entering, state_named};
 ghost use Rattle.line_model.specs.channels.Gaps.{WhileAdrift as Drifting, drifting};
 ghost use Rattle.line_model.specs.channels.GapStep.{adrift_acceptance, adrift_call, adrift_reset, adrift_step, adrift_transfer, brought_up, cleared_by, confirmed_clear, owed_after, with_certainty};
-ghost use Rattle.channel_machine.specs.Channels.{IsMemory, Stands};
+ghost use Rattle.channel_machine.specs.Channels.{IsMemory, StatusRepresents};
 ghost use Rattle.channel_machine.specs.GapChannels.{ComesAdrift, GapDoes, IsGapUnchanged, adrift_at, interface_of, number_of};
 ghost use Rattle.channel_machine.specs.GapSteps.{IsBare, received_after};
 ghost use Rattle.channel_machine.specs.GapView.KnownCertainty.{Adrift};
@@ -264,7 +264,7 @@ impl<A: Allocator + Clone, S: StatusStore> GapChannel<A, S> {
         requires header { settling.now.header ≡ header_in item.now.packet }
         requires short { packet_class item.now.packet ≡ Class.Data
             → item.now.length ≤ largest_length }
-        ensures does { (b : Drifting) (c : Channel) → Stands self.old.channel c
+        ensures does { (b : Drifting) (c : Channel) → StatusRepresents self.old.channel c
             → IsBare (brought_up (interface_of self.old) c).after
             → IfOk result (λ _. GapDoes row.now.origin self.old self.new
             events.old.items events.new.items
@@ -296,7 +296,7 @@ impl<A: Allocator + Clone, S: StatusStore> GapChannel<A, S> {
             → item.now.length ≤ largest_length }
         ensures does { (b : Drifting) (o : Option ℕ) (l : Option LastData)
             → settling_by row.now.side (header_in item.now.packet) o l ≡ None
-            → (c : Channel) → Stands self.old.channel c
+            → (c : Channel) → StatusRepresents self.old.channel c
             → IsBare (brought_up (interface_of self.old) c).after
             → IfOk result (λ _. GapDoes row.now.origin self.old self.new
             events.old.items events.new.items

@@ -13,9 +13,9 @@ ghost use Rattle.line_model.specs.packets.Formats.{size_in_force, window_in_forc
 ghost use Rattle.line_model.specs.packets.Says.{header_in, receive_in};
 ghost use Rattle.data_transfer.specs.Assembler.{begun_on};
 ghost use Rattle.data_transfer.specs.Assembly.{Holds, is_like};
-ghost use Rattle.data_transfer.specs.FlowResidues.{Stands};
+ghost use Rattle.data_transfer.specs.FlowResidues.{ResiduesRepresent};
 ghost use Rattle.channel_machine.specs.Settling.{settled_after, settling_by};
-ghost use Rattle.channel_machine.specs.SettledNumbers.{IsCountedInDoubt, IsNumbered, IsWidest, NumbersStand, SequencesStand};
+ghost use Rattle.channel_machine.specs.SettledNumbers.{IsCountedInDoubt, IsNumbered, IsWidest, NumbersRepresent, SequencesRepresent};
 ghost use Rattle.channel_machine.specs.SettledSteps.{IsControlled};
 ghost use Rattle.channel_machine.specs.SettledSequences.{IsCompleted, IsContinued, kept_after};
 
@@ -111,7 +111,7 @@ impl<A: Allocator + Clone> SettledNumbers<A> {
     ) -> SettledNumbers<A>
         ensures doubts { result.doubts
             ≡ settled_doubts hidden settling.now.side settling.now.header }
-        ensures numbers { (c : Channel) → NumbersStand interface.now.modulus result
+        ensures numbers { (c : Channel) → NumbersRepresent interface.now.modulus result
             (settled_after interface.now.modulus settling.now c) }
         ensures sequences { (x : AnySide) → Holds (begun_on result.assembler x) [] }
     {
@@ -135,7 +135,7 @@ impl<A: Allocator + Clone> SettledNumbers<A> {
         ensures doubts { self.new.doubts ≡ doubts_in state self.old.doubts }
         ensures modulus { self.new.flow.modulus ≡ self.old.flow.modulus }
         ensures windows { self.new.flow.windows ≡ self.old.flow.windows }
-        ensures flow { Stands self.new.flow no_counts }
+        ensures flow { ResiduesRepresent self.new.flow no_counts }
         ensures sequences { (x : AnySide) → Holds (begun_on self.new.assembler x) [] }
     {
         self.flow.reset();
@@ -146,7 +146,7 @@ impl<A: Allocator + Clone> SettledNumbers<A> {
     /// Judges the numbers of a data packet of a side in a window, and returns those after it: `INVALID_P_S` or
     /// `INVALID_P_R`. Where its next P(S) is in doubt, every P(S) of the modulus is valid.
     pub(crate) fn judge_data(&self, side: Side, header: &DataHeader, window: u8) -> Result<Flow, u8>
-        ensures numbers { (i : Interface) (c : Channel) → NumbersStand i.modulus self.now c
+        ensures numbers { (i : Interface) (c : Channel) → NumbersRepresent i.modulus self.now c
             → window ≡ window_in_force i c side → window < i.modulus
             → IsNumbered result i self.now.doubts side header.now c }
         ensures widest { IfOk result (λ f. IsWidest f) }
@@ -170,8 +170,8 @@ impl<A: Allocator + Clone> SettledNumbers<A> {
     ) -> Result<(), u8>
         requires no_data { class ≡ Class.Data → ⊥ }
         ensures judged { (i : Interface) (c : Channel) (q : StateName) (r : Item) → r.side ≡ side
-            → receive ≡ receive_in r.packet → NumbersStand i.modulus self.old c
-            → SequencesStand i self.old c
+            → receive ≡ receive_in r.packet → NumbersRepresent i.modulus self.old c
+            → SequencesRepresent i self.old c
             → IsControlled result i side q self.new self.old.doubts c
             (transferring_in_doubt i q class r self.old.doubts c) }
         ensures unchanged { OnErr result (self.new ≡ self.old) }
@@ -189,8 +189,8 @@ impl<A: Allocator + Clone> SettledNumbers<A> {
     /// Judges the P(R) of a side: `INVALID_P_R` where it acknowledges no packet of the other side. Where the next P(S) of
     /// that side is in doubt, no P(R) is invalid.
     pub(crate) fn acknowledge(&mut self, side: Side, receive: u8) -> Result<(), u8>
-        ensures counted { (i : Interface) (c : Channel) → NumbersStand i.modulus self.old c
-            → SequencesStand i self.old c → IsCountedInDoubt result i self.new
+        ensures counted { (i : Interface) (c : Channel) → NumbersRepresent i.modulus self.old c
+            → SequencesRepresent i self.old c → IsCountedInDoubt result i self.new
             (count_receive i.modulus
             (counts_of (completed_for_receive i.modulus self.old.doubts side receive c))
             side receive) (completed_for_receive i.modulus self.old.doubts side receive c) }
@@ -207,8 +207,8 @@ impl<A: Allocator + Clone> SettledNumbers<A> {
 
     /// Judges an interrupt of a side: `UNAUTHORIZED_INTERRUPT` where it is certain that one is unconfirmed.
     pub(crate) fn interrupt(&mut self, side: Side) -> Result<(), u8>
-        ensures counted { (i : Interface) (c : Channel) → NumbersStand i.modulus self.old c
-            → SequencesStand i self.old c → IsCountedInDoubt result i self.new
+        ensures counted { (i : Interface) (c : Channel) → NumbersRepresent i.modulus self.old c
+            → SequencesRepresent i self.old c → IsCountedInDoubt result i self.new
             (count_interrupt (counts_of
             (with_interrupt (of_side side self.old.doubts.interrupts) side false c)) side)
             (with_interrupt (of_side side self.old.doubts.interrupts) side false c) }
@@ -229,8 +229,8 @@ impl<A: Allocator + Clone> SettledNumbers<A> {
     /// Judges an interrupt confirmation of a side: `UNAUTHORIZED_INTERRUPT_CONFIRMATION` where it is certain that no
     /// interrupt of the other side is unconfirmed.
     pub(crate) fn confirm(&mut self, side: Side) -> Result<(), u8>
-        ensures counted { (i : Interface) (c : Channel) → NumbersStand i.modulus self.old c
-            → SequencesStand i self.old c → IsCountedInDoubt result i self.new
+        ensures counted { (i : Interface) (c : Channel) → NumbersRepresent i.modulus self.old c
+            → SequencesRepresent i self.old c → IsCountedInDoubt result i self.new
             (count_confirm (counts_of
             (with_interrupt (of_side (other side) self.old.doubts.interrupts) (other side) true c)) side)
             (with_interrupt (of_side (other side) self.old.doubts.interrupts) (other side) true c) }
@@ -251,7 +251,7 @@ impl<A: Allocator + Clone> SettledNumbers<A> {
     /// Returns whether it is certain that a packet of a side has another Q bit than the sequence that it continues.
     pub(crate) fn is_mixed(&self, side: Side, qualified: bool) -> bool
         ensures { (i : Interface) (c : Channel) (p : AcceptedData) → p.qualified ≡ qualified
-            → SequencesStand i self.now c → result ≡ is_mixed self.now.doubts.hidden
+            → SequencesRepresent i self.now c → result ≡ is_mixed self.now.doubts.hidden
             (of_side side self.now.doubts.sequences) p
             (may_be_begun self.now.doubts.hidden (size_in_force i c side) side c.accepted) }
     {
@@ -329,8 +329,8 @@ impl<A: Allocator + Clone> SettledNumbers<A> {
 
     /// The numbers where an interrupt of a side is unconfirmed, or not, if that is in doubt.
     fn with_interrupt(&self, side: Side, unconfirmed: bool) -> Flow
-        ensures stands { (c : Channel) → Stands self.now.flow (counts_of c)
-            → Stands result (counts_of
+        ensures represented { (c : Channel) → ResiduesRepresent self.now.flow (counts_of c)
+            → ResiduesRepresent result (counts_of
             (with_interrupt (of_side side self.now.doubts.interrupts) side unconfirmed c)) }
         ensures modulus { result.modulus ≡ self.now.flow.modulus }
         ensures windows { result.windows ≡ self.now.flow.windows }
@@ -345,8 +345,8 @@ impl<A: Allocator + Clone> SettledNumbers<A> {
 
     /// The numbers with the packets of a side that were missed up to a number, where its next P(S) is in doubt.
     fn presumed(&self, side: Side, number: u8) -> Flow
-        ensures stands { (m : ℕ) (c : Channel) → NumbersStand m self.now c
-            → Stands result (counts_of
+        ensures represented { (m : ℕ) (c : Channel) → NumbersRepresent m self.now c
+            → ResiduesRepresent result (counts_of
             (completed_to m (of_side side self.now.doubts.numbers) side number c)) }
         ensures modulus { result.modulus ≡ self.now.flow.modulus }
         ensures windows { result.windows ≡ self.now.flow.windows }
@@ -366,7 +366,7 @@ fn settled_flow(modulus: u8, settling: &Settling) -> Flow
     requires { (modulus ≡ 8) ⊎ (modulus ≡ 128) }
     ensures modulus { result.modulus ≡ modulus }
     ensures widest { result.windows ≡ of_both (modulus - 1) }
-    ensures stands { (c : Channel) → Stands result
+    ensures represented { (c : Channel) → ResiduesRepresent result
         (counts_of (settled_after modulus settling.now c)) }
 {
     let mut flow = Flow::new(modulus, modulus - 1, modulus - 1);

@@ -8,9 +8,9 @@ ghost use Rattle.line_model.specs.channels.GapStep.{data_in_doubt, is_in_d1, may
 ghost use Rattle.line_model.specs.packets.Classes.{header_length, packet_class};
 ghost use Rattle.line_model.specs.packets.Says.{header_in};
 ghost use Rattle.packet_decode.specs.SaidData.{IsSaidData};
-ghost use Rattle.channel_machine.specs.Channels.{IsMemory, Stands};
+ghost use Rattle.channel_machine.specs.Channels.{IsMemory, StatusRepresents};
 ghost use Rattle.channel_machine.specs.Events.{Reports};
-ghost use Rattle.channel_machine.specs.GapChannels.{StandsSettled, at_rest};
+ghost use Rattle.channel_machine.specs.GapChannels.{RepresentsSettled, at_rest};
 ghost use Rattle.channel_machine.specs.SettledData.{Continues, IsAdded, IsDataJudged, IsPut, known_message};
 ghost use Rattle.channel_machine.specs.SettledNumbers.{IsWidest};
 ghost use Rattle.channel_machine.specs.SettledSequences.{IsCompleted};
@@ -87,7 +87,7 @@ impl<A: Allocator + Clone, S: StatusStore> StatusChannel<A, S> {
         header: &DataHeader,
     ) -> Result<Flow, u8>
         ensures judged { (c : Channel) (p : AcceptedData) → p.qualified ≡ header.now.qualified
-            → StandsSettled self.now settled.now c
+            → RepresentsSettled self.now settled.now c
             → IsDataJudged result self.now.terms.interface settled.now.doubts side header.now p c }
         ensures widest { IfOk result (λ f. IsWidest f) }
         ensures modulus { IfOk result (λ f. f.modulus ≡ settled.now.flow.modulus) }
@@ -119,7 +119,7 @@ impl<A: Allocator + Clone, S: StatusStore> StatusChannel<A, S> {
         requires said { IsSaidData self.now.terms.interface item.now header.now }
         requires qualified { header.now.qualified ≡ true }
         requires short { item.now.length ≤ largest_length }
-        ensures adds { (c : Channel) (hs : List AcceptedData) → Stands self.now (at_rest c)
+        ensures adds { (c : Channel) (hs : List AcceptedData) → StatusRepresents self.now (at_rest c)
             → Continues settled.old judgement.now.side hs
             (accepted_of self.now.terms.interface item.now header.now)
             → IfOk result (λ a. IsAdded judgement.now.origin self.now.terms.interface
@@ -166,7 +166,7 @@ impl<A: Allocator + Clone, S: StatusStore> StatusChannel<A, S> {
     ) -> Result<bool, Fault>
         requires said { IsSaidData self.now.terms.interface item.now header.now }
         requires unqualified { header.now.qualified ≡ false }
-        ensures puts { (c : Channel) (hs : List AcceptedData) → Stands self.now (at_rest c)
+        ensures puts { (c : Channel) (hs : List AcceptedData) → StatusRepresents self.now (at_rest c)
             → Continues settled.old side hs
             (accepted_of self.now.terms.interface item.now header.now)
             → IfOk result (λ a. IsPut self.now.terms.interface side settled.old

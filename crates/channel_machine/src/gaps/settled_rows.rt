@@ -6,7 +6,7 @@ ghost use Rattle.line_model.specs.channels.Channels.{Channel, is_open};
 ghost use Rattle.line_model.specs.channels.GapStep.{failing_in_doubt, is_in_d1, transferring_in_doubt};
 ghost use Rattle.line_model.specs.declared.table.Action.TheVariants.{Move, Normal};
 ghost use Rattle.line_model.specs.packets.Classes.{packet_class};
-ghost use Rattle.channel_machine.specs.Channels.{IsMemory, Stands};
+ghost use Rattle.channel_machine.specs.Channels.{IsMemory, StatusRepresents};
 ghost use Rattle.channel_machine.specs.Entries.{is_entry, is_transfer};
 ghost use Rattle.channel_machine.specs.GapChannels.{at_rest};
 ghost use Rattle.line_model.specs.packets.Formats.{window_in_force};
@@ -211,8 +211,8 @@ impl<A: Allocator + Clone, S: StatusStore> StatusChannel<A, S> {
     fn settle(&mut self)
         ensures interface { self.new.terms.interface ≡ self.old.terms.interface }
         ensures channel { self.new.channel ≡ self.old.channel }
-        ensures stands { (c : Channel) → Stands self.old c
-            → Stands self.new (record c { owed = false }) }
+        ensures represented { (c : Channel) → StatusRepresents self.old c
+            → StatusRepresents self.new (record c { owed = false }) }
     {
         self.status.settle();
     }
@@ -227,7 +227,7 @@ impl<A: Allocator + Clone, S: StatusStore> StatusChannel<A, S> {
 
     /// Returns whether a channel that was settled still is: its call is open, or it is in d1.
     pub(crate) fn is_settled(&self) -> bool
-        ensures { (c : Channel) → Stands self.now (at_rest c)
+        ensures { (c : Channel) → StatusRepresents self.now (at_rest c)
             → result ≡ (is_open c || is_in_d1 c.state) }
     {
         self.status.call().is_some() || self.is_in_d1()
@@ -235,7 +235,7 @@ impl<A: Allocator + Clone, S: StatusStore> StatusChannel<A, S> {
 
     /// Returns the window in force for data from a side.
     pub(crate) fn window(&self, side: Side) -> u8
-        ensures window { (c : Channel) → Stands self.now (at_rest c)
+        ensures window { (c : Channel) → StatusRepresents self.now (at_rest c)
             → result ≡ window_in_force self.now.terms.interface c side }
         ensures below { result < self.now.terms.interface.modulus }
     {

@@ -23,7 +23,7 @@ struct WordsLeft<'a> {
 }
 
 impl<'a> WordsLeft<'a> {
-    /// The next word; none at the end.
+    /// Returns the next word; none at the end.
     fn next(&mut self) -> Option<&'a [u8]> {
         let line = self.line?;
         let mut parts = line.splitn(2, |byte| *byte == b' ');
@@ -33,7 +33,7 @@ impl<'a> WordsLeft<'a> {
     }
 }
 
-/// What is wrong with a word where a name belongs, if it is another word.
+/// Returns what is wrong with a word where a name belongs, if it is another word.
 fn name_advice(
     alloc: Global,
     word: Option<&[u8]>,
@@ -46,18 +46,18 @@ fn name_advice(
     }
 }
 
-/// What is wrong with another word where a name belongs.
+/// Returns what is wrong with another word where a name belongs.
 fn other_name_advice(alloc: Global, word: &[u8], name: &str) -> Result<Option<String>, AllocError> {
     let is_same = word.eq_ignore_ascii_case(name.as_bytes());
     let word = quoted(alloc, word)?;
     some_sentence(if is_same {
         format!(in alloc; "The header's words are in capitals: {word} is written {name}.")
     } else {
-        format!(in alloc; "In the header stands {word} where {name} belongs.")
+        format!(in alloc; "The header has {word} where {name} belongs.")
     })
 }
 
-/// The number after a name, or what is wrong there.
+/// Returns the number after a name, or what is wrong there.
 fn number_after(
     alloc: Global,
     word: Option<&[u8]>,
@@ -77,11 +77,11 @@ fn refused(sentence: Result<String, AllocError>) -> Result<Result<u32, String>, 
     Ok(Err(sentence?))
 }
 
-/// What is wrong with a word after a name where the word is not a number.
+/// Returns what is wrong with a word after a name where the word is not a number.
 fn no_number_advice(alloc: Global, word: &[u8], name: &str) -> Result<String, AllocError> {
     let word = quoted(alloc, word)?;
     format!(in alloc;
-        "{word} stands after {name}, where a number of 1 to 9 digits without a leading zero belongs."
+        "{word} comes after {name}, where a number of 1 to 9 digits without a leading zero belongs."
     )
 }
 
@@ -113,7 +113,7 @@ fn next_numbers(
     Ok(Ok(numbers))
 }
 
-/// What is wrong after the last number, if something is.
+/// Returns what is wrong after the last number, if something is.
 fn end_advice(
     alloc: Global,
     words: &mut WordsLeft<'_>,
@@ -122,11 +122,11 @@ fn end_advice(
     match words.next() {
         None => Ok(None),
         Some(word) if may_join => join_advice(alloc, word, words),
-        Some(word) => quoting_sentence(alloc, "", word, " stands after the header's last number."),
+        Some(word) => quoting_sentence(alloc, "", word, " comes after the header's last number."),
     }
 }
 
-/// What is wrong with a word in the place of JOIN and with those after it, if something is.
+/// Returns what is wrong with a word in the place of JOIN and with those after it, if something is.
 fn join_advice(
     alloc: Global,
     word: &[u8],
@@ -138,18 +138,18 @@ fn join_advice(
     }
 }
 
-/// What is wrong after JOIN, if something is.
+/// Returns what is wrong after JOIN, if something is.
 fn end_advice_after(
     alloc: Global,
     words: &mut WordsLeft<'_>,
 ) -> Result<Option<String>, AllocError> {
     match words.next() {
         None => Ok(None),
-        Some(word) => quoting_sentence(alloc, "", word, " stands after the header's JOIN."),
+        Some(word) => quoting_sentence(alloc, "", word, " comes after the header's JOIN."),
     }
 }
 
-/// What is wrong with a header of one of the forms, after its number, if something is.
+/// Returns what is wrong with a header of one of the forms, after its number, if something is.
 fn numbers_advice(
     alloc: Global,
     words: &mut WordsLeft<'_>,
@@ -165,7 +165,7 @@ fn numbers_advice(
     }
 }
 
-/// What is wrong with the words of a header, if something is.
+/// Returns what is wrong with the words of a header, if something is.
 fn words_advice(alloc: Global, line: &[u8]) -> Result<Option<String>, AllocError> {
     let mut words = WordsLeft { line: Some(line) };
     match name_advice(alloc, words.next(), "X25") {
@@ -174,7 +174,7 @@ fn words_advice(alloc: Global, line: &[u8]) -> Result<Option<String>, AllocError
     }
 }
 
-/// What is wrong with the words of a header after its name, if something is.
+/// Returns what is wrong with the words of a header after its name, if something is.
 fn form_advice(alloc: Global, words: &mut WordsLeft<'_>) -> Result<Option<String>, AllocError> {
     match words.next() {
         Some([b'1']) => numbers_advice(alloc, words, FIRST_FORM.as_slice(), false),
@@ -183,7 +183,7 @@ fn form_advice(alloc: Global, words: &mut WordsLeft<'_>) -> Result<Option<String
     }
 }
 
-/// What is wrong with a header, if something is.
+/// Returns what is wrong with a header, if something is.
 fn header_advice(alloc: Global, line: &[u8]) -> Result<Option<String>, AllocError> {
     match space_advice(alloc, line) {
         Ok(None) => first_line_advice(alloc, line),
@@ -191,11 +191,11 @@ fn header_advice(alloc: Global, line: &[u8]) -> Result<Option<String>, AllocErro
     }
 }
 
-/// What is wrong with a header that is split into words, if something is.
+/// Returns what is wrong with a header that is split into words, if something is.
 fn first_line_advice(alloc: Global, line: &[u8]) -> Result<Option<String>, AllocError> {
     match line.first() {
         Some(byte) if byte.is_ascii_digit() => some_sentence(format!(in alloc;
-            "A row stands before the header, which comes first, as {HEADER}."
+            "A row comes before the header, which has to come first, as {HEADER}."
         )),
         _ => words_advice(alloc, line),
     }

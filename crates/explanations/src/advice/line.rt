@@ -31,15 +31,15 @@ pub fn ends_in_return(line: &[u8]) -> bool {
     line.ends_with(b"\r")
 }
 
-/// The sentence on a line that ends in a carriage return.
+/// Returns the sentence on a line that ends in a carriage return.
 pub const RETURN: &str =
     "The line ends in a carriage return, and a line feed alone ends a line: tr -d '\\r' < FILE | x25scan reads the trace.";
 
-/// The sentence on an empty line.
+/// Returns the sentence on an empty line.
 const EMPTY: &str =
     "The line is empty: sed '/^$/d' FILE | x25scan reads the trace without its empty lines.";
 
-/// The sentence on an empty line that no other follows.
+/// Returns the sentence on an empty line that no other follows.
 const LAST_EMPTY: &str =
     "The last line that was read is empty: sed '/^$/d' FILE | x25scan reads the trace without its empty lines.";
 
@@ -69,7 +69,7 @@ pub fn space_advice(alloc: Global, line: &[u8]) -> Result<Option<String>, AllocE
     parting_advice(alloc, line)
 }
 
-/// What is wrong with the spaces of a line, if something is.
+/// Returns what is wrong with the spaces of a line, if something is.
 fn parting_advice(alloc: Global, line: &[u8]) -> Result<Option<String>, AllocError> {
     if line.starts_with(b" ") {
         return fixed_sentence(alloc, "The line begins with a space.");

@@ -49,7 +49,7 @@ impl Numbers {
     }
 }
 
-/// What is wrong with a number that lies outside a range, if it does.
+/// Returns what is wrong with a number that lies outside a range, if it does.
 fn bounds_advice(
     alloc: Global,
     name: &str,
@@ -67,7 +67,7 @@ fn bounds_advice(
     })
 }
 
-/// What is wrong with the numbering and the packet size, if something is.
+/// Returns what is wrong with the numbering and the packet size, if something is.
 fn defaults_advice(alloc: Global, numbers: &Numbers) -> Result<Option<String>, AllocError> {
     let modulus = numbers.modulus;
     if modulus != 8 && modulus != 128 {
@@ -84,7 +84,7 @@ fn defaults_advice(alloc: Global, numbers: &Numbers) -> Result<Option<String>, A
     bounds_advice(alloc, "WIN", numbers.window, 1, modulus.saturating_sub(1))
 }
 
-/// What is wrong with the channels of the first form, if something is.
+/// Returns what is wrong with the channels of the first form, if something is.
 fn first_form_advice(alloc: Global, numbers: &Numbers) -> Result<Option<String>, AllocError> {
     match bounds_advice(alloc, "SVC", numbers.svc, 1, CHANNELS) {
         Ok(None) => bounds_advice(alloc, "PVC", numbers.pvc, 0, numbers.svc),
@@ -92,7 +92,7 @@ fn first_form_advice(alloc: Global, numbers: &Numbers) -> Result<Option<String>,
     }
 }
 
-/// What is wrong with the channels of the second form, if something is.
+/// Returns what is wrong with the channels of the second form, if something is.
 fn second_form_advice(alloc: Global, numbers: &Numbers) -> Result<Option<String>, AllocError> {
     match bounds_advice(alloc, "OUT", numbers.outgoing, 1, CHANNELS) {
         Ok(None) => match bounds_advice(alloc, "TWO", numbers.two_way, 0, numbers.outgoing) {
@@ -103,7 +103,7 @@ fn second_form_advice(alloc: Global, numbers: &Numbers) -> Result<Option<String>
     }
 }
 
-/// What is wrong with the channels of incoming calls and the permanent ones of the second form, if something is.
+/// Returns what is wrong with the channels of incoming calls and the permanent ones of the second form, if something is.
 fn incoming_advice(alloc: Global, numbers: &Numbers) -> Result<Option<String>, AllocError> {
     match bounds_advice(alloc, "IN", numbers.incoming, 0, numbers.two_way) {
         Ok(None) => bounds_advice(alloc, "PVC", numbers.pvc, 0, numbers.incoming),

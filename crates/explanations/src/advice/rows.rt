@@ -54,11 +54,11 @@ fn is_gap_line(line: &[u8]) -> bool {
     }
 }
 
-/// The sentence on a gap row whose third word is wrong, where the header is not known.
+/// Returns the sentence on a gap row whose third word is wrong, where the header is not known.
 const GAP_CHANNEL: &str =
     "The third word of a gap row is a logical channel from 1 to the header's OUT, or * for all.";
 
-/// The sentence on a header among the rows.
+/// Returns the sentence on a header among the rows.
 const SECOND_HEADER: &str =
     "This is a second header, as in joined traces. Where the row numbers go on, awk '!/^X25 / || !n++' FILE.. | x25scan reads them as one trace.";
 
@@ -67,7 +67,7 @@ fn is_like_header(line: &[u8]) -> bool {
     line.starts_with(b"X25 ")
 }
 
-/// What is wrong with the form of a row; these bytes were read after it.
+/// Returns what is wrong with the form of a row; these bytes were read after it.
 fn form_advice(alloc: Global, line: &[u8], after: &[u8]) -> Result<Option<String>, AllocError> {
     if line.is_empty() {
         return empty_advice(alloc, after);
@@ -81,7 +81,7 @@ fn form_advice(alloc: Global, line: &[u8], after: &[u8]) -> Result<Option<String
     }
 }
 
-/// The sentence on a row by how many words it has.
+/// Returns the sentence on a row by how many words it has.
 fn word_count_advice(alloc: Global, line: &[u8]) -> Result<Option<String>, AllocError> {
     let count = line.split(|byte| *byte == b' ').count();
     let words = if count == 1 { "word" } else { "words" };
@@ -90,7 +90,7 @@ fn word_count_advice(alloc: Global, line: &[u8]) -> Result<Option<String>, Alloc
     ))
 }
 
-/// What is wrong with a number after that of the row before, if it is wrong.
+/// Returns what is wrong with a number after that of the row before, if it is wrong.
 fn number_advice(
     alloc: Global,
     word: &[u8],
@@ -108,7 +108,7 @@ fn number_advice(
     }
 }
 
-/// What is wrong with a number that does not rise above that of the row before.
+/// Returns what is wrong with a number that does not rise above that of the row before.
 fn rise_advice(
     alloc: Global,
     number: u32,
@@ -122,7 +122,7 @@ fn rise_advice(
     }
 }
 
-/// What is wrong with a side, if it is wrong. Where rows may be gap rows a `?` is right.
+/// Returns what is wrong with a side, if it is wrong. Where rows may be gap rows a `?` is right.
 fn side_advice(alloc: Global, word: &[u8], may_be_gap: bool) -> Result<Option<String>, AllocError> {
     match word {
         [b'T'] | [b'N'] => Ok(None),
@@ -138,7 +138,7 @@ fn side_advice(alloc: Global, word: &[u8], may_be_gap: bool) -> Result<Option<St
     }
 }
 
-/// What is wrong with the third word of a gap row, if it is wrong.
+/// Returns what is wrong with the third word of a gap row, if it is wrong.
 fn gap_advice(alloc: Global, word: &[u8], last: u32) -> Result<Option<String>, AllocError> {
     if word == b"*".as_slice() {
         return Ok(None);
@@ -154,7 +154,7 @@ fn gap_advice(alloc: Global, word: &[u8], last: u32) -> Result<Option<String>, A
     }
 }
 
-/// What is wrong with octets that begin after `front` bytes of their line, if they are wrong.
+/// Returns what is wrong with octets that begin after `front` bytes of their line, if they are wrong.
 fn octets_advice(alloc: Global, word: &[u8], front: usize) -> Result<Option<String>, AllocError> {
     if word == b"-".as_slice() {
         return Ok(None);
@@ -168,7 +168,7 @@ fn octets_advice(alloc: Global, word: &[u8], front: usize) -> Result<Option<Stri
     }
 }
 
-/// The sentence on a place among the octets that has no hex digit.
+/// Returns the sentence on a byte among the octets that is not a hex digit.
 fn digit_advice(
     alloc: Global,
     word: &[u8],
@@ -178,10 +178,10 @@ fn digit_advice(
     let column = front.saturating_add(place).saturating_add(1);
     let byte = word.get(place..place.saturating_add(1)).unwrap_or(b"");
     let byte = quoted(alloc, byte)?;
-    some_sentence(format!(in alloc; "At column {column} stands {byte}, which is no hex digit."))
+    some_sentence(format!(in alloc; "Column {column} has {byte}, which is not a hex digit."))
 }
 
-/// What is wrong with the number of hex digits, if it is wrong.
+/// Returns what is wrong with the number of hex digits, if it is wrong.
 fn count_advice(alloc: Global, count: usize, front: usize) -> Result<Option<String>, AllocError> {
     let octets = count / 2;
     if octets > OCTET_LIMIT {
@@ -192,7 +192,7 @@ fn count_advice(alloc: Global, count: usize, front: usize) -> Result<Option<Stri
     if count % 2 == 1 {
         let column = front.saturating_add(count);
         return some_sentence(format!(in alloc;
-            "The octets have {count} hex digits, an odd number: the last one, at column {column}, stands alone."
+            "The octets have {count} hex digits, an odd number: the last one, at column {column}, has no second digit."
         ));
     }
     Ok(None)
@@ -231,7 +231,7 @@ impl GapRules {
     }
 }
 
-/// What is wrong with the words of a row by a rule, if it breaks that rule.
+/// Returns what is wrong with the words of a row by a rule, if it breaks that rule.
 fn words_advice(
     alloc: Global,
     kind: Kind,
@@ -261,7 +261,7 @@ struct RowContext<'a> {
     gaps: GapRules,
 }
 
-/// What is wrong with a row by a rule, if it breaks that rule.
+/// Returns what is wrong with a row by a rule, if it breaks that rule.
 fn row_advice(
     alloc: Global,
     kind: Kind,
@@ -369,7 +369,7 @@ pub fn rows_advice(
     seen_advice(alloc, kind, &seen)
 }
 
-/// What is wrong with some lines where none of them shows it alone, if something is.
+/// Returns what is wrong with some lines where none of them shows it alone, if something is.
 fn seen_advice(alloc: Global, kind: Kind, seen: &LinesSeen) -> Result<Option<String>, AllocError> {
     let may_be_gap = seen.gap_came && !seen.gaps.are_known;
     match kind {

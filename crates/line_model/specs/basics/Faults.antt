@@ -3,7 +3,7 @@ use Rattle.std.specs.Prelude.{ℕ}
 use Rattle.line_model.specs.declared.fault.Kind.{Kind}
 use Rattle.line_model.specs.declared.fault.Kind.TheVariants.{HeaderMissing, HeaderForm, HeaderRange, LineForm, Number, Side, Hex, LineLong, TextLarge}
 use Rattle.line_model.specs.declared.fault.Fault.{Fault}
-use Rattle.line_model.specs.declared.fault.Fault.TheVariants.{Memory, Trace, Read, Write, Start, Double, Stranger, Missing}
+use Rattle.line_model.specs.declared.fault.Fault.TheVariants.{Memory, Trace, Read, Write, Start, Double, UnknownPiece, Missing}
 
 -- the number of a rule
 abbrev pub kind_number : Kind → ℕ
@@ -25,5 +25,5 @@ fault_number Read = 3
 fault_number Write = 4
 fault_number Start = 5
 fault_number (Double id) = 6
-fault_number (Stranger id) = 7
+fault_number (UnknownPiece id) = 7
 fault_number (Missing id) = 8

@@ -199,7 +199,7 @@ missed x = record { side = x; qualified = false; more = false; delivery = false;
 abbrev pub missing : (modulus count number : ℕ) → ℕ
 missing m s n = (n + (m - s % m)) % m
 
--- the next P(S) of the side whose packet settles the channel: certain with data, else no less than its lower edge
+-- the next P(S) of the side whose packet settles the channel: certain with data, otherwise no less than its lower edge
 abbrev pub count_settled : (modulus edge : ℕ) → Option DataHeader → ℕ
 count_settled m e None = e
 count_settled m e (Some h) = e + missing m e (h.send + 1)

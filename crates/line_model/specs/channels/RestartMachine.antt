@@ -17,20 +17,20 @@ use Rattle.line_model.specs.basics.Choice.{first_fault}
 use Rattle.line_model.specs.channels.Tables.{action}
 
 -- the state of the restart machine, and whether its indication is owed
-pub record LineState : Type 0 where
+pub record InterfaceState : Type 0 where
   pub state : RState
   pub owed : Bool
   -- the trace began in the middle, and r1 was not left yet
   pub joining : Bool
 
 -- r1 with nothing owed
-abbrev pub line_in_r1 : (joining : Bool) → LineState
-line_in_r1 joining = record { state = restart.TheVariants.R1; owed = false; joining = joining }
+abbrev pub level_in_r1 : (joining : Bool) → InterfaceState
+level_in_r1 joining = record { state = restart.TheVariants.R1; owed = false; joining = joining }
 
 -- where a row goes, and the restart machine after it
 pub record Routing : Type 0 where
   pub route : Route
-  pub after : LineState
+  pub after : InterfaceState
 
 -- the name of a state
 abbrev pub restart_name : RState → StateName
@@ -55,7 +55,7 @@ restart_fault _ n = None
 
 -- a move: r1 is entered, or left without a finding, or neither
 abbrev pub restart_move : RState → StateName → Routing
-restart_move s R1 = record { route = route.TheVariants.Enter; after = line_in_r1 false }
+restart_move s R1 = record { route = route.TheVariants.Enter; after = level_in_r1 false }
 restart_move restart.TheVariants.R1 R2 =
     record { route = route.TheVariants.Leave None; after = record { state = restart.TheVariants.R2; owed = false; joining = false } }
 restart_move restart.TheVariants.R1 t =
@@ -64,12 +64,12 @@ restart_move s R2 = record { route = route.TheVariants.Pass; after = record { st
 restart_move s t = record { route = route.TheVariants.Pass; after = record { state = restart.TheVariants.R3; owed = false; joining = false } }
 
 -- a move by a packet that may have a fault, which is a finding in place of the move
-abbrev pub restart_moving : LineState → StateName → (fault : Option ℕ) → Routing
+abbrev pub restart_moving : InterfaceState → StateName → (fault : Option ℕ) → Routing
 restart_moving l s (Some f) = record { route = route.TheVariants.Found (restart_name l.state) f; after = l }
 restart_moving l s None = restart_move l.state s
 
 -- an error: the DTE's has the DCE restart and owe the indication, the DCE's changes nothing
-abbrev pub restart_error : LineState → Side → ℕ → Routing
+abbrev pub restart_error : InterfaceState → Side → ℕ → Routing
 restart_error l N n = record { route = route.TheVariants.Found (restart_name l.state) n; after = l }
 restart_error l T n = elim l.state [
   | restart.TheVariants.R1 ↦ record { route = route.TheVariants.Leave (Some n); after = record { state = restart.TheVariants.R3; owed = true; joining = false } }
@@ -77,12 +77,12 @@ restart_error l T n = elim l.state [
 ]
 
 -- a packet that is judged outside the machines: an error is a finding with no state
-abbrev pub outside_step : LineState → Action → Routing
+abbrev pub outside_step : InterfaceState → Action → Routing
 outside_step l (Error n) = record { route = route.TheVariants.Found Dash n; after = l }
 outside_step l _ = record { route = route.TheVariants.Pass; after = l }
 
 -- an entry of the restart table
-abbrev pub restart_step : LineState → Side → Class → (length : ℕ) → Action → Routing
+abbrev pub restart_step : InterfaceState → Side → Class → (length : ℕ) → Action → Routing
 restart_step l x k n (Move s) = restart_moving l s (restart_fault k n)
 restart_step l x k n (Error f) = restart_error l x f
 restart_step l x k n Ends = record { route = route.TheVariants.Pass; after = record l { owed = false } }
@@ -95,17 +95,17 @@ is_confirm RestartConfirm = true
 is_confirm _ = false
 
 -- whether a packet is such a confirmation
-abbrev pub passes_joining : LineState → Class → Bool
+abbrev pub passes_joining : InterfaceState → Class → Bool
 passes_joining l k = l.joining && is_confirm k
 
 -- a packet that is judged by the restart table, if it does not pass
-abbrev pub inside_step : (passes : Bool) → LineState → Side → Class → (length : ℕ) → Routing
+abbrev pub inside_step : (passes : Bool) → InterfaceState → Side → Class → (length : ℕ) → Routing
 inside_step true l x k n = record { route = route.TheVariants.Pass; after = l }
 inside_step false l x k n = restart_step l x k n (action x (restart_name l.state) l.owed k)
 
 -- a packet of a class and a length, from a side
-abbrev pub line_step : LineState → Side → Class → (length : ℕ) → Routing
-line_step l x k n = elim (is_outside k) [
+abbrev pub level_step : InterfaceState → Side → Class → (length : ℕ) → Routing
+level_step l x k n = elim (is_outside k) [
   | true ↦ outside_step l (action x (restart_name l.state) l.owed k)
   | false ↦ inside_step (passes_joining l k) l x k n
 ]

@@ -3,7 +3,7 @@ use Rattle.std.specs.Prelude.{ℕ, Bool, true, false, ◌==◌, nat_lt, ◌&&◌
 use Rattle.line_model.specs.basics.Records.{CallRecord}
 use Rattle.line_model.specs.declared.call.Account.{Account}
 
--- the address that pays: the called one under reverse charging, else the calling one
+-- the address that pays: the called one under reverse charging, otherwise the calling one
 abbrev pub payer : CallRecord → List ℕ
 payer c = elim c.reverse [ true ↦ c.called | false ↦ c.calling ]
 

@@ -1,5 +1,5 @@
--- An observer of one interface: a line part, and one state for each channel. A row steps the line part or,
--- while the line is ready, the state of its channel; a row for all channels steps the line part and each channel.
+-- An observer of one interface: an interface level, and one state for each channel. A row steps the interface level or,
+-- while the interface is ready, the state of its channel; a row for all channels steps the interface level and each channel.
 use Rattle.std.specs.Prelude.{◌≢◌, ℕ, ◌+◌, Bool, true, false, ◌==◌, ◌&&◌, if◌then◌else◌, Option, Some, None, List, [], ◌∷◌}
 use Rattle.line_model.specs.declared.gap.EpochStart.{EpochStart}
 
@@ -7,15 +7,15 @@ use Rattle.line_model.specs.declared.gap.EpochStart.{EpochStart}
 pub record Machine (X L S E : Type 0) : Type 0 where
   -- the channel of a row that has one
   pub channel : X → Option ℕ
-  -- the rows that step each channel, where the line is ready and stays so
+  -- the rows that step each channel, where the interface is ready and stays so
   pub for_all : X → Bool
-  -- in a ready line state the rows of channels step their channels
+  -- in a ready interface state the rows of channels step their channels
   pub ready : L → Bool
-  pub line_after : L → X → L
-  pub line_events : ℕ → L → X → List E
-  -- the rows with which a ready line ends the epoch and begins the next one at once
+  pub level_after : L → X → L
+  pub level_events : ℕ → L → X → List E
+  -- the rows with which a ready interface ends the epoch and begins the next one at once
   pub renews : L → X → Bool
-  -- how an epoch begins, by the line part as it begins
+  -- how an epoch begins, by the interface level as it begins
   pub start_of : L → EpochStart
   pub fresh : EpochStart → (epoch channel : ℕ) → S
   pub channel_after : ℕ → ℕ → S → X → S
@@ -24,19 +24,19 @@ pub record Machine (X L S E : Type 0) : Type 0 where
   pub closing_events : ℕ → ℕ → S → X → List E
   pub channels : List ℕ
 
--- an observer: the epoch, the line part, and the state of each channel
+-- an observer: the epoch, the interface level, and the state of each channel
 pub record Observer (L S : Type 0) : Type 0 where
   pub epoch : ℕ
-  pub line : L
+  pub level : L
   pub states : ℕ → S
 
 -- the function with another value at k
 abbrev pub with_state : {S : Type 0} → (ℕ → S) → ℕ → S → ℕ → S
 with_state states k s = λ j. if j == k then s else states j
 
--- whether the line is ready before a row that steps it, and after it
+-- whether the interface is ready before a row that steps it, and after it
 abbrev pub stays_ready : {X L S E : Type 0} → Machine X L S E → L → X → Bool
-stays_ready m l x = m.ready l && m.ready (m.line_after l x)
+stays_ready m l x = m.ready l && m.ready (m.level_after l x)
 
 -- whether the row steps each channel
 abbrev pub steps_all : {X L S E : Type 0} → Machine X L S E → L → X → Bool
@@ -61,22 +61,22 @@ routed m l x = if m.ready l then own_channel m x else None
 
 -- the next epoch, with all channels fresh for it
 abbrev pub next_epoch : {X L S E : Type 0} → Machine X L S E → Observer L S → L → Observer L S
-next_epoch m o l = record { epoch = o.epoch + 1; line = l; states = m.fresh (m.start_of l) (o.epoch + 1) }
+next_epoch m o l = record { epoch = o.epoch + 1; level = l; states = m.fresh (m.start_of l) (o.epoch + 1) }
 
 -- a line that becomes ready begins the next epoch
-abbrev pub line_moved : {X L S E : Type 0} → Machine X L S E → Observer L S → L → Bool → Bool → Observer L S
-line_moved m o l false true = next_epoch m o l
-line_moved m o l _ _ = record { epoch = o.epoch; line = l; states = o.states }
+abbrev pub level_moved : {X L S E : Type 0} → Machine X L S E → Observer L S → L → Bool → Bool → Observer L S
+level_moved m o l false true = next_epoch m o l
+level_moved m o l _ _ = record { epoch = o.epoch; level = l; states = o.states }
 
--- the observer after a row that steps the line part alone; one that renews begins the next epoch too
-abbrev pub line_stepped : {X L S E : Type 0} → Machine X L S E → Observer L S → X → (renewed : Bool) → Observer L S
-line_stepped m o x true = next_epoch m o (m.line_after o.line x)
-line_stepped m o x false = line_moved m o (m.line_after o.line x) (m.ready o.line) (m.ready (m.line_after o.line x))
+-- the observer after a row that steps the interface level alone; one that renews begins the next epoch too
+abbrev pub level_stepped : {X L S E : Type 0} → Machine X L S E → Observer L S → X → (renewed : Bool) → Observer L S
+level_stepped m o x true = next_epoch m o (m.level_after o.level x)
+level_stepped m o x false = level_moved m o (m.level_after o.level x) (m.ready o.level) (m.ready (m.level_after o.level x))
 
--- the observer after a row that steps a channel, or the line part
+-- the observer after a row that steps a channel, or the interface level
 abbrev pub after_routed : {X L S E : Type 0} → Machine X L S E → Observer L S → X → Option ℕ → Observer L S
-after_routed m o x (Some k) = record { epoch = o.epoch; line = o.line; states = with_state o.states k (m.channel_after o.epoch k (o.states k) x) }
-after_routed m o x None = line_stepped m o x (renewed m o.line x)
+after_routed m o x (Some k) = record { epoch = o.epoch; level = o.level; states = with_state o.states k (m.channel_after o.epoch k (o.states k) x) }
+after_routed m o x None = level_stepped m o x (renewed m o.level x)
 
 -- the states of the channels after a row that steps each
 abbrev pub all_stepped : {X L S E : Type 0} → Machine X L S E → Observer L S → X → ℕ → S
@@ -84,29 +84,29 @@ all_stepped m o x = λ k. m.channel_after o.epoch k (o.states k) x
 
 -- the observer after a row, which steps all channels, one or none
 abbrev pub after_by : {X L S E : Type 0} → Machine X L S E → Observer L S → X → (all : Bool) → Option ℕ → Observer L S
-after_by m o x true r = record { epoch = o.epoch; line = m.line_after o.line x; states = all_stepped m o x }
+after_by m o x true r = record { epoch = o.epoch; level = m.level_after o.level x; states = all_stepped m o x }
 after_by m o x false r = after_routed m o x r
 
 -- the observer after a row
 abbrev pub after : {X L S E : Type 0} → Machine X L S E → Observer L S → X → Observer L S
-after m o x = after_by m o x (steps_all m o.line x) (routed m o.line x)
+after m o x = after_by m o x (steps_all m o.level x) (routed m o.level x)
 
 -- the observer after the rows
 abbrev pub walk : {X L S E : Type 0} → Machine X L S E → Observer L S → List X → Observer L S
 walk m o [] = o
 walk m o (x ∷ xs) = walk m (after m o x) xs
 
--- the row begins an epoch or changes the line part
-abbrev pub ChangesLine : {X L S E : Type 0} → Machine X L S E → L → X → (renewed : Bool) → Type 0
-ChangesLine m l x true = Unit {0}
-ChangesLine m l x false = m.line_after l x ≢ l
+-- the row begins an epoch or changes the interface level
+abbrev pub ChangesLevel : {X L S E : Type 0} → Machine X L S E → L → X → (renewed : Bool) → Type 0
+ChangesLevel m l x true = Unit {0}
+ChangesLevel m l x false = m.level_after l x ≢ l
 
--- the row steps the line part and changes it
+-- the row steps the interface level and changes it
 abbrev pub ChangesRouted : {X L S E : Type 0} → Machine X L S E → L → X → Option ℕ → Type 0
 ChangesRouted m l x (Some k) = ⊥
-ChangesRouted m l x None = ChangesLine m l x (renewed m l x)
+ChangesRouted m l x None = ChangesLevel m l x (renewed m l x)
 
--- the row steps each channel, or changes the line part
+-- the row steps each channel, or changes the interface level
 abbrev pub ChangesBy : {X L S E : Type 0} → Machine X L S E → L → X → (all : Bool) → Option ℕ → Type 0
 ChangesBy m l x true r = Unit {0}
 ChangesBy m l x false r = ChangesRouted m l x r

@@ -19,28 +19,28 @@ abbrev pub closed_events : {X L S E : Type 0} → Machine X L S E → Observer L
 closed_events m o x true false = flat_map (λ k. stamp o.epoch (Some k) x (m.closing_events o.epoch k (o.states k) x)) m.channels
 closed_events m o x _ _ = []
 
--- what a row that steps the line part closes; one that renews closes each channel
+-- what a row that steps the interface level closes; one that renews closes each channel
 abbrev pub ended_events : {X L S E : Type 0} → Machine X L S E → Observer L S → X → (renewed : Bool) → List (RowEvent X E)
 ended_events m o x true = closed_events m o x true false
-ended_events m o x false = closed_events m o x (m.ready o.line) (m.ready (m.line_after o.line x))
+ended_events m o x false = closed_events m o x (m.ready o.level) (m.ready (m.level_after o.level x))
 
--- the events of the line part
-abbrev pub line_row_events : {X L S E : Type 0} → Machine X L S E → Observer L S → X → List (RowEvent X E)
-line_row_events m o x = stamp o.epoch None x (m.line_events o.epoch o.line x)
+-- the events of the interface level
+abbrev pub level_row_events : {X L S E : Type 0} → Machine X L S E → Observer L S → X → List (RowEvent X E)
+level_row_events m o x = stamp o.epoch None x (m.level_events o.epoch o.level x)
 
--- the events of a row that steps a channel, or the line part
+-- the events of a row that steps a channel, or the interface level
 abbrev pub row_events_routed : {X L S E : Type 0} → Machine X L S E → Observer L S → X → Option ℕ → List (RowEvent X E)
 row_events_routed m o x (Some k) = stamp o.epoch (Some k) x (m.channel_events o.epoch k (o.states k) x)
-row_events_routed m o x None = line_row_events m o x ++ ended_events m o x (renewed m o.line x)
+row_events_routed m o x None = level_row_events m o x ++ ended_events m o x (renewed m o.level x)
 
 -- the events of a row, which steps all channels, one or none; where it steps all channels, these have no events
 abbrev pub row_events_by : {X L S E : Type 0} → Machine X L S E → Observer L S → X → (all : Bool) → Option ℕ → List (RowEvent X E)
-row_events_by m o x true r = line_row_events m o x
+row_events_by m o x true r = level_row_events m o x
 row_events_by m o x false r = row_events_routed m o x r
 
 -- the events of a row
 abbrev pub row_events : {X L S E : Type 0} → Machine X L S E → Observer L S → X → List (RowEvent X E)
-row_events m o x = row_events_by m o x (steps_all m o.line x) (routed m o.line x)
+row_events m o x = row_events_by m o x (steps_all m o.level x) (routed m o.level x)
 
 -- the events of the walk, in order
 abbrev pub walk_events : {X L S E : Type 0} → Machine X L S E → Observer L S → List X → List (RowEvent X E)

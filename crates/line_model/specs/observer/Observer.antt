@@ -1,4 +1,4 @@
--- The observer of an interface: the restart machine is its line part, and each channel has a state of its own
+-- The observer of an interface: the restart machine is its interface level, and each channel has a state of its own
 -- (X.25 clauses 3 to 6, by the tables of Annexes B and C).
 use Rattle.std.specs.Prelude.{ℕ, Bool, true, false, ◌&&◌, not, List, [], ◌∷◌, map, Option, Some, None, is_none}
 use Rattle.std.specs.List.{range_with_len}
@@ -16,8 +16,8 @@ use Rattle.line_model.specs.declared.event.Event.{Event}
 use Rattle.line_model.specs.basics.Records.{Item}
 use Rattle.line_model.specs.packets.Classes.{packet_class}
 use Rattle.line_model.specs.packets.Says.{gap_of, packet_channel}
-use Rattle.line_model.specs.channels.RestartMachine.{is_confirm, line_in_r1}
-use Rattle.line_model.specs.channels.GapRestart.{GapLine, is_gap_of_all, is_ready, line_in_r1_with, routing, start_by}
+use Rattle.line_model.specs.channels.RestartMachine.{is_confirm, level_in_r1}
+use Rattle.line_model.specs.channels.GapRestart.{GapInterfaceState, is_gap_of_all, is_ready, level_in_r1_with, routing, start_by}
 use Rattle.line_model.specs.channels.Channels.{is_permanent, is_open, is_in_transfer}
 use Rattle.line_model.specs.channels.Gaps.{GapChannel, fresh_at, gap_step}
 use Rattle.line_model.specs.channels.GapStep.{GapOutcome, gap_channel_step}
@@ -32,7 +32,7 @@ handed _ k = None
 
 -- the channel that a row is handed to in r1
 abbrev pub channel_in_r1 : Item → Option ℕ
-channel_in_r1 r = handed (routing (line_in_r1_with false false) r).route (packet_channel r.packet)
+channel_in_r1 r = handed (routing (level_in_r1_with false false) r).route (packet_channel r.packet)
 
 -- the finding of the restart machine
 abbrev pub route_found : Item → Route → List What
@@ -74,13 +74,13 @@ epoch_end g r = epoch_end_if (is_open g.channel) (end_of_epoch (g.restarting && 
 
 -- the machine of an interface: entering r1 makes all channels fresh and begins the next epoch, leaving it ends the open calls;
 -- a gap of all channels reaches each of them
-abbrev pub x25 : Interface → Machine Item GapLine GapChannel What
+abbrev pub x25 : Interface → Machine Item GapInterfaceState GapChannel What
 x25 i = record {
   channel = channel_in_r1;
   for_all = is_gap_of_all;
   ready = is_ready;
-  line_after = λ g r. (routing g r).after;
-  line_events = λ e g r. route_found r (routing g r).route;
+  level_after = λ g r. (routing g r).after;
+  level_events = λ e g r. route_found r (routing g r).route;
   renews = λ g r. is_renewal (routing g r).route;
   start_of = start_by;
   fresh = fresh_at i;
@@ -91,12 +91,12 @@ x25 i = record {
 }
 
 -- the restart machine before the first row: where gaps are recorded, a recording that begins in the middle begins with one
-abbrev pub first_line : Interface → GapLine
-first_line i = record { line = line_in_r1 (i.join && not i.gaps); adrift = i.join && i.gaps; owed_before = false }
+abbrev pub first_level : Interface → GapInterfaceState
+first_level i = record { level = level_in_r1 (i.join && not i.gaps); adrift = i.join && i.gaps; owed_before = false }
 
 -- the observer before the first row
-abbrev pub start : Interface → Observer GapLine GapChannel
-start i = record { epoch = 1; line = first_line i; states = fresh_at i (start_by (first_line i)) 1 }
+abbrev pub start : Interface → Observer GapInterfaceState GapChannel
+start i = record { epoch = 1; level = first_level i; states = fresh_at i (start_by (first_level i)) 1 }
 
 -- an event with the number of its row; those of the restart machine have channel 0
 abbrev pub event_by : {X : Type 0} → (X → ℕ) → RowEvent X What → Event

@@ -59,7 +59,7 @@ pub record MarksCalls {X L S E : Type 0} (m : Machine X L S E) (valid is_up : �
   pub goes_down : (e k : ℕ) (s : S) (x : X) → valid k s ≡ true → is_up k s ≡ true → some_is ends (m.channel_events e k s x) ≡ not (is_up k (m.channel_after e k s x))
   pub closes : (e k : ℕ) (s : S) (x : X) → valid k s ≡ true → is_up k s ≡ true → some_is ends (m.closing_events e k s x) ≡ true
   pub closes_alone : (e k : ℕ) (s : S) (x : X) → how_many ups (m.closing_events e k s x) ≡ 0
-  pub line_alone : (e : ℕ) (l : L) (x : X) → how_many ups (m.line_events e l x) ≡ 0
+  pub level_alone : (e : ℕ) (l : L) (x : X) → how_many ups (m.level_events e l x) ≡ 0
 
 -- from when to when a call is up
 pub record Times : Type 0 where

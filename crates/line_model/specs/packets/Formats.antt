@@ -27,7 +27,7 @@ abbrev pub or_other : {A : Type 0} → Option A → Option A → Option A
 or_other (Some x) o = Some x
 or_other None o = o
 
--- a facility of the call: that of the 0F packet, else that of the opening packet
+-- a facility of the call: that of the 0F packet, otherwise that of the opening packet
 abbrev pub in_force : {A : Type 0} → (CallFields → Option A) → Channel → Option A
 in_force f c = or_other (option_and_then f (accepting_fields c)) (option_and_then f (opening_fields c))
 

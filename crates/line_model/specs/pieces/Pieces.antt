@@ -21,17 +21,17 @@ pub record Placed (X : Type 0) : Type 0 where
   pub all : Bool
   pub leaves : Bool
 
--- whether a row that steps the line makes it no longer ready, or renews it
-abbrev pub leaves_line : {X L S E : Type 0} → Machine X L S E → L → X → (renewed : Bool) → Bool
-leaves_line m l x true = true
-leaves_line m l x false = m.ready l && not (m.ready (m.line_after l x))
+-- whether a row that steps the interface level makes it no longer ready, or renews it
+abbrev pub leaves_level : {X L S E : Type 0} → Machine X L S E → L → X → (renewed : Bool) → Bool
+leaves_level m l x true = true
+leaves_level m l x false = m.ready l && not (m.ready (m.level_after l x))
 
--- whether a row that steps a channel, or the line part, ends the epoch
+-- whether a row that steps a channel, or the interface level, ends the epoch
 abbrev pub leaves_routed : {X L S E : Type 0} → Machine X L S E → L → X → Option ℕ → Bool
 leaves_routed m l x (Some k) = false
-leaves_routed m l x None = leaves_line m l x (renewed m l x)
+leaves_routed m l x None = leaves_level m l x (renewed m l x)
 
--- whether a row ends the epoch: one that steps all channels, one channel, or the line part
+-- whether a row ends the epoch: one that steps all channels, one channel, or the interface level
 abbrev pub leaves_by : {X L S E : Type 0} → Machine X L S E → L → X → (all : Bool) → Option ℕ → Bool
 leaves_by m l x true r = false
 leaves_by m l x false r = leaves_routed m l x r
@@ -41,10 +41,10 @@ abbrev pub place : {X L S E : Type 0} → Machine X L S E → Observer L S → X
 place m o x = record {
   row = x;
   epoch = o.epoch;
-  start = m.start_of o.line;
-  channel = routed m o.line x;
-  all = steps_all m o.line x;
-  leaves = leaves_by m o.line x (steps_all m o.line x) (routed m o.line x);
+  start = m.start_of o.level;
+  channel = routed m o.level x;
+  all = steps_all m o.level x;
+  leaves = leaves_by m o.level x (steps_all m o.level x) (routed m o.level x);
 }
 
 -- the rows of a walk with their places
@@ -81,14 +81,14 @@ step_events m e k s x true = []
 step_events m e k s x false = stamp e (Some k) x (m.channel_events e k s x)
 
 -- the events of the steps over the rows of one channel alone, and of its end
-abbrev pub piece_value : {X L S E : Type 0} → Machine X L S E → ℕ → ℕ → S → List X → Option X → List (RowEvent X E)
-piece_value m e k s [] None = []
-piece_value m e k s [] (Some x) = stamp e (Some k) x (m.closing_events e k s x)
-piece_value m e k s (x ∷ xs) end = step_events m e k s x (m.for_all x) ++ piece_value m e k (m.channel_after e k s x) xs end
+abbrev pub events_of_steps : {X L S E : Type 0} → Machine X L S E → ℕ → ℕ → S → List X → Option X → List (RowEvent X E)
+events_of_steps m e k s [] None = []
+events_of_steps m e k s [] (Some x) = stamp e (Some k) x (m.closing_events e k s x)
+events_of_steps m e k s (x ∷ xs) end = step_events m e k s x (m.for_all x) ++ events_of_steps m e k (m.channel_after e k s x) xs end
 
--- the value of the piece of channel k in epoch e
-abbrev pub value_of : {X L S E : Type 0} → Machine X L S E → ℕ → ℕ → List (Placed X) → List (RowEvent X E)
-value_of m e k ps = piece_value m e k (m.fresh (piece_start e ps) e k) (step_rows m e k ps) (piece_end e ps)
+-- the events of the piece of channel k in epoch e
+abbrev pub events_of_piece : {X L S E : Type 0} → Machine X L S E → ℕ → ℕ → List (Placed X) → List (RowEvent X E)
+events_of_piece m e k ps = events_of_steps m e k (m.fresh (piece_start e ps) e k) (step_rows m e k ps) (piece_end e ps)
 
 -- k is not in the list
 abbrev pub IsAbsent : ℕ → List ℕ → Type 0
@@ -96,6 +96,6 @@ IsAbsent k [] = Unit {0}
 IsAbsent k (j ∷ js) = (j ≢ k) × IsAbsent k js
 
 -- k is in the list once
-abbrev pub StandsOnce : ℕ → List ℕ → Type 0
-StandsOnce k [] = ⊥
-StandsOnce k (j ∷ js) = ((j ≡ k) × IsAbsent k js) ⊎ ((j ≢ k) × StandsOnce k js)
+abbrev pub OccursOnce : ℕ → List ℕ → Type 0
+OccursOnce k [] = ⊥
+OccursOnce k (j ∷ js) = ((j ≡ k) × IsAbsent k js) ⊎ ((j ≢ k) × OccursOnce k js)

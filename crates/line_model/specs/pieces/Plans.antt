@@ -10,10 +10,10 @@ use Rattle.line_model.specs.basics.Records.{Item, Piece, PieceReport}
 use Rattle.line_model.specs.declared.packet.Packet.{Packet}
 use Rattle.line_model.specs.declared.packet.Packet.TheVariants.{RestartConfirm, Short}
 use Rattle.line_model.specs.declared.piece.PieceEnd.{PieceEnd}
-use Rattle.line_model.specs.pieces.Pieces.{Placed, placed, piece_start, piece_end, piece_value, step_rows}
+use Rattle.line_model.specs.pieces.Pieces.{Placed, placed, piece_start, piece_end, events_of_steps, step_rows}
 use Rattle.line_model.specs.pieces.Plan.{plan_of}
 use Rattle.line_model.specs.observer.MachineEvents.{walk_events}
-use Rattle.line_model.specs.pieces.Merge.{is_line}
+use Rattle.line_model.specs.pieces.Merge.{is_level}
 use Rattle.line_model.specs.channels.Gaps.{fresh_at}
 use Rattle.line_model.specs.channels.GapRestart.{is_gap_of_all}
 use Rattle.line_model.specs.observer.Observer.{x25, start, event_of, is_confirmation}
@@ -21,8 +21,8 @@ use Rattle.line_model.specs.observer.Calls.{calls_of, all_lengths, segments_of}
 use Rattle.line_model.specs.observer.Report.{findings_of}
 
 -- the findings of the restart machine
-abbrev pub line_findings : Interface → List Item → List Finding
-line_findings i rs = findings_of (map event_of (filter is_line (walk_events (x25 i) (start i) rs)))
+abbrev pub level_findings : Interface → List Item → List Finding
+level_findings i rs = findings_of (map event_of (filter is_level (walk_events (x25 i) (start i) rs)))
 
 -- what is known of the row that ended an epoch
 abbrev pub end_at : Item → PieceEnd
@@ -67,7 +67,7 @@ row_of_end e = record { number = e.row; side = T; packet = end_packet e.missed; 
 abbrev pub piece_events : Piece → List Event
 piece_events p =
     map event_of
-    (piece_value (x25 p.interface) p.epoch p.channel (fresh_at p.interface p.start p.epoch p.channel) p.items (option_map row_of_end p.end))
+    (events_of_steps (x25 p.interface) p.epoch p.channel (fresh_at p.interface p.start p.epoch p.channel) p.items (option_map row_of_end p.end))
 
 -- the result of the events of a piece
 abbrev pub report_on : (id epoch channel : ℕ) → List Event → PieceReport
@@ -82,12 +82,12 @@ report_on id epoch channel es = record {
 }
 
 -- the result of a piece
-abbrev pub value : Piece → PieceReport
-value p = report_on p.id p.epoch p.channel (piece_events p)
+abbrev pub result_of : Piece → PieceReport
+result_of p = report_on p.id p.epoch p.channel (piece_events p)
 
 -- the events on channels
 abbrev pub channel_events_of : Interface → List Item → List Event
-channel_events_of i rs = map event_of (filter (λ v. not (is_line v)) (walk_events (x25 i) (start i) rs))
+channel_events_of i rs = map event_of (filter (λ v. not (is_level v)) (walk_events (x25 i) (start i) rs))
 
 -- the totals of events on channels
 abbrev pub totals_on : (posts : ℕ) → List Event → Totals

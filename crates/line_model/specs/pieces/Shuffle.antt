@@ -14,10 +14,10 @@ is_channel k None = false
 abbrev pub rows_on : {X L S E : Type 0} → Machine X L S E → ℕ → List X → List X
 rows_on m k xs = filter (λ x. is_channel k (own_channel m x)) xs
 
--- the same rows; a row that changes the line, or steps each channel, has the same rows before it; the rows of a channel keep their order
+-- the same rows; a row that changes the interface level, or steps each channel, has the same rows before it; the rows of a channel keep their order
 pub record IsShuffle {X L S E : Type 0} (m : Machine X L S E) (start : Observer L S) (xs ys : List X) : Type 0 where
   pub same_rows : IsPermutation xs ys
-  pub same_before : (before : List X) (x : X) (behind : List X) → xs ≡ before ++ x ∷ behind → Changes m (walk m start before).line x
+  pub same_before : (before : List X) (x : X) (behind : List X) → xs ≡ before ++ x ∷ behind → Changes m (walk m start before).level x
       → (before' : List X) × (behind' : List X) × (ys ≡ before' ++ x ∷ behind') × IsPermutation before before'
   pub same_order : (k : ℕ) → rows_on m k ys ≡ rows_on m k xs
 

@@ -39,7 +39,7 @@ rising_number last word = option_and_then (λ n. if nat_lt last n then Some n el
 abbrev pub side_of : List ℕ → Option Side
 side_of word = if bytes_eq word (codes "T") then Some T else if bytes_eq word (codes "N") then Some N else None
 
--- `-` for no octets, else two digits for each of at most 4200
+-- `-` for no octets, otherwise two digits for each of at most 4200
 unfoldable pub octets_of : List ℕ → Option (List ℕ)
 octets_of word =
     if bytes_eq word (codes "-") then Some []

@@ -2,7 +2,7 @@
 use Rattle.std.specs.Prelude.{◌≡◌, ℕ, ◌≤◌, List, map, length, Option, Some, IfSome, slice_get, sum_by, count_by, ◌==◌, nat_lt, if◌then◌else◌, All}
 use Rattle.line_model.specs.declared.totals.Totals.{Totals}
 use Rattle.line_model.specs.basics.Records.{Piece, PieceReport}
-use Rattle.line_model.specs.pieces.Plans.{value}
+use Rattle.line_model.specs.pieces.Plans.{result_of}
 
 -- the pieces that are to be handed out, where they are known
 abbrev pub KnownPlan : Type 0
@@ -16,15 +16,15 @@ IsNumbered ps = (k : ℕ) (p : Piece) → slice_get ps k ≡ Some p → p.id ≡
 abbrev pub IsPlanned : KnownPlan → ℕ → Piece → Type 0
 IsPlanned plan n p = (p.id ≡ n) × IfSome plan (λ ps. slice_get ps n ≡ Some p)
 
--- the report is the value of the plan's piece of its id
+-- the report is the result of the plan's piece of its id
 abbrev pub IsValue : KnownPlan → PieceReport → Type 0
-IsValue plan r = IfSome plan (λ ps. slice_get (map value ps) r.id ≡ Some r)
+IsValue plan r = IfSome plan (λ ps. slice_get (map result_of ps) r.id ≡ Some r)
 
 -- how often a number is in a list
 abbrev pub times : ℕ → List ℕ → ℕ
 times x xs = count_by (λ y. y == x) xs
 
--- 1 for a number below the bound, else 0
+-- 1 for a number below the bound, otherwise 0
 abbrev pub once_below : ℕ → ℕ → ℕ
 once_below x n = if nat_lt x n then 1 else 0
 
@@ -32,7 +32,7 @@ once_below x n = if nat_lt x n then 1 else 0
 abbrev pub ids_of : List PieceReport → List ℕ
 ids_of rs = map (λ r. r.id) rs
 
--- no two of the posts have one id, and each is the value of the plan's piece
+-- no two of the posts have one id, and each is the result of the plan's piece
 pub record AreOf (plan : KnownPlan) (rs : List PieceReport) : Type 0 where
   pub distinct : (x : ℕ) → times x (ids_of rs) ≤ 1
   pub values : All (IsValue plan) rs

@@ -1,7 +1,7 @@
 -- The shared work: its states, its steps, and every schedule of them (profile).
 use Rattle.std.specs.Prelude.{◌≡◌, ℕ, suc, ◌+◌, ◌<◌, List, [], ◌∷◌, ◌++◌, map, length, Bool, true, false, Some, slice_get, sum_by}
 use Rattle.line_model.specs.basics.Records.{Piece, PieceReport}
-use Rattle.line_model.specs.pieces.Plans.{value}
+use Rattle.line_model.specs.pieces.Plans.{result_of}
 use Rattle.line_model.specs.work.Book.{KnownPlan, IsPlanned, IsNumbered, times, once_below, ids_of}
 
 -- an entry of the queue: a piece, or an end
@@ -86,7 +86,7 @@ Does plan capacity split s t = t ≡ record { fed = s.fed; ends = s.ends; queue 
 Does plan capacity join s t = (ids : List ℕ) × (vs : List Worker) × Changes (Joins ids) s.workers vs
     × (t ≡ record { fed = s.fed; ends = s.ends; queue = s.queue; workers = vs; record_of = s.record_of ++ ids; posts = s.posts })
 Does plan capacity post s t = (p : Piece) × (vs : List Worker) × Changes (Posts p) s.workers vs
-    × (t ≡ record { fed = s.fed; ends = s.ends; queue = s.queue; workers = vs; record_of = s.record_of; posts = s.posts ++ value p ∷ [] })
+    × (t ≡ record { fed = s.fed; ends = s.ends; queue = s.queue; workers = vs; record_of = s.record_of; posts = s.posts ++ result_of p ∷ [] })
 Does plan capacity look s t = t ≡ s
 
 -- the steps lead from one state to the other, each allowed in its state
@@ -114,8 +114,8 @@ abbrev pub IsPrefixOf : List Piece → List Piece → Type 0
 IsPrefixOf plan fed = (rest : List Piece) × (plan ≡ fed ++ rest)
 
 -- each piece that was fed is once in the queue, or held by one worker, or posted
-abbrev pub StandsOnce : WorkState → Type 0
-StandsOnce s = (x : ℕ) → times x (waiting_of s.queue) + sum_by (λ w. times x (numbers_of w.held)) s.workers + times x (ids_of s.posts) ≡ once_below x (length s.fed)
+abbrev pub OccursOnce : WorkState → Type 0
+OccursOnce s = (x : ℕ) → times x (waiting_of s.queue) + sum_by (λ w. times x (numbers_of w.held)) s.workers + times x (ids_of s.posts) ≡ once_below x (length s.fed)
 
 -- there is a worker, and all have their end and hold nothing
 abbrev pub IsSettled : WorkState → Type 0

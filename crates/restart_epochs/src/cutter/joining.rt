@@ -20,7 +20,7 @@ use std::alloc::Allocator;
 impl<A: Allocator + Copy> Cutter<A> {
     /// Returns the restart machine after the rows that were read.
     pub fn machine(&self) -> Restart
-        ensures { result ≡ self.now.line }
+        ensures { result ≡ self.now.level }
     {
         self.walk.machine
     }
@@ -29,8 +29,8 @@ impl<A: Allocator + Copy> Cutter<A> {
     /// complete with them. No row is copied. Fails only when memory is refused, and no cutter is left then.
     pub fn join(self, block: BlockCut<A>, out: &mut Vec<Piece<A>, A>) -> Result<Self, Fault>
         requires next { (i : AnyInterface) × (rows : List records.Item) × (items : List records.Item)
-            × Represents i rows self × IsBlockCut self.line items block × MayCome self items }
-        ensures taken { (items : List records.Item) → IsBlockCut self.line items block
+            × Represents i rows self × IsBlockCut self.level items block × MayCome self items }
+        ensures taken { (items : List records.Item) → IsBlockCut self.level items block
             → MayCome self items → IfOk result (λ cutter. HasTakenAll items self cutter out.old.items out.new.items) }
         ensures memory { IfErr result (λ fault. fault ≡ Memory) }
     {

@@ -8,6 +8,6 @@ pub record LedgerNames : Type 0 where
   pub octets : ℕ
   pub segments : ℕ
 
--- names that stand for no ledger
+-- names that represent no ledger
 abbrev pub no_names : LedgerNames
 no_names = record { posts = 0; findings = 0; octets = 0; segments = 0 }

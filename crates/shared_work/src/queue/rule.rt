@@ -8,23 +8,23 @@ use std::marker::PhantomData;
 
 /// What a pass did, by numbers. No value of this type is made.
 pub struct Record {
-    /// Whether it is the feeder's.
+    /// Whether the pass is the feeder's.
     pub feeds: bool,
-    /// Whether it is a worker's, and was not joined.
+    /// Whether the pass is a worker's and was not joined.
     pub works: bool,
-    /// How many pieces were fed; of a worker, once it has its end.
+    /// How many pieces were fed. A worker knows it once it received its end.
     pub fed: u64,
     /// How many ends were fed.
     pub ends: u64,
     /// How many passes were split and not joined.
     pub pending: u64,
-    /// How many passes were joined that had their end.
+    /// How many passes that received their end were joined.
     pub done: u64,
     /// The numbers of the pieces that were taken.
     pub taken: LinkedList<u32>,
-    /// Whether it had its end.
+    /// Whether the worker received its end.
     pub finished: bool,
-    /// Of the feeder's: how many pieces were fed, by the record of the worker joined last, if it had its end.
+    /// How many pieces were fed, as the feeder knows from the worker that it joined last, if that one received its end.
     pub known_fed: u64,
 }
 
@@ -77,7 +77,7 @@ impl Join<QueueNotes> for Worker {
     ghost spent = { notes nothing_done [] [] };
 }
 
-/// A witness is split from a pass, and knows what that one knows.
+/// A witness is split from a pass and knows what the pass knows.
 pub struct Witnessing;
 
 impl Split<QueueNotes> for Witnessing {
@@ -149,7 +149,7 @@ impl<P: Plan, A: Allocator> Lesson<QueueEntry<A>, QueueNotes> for Takes<P> {
     ghost fact = { λ v items. Unit {0} };
 }
 
-/// What the feeder knows once a pass was joined: what that one knew, and what all took.
+/// What the feeder knows after it joined a pass: what that pass knew, and what all passes took.
 pub struct QueueAccount;
 
 impl<A: Allocator> Lesson<QueueEntry<A>, QueueNotes> for QueueAccount {

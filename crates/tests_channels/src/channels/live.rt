@@ -29,7 +29,7 @@ fn taken_row<A: Allocator + Copy, C: Channel<A>>(
     id: u32,
     finding: Option<Finding>,
 ) -> Result<TakenRow, Fault>
-    requires stands { (p : records.Piece) × Represents C.interface_of C.number_of C.represents live.now p }
+    requires represented { (p : records.Piece) × Represents C.interface_of C.number_of C.represents live.now p }
 {
     let report = live.report(alloc, id)?;
     let packet = finding.map(|finding| finding.packet);

@@ -43,7 +43,7 @@ fn step_until_taken<'a, C: Channel<&'a Scarce<Global>>>(
     requires item { IsItem (C.interface_of channel.old) (C.number_of channel.old) item.now }
     ensures interface { (g : gaps.GapChannel) → C.represents channel.old g → OnOk result (C.interface_of channel.new ≡ C.interface_of channel.old) }
     ensures number { (g : gaps.GapChannel) → C.represents channel.old g → OnOk result (C.number_of channel.new ≡ C.number_of channel.old) }
-    ensures stands { (g : gaps.GapChannel) → C.represents channel.old g → OnOk result ((h : gaps.GapChannel) × C.represents channel.new h) }
+    ensures represented { (g : gaps.GapChannel) → C.represents channel.old g → OnOk result ((h : gaps.GapChannel) × C.represents channel.new h) }
 {
     let before = seen_of(channel, events.len());
     for good in 0..GROWTHS {

@@ -52,7 +52,7 @@ fn check_piece<R: Threads + Wait + Clock + Sync + Abort>(
     agree_on_report(rt, &outcome, refused, cuts);
 }
 
-/// What is reported of a trace text that is refused so.
+/// Returns what is reported of a trace text that is refused so.
 fn refusal(text: &[u8], fault: Fault) -> Worked<'_> {
     Worked {
         name: "three-epochs with a worker out of memory",
@@ -111,6 +111,6 @@ fn check_number_twice<R: Threads + Wait + Clock + Sync + Abort>(rt: &R, alloc: G
 }
 
 #[test]
-fn a_faulty_line_stands_before_a_worker_out_of_memory(rt: HostRuntime) {
+fn a_faulty_line_represents_before_a_worker_out_of_memory(rt: HostRuntime) {
     check_number_twice(&rt, rt.alloc())
 }

@@ -31,7 +31,7 @@ fn say_further<A: Allocator + Copy>(
 }
 
 /// What a reader said to the text and further is right: where a growth was refused, it is out of memory from then on;
-/// else there are three rows.
+/// otherwise there are three rows.
 fn is_right(
     refused: bool,
     answer: Result<(), Fault>,

@@ -70,7 +70,7 @@ fn post_with<'a, R: Wait + Abort, L: Ledgers>(
 }
 
 /// Posts a report, with one growth refused after `good`. Returns what came back: where none did, no growth was refused,
-/// and else the share has what it had, and a look sees all that it had.
+/// and otherwise the share has what it had, and a look sees all that it had.
 fn post_refused<'a, R: Wait + Abort, L: Ledgers>(
     rt: &R,
     heap: &'a Scarce<Global>,

@@ -25,7 +25,7 @@ use std::alloc::Allocator;
 impl<A: Allocator + Copy> RowCutter<A> {
     /// Returns `true` only where the interface and the restart machine are those of `start`.
     fn is_at(&self, start: &Start) -> bool
-        ensures { OnTrue result ((self.now.interface ≡ start.now.interface) × (self.now.cutter.line ≡ start.now.machine)) }
+        ensures { OnTrue result ((self.now.interface ≡ start.now.interface) × (self.now.cutter.level ≡ start.now.machine)) }
     {
         self.interface == start.interface && self.cutter.machine().is_same(&start.machine)
     }
@@ -35,15 +35,15 @@ impl<A: Allocator + Copy> RowCutter<A> {
     fn join(self, block: BlockCut<A>, pieces: &mut Vec<Piece<A>, A>) -> Result<Self, Fault>
         requires next { (before : List records.Item) × (items : List records.Item)
             × HasCut before self × AreItems self.interface (before ++ items)
-            × IsBlockCut self.cutter.line items block }
+            × IsBlockCut self.cutter.level items block }
         ensures interface { IfOk result (λ cutter. cutter.interface ≡ self.interface) }
         ensures cut { OfCut self (λ before. (items : List records.Item)
             → AreItems self.interface (before ++ items)
-            → IsBlockCut self.cutter.line items block
+            → IsBlockCut self.cutter.level items block
             → IfOk result (HasCut (before ++ items))) }
         ensures pieces { OfCut self (λ before. (items : List records.Item)
             → AreItems self.interface (before ++ items)
-            → IsBlockCut self.cutter.line items block
+            → IsBlockCut self.cutter.level items block
             → IfOk result (λ cutter. HasAppended pieces.old.items pieces.new.items
             (given_of self.interface before) (given_of self.interface (before ++ items)))) }
         ensures memory { IfErr result (λ fault. fault ≡ Memory) }
@@ -57,7 +57,7 @@ impl<A: Allocator + Copy> RowCutter<A> {
 impl<A: Allocator + Copy> TextCutter<A> {
     /// Returns the interface and the restart machine after the rows so far, once a row was read.
     pub fn start(&self) -> Option<Start>
-        ensures { result ≡ option_map (λ f. record { interface = f.interface; machine = f.cutter.line })
+        ensures { result ≡ option_map (λ f. record { interface = f.interface; machine = f.cutter.level })
             self.now.row_cutter }
     {
         let row_cutter = self.row_cutter.as_ref()?;
@@ -70,7 +70,7 @@ impl<A: Allocator + Copy> TextCutter<A> {
     /// Returns `true` only where a row was read, and the interface and the restart machine are those of `start`.
     fn is_at(&self, start: &Start) -> bool
         ensures { result ≡ true → MatchOption self.now.row_cutter ⊥
-            (λ f. (f.interface ≡ start.now.interface) × (f.cutter.line ≡ start.now.machine)) }
+            (λ f. (f.interface ≡ start.now.interface) × (f.cutter.level ≡ start.now.machine)) }
     {
         match &self.row_cutter {
             Some(row_cutter) => row_cutter.is_at(start),

@@ -1,7 +1,7 @@
 use Rattle.std.proofs.Common.{◌∙◌, ap, sym, subst, refl, Some, length, ◌≡◌, [], ◌∷◌, ◌++◌, arith}
 use Rattle.std.specs.Option.{option_map}
 use Rattle.line_model.specs.basics.Bounds.{IsPiece}
-use Rattle.line_model.specs.pieces.Plans.{value}
+use Rattle.line_model.specs.pieces.Plans.{result_of}
 use Rattle.restart_epochs.specs.Cutting.{items_out}
 use Rattle.restart_epochs.specs.OpenRows.{rows_of, with_gap}
 use Rattle.restart_epochs.specs.ChannelTables.{HasPopped}
@@ -52,8 +52,8 @@ loop-channel-preserved-in-Continue-branch-2 g c =
           let entry = popped_live g.C.Channel.interface_of g.C.Channel.number_of g.C.Channel.represents e c.args.open_channels.now.gap c.args.end rows first c.loop-channel.open_channels.table c.pop_first.new.self was.0 k c.in-Some-entry.entry.value was.1 pop in
           let value_is =
           c.in_ok-report.ensures.value e k (rows_of rows k) entry (subst (λ n. IsPiece e.interface k (with_gap n (rows_of rows k))) (sym gap) (all k))
-          ∙ ap (λ n. value (ended_piece c.pieces.result e c.args.end k (with_gap n (rows_of rows k)))) gap
-          ∙ ap (λ n. value (ended_piece n e c.args.end k (items_out c.args.open_channels.now.gap rows k))) (c.pieces.ensures ∙ ap (λ p. p.pieces) was.2) in (
+          ∙ ap (λ n. result_of (ended_piece c.pieces.result e c.args.end k (with_gap n (rows_of rows k)))) gap
+          ∙ ap (λ n. result_of (ended_piece n e c.args.end k (items_out c.args.open_channels.now.gap rows k))) (c.pieces.ensures ∙ ap (λ p. p.pieces) was.2) in (
             was.0 ++ c.in_ok-report.report ∷ [],
             ending_more g.C.Channel.interface_of g.C.Channel.number_of g.C.Channel.represents e c.args.open_channels.now.gap c.args.end rows first c.loop-channel.open_channels.table c.pop_first.new.self was.0 k _ c.in_ok-report.report was.1 pop value_is,
             c.in_ok-add.ensures.added was.0 was.2,

@@ -56,7 +56,7 @@ loop-rest-preserved g c =
           course_kept (course_row g.C.Channel.interface_of g.C.Channel.number_of g.C.Channel.represents i text c.args.chunk.now c.loop-rest.rest.now c.in-Some.after.now c.args.rows.now.last c.loop-rest.rows.last c.next_row.new.row c.loop-rest.lines c.next_row.new.self c.loop-rest.observer c.take.new.self
           c.args.found.now.items c.loop-rest.found.items c.append_finding.new.findings.items (option_to_list finding)
           course row (c.in_ok-after.ensures.header (text ++ course.read) course.observing.reads)
-          (c.in_ok-take.ensures.stands i (items_of i (early_rows (text ++ course.read))) course.observing.observes
+          (c.in_ok-take.ensures.represented i (items_of i (early_rows (text ++ course.read))) course.observing.observes
           (next_rows i c.loop-rest.lines c.next_row.new.self (text ++ course.read) c.loop-rest.rest.now c.in-Some.after.now c.next_row.new.row course.observing.reads row
           (header_stays c.loop-rest.lines c.next_row.new.self (text ++ course.read) c.loop-rest.rest.now i course.observing.reads course.observing.header (c.in_ok-after.ensures.header (text ++ course.read) course.observing.reads))))
           noted (c.in_ok-take.ensures.finding i (items_of i (early_rows (text ++ course.read))) course.observing.observes)) (λ keeps. c.keep_next.ensures keeps);

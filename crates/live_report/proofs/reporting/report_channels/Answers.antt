@@ -1,5 +1,5 @@
 use Rattle.std.proofs.Common.{◌≡◌, ◌∙◌, ◌∷◌, ◌++◌, [], ap, sym, None, length, arith}
-use Rattle.line_model.specs.pieces.Plans.{value}
+use Rattle.line_model.specs.pieces.Plans.{result_of}
 use Rattle.restart_epochs.specs.Cutting.{items_out}
 use Rattle.restart_epochs.specs.OpenRows.{rows_of}
 use Rattle.report_merge.specs.Gathered.{gathered}
@@ -13,7 +13,7 @@ report-requires g c =
     let room = c.requires.room in
     let k = c.in-Some.channel.now in
     record {
-      stands = (
+      represented = (
         begun_piece room.0 k (rows_of room.1 k),
         (reported_open g.C.Channel.interface_of g.C.Channel.number_of g.C.Channel.represents room.0 room.1 k c.args.open_channels.now.table c.in-Some-get.entry.now room.3 c.in-Some-get.ensures).1.live,
       );
@@ -32,7 +32,7 @@ loop-channel-preserved-in-Continue-branch-2 g c =
           let value_is =
           c.in_ok-report.ensures.value (begun_piece e k (rows_of rows k)) entry.1.live
           ∙ sym (value_so_far c.args.open_channels.now.gap (ended_piece c.pieces.result e None k (rows_of rows k)))
-          ∙ ap (λ n. value (ended_piece n e None k (items_out c.args.open_channels.now.gap rows k))) (c.pieces.ensures ∙ ap (λ p. p.pieces) was.2) in (
+          ∙ ap (λ n. result_of (ended_piece n e None k (items_out c.args.open_channels.now.gap rows k))) (c.pieces.ensures ∙ ap (λ p. p.pieces) was.2) in (
             was.0 ++ c.in_ok-report.report ∷ [],
             reporting_more e c.args.open_channels.now.gap rows first was.0 c.loop-channel.channel-iterator k c.next.new.self c.in_ok-report.report was.1 next value_is,
             c.in_ok-add.ensures.added was.0 was.2,

@@ -13,7 +13,7 @@ use Rattle.std.proofs.lemmas.Iterator.Adapters.{YieldsList-from_vec}
 use Rattle.std.proofs.lemmas.Iterator.Consumers.{YieldsList-end}
 use Rattle.line_model.specs.observer.Report.{gaps_among, gaps_of}
 use Rattle.line_model.specs.packets.Says.{item_of, items_of}
-use Rattle.line_model.specs.pieces.Plans.{plan, line_findings}
+use Rattle.line_model.specs.pieces.Plans.{plan, level_findings}
 use Rattle.line_model.specs.basics.Records.{Row, Item, Piece}
 use Rattle.restart_epochs.specs.Cutting.{given_of, Represents, IsCounted}
 use Rattle.restart_epochs.proofs.Decoded.{packets, said, said-beside, said-more, said_by, next_is}
@@ -34,10 +34,10 @@ packets_left g c =
 
 pub loop-row-init : goal.loop-row-init
 loop-row-init g c = record {
-  stands = c.new-cutter.ensures.stands;
+  represented = c.new-cutter.ensures.represented;
   given = c.new-pieces.ensures.items ∙ sym (given_pieces c.args.interface.now [] true ends_nothing);
   left = subst (MayCome c.new-cutter.result) (sym (rows_left g c))
-      (all_may_come c.args.interface.now c.new-cutter.result c.args.rows.items c.new-cutter.ensures.stands.interface c.requires.lawful c.new-cutter.ensures.last c.new-cutter.ensures.octets c.requires.rising c.requires.numbers c.requires.octets);
+      (all_may_come c.args.interface.now c.new-cutter.result c.args.rows.items c.new-cutter.ensures.represented.interface c.requires.lawful c.new-cutter.ensures.last c.new-cutter.ensures.octets c.requires.rising c.requires.numbers c.requires.octets);
   decoded = packets_left g c ∙ ap (packets c.args.interface.now) (sym (rows_left g c));
 }
 
@@ -51,7 +51,7 @@ push-requires-clause-said g c =
     record {
       row = c.in-Some.row;
       lawful = left.lawful.0;
-      says = said_by c.args.interface.now c.in-Some.row c.in-Some.packet _ c.item.ensures next.0 ∙ ap (λ i. item_of i c.in-Some.row) (sym inv.stands.interface);
+      says = said_by c.args.interface.now c.in-Some.row c.in-Some.packet _ c.item.ensures next.0 ∙ ap (λ i. item_of i c.in-Some.row) (sym inv.represented.interface);
     }
 
 pub push-requires-clause-rising : goal.push-requires-clause-rising
@@ -85,8 +85,8 @@ loop-row-preserved g c =
     let says = said_by i c.in-Some.row c.in-Some.packet _ c.item.ensures next.0 in
     let after : before ++ c.item.result ∷ [] ≡ said i (c.loop-row.yielded ++ (c.in-Some.row, c.in-Some.packet) ∷ []) = ap (λ x. before ++ x ∷ []) says ∙ more in
     record {
-      stands = subst (λ rs. Represents i rs c.push.new.self) after (c.in_ok-push.ensures.stands i before inv.stands);
-      given = subst (λ rs. c.push.new.out.items ≡ given_of i rs) after (c.in_ok-push.ensures.given i before [] inv.stands inv.given);
+      represented = subst (λ rs. Represents i rs c.push.new.self) after (c.in_ok-push.ensures.represented i before inv.represented);
+      given = subst (λ rs. c.push.new.out.items ≡ given_of i rs) after (c.in_ok-push.ensures.given i before [] inv.represented inv.given);
       left = rest_may_come i c.loop-row.cutter c.push.new.self c.in-Some.row rest left (subst (λ (x : Item). IsCounted x c.loop-row.cutter c.push.new.self) says c.in_ok-push.ensures.counted);
       decoded = next.1;
     }
@@ -105,7 +105,7 @@ all_yielded g c =
     let are = c.in_ok-packets.ensures.packets ∙ ap (packets i) c.as_slice.ensures.value in
     ap (said i) (sym (map-id c.loop-row.yielded) ∙ t.0) ∙ ap (λ ps. said i (zip c.args.rows.items ps)) are ∙ said-beside i c.args.rows.items
 
--- the pieces that were given out on the way, and behind them those of the open epoch
+-- the pieces that were given out on the way, and after them those of the open epoch
 appended : (g : Over) (c : goal.After-drop-open-2 g) → c.append.new.self.items ≡ given_of c.args.interface.now (said c.args.interface.now c.loop-row.yielded) ++ c.in_ok-open.field-0.pieces.items
 appended g c =
     let open_is : c.in_ok-open.open.items ≡ c.in_ok-open.field-0.pieces.items = ap (λ v. v.items) (sym c.in_ok-open.open-is) in
@@ -115,27 +115,27 @@ appended g c =
 pub returns-clause-pieces : goal.returns-clause-pieces
 returns-clause-pieces g c =
     appended g c
-    ∙ c.in_ok-open.ensures.pieces c.args.interface.now (said c.args.interface.now c.loop-row.yielded) c.loop-row.invariant.stands ∙ ap (plan c.args.interface.now) (all_yielded g c)
+    ∙ c.in_ok-open.ensures.pieces c.args.interface.now (said c.args.interface.now c.loop-row.yielded) c.loop-row.invariant.represented ∙ ap (plan c.args.interface.now) (all_yielded g c)
 
 pub returns-clause-interface_findings : goal.returns-clause-interface_findings
 returns-clause-interface_findings g c =
-    c.in_ok-open.ensures.interface_findings c.args.interface.now (said c.args.interface.now c.loop-row.yielded) c.loop-row.invariant.stands ∙ ap (line_findings c.args.interface.now) (all_yielded g c)
+    c.in_ok-open.ensures.interface_findings c.args.interface.now (said c.args.interface.now c.loop-row.yielded) c.loop-row.invariant.represented ∙ ap (level_findings c.args.interface.now) (all_yielded g c)
 
 pub returns-clause-packets : goal.returns-clause-packets
 returns-clause-packets g c =
     let items = items_of c.args.interface.now c.args.rows.items in
-    c.in_ok-open.ensures.packets c.args.interface.now (said c.args.interface.now c.loop-row.yielded) c.loop-row.invariant.stands ∙ ap (λ (rs : List Item). length rs - gaps_of rs) (all_yielded g c)
+    c.in_ok-open.ensures.packets c.args.interface.now (said c.args.interface.now c.loop-row.yielded) c.loop-row.invariant.represented ∙ ap (λ (rs : List Item). length rs - gaps_of rs) (all_yielded g c)
     ∙ ap (λ n. n - gaps_of items) (length-map c.args.rows.items (item_of c.args.interface.now))
 
 pub returns-clause-gaps : goal.returns-clause-gaps
 returns-clause-gaps g c =
     let i = c.args.interface.now in
-    c.in_ok-open.ensures.gaps i (said i c.loop-row.yielded) c.loop-row.invariant.stands ∙ ap (gaps_among i.gaps) (all_yielded g c)
+    c.in_ok-open.ensures.gaps i (said i c.loop-row.yielded) c.loop-row.invariant.represented ∙ ap (gaps_among i.gaps) (all_yielded g c)
 
 pub returns-clause-few : goal.returns-clause-few
 returns-clause-few g c =
     let all = ap (λ (l : List Piece). length l) (appended g c) ∙ length-append (given_of c.args.interface.now (said c.args.interface.now c.loop-row.yielded)) c.in_ok-open.field-0.pieces.items in
-    omega (arith, all, c.in_ok-open.ensures.few c.args.interface.now (said c.args.interface.now c.loop-row.yielded) c.loop-row.invariant.stands)
+    omega (arith, all, c.in_ok-open.ensures.few c.args.interface.now (said c.args.interface.now c.loop-row.yielded) c.loop-row.invariant.represented)
 
 pub returns-clause-of_rows : goal.returns-clause-of_rows
 returns-clause-of_rows g c =
@@ -143,7 +143,7 @@ returns-clause-of_rows g c =
     let rows = said i c.loop-row.yielded in
     let all = ap (λ (l : List Piece). length l) (appended g c) ∙ length-append (given_of i rows) c.in_ok-open.field-0.pieces.items in
     let count = ap (λ (rs : List Item). length rs) (all_yielded g c) ∙ length-map c.args.rows.items (item_of i) in
-    omega (arith, all, c.in_ok-open.ensures.of_rows i rows c.loop-row.invariant.stands, count)
+    omega (arith, all, c.in_ok-open.ensures.of_rows i rows c.loop-row.invariant.represented, count)
 
 pub loop-row-init-derived : goal.loop-row-init-derived
 loop-row-init-derived g c = grind (arith, elements) steps 2000000

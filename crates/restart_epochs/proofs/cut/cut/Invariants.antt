@@ -8,7 +8,7 @@ use Rattle.restart_epochs.proofs.cut.cut.Given as goal
 
 abbrev pub invariant-loop-row : goal.invariant-loop-row
 invariant-loop-row g l = record {
-  stands : Represents l.interface (said l.interface l.yielded) l.cutter;
+  represented : Represents l.interface (said l.interface l.yielded) l.cutter;
   given : l.pieces.items ≡ given_of l.interface (said l.interface l.yielded);
   left : MayCome l.cutter (into_iter_items (zip_first l.row-iterator));
   decoded : into_iter_items (zip_second l.row-iterator) ≡ packets l.interface (into_iter_items (zip_first l.row-iterator));

@@ -3,14 +3,14 @@ use Rattle.std.proofs.lemmas.Result.{IfOk-weaker, IfErr-weaker}
 use Rattle.line_model.specs.packets.Says.{items_of}
 use Rattle.line_model.specs.text.Text.{fault, rows}
 use Rattle.trace_reading.proofs.Rows.{all_appended, all_fed}
-use Rattle.trace_reading.proofs.Texts.{line_next, memory_fault, plan_is, read_of}
+use Rattle.trace_reading.proofs.Texts.{level_next, memory_fault, plan_is, read_of}
 use Rattle.trace_reading.proofs.feeding.finish.Goals as goal
 
 pub feed_pieces-requires-clause-next : goal.feed_pieces-requires-clause-next
 feed_pieces-requires-clause-next g c =
     let text = c.requires.ready.0 in
     let fed = c.requires.ready.1 in
-    line_next g.P.Plan.pieces text c.in_ok-row_cutter.row_cutter.interface c.end.new.pieces.items c.args.pass.now.record_of.fed (c.in_ok-row_cutter.ensures.sound text fed.taken).1 fed.count
+    level_next g.P.Plan.pieces text c.in_ok-row_cutter.row_cutter.interface c.end.new.pieces.items c.args.pass.now.record_of.fed (c.in_ok-row_cutter.ensures.sound text fed.taken).1 fed.count
     (all_appended c.new-pieces.result.items c.end.new.pieces.items _ _ c.new-pieces.ensures.items (c.in_ok-row_cutter.ensures.pieces text fed.taken)) c.requires.ready.2
 
 pub feed_open_epoch-requires-clause-ready : goal.feed_open_epoch-requires-clause-ready

@@ -10,7 +10,7 @@ use Rattle.live_report.proofs.ScanLemmas.{end_kinds}
 use Rattle.trace_scan.proofs.following.follow.Goals as goal
 
 pub read_to_end-requires-clause-nothing : goal.read_to_end-requires-clause-nothing
-read_to_end-requires-clause-nothing g c = nothing_followed _ (g.K.Sink.taken c.args.sink.now) (g.K.Sink.failures c.args.sink.now) c.new.result c.new.ensures.stands
+read_to_end-requires-clause-nothing g c = nothing_followed _ (g.K.Sink.taken c.args.sink.now) (g.K.Sink.failures c.args.sink.now) c.new.result c.new.ensures.represented
 
 pub read_to_end-requires-clause-expected : goal.read_to_end-requires-clause-expected
 read_to_end-requires-clause-expected g c text begins = tt
@@ -18,23 +18,23 @@ read_to_end-requires-clause-expected g c text begins = tt
 -- ---- where the whole text was read
 
 pub end-requires : goal.end-requires
-end-requires g c = let w = c.in_ok-read_to_end.ensures.whole in record { fed = fed_of _ w.text c.read_to_end.new.consumer.follower w.fed.stands }
+end-requires g c = let w = c.in_ok-read_to_end.ensures.whole in record { fed = fed_of _ w.text c.read_to_end.new.consumer.follower w.fed.represented }
 
 pub returns-clause-reported : goal.returns-clause-reported
 returns-clause-reported g c text shown =
     let w = c.in_ok-read_to_end.ensures.whole in
-    end_reported text w.text (g.K.Sink.taken c.args.sink.now) (g.K.Sink.taken c.end.new.sink) c.end.result (w.source text shown).0 (c.end.ensures.reported w.text (g.K.Sink.taken c.args.sink.now) w.fed.stands w.fed.shown)
+    end_reported text w.text (g.K.Sink.taken c.args.sink.now) (g.K.Sink.taken c.end.new.sink) c.end.result (w.source text shown).0 (c.end.ensures.reported w.text (g.K.Sink.taken c.args.sink.now) w.fed.represented w.fed.shown)
 
 pub returns-clause-refused : goal.returns-clause-refused
 returns-clause-refused g c text shown =
     let w = c.in_ok-read_to_end.ensures.whole in
-    end_refused (g.S.Source.left c.args.source.now) (g.S.Source.left c.read_to_end.new.source) (g.S.Source.before c.read_to_end.new.source) _ text c.end.result w shown (c.end.ensures.refused w.text w.fed.stands)
+    end_refused (g.S.Source.left c.args.source.now) (g.S.Source.left c.read_to_end.new.source) (g.S.Source.before c.read_to_end.new.source) _ text c.end.result w shown (c.end.ensures.refused w.text w.fed.represented)
 
 pub returns-clause-taken : goal.returns-clause-taken
 returns-clause-taken g c text shown =
     let w = c.in_ok-read_to_end.ensures.whole in
     end_taken (g.S.Source.left c.args.source.now) (g.S.Source.left c.read_to_end.new.source) (g.S.Source.before c.read_to_end.new.source) _ text (g.K.Sink.taken c.args.sink.now) (g.K.Sink.taken c.read_to_end.new.out) (g.K.Sink.taken c.end.new.sink) _ c.end.result w shown w.fed.shown
-    (c.end.ensures.refused w.text w.fed.stands) (same_taken c.end.result (g.K.Sink.taken) c.read_to_end.new.out c.end.new.sink c.end.ensures.unwritten) (c.end.ensures.taken w.text (g.K.Sink.taken c.args.sink.now) w.fed.stands w.fed.shown)
+    (c.end.ensures.refused w.text w.fed.represented) (same_taken c.end.result (g.K.Sink.taken) c.read_to_end.new.out c.end.new.sink c.end.ensures.unwritten) (c.end.ensures.taken w.text (g.K.Sink.taken c.args.sink.now) w.fed.represented w.fed.shown)
 
 pub returns-clause-kinds : goal.returns-clause-kinds
 returns-clause-kinds g c = end_kinds c.end.result c.end.ensures.kinds
@@ -42,18 +42,18 @@ returns-clause-kinds g c = end_kinds c.end.result c.end.ensures.kinds
 pub returns-clause-write_failed : goal.returns-clause-write_failed
 returns-clause-write_failed g c e =
     let w = c.in_ok-read_to_end.ensures.whole in
-    omega (arith, w.fed.rising, c.end.ensures.write_failed w.text w.fed.stands e)
+    omega (arith, w.fed.rising, c.end.ensures.write_failed w.text w.fed.represented e)
 
 pub returns-clause-of_text : goal.returns-clause-of_text
 returns-clause-of_text g c =
     let w = c.in_ok-read_to_end.ensures.whole in
-    end_some w.text (g.K.Sink.taken c.args.sink.now) (g.K.Sink.taken c.end.new.sink) c.end.result (c.end.ensures.reported w.text (g.K.Sink.taken c.args.sink.now) w.fed.stands w.fed.shown)
+    end_some w.text (g.K.Sink.taken c.args.sink.now) (g.K.Sink.taken c.end.new.sink) c.end.result (c.end.ensures.reported w.text (g.K.Sink.taken c.args.sink.now) w.fed.represented w.fed.shown)
 
 pub returns-clause-of_given : goal.returns-clause-of_given
 returns-clause-of_given g c =
     let w = c.in_ok-read_to_end.ensures.whole in
     end_given w.text (g.K.Sink.taken c.args.sink.now) (g.K.Sink.taken c.read_to_end.new.out) (g.K.Sink.taken c.end.new.sink) _ c.end.result (none_sound w.text w.sound) w.fed.shown
-    (c.end.ensures.refused w.text w.fed.stands) (same_taken c.end.result (g.K.Sink.taken) c.read_to_end.new.out c.end.new.sink c.end.ensures.unwritten) (c.end.ensures.taken w.text (g.K.Sink.taken c.args.sink.now) w.fed.stands w.fed.shown)
+    (c.end.ensures.refused w.text w.fed.represented) (same_taken c.end.result (g.K.Sink.taken) c.read_to_end.new.out c.end.new.sink c.end.ensures.unwritten) (c.end.ensures.taken w.text (g.K.Sink.taken c.args.sink.now) w.fed.represented w.fed.shown)
 
 pub returns-clause-called : goal.returns-clause-called
 returns-clause-called g c = c.read_to_end.ensures.called
@@ -105,7 +105,7 @@ returns-in_err-read_to_end-clause-called g c = c.read_to_end.ensures.called
 pub returns-clause-uncounted : goal.returns-clause-uncounted
 returns-clause-uncounted g c text shown =
     let w = c.in_ok-read_to_end.ensures.whole in
-    subst (λ x. OnOk c.end.result (c.end.new.uncounted ≡ trace_uncounted x)) (sym (w.source text shown).0) (c.end.ensures.uncounted w.text w.fed.stands)
+    subst (λ x. OnOk c.end.result (c.end.new.uncounted ≡ trace_uncounted x)) (sym (w.source text shown).0) (c.end.ensures.uncounted w.text w.fed.represented)
 
 pub returns-in_err-read_to_end-clause-uncounted : goal.returns-in_err-read_to_end-clause-uncounted
 returns-in_err-read_to_end-clause-uncounted g c text shown = IfOk-from_err _ _ c.from_residual.ensures.0

@@ -12,7 +12,7 @@ use Rattle.live_report.proofs.ScanLemmas.{end_kinds, end_of_text, end_part, end_
 use Rattle.trace_scan.proofs.scan.scan_alone.Goals as goal
 
 pub read_to_end-requires-clause-nothing : goal.read_to_end-requires-clause-nothing
-read_to_end-requires-clause-nothing g c = (c.new.ensures.stands, refl)
+read_to_end-requires-clause-nothing g c = (c.new.ensures.represented, refl)
 
 pub read_to_end-requires-clause-expected : goal.read_to_end-requires-clause-expected
 read_to_end-requires-clause-expected g c text begins = tt

@@ -4,7 +4,7 @@ use Rattle.line_model.specs.work.Work.{numbers_of}
 use Rattle.line_model.specs.declared.fault.Fault.TheVariants.{Memory}
 use Rattle.workers.specs.Vouching.{HasPiece}
 use Rattle.workers.proofs.Pieces.{has-added, length-numbers}
-use Rattle.workers.proofs.Faults.{fault_next, fault_stands}
+use Rattle.workers.proofs.Faults.{fault_next, fault_represents}
 use Rattle.workers.proofs.worker.work_on.Goals as goal
 
 pub loop-init : goal.loop-init
@@ -31,7 +31,7 @@ pub handle_unless-requires-clause-queue : goal.handle_unless-requires-clause-que
 handle_unless-requires-clause-queue g c = subst (g.W.Handler.handles c.args.handler.now) (sym (c.take.ensures.queue ∙ c.loop.invariant.queue)) c.requires.handler
 
 pub handle_unless-requires-clause-memory : goal.handle_unless-requires-clause-memory
-handle_unless-requires-clause-memory g c = fault_stands c.loop.worker.fault _ (λ f. f ≡ Memory) c.loop.invariant.fault
+handle_unless-requires-clause-memory g c = fault_represents c.loop.worker.fault _ (λ f. f ≡ Memory) c.loop.invariant.fault
 
 pub loop-preserved-in-Got : goal.loop-preserved-in-Got
 loop-preserved-in-Got g c =

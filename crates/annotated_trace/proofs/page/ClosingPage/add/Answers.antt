@@ -13,7 +13,7 @@ returns-then-is_empty g c = record {
 
 pub invariant_of-self : goal.invariant_of-self
 invariant_of-self g c = record {
-  stands = ∥∥₁_map c.args.self.now.stands (λ h.
+  represented = ∥∥₁_map c.args.self.now.represented (λ h.
       record {
         notes = record { lines = h.notes.lines; line = with_words h.notes.line c.args.words.now };
         noted = words_noted g.S.LentSink.before _ _ _ _ _ _ c.args.self.now.said c.min.result h.notes c.args.words.now h.noted c.min.ensures (some_there (length (take c.min.result c.args.words.now)) (sym c.is_empty.ensures ∙ c.if-is_empty.false)) c.begin.ensures c.put_plain.ensures;

@@ -5,7 +5,7 @@ use Rattle.annotated_trace.proofs.page.ClosingPage.next.Goals as goal
 
 pub invariant_of-self : goal.invariant_of-self
 invariant_of-self g c = record {
-  stands = ∥∥₁_map c.args.self.now.stands (λ h.
+  represented = ∥∥₁_map c.args.self.now.represented (λ h.
       record {
         notes = ended_notes h.notes;
         noted = next_noted g.S.LentSink.before _ _ _ _ _ _ c.args.self.now.said h.notes h.noted c.begin.ensures c.put.ensures;

@@ -9,7 +9,7 @@ use Rattle.annotated_trace.proofs.printing.TracePrinter.begin.Goals as goal
 pub returns-clause-fed : goal.returns-clause-fed
 returns-clause-fed g c choice text s one = record {
   trace = (
-    c.in_ok-feed.ensures.stands text s.trace.0,
+    c.in_ok-feed.ensures.represented text s.trace.0,
     subst (g.P.Printer.printed c.args.self.now.printer) (sym (ended-more text c.args.more.now one)) s.trace.1,
     s.trace.2,
   );

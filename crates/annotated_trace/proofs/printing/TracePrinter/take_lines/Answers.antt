@@ -20,7 +20,7 @@ returns-in_err-take_line-clause-refused g c choice text s =
     let end = line_end front c.in-Some.back.now rest c.in-Some.ensures.0 in
     passed_on c.from_residual.result c.in_err-take_line.field-0.0 _ c.from_residual.ensures.1
     (line_refusal (HasFollowed g.O.TraceObserver g.P.Printer choice) (IsPrintOf (g.P.Printer.form choice) []) c.args.self.now c.loop-front.self (g.K.Sink.taken c.args.sink.now) (g.K.Sink.taken c.loop-front.sink) c.args.chunk.now rest front c.in-Some.back.now (take (length front + 1) rest) text c.in_err-take_line.field-0.0 p c.in-Some.ensures.0 end
-    (c.in_err-take_line.ensures.refused choice (text ++ p.fed) (p.stands text s)))
+    (c.in_err-take_line.ensures.refused choice (text ++ p.fed) (p.represented text s)))
 
 pub returns-in_err-take_line-clause-stopped : goal.returns-in_err-take_line-clause-stopped
 returns-in_err-take_line-clause-stopped g c choice text before s h =
@@ -28,10 +28,10 @@ returns-in_err-take_line-clause-stopped g c choice text before s h =
     let front = c.in-Some.front.now in
     let rest = c.loop-front.rest.now in
     let end = line_end front c.in-Some.back.now rest c.in-Some.ensures.0 in
-    let stands = p.stands text s in
+    let represented = p.represented text s in
     passed_on c.from_residual.result c.in_err-take_line.field-0.0 _ c.from_residual.ensures.1
     (line_stopped (HasFollowed g.O.TraceObserver g.P.Printer choice) (IsPrintOf (g.P.Printer.form choice) []) c.args.self.now c.loop-front.self (g.K.Sink.taken c.args.sink.now) (g.K.Sink.taken c.loop-front.sink) before c.args.chunk.now rest front c.in-Some.back.now (take (length front + 1) rest) text c.take_line.new.self.held.items
-    c.in_err-take_line.field-0.0 p c.in-Some.ensures.0 end c.in-Some.ensures.1 s (g.met.O.TraceObserver.sound c.loop-front.self.trace (text ++ p.fed) stands.trace.0) h (c.in_err-take_line.ensures.refused choice (text ++ p.fed) stands) c.in_err-take_line.ensures.not_held)
+    c.in_err-take_line.field-0.0 p c.in-Some.ensures.0 end c.in-Some.ensures.1 s (g.met.O.TraceObserver.sound c.loop-front.self.trace (text ++ p.fed) represented.trace.0) h (c.in_err-take_line.ensures.refused choice (text ++ p.fed) represented) c.in_err-take_line.ensures.not_held)
 
 pub loop-front-preserved : goal.loop-front-preserved
 loop-front-preserved g c =
@@ -68,10 +68,10 @@ returns-clause-printed g c choice text before s h =
 pub returns-clause-stopped : goal.returns-clause-stopped
 returns-clause-stopped g c choice text before s h =
     let p = c.loop-front.invariant.passed choice in
-    let stands = p.stands text s in
-    on_err c.begin.result _ _ (c.begin.ensures.refused choice (text ++ p.fed) stands) (λ f fault.
+    let represented = p.represented text s in
+    on_err c.begin.result _ _ (c.begin.ensures.refused choice (text ++ p.fed) represented) (λ f fault.
     rest_stopped (HasFollowed g.O.TraceObserver g.P.Printer choice) (IsPrintOf (g.P.Printer.form choice) []) c.args.self.now c.loop-front.self (g.K.Sink.taken c.args.sink.now) (g.K.Sink.taken c.loop-front.sink) before c.args.chunk.now c.loop-front.rest.now text c.begin.new.self.held.items f p c.in_default.ensures s
-    (g.met.O.TraceObserver.sound c.loop-front.self.trace (text ++ p.fed) stands.trace.0) h c.begin.ensures.held fault)
+    (g.met.O.TraceObserver.sound c.loop-front.self.trace (text ++ p.fed) represented.trace.0) h c.begin.ensures.held fault)
 
 pub returns-in_err-take_line-clause-kinds : goal.returns-in_err-take_line-clause-kinds
 returns-in_err-take_line-clause-kinds g c = passed_on c.from_residual.result c.in_err-take_line.field-0.0 _ c.from_residual.ensures.1 (text_kind c.in_err-take_line.field-0.0 c.in_err-take_line.ensures.kinds)
@@ -97,23 +97,23 @@ loop-front-smaller g c = omega (arith, ap (λ (l : List ℕ). length l) c.in-Som
 pub take_line-requires : goal.take_line-requires
 take_line-requires g c =
     let p = c.loop-front.invariant.passed c.requires.0 in
-    (c.requires.0, c.requires.1 ++ p.fed, p.stands c.requires.1 c.requires.2)
+    (c.requires.0, c.requires.1 ++ p.fed, p.represented c.requires.1 c.requires.2)
 
 pub begin-requires : goal.begin-requires
 begin-requires g c =
     let p = c.loop-front.invariant.passed c.requires.0 in
-    (c.requires.0, c.requires.1 ++ p.fed, p.stands c.requires.1 c.requires.2)
+    (c.requires.0, c.requires.1 ++ p.fed, p.represented c.requires.1 c.requires.2)
 
 pub returns-clause-fed : goal.returns-clause-fed
 returns-clause-fed g c choice text s =
     let p = c.loop-front.invariant.passed choice in
-    on_ok c.begin.result _ _ (c.begin.ensures.fed choice (text ++ p.fed) (p.stands text s) c.in_default.ensures)
+    on_ok c.begin.result _ _ (c.begin.ensures.fed choice (text ++ p.fed) (p.represented text s) c.in_default.ensures)
     (λ h. subst (WasFed (HasFollowed g.O.TraceObserver g.P.Printer choice) c.begin.new.self) (append_assoc text p.fed c.loop-front.rest.now ∙ ap (λ xs. text ++ xs) (sym p.whole)) h)
 
 pub returns-clause-refused : goal.returns-clause-refused
 returns-clause-refused g c choice text s =
     let p = c.loop-front.invariant.passed choice in
-    on_err c.begin.result _ _ (c.begin.ensures.refused choice (text ++ p.fed) (p.stands text s))
+    on_err c.begin.result _ _ (c.begin.ensures.refused choice (text ++ p.fed) (p.represented text s))
     (λ f fault. rest_refusal (HasFollowed g.O.TraceObserver g.P.Printer choice) (IsPrintOf (g.P.Printer.form choice) []) c.args.self.now c.loop-front.self (g.K.Sink.taken c.args.sink.now) (g.K.Sink.taken c.loop-front.sink) c.args.chunk.now c.loop-front.rest.now text f p fault)
 
 pub returns-clause-kinds : goal.returns-clause-kinds

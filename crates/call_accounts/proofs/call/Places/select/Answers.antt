@@ -4,7 +4,7 @@ use Rattle.std.specs.BTreeMap.{get, is_at}
 use Rattle.call_accounts.specs.Places.{IsFound, place_order}
 use Rattle.call_accounts.specs.SoFar.{Represents}
 use Rattle.call_accounts.specs.declared.so_far.CallsSoFar.{CallsSoFar}
-use Rattle.call_accounts.proofs.PlaceLemmas.{turned, apart_from}
+use Rattle.call_accounts.proofs.PlaceLemmas.{current, apart_from}
 use Rattle.call_accounts.proofs.call.Places.select.Goals as goal
 use Rattle.call_accounts.proofs.call.Places.select.Goals.{else-self-epoch-via-then-self-epoch+else-self-channel, else-self-epoch-via-else-self-epoch, in-Some, in-None+in_ok-clone-in-None}
 
@@ -30,11 +30,11 @@ pub returns-clause-others : goal.returns-clause-others
 returns-clause-others g c e k other =
     let t = c.args.self.now in
     ap (λ b. if b then Some c.replace-here.new.dest else get place_order c.insert.new.self (e, k)) other
-    ∙ turned t.epoch t.channel c.args.epoch c.args.channel t.here t.others c.remove.new.self c.insert.new.self c.remove.ensures.updates.0
+    ∙ current t.epoch t.channel c.args.epoch c.args.channel t.here t.others c.remove.new.self c.insert.new.self c.remove.ensures.updates.0
     (λ q. c.in_ok-insert.ensures.updates.0 q ∙ ap (λ h. cond (is_at (place_order (t.epoch, t.channel)) q) (Some h) (get place_order c.remove.new.self q)) c.replace-here.ensures.value) e k other
 
-pub returns-in_err-clone-in-None-clause-turned : goal.returns-in_err-clone-in-None-clause-turned
-returns-in_err-clone-in-None-clause-turned g c = IfOk-from_err _ _ c.from_residual.ensures.0
+pub returns-in_err-clone-in-None-clause-current : goal.returns-in_err-clone-in-None-clause-current
+returns-in_err-clone-in-None-clause-current g c = IfOk-from_err _ _ c.from_residual.ensures.0
 
 pub returns-in_err-clone-in-None-clause-here : goal.returns-in_err-clone-in-None-clause-here
 returns-in_err-clone-in-None-clause-here g c = IfOk-from_err _ _ c.from_residual.ensures.0
@@ -42,8 +42,8 @@ returns-in_err-clone-in-None-clause-here g c = IfOk-from_err _ _ c.from_residual
 pub returns-in_err-clone-in-None-clause-others : goal.returns-in_err-clone-in-None-clause-others
 returns-in_err-clone-in-None-clause-others g c = IfOk-from_err _ _ c.from_residual.ensures.0
 
-pub returns-in_err-insert-clause-turned : goal.returns-in_err-insert-clause-turned
-returns-in_err-insert-clause-turned g c = IfOk-from_err _ _ c.from_residual-in_err-insert.ensures.0
+pub returns-in_err-insert-clause-current : goal.returns-in_err-insert-clause-current
+returns-in_err-insert-clause-current g c = IfOk-from_err _ _ c.from_residual-in_err-insert.ensures.0
 
 pub returns-in_err-insert-clause-here : goal.returns-in_err-insert-clause-here
 returns-in_err-insert-clause-here g c = IfOk-from_err _ _ c.from_residual-in_err-insert.ensures.0

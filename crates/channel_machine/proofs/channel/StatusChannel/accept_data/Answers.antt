@@ -9,10 +9,10 @@ use Rattle.data_transfer.specs.Assembler.{IsPut, begun_by}
 use Rattle.data_transfer.specs.declared.sequence.Put.TheVariants.{Going, Complete, Mixed}
 use Rattle.channel_machine.specs.Events.{event_at}
 use Rattle.channel_machine.specs.Messages.{message_reports}
-use Rattle.channel_machine.specs.TermsStand.{is_pad}
+use Rattle.channel_machine.specs.TermsRepresent.{is_pad}
 use Rattle.channel_machine.specs.Transfers.{Transfer, IsAccepted, packet, counted_in_force}
-use Rattle.channel_machine.specs.Channels.{Known, known, Stands}
-use Rattle.channel_machine.proofs.InForce.{pad_stands}
+use Rattle.channel_machine.specs.Channels.{Known, known, StatusRepresents}
+use Rattle.channel_machine.proofs.InForce.{pad_represents}
 use Rattle.channel_machine.proofs.AcceptingData.{in_force, refused, unlike, accepted_data, going_is, no_message_is, message_is}
 use Rattle.channel_machine.proofs.channel.StatusChannel.accept_data.Goals as goal
 
@@ -22,7 +22,7 @@ returns-in-Err-clause-accepted_data g c k s =
     let before = g.S.StatusStore.status i.status in
     let after = g.S.StatusStore.status c.data.new.self in
     let old : Known = known i.channel before i.assembler i.settings in
-    let st : Stands old k = subst (λ o. Stands o k) (sym c.self.view_is) s in
+    let st : StatusRepresents old k = subst (λ o. StatusRepresents o k) (sym c.self.view_is) s in
     let h : AcceptedData = packet c.args.side c.args.header.now c.args.user_data.now in
     let r = counted_in_force before.terms.interface c.args.side c.args.header.now.send c.args.header.now.receive k in
     subst (λ o. IsAccepted (Some c.in-Err.code) o.terms.interface c.args.origin o.transfer o.transfer c.args.events.now.items c.args.events.now.items c.args.side h (counted_in_force o.terms.interface c.args.side c.args.header.now.send c.args.header.now.receive k) k) c.self.view_is
@@ -35,7 +35,7 @@ returns-in-Mixed-clause-accepted_data g c k s =
     let before = g.S.StatusStore.status i.status in
     let after = g.S.StatusStore.status c.data.new.self in
     let old : Known = known i.channel before i.assembler i.settings in
-    let st : Stands old k = subst (λ o. Stands o k) (sym c.self.view_is) s in
+    let st : StatusRepresents old k = subst (λ o. StatusRepresents o k) (sym c.self.view_is) s in
     let h : AcceptedData = packet c.args.side c.args.header.now c.args.user_data.now in
     let r = counted_in_force before.terms.interface c.args.side c.args.header.now.send c.args.header.now.receive k in
     let b : IsPut {A = g.row.A.Denot} Mixed i.assembler c.put.new.self c.args.side h k.accepted =
@@ -55,7 +55,7 @@ returns-in-Going-clause-accepted_data g c k s =
     let before = g.S.StatusStore.status i.status in
     let after = g.S.StatusStore.status c.data.new.self in
     let old : Known = known i.channel before i.assembler i.settings in
-    let st : Stands old k = subst (λ o. Stands o k) (sym c.self.view_is) s in
+    let st : StatusRepresents old k = subst (λ o. StatusRepresents o k) (sym c.self.view_is) s in
     let h : AcceptedData = packet c.args.side c.args.header.now c.args.user_data.now in
     let r = counted_in_force before.terms.interface c.args.side c.args.header.now.send c.args.header.now.receive k in
     let b : IsPut {A = g.row.A.Denot} Going i.assembler c.put.new.self c.args.side h k.accepted =
@@ -75,12 +75,12 @@ returns-else-carries_message-2-clause-accepted_data g c k s =
     let before = g.S.StatusStore.status i.status in
     let after = g.S.StatusStore.status c.data.new.self in
     let old : Known = known i.channel before i.assembler i.settings in
-    let st : Stands old k = subst (λ o. Stands o k) (sym c.self.view_is) s in
+    let st : StatusRepresents old k = subst (λ o. StatusRepresents o k) (sym c.self.view_is) s in
     let h : AcceptedData = packet c.args.side c.args.header.now c.args.user_data.now in
     let r = counted_in_force before.terms.interface c.args.side c.args.header.now.send c.args.header.now.receive k in
     let b : IsPut (Complete c.in-Complete.sequence) i.assembler c.put.new.self c.args.side h k.accepted =
     subst (λ q. IsPut q i.assembler c.put.new.self c.args.side h k.accepted) c.in-Complete.is (c.in_ok-put.ensures.put k.accepted st.transfer.sequences) in
-    let pad : c.is_pad_call.result ≡ is_pad_call k = c.is_pad_call.ensures ∙ ap (λ o. is_pad o) c.call.ensures ∙ pad_stands before.terms k st.terms in
+    let pad : c.is_pad_call.result ≡ is_pad_call k = c.is_pad_call.ensures ∙ ap (λ o. is_pad o) c.call.ensures ∙ pad_represents before.terms k st.terms in
     let new : Transfer = record old.transfer { flow = after.flow; assembler = c.put.new.self } in
     subst (λ o. IsAccepted None o.terms.interface c.args.origin o.transfer new c.args.events.now.items c.push_reserved-in-Complete.new.self.items c.args.side h (counted_in_force o.terms.interface c.args.side c.args.header.now.send c.args.header.now.receive k) k) c.self.view_is
     (accepted_data c.in_default.field-0 before.terms.interface c.args.origin old.transfer new c.args.events.now.items c.push_reserved-in-Complete.new.self.items
@@ -97,12 +97,12 @@ returns-then-carries_message-2-clause-accepted_data g c k s =
     let before = g.S.StatusStore.status i.status in
     let after = g.S.StatusStore.status c.data.new.self in
     let old : Known = known i.channel before i.assembler i.settings in
-    let st : Stands old k = subst (λ o. Stands o k) (sym c.self.view_is) s in
+    let st : StatusRepresents old k = subst (λ o. StatusRepresents o k) (sym c.self.view_is) s in
     let h : AcceptedData = packet c.args.side c.args.header.now c.args.user_data.now in
     let r = counted_in_force before.terms.interface c.args.side c.args.header.now.send c.args.header.now.receive k in
     let b : IsPut (Complete c.in-Complete.sequence) i.assembler c.put.new.self c.args.side h k.accepted =
     subst (λ q. IsPut q i.assembler c.put.new.self c.args.side h k.accepted) c.in-Complete.is (c.in_ok-put.ensures.put k.accepted st.transfer.sequences) in
-    let pad : c.is_pad_call.result ≡ is_pad_call k = c.is_pad_call.ensures ∙ ap (λ o. is_pad o) c.call.ensures ∙ pad_stands before.terms k st.terms in
+    let pad : c.is_pad_call.result ≡ is_pad_call k = c.is_pad_call.ensures ∙ ap (λ o. is_pad o) c.call.ensures ∙ pad_represents before.terms k st.terms in
     let m : List ℕ = sequence_octets (begun_by i.assembler c.args.side k.accepted ++ h ∷ []) in
     let carried : (is_pad_call k && h.qualified) ≡ true = ap (λ a. a && h.qualified) (sym pad) ∙ sym c.is_message-carries_message.ensures ∙ c.if-carries_message-2.true in
     let octets = c.as_slice.ensures ∙ b.5 in
@@ -112,5 +112,5 @@ returns-then-carries_message-2-clause-accepted_data g c k s =
     k c.args.side c.args.header.now.send c.args.header.now.receive h (Some m) st.transfer refl
     (in_force (Unit {0}) (Ok c.in_default.field-0) before.terms.interface old.transfer after.flow k c.args.side c.args.header.now.send c.args.header.now.receive st.transfer (c.in_default.ensures.counts (counts_of k) st.transfer.flow))
     b.0 (message_is before.terms.interface old.transfer k c.args.side h st.transfer carried b.1) c.data.ensures.rest.modulus c.data.ensures.rest.windows b.2 c.put.ensures.sizes
-    (c.report_message.ensures.stands m k.pad_messages octets st.transfer.settings)
+    (c.report_message.ensures.represented m k.pad_messages octets st.transfer.settings)
     (λ v. c.report_message.ensures.reports m k.pad_messages octets st.transfer.settings ∙ ap (λ l. l ++ map (event_at c.args.origin) (message_reports c.args.side (length c.args.user_data.now) k.pad_messages m)) c.in_ok-reserve.ensures.items))

@@ -6,7 +6,7 @@ use Rattle.line_model.specs.declared.event.What.TheVariants.{Data}
 use Rattle.line_model.specs.packets.Formats.{is_pad_call}
 use Rattle.data_transfer.specs.Assembly.{unqualified}
 use Rattle.channel_machine.specs.Transfers.{counted_in_force}
-use Rattle.channel_machine.specs.Channels.{Known, known, Stands}
+use Rattle.channel_machine.specs.Channels.{Known, known, StatusRepresents}
 use Rattle.channel_machine.proofs.Counting.{answered_err}
 use Rattle.channel_machine.proofs.AcceptingData.{in_force, accepted, alike_of, unlike, no_message_is, without_q}
 use Rattle.channel_machine.proofs.Taking.{judged_data, passes_accepted}
@@ -17,7 +17,7 @@ returns-then-not-is_alike-clause-judged g c k q s =
     let i = c.self.inside in
     let old : Known = known i.channel (g.S.StatusStore.status i.status) i.assembler i.settings in
     let after = g.S.StatusStore.status c.data.new.self in
-    let st = subst (λ o. Stands o k) (sym c.self.view_is) s in
+    let st = subst (λ o. StatusRepresents o k) (sym c.self.view_is) s in
     let x = c.item.inside.side in
     let r : Item = c.args.item.now in
     let h = c.args.header.now in
@@ -36,7 +36,7 @@ returns-in-Err-clause-judged g c k q s =
     let i = c.self.inside in
     let old : Known = known i.channel (g.S.StatusStore.status i.status) i.assembler i.settings in
     let after = g.S.StatusStore.status c.data.new.self in
-    let st = subst (λ o. Stands o k) (sym c.self.view_is) s in
+    let st = subst (λ o. StatusRepresents o k) (sym c.self.view_is) s in
     let x = c.item.inside.side in
     let r : Item = c.args.item.now in
     let h = c.args.header.now in
@@ -54,7 +54,7 @@ returns-clause-judged g c k q s =
     let i = c.self.inside in
     let old : Known = known i.channel (g.S.StatusStore.status i.status) i.assembler i.settings in
     let after = g.S.StatusStore.status c.data.new.self in
-    let st = subst (λ o. Stands o k) (sym c.self.view_is) s in
+    let st = subst (λ o. StatusRepresents o k) (sym c.self.view_is) s in
     let x = c.item.inside.side in
     let r : Item = c.args.item.now in
     let h = c.args.header.now in

@@ -11,8 +11,8 @@ use Rattle.channel_machine.specs.Channels.{Known}
 use Rattle.channel_machine.specs.Events.{Reports, event_at}
 use Rattle.channel_machine.specs.GapChannels.{at_rest}
 use Rattle.channel_machine.specs.GapView.{InDoubt}
-use Rattle.channel_machine.specs.TermsStand.{is_pad, size_of}
-use Rattle.channel_machine.proofs.InForce.{pad_stands, size_stands}
+use Rattle.channel_machine.specs.TermsRepresent.{is_pad, size_of}
+use Rattle.channel_machine.proofs.InForce.{pad_represents, size_represents}
 use Rattle.channel_machine.proofs.Reporting as reporting
 use Rattle.channel_machine.proofs.SettledData.{carries, message_reported}
 use Rattle.channel_machine.proofs.channel.StatusChannel.add_settled.Goals as goal
@@ -32,9 +32,9 @@ returns-clause-adds g c k hs st continued =
     let q : AcceptedData = accepted_of i r h in
     let hidden = c.is_hidden.ensures ∙ ap (λ (d : Doubts). d.hidden) c.doubts.ensures in
     let size : c.size-size.result ≡ size_in_force i k x =
-    c.size-size.ensures ∙ ap (λ (o : Known). size_of o.terms.values x) c.self.view_is ∙ size_stands p.terms (at_rest k) x st.terms in
+    c.size-size.ensures ∙ ap (λ (o : Known). size_of o.terms.values x) c.self.view_is ∙ size_represents p.terms (at_rest k) x st.terms in
     let pad : c.is_pad_call.result ≡ is_pad_call k =
-    c.is_pad_call.ensures ∙ ap (λ o. is_pad o) (c.call.ensures ∙ ap (λ (o : Known). o.terms.call) c.self.view_is) ∙ pad_stands p.terms (at_rest k) st.terms in
+    c.is_pad_call.ensures ∙ ap (λ o. is_pad o) (c.call.ensures ∙ ap (λ (o : Known). o.terms.call) c.self.view_is) ∙ pad_represents p.terms (at_rest k) st.terms in
     let carried : c.is_message-carries_message.result ≡ (is_pad_call k && q.qualified) = c.is_message-carries_message.ensures ∙ ap (λ b. b && h.qualified) pad in
     let category : a ≡ may_be_category_a s.doubts.hidden (size_in_force i k x) q =
     c.may_be_category_a-is_category_a.ensures q refl refl (sym c.user_data_length-length.ensures) ∙ (λ j. may_be_category_a (hidden j) (size j) q) in

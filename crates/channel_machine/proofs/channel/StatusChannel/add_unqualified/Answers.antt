@@ -11,8 +11,8 @@ use Rattle.line_model.specs.packets.Classes.{header_length}
 use Rattle.channel_machine.specs.Channels.{Known}
 use Rattle.channel_machine.specs.GapChannels.{at_rest}
 use Rattle.channel_machine.specs.GapView.{InDoubt}
-use Rattle.channel_machine.specs.TermsStand.{size_of}
-use Rattle.channel_machine.proofs.InForce.{size_stands}
+use Rattle.channel_machine.specs.TermsRepresent.{size_of}
+use Rattle.channel_machine.proofs.InForce.{size_represents}
 use Rattle.channel_machine.proofs.channel.StatusChannel.add_unqualified.Goals as goal
 
 pub returns-clause-puts : goal.returns-clause-puts
@@ -26,7 +26,7 @@ returns-clause-puts g c k hs st continued =
     let x = c.args.side in
     let hidden = c.is_hidden.ensures ∙ ap (λ (d : Doubts). d.hidden) c.doubts.ensures in
     let size : c.size-size.result ≡ size_in_force i k x =
-    c.size-size.ensures ∙ ap (λ (o : Known). size_of o.terms.values x) c.self.view_is ∙ size_stands p.terms (at_rest k) x st.terms in
+    c.size-size.ensures ∙ ap (λ (o : Known). size_of o.terms.values x) c.self.view_is ∙ size_represents p.terms (at_rest k) x st.terms in
     let octets : q.octets ≡ [] = ap (λ l. drop (header_length i) l) (c.requires.said.silent c.requires.unqualified) ∙ drop-nil (header_length i) in
     record {
       category = c.may_be_category_a-is_category_a.ensures q refl refl (sym c.user_data_length-length.ensures) ∙ (λ j. may_be_category_a (hidden j) (size j) q);

@@ -8,11 +8,11 @@ use Rattle.line_model.specs.channels.Channels.{Channel, Opening}
 use Rattle.line_model.specs.declared.event.What.TheVariants.{Open}
 use Rattle.line_model.specs.channels.ChannelStep.{Outcome, and_then, ending, entering, opening}
 use Rattle.channel_machine.specs.Events.{event_at}
-use Rattle.channel_machine.specs.TermsStand.{TermsStand}
+use Rattle.channel_machine.specs.TermsRepresent.{TermsRepresent}
 use Rattle.channel_machine.specs.Agreed.{agreed_of}
-use Rattle.channel_machine.specs.Channels.{Known, Stands, Does}
+use Rattle.channel_machine.specs.Channels.{Known, StatusRepresents, Does}
 use Rattle.channel_machine.proofs.Calls.{after_events, bare_after, reopens}
-use Rattle.channel_machine.proofs.InForce.{opened_stands}
+use Rattle.channel_machine.proofs.InForce.{opened_represents}
 use Rattle.channel_machine.proofs.channel.StatusChannel.call_adrift.Goals as goal
 
 pub returns-clause-does : goal.returns-clause-does
@@ -23,11 +23,11 @@ returns-clause-does g c k xs shows bare s =
     let d : Does c.args.origin c.args.self.now c.end.new.self c.reserve.new.self.items c.end.new.events.items first = c.end.ensures.does k s in
     let o : Option Opening = Some (record { out = out; packet = xs }) in
     let target : Channel = record first.after { opening = o } in
-    let terms : TermsStand (agreed_of c.opened-terms.result) target =
-    opened_stands (agreed_of c.opened-terms.result) c.interface.result target out xs c.args.fields.now.sizes c.args.fields.now.windows
+    let terms : TermsRepresent (agreed_of c.opened-terms.result) target =
+    opened_represents (agreed_of c.opened-terms.result) c.interface.result target out xs c.args.fields.now.sizes c.args.fields.now.windows
     refl (bare_after Gap to false k bare) c.opened-terms.ensures.interface (ap (λ f. f.sizes) shows) (ap (λ f. f.windows) shows)
     (c.opened-terms.ensures.call xs shows) c.opened-terms.ensures.values in
-    let stands : Stands c.enter.new.self (entering to false target) = c.enter.ensures.stands target terms d.stands.transfer.settings in
+    let represented : StatusRepresents c.enter.new.self (entering to false target) = c.enter.ensures.represented target terms d.represented.transfer.settings in
     let done : Does c.args.origin c.args.self.now c.enter.new.self c.args.events.now.items c.push_reserved.new.self.items (and_then first (opening out xs)) =
     after_events c.args.origin c.args.self.now c.end.new.self c.enter.new.self c.args.events.now.items c.end.new.events.items c.push_reserved.new.self.items
     first.reported first.after (opening out xs) d.interface d.channel
@@ -35,7 +35,7 @@ returns-clause-does g c k xs shows bare s =
     (record {
       interface = c.enter.ensures.interface ∙ c.opened-terms.ensures.interface ∙ c.interface.ensures ∙ ap (λ (o : Known). o.terms.interface) c.self.view_is;
       channel = c.enter.ensures.channel;
-      stands = subst (λ a. Stands c.enter.new.self a) (reopens Gap to k o) stands;
+      represented = subst (λ a. StatusRepresents c.enter.new.self a) (reopens Gap to k o) represented;
       reports = c.push_reserved.ensures.items ∙ ap (λ v. c.end.new.events.items ++ v ∷ [])
           (c.event.ensures ∙ ap (λ v. event_at c.args.origin v)
           (λ j. Open out ((c.copied.ensures ∙ ap (λ f. f.called) shows) j) ((c.copied-2.ensures ∙ ap (λ f. f.calling) shows) j) (shows j).reverse_charging));

@@ -4,7 +4,7 @@ use Rattle.line_model.specs.basics.Records.{Item}
 use Rattle.line_model.specs.packets.Classes.{packet_class}
 use Rattle.line_model.specs.packets.Says.{header_in, receive_in}
 use Rattle.line_model.specs.channels.GapStep.{failing_in_doubt, receive_by, transferring_in_doubt}
-use Rattle.channel_machine.specs.GapChannels.{StandsSettled}
+use Rattle.channel_machine.specs.GapChannels.{RepresentsSettled}
 use Rattle.channel_machine.specs.GapView.{InDoubt}
 use Rattle.channel_machine.specs.SettledSteps.{IsControlled, SettledDoes}
 use Rattle.channel_machine.proofs.SettledRows.{controlled, other_receive}
@@ -33,4 +33,4 @@ returns-in-Err-clause-does g c k st =
     let same : c.control.new.self ≡ c.args.settled.now = c.in-Err.ensures.unchanged in
     subst (λ o. IfOk c.fail_settled.result (λ _. SettledDoes j.origin c.args.self.now c.fail_settled.new.self c.fail_settled.new.settled c.args.events.now.items c.fail_settled.new.events.items o)) (sym fails)
     (subst (λ (s : InDoubt). IfOk c.fail_settled.result (λ _. SettledDoes j.origin c.args.self.now c.fail_settled.new.self c.fail_settled.new.settled c.args.events.now.items c.fail_settled.new.events.items (failing_in_doubt j.side j.state c.in-Err.code s.doubts k))) same
-    (c.fail_settled.ensures.does k (subst (λ (s : InDoubt). StandsSettled c.args.self.now s k) (sym same) st)))
+    (c.fail_settled.ensures.does k (subst (λ (s : InDoubt). RepresentsSettled c.args.self.now s k) (sym same) st)))

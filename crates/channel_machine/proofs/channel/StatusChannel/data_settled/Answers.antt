@@ -6,7 +6,7 @@ use Rattle.line_model.specs.packets.Says.{header_in}
 use Rattle.line_model.specs.channels.ChannelStep.{accepted_of}
 use Rattle.line_model.specs.channels.GapStep.{SettledOutcome, completed_for_data, data_in_doubt}
 use Rattle.packet_decode.proofs.SaidPackets.{data_said}
-use Rattle.channel_machine.specs.Channels.{Stands}
+use Rattle.channel_machine.specs.Channels.{StatusRepresents}
 use Rattle.channel_machine.specs.Events.{data_of, event_at}
 use Rattle.channel_machine.specs.GapChannels.{at_rest}
 use Rattle.channel_machine.specs.SettledData.{IsDataJudged, continued_by}
@@ -53,7 +53,7 @@ returns-then-header-clause-does g c k st =
     let h : DataHeader = c.in-Some.header in
     let judged : IsDataJudged (Ok c.in-Ok.flow) i held.doubts j.side h (accepted_of i r h) k = c.in-Ok.ensures.judged k (accepted_of i r h) refl st in
     let d = completed_for_data i.modulus held.doubts j.side h k in
-    let rest : Stands p (at_rest d) = subst (λ e. Stands p e) (sym (rest_for_data i.modulus held.doubts j.side h k)) st.rest in
+    let rest : StatusRepresents p (at_rest d) = subst (λ e. StatusRepresents p e) (sym (rest_for_data i.modulus held.doubts j.side h k)) st.rest in
     let header : header_in r.packet ≡ Some h = sym (c.header_of.ensures ∙ ap (λ (x : Item). header_in x.packet) c.item.view_is) ∙ c.in-Some.is in
     let added = c.in_ok-is_category_a.ensures.adds d (continued_by i held.doubts j.side h k) rest (continues i held j.side h (accepted_of i r h) k st.numbers st.sequences judged.1) in
     none_apart j.origin r.side p p c.accept.new.self es c.add_settled.new.events.items _
@@ -73,7 +73,7 @@ returns-clause-does g c k st =
     let h : DataHeader = c.in-Some.header in
     let judged : IsDataJudged (Ok c.in-Ok.flow) i held.doubts j.side h (accepted_of i r h) k = c.in-Ok.ensures.judged k (accepted_of i r h) refl st in
     let d = completed_for_data i.modulus held.doubts j.side h k in
-    let rest : Stands p (at_rest d) = subst (λ e. Stands p e) (sym (rest_for_data i.modulus held.doubts j.side h k)) st.rest in
+    let rest : StatusRepresents p (at_rest d) = subst (λ e. StatusRepresents p e) (sym (rest_for_data i.modulus held.doubts j.side h k)) st.rest in
     let header : header_in r.packet ≡ Some h = sym (c.header_of.ensures ∙ ap (λ (x : Item). header_in x.packet) c.item.view_is) ∙ c.in-Some.is in
     let puts = c.in_ok-is_category_a-2.ensures.puts d (continued_by i held.doubts j.side h k) rest (continues i held j.side h (accepted_of i r h) k st.numbers st.sequences judged.1) in
     let added = added_apart j.origin i j.side held c.add_unqualified.new.settled es _ (continued_by i held.doubts j.side h k) (accepted_of i r h) d c.if-header.false puts in

@@ -1,11 +1,11 @@
 use Rattle.std.proofs.Common.{◌≡◌, refl, sym, ◌∙◌, ap, subst, [], ◌∷◌, ◌++◌, append-nil, None}
 use Rattle.line_model.specs.channels.Channels.{Channel}
 use Rattle.line_model.specs.channels.ChannelStep.{entering}
-use Rattle.channel_machine.specs.TermsStand.{TermsStand, values_of}
+use Rattle.channel_machine.specs.TermsRepresent.{TermsRepresent, values_of}
 use Rattle.channel_machine.specs.Agreed.{agreed_of}
 use Rattle.channel_machine.specs.Channels.{Known, Does}
 use Rattle.channel_machine.proofs.Calls.{ends, ends_none, ended}
-use Rattle.channel_machine.proofs.InForce.{bare_stands}
+use Rattle.channel_machine.proofs.InForce.{bare_represents}
 use Rattle.channel_machine.proofs.channel.StatusChannel.end.Goals as goal
 
 pub returns-in-None-clause-does : goal.returns-in-None-clause-does
@@ -16,7 +16,7 @@ returns-in-None-clause-does g c k s =
     (record {
       interface = c.enter.ensures.interface ∙ ap (λ t. t.interface) terms_are;
       channel = c.enter.ensures.channel;
-      stands = c.enter.ensures.stands k (subst (λ t. TermsStand t k) (sym terms_are) s.terms) s.transfer.settings;
+      represented = c.enter.ensures.represented k (subst (λ t. TermsRepresent t k) (sym terms_are) s.terms) s.transfer.settings;
       reports = sym (append-nil c.args.events.now.items);
     })
 
@@ -28,8 +28,8 @@ returns-in-Some-clause-does g c k s =
     record {
       interface = c.enter-in-Some.ensures.interface ∙ c.new.ensures.interface ∙ ap (λ t. t.interface) terms_are;
       channel = c.enter-in-Some.ensures.channel ∙ ap (λ (o : Known). o.channel) c.self.view_is;
-      stands = c.enter-in-Some.ensures.stands bare
-          (bare_stands (agreed_of c.new.result) bare refl refl c.new.ensures.call (c.new.ensures.values ∙ ap (λ i. values_of i) (sym c.new.ensures.interface)))
+      represented = c.enter-in-Some.ensures.represented bare
+          (bare_represents (agreed_of c.new.result) bare refl refl c.new.ensures.call (c.new.ensures.values ∙ ap (λ i. values_of i) (sym c.new.ensures.interface)))
           c.new-self-inside.ensures;
       reports = c.push_reserved.ensures.items ∙ ap (λ v. c.args.events.now.items ++ v ∷ []) c.event.ensures;
     } in

@@ -3,7 +3,7 @@ use Rattle.std.specs.Prelude.{IfOk}
 use Rattle.line_model.specs.channels.ChannelStep.{call_change, entering, changing}
 use Rattle.line_model.specs.packets.Classes.{packet_class}
 use Rattle.channel_machine.specs.Reached.{is_from}
-use Rattle.channel_machine.specs.TermsStand.{TermsStand}
+use Rattle.channel_machine.specs.TermsRepresent.{TermsRepresent}
 use Rattle.channel_machine.specs.Agreed.{agreed_of}
 use Rattle.channel_machine.specs.Moves.{IsChange}
 use Rattle.channel_machine.specs.Channels.{Known, Does}
@@ -34,6 +34,6 @@ returns-in-Keeps-clause-does g c k item of r from s =
     (record {
       interface = c.enter.ensures.interface ∙ ap (λ t. t.interface) terms_are;
       channel = c.enter.ensures.channel;
-      stands = c.enter.ensures.stands k (subst (λ t. TermsStand t k) (sym terms_are) s.terms) s.transfer.settings;
+      represented = c.enter.ensures.represented k (subst (λ t. TermsRepresent t k) (sym terms_are) s.terms) s.transfer.settings;
       reports = sym (append-nil c.args.events.now.items);
     })

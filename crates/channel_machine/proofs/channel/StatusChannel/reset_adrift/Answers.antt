@@ -3,7 +3,7 @@ use Rattle.line_model.specs.channels.ChannelStep.{Outcome}
 use Rattle.line_model.specs.channels.GapStep.{brought_up, in_state}
 use Rattle.channel_machine.specs.Agreed.{agreed_of}
 use Rattle.channel_machine.specs.Channels.{Does, Known}
-use Rattle.channel_machine.specs.TermsStand.{TermsStand}
+use Rattle.channel_machine.specs.TermsRepresent.{TermsRepresent}
 use Rattle.channel_machine.proofs.Calls.{after_events}
 use Rattle.channel_machine.proofs.channel.StatusChannel.reset_adrift.Goals as goal
 
@@ -18,6 +18,6 @@ returns-clause-does g c k s =
     (record {
       interface = c.enter.ensures.interface ∙ ap (λ t. t.interface) terms_are;
       channel = c.enter.ensures.channel;
-      stands = c.enter.ensures.stands first.after (subst (λ t. TermsStand t first.after) (sym terms_are) d.stands.terms) d.stands.transfer.settings;
+      represented = c.enter.ensures.represented first.after (subst (λ t. TermsRepresent t first.after) (sym terms_are) d.represented.terms) d.represented.transfer.settings;
       reports = sym (append-nil c.bring_up.new.events.items);
     })

@@ -53,7 +53,7 @@ returns-in-Ends-clause-does g c k st =
     let class = c.class.ensures ∙ ap (λ (u : Item). packet_class u.packet) c.item.view_is in
     subst (λ (o : SettledOutcome). SettledDoes c.args.row.now.origin p c.settle.new.self held es (es ++ []) o)
     (row_of p.terms.interface p.channel c.item.inside.side c.class.result c.judge-state.result.0 c.judge-state.result.1 Ends r held.doubts k (c.judge-state.ensures.judged (at_rest k) st.rest) (ap (λ (u : Item). u.side) c.item.view_is) class c.in-Ends.is)
-    (stays c.args.row.now.origin p c.settle.new.self held es (es ++ []) [] false k st c.settle.ensures.interface c.settle.ensures.channel (c.settle.ensures.stands (at_rest k) st.rest) refl)
+    (stays c.args.row.now.origin p c.settle.new.self held es (es ++ []) [] false k st c.settle.ensures.interface c.settle.ensures.channel (c.settle.ensures.represented (at_rest k) st.rest) refl)
 
 pub returns-in_default-clause-does : goal.returns-in_default-clause-does
 returns-in_default-clause-does g c k st =

@@ -7,15 +7,15 @@ use Rattle.channel_machine.specs.Certainties.{certainty_kept}
 use Rattle.channel_machine.specs.Events.{origin_at}
 use Rattle.channel_machine.specs.GapChannels.{GapKnown, interface_of, number_of}
 use Rattle.channel_machine.proofs.GapRows.{certain_row, no_gap}
-use Rattle.channel_machine.proofs.Machines.{stands_after, adds_events}
+use Rattle.channel_machine.proofs.Machines.{represents_after, adds_events}
 use Rattle.channel_machine.proofs.machine.GapChannelChannel.advance.Goals as goal
 
-pub returns-in-None-clause-stands : goal.returns-in-None-clause-stands
-returns-in-None-clause-stands g c k s =
+pub returns-in-None-clause-represented : goal.returns-in-None-clause-represented
+returns-in-None-clause-represented g c k s =
     let self : GapKnown = c.args.self.now in
     let r = c.args.item.now in
     let none : gap_of r.packet ≡ None = no_gap (gap_of r.packet) (sym c.in-None.is ∙ c.gap_in.ensures ∙ ap (λ (r : Item). option_map (λ c. is_none c) (gap_of r.packet)) c.item.view_is) in
-    stands_after c.handle.result (origin_at c.args.epoch (number_of self) r) r.side self _ c.args.events.now.items c.handle.new.events.items (row_step (interface_of self) (number_of self) k r)
+    represents_after c.handle.result (origin_at c.args.epoch (number_of self) r) r.side self _ c.args.events.now.items c.handle.new.events.items (row_step (interface_of self) (number_of self) k r)
     (certain_row c.handle.result c.args.epoch _ self _ c.args.events.now.items c.handle.new.events.items r k none c.self.view_is s (ap (λ t. certainty_kept t) c.in-Certain.is) refl refl c.handle.ensures.does)
 
 pub returns-in-None-clause-events : goal.returns-in-None-clause-events
@@ -26,12 +26,12 @@ returns-in-None-clause-events g c k s =
     adds_events c.handle.result (origin_at c.args.epoch (number_of self) r) self _ c.args.events.now.items c.handle.new.events.items (interface_of self) k r refl
     (certain_row c.handle.result c.args.epoch _ self _ c.args.events.now.items c.handle.new.events.items r k none c.self.view_is s (ap (λ t. certainty_kept t) c.in-Certain.is) refl refl c.handle.ensures.does)
 
-pub returns-in-Some-clause-stands : goal.returns-in-Some-clause-stands
-returns-in-Some-clause-stands g c k s =
+pub returns-in-Some-clause-represented : goal.returns-in-Some-clause-represented
+returns-in-Some-clause-represented g c k s =
     let self : GapKnown = c.args.self.now in
     let r = c.args.item.now in
     let rarely = c.handle_rarely in
-    stands_after rarely.result (origin_at c.args.epoch (number_of self) r) r.side self rarely.new.self c.args.events.now.items rarely.new.events.items (row_step (interface_of self) (number_of self) k r)
+    represents_after rarely.result (origin_at c.args.epoch (number_of self) r) r.side self rarely.new.self c.args.events.now.items rarely.new.events.items (row_step (interface_of self) (number_of self) k r)
     (rarely.ensures.does k s)
 
 pub returns-in-Some-clause-events : goal.returns-in-Some-clause-events
@@ -41,12 +41,12 @@ returns-in-Some-clause-events g c k s =
     let rarely = c.handle_rarely in
     adds_events rarely.result (origin_at c.args.epoch (number_of self) r) self rarely.new.self c.args.events.now.items rarely.new.events.items (interface_of self) k r refl (rarely.ensures.does k s)
 
-pub returns-in_default-clause-stands : goal.returns-in_default-clause-stands
-returns-in_default-clause-stands g c k s =
+pub returns-in_default-clause-represented : goal.returns-in_default-clause-represented
+returns-in_default-clause-represented g c k s =
     let self : GapKnown = c.args.self.now in
     let r = c.args.item.now in
     let rarely = c.handle_rarely-in_default in
-    stands_after rarely.result (origin_at c.args.epoch (number_of self) r) r.side self rarely.new.self c.args.events.now.items rarely.new.events.items (row_step (interface_of self) (number_of self) k r)
+    represents_after rarely.result (origin_at c.args.epoch (number_of self) r) r.side self rarely.new.self c.args.events.now.items rarely.new.events.items (row_step (interface_of self) (number_of self) k r)
     (rarely.ensures.does k s)
 
 pub returns-in_default-clause-events : goal.returns-in_default-clause-events

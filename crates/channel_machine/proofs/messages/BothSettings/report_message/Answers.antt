@@ -7,13 +7,13 @@ use Rattle.line_model.specs.channels.ChannelStep.{option_found}
 use Rattle.line_model.specs.channels.Pad.{form_fault, message_fault, settings_after}
 use Rattle.pad.proofs.Applied.{faulty}
 use Rattle.channel_machine.specs.Events.{Reports, event_at}
-use Rattle.channel_machine.specs.Messages.{SettingsStand, message_reports}
+use Rattle.channel_machine.specs.Messages.{SettingsRepresent, message_reports}
 use Rattle.channel_machine.proofs.Kept.{kept_fault, kept_whole, own_message_fault, faulted_settings, unfaulted_short}
 use Rattle.channel_machine.proofs.Reporting.{three}
 use Rattle.channel_machine.proofs.messages.BothSettings.report_message.Goals as goal
 
 pub returns-in-Err-clause-reports : goal.returns-in-Err-clause-reports
-returns-in-Err-clause-reports g c m ts kept stands =
+returns-in-Err-clause-reports g c m ts kept represented =
     let x = c.args.from in
     let e : form_fault m ≡ Some c.in-Err.fault = sym (kept_fault m) ∙ ap (λ l. form_fault l) (sym kept) ∙ c.in-Err.ensures.fault in
     let fs : Option Xcode → List What = λ o. option_to_list (option_found x o) in
@@ -27,26 +27,26 @@ returns-in-Err-clause-reports g c m ts kept stands =
     (subst (λ l. Reports c.args.origin c.args.events.now.items c.push_reserved.new.self.items (fs (Some c.in-Err.fault) ++ Data x c.args.size ∷ l))
     (sym (faulted_settings x ts m c.in-Err.fault e)) done)
 
-pub returns-in-Err-clause-stands : goal.returns-in-Err-clause-stands
-returns-in-Err-clause-stands g c m ts kept stands =
+pub returns-in-Err-clause-represented : goal.returns-in-Err-clause-represented
+returns-in-Err-clause-represented g c m ts kept represented =
     let x = c.args.from in
     let e : form_fault m ≡ Some c.in-Err.fault = sym (kept_fault m) ∙ ap (λ l. form_fault l) (sym kept) ∙ c.in-Err.ensures.fault in
     let faulted : is_none (form_fault m) ≡ false = ap (λ o. is_none o) e in
     record {
-      pad_t = stands.pad_t;
-      pad_n = stands.pad_n;
-      of_t = faulty c.args.self.now.of_t ts x m stands.of_t faulted (faulted_settings x ts m c.in-Err.fault e);
-      of_n = faulty c.args.self.now.of_n ts x m stands.of_n faulted (faulted_settings x ts m c.in-Err.fault e);
+      pad_t = represented.pad_t;
+      pad_n = represented.pad_n;
+      of_t = faulty c.args.self.now.of_t ts x m represented.of_t faulted (faulted_settings x ts m c.in-Err.fault e);
+      of_n = faulty c.args.self.now.of_n ts x m represented.of_n faulted (faulted_settings x ts m c.in-Err.fault e);
     }
 
 pub returns-in-Ok-clause-reports : goal.returns-in-Ok-clause-reports
-returns-in-Ok-clause-reports g c m ts kept stands =
+returns-in-Ok-clause-reports g c m ts kept represented =
     let whole : c.args.octets.now ≡ m = kept_whole m c.args.octets.now kept (unfaulted_short c.args.octets.now c.in-Ok.ensures.fault) in
     subst (λ l. Reports c.args.origin c.args.events.now.items c.report_well_formed.new.events.items (message_reports c.args.from c.args.size ts l))
-    (c.in-Ok.ensures.message ∙ whole) (c.report_well_formed.ensures.reports ts stands)
+    (c.in-Ok.ensures.message ∙ whole) (c.report_well_formed.ensures.reports ts represented)
 
-pub returns-in-Ok-clause-stands : goal.returns-in-Ok-clause-stands
-returns-in-Ok-clause-stands g c m ts kept stands =
+pub returns-in-Ok-clause-represented : goal.returns-in-Ok-clause-represented
+returns-in-Ok-clause-represented g c m ts kept represented =
     let whole : c.args.octets.now ≡ m = kept_whole m c.args.octets.now kept (unfaulted_short c.args.octets.now c.in-Ok.ensures.fault) in
-    subst (λ l. SettingsStand c.report_well_formed.new.self (ts ++ record { from = c.args.from; message = l } ∷ []))
-    (c.in-Ok.ensures.message ∙ whole) (c.report_well_formed.ensures.stands ts stands)
+    subst (λ l. SettingsRepresent c.report_well_formed.new.self (ts ++ record { from = c.args.from; message = l } ∷ []))
+    (c.in-Ok.ensures.message ∙ whole) (c.report_well_formed.ensures.represented ts represented)

@@ -1,6 +1,6 @@
 use Rattle.std.proofs.Common.{◌≡◌, sym, ◌∙◌, ap, subst}
 use Rattle.line_model.specs.channels.FlowControl.{no_counts}
-use Rattle.data_transfer.specs.FlowResidues.{Stands}
+use Rattle.data_transfer.specs.FlowResidues.{ResiduesRepresent}
 use Rattle.channel_machine.specs.Terms.{AreUsable}
 use Rattle.channel_run.specs.StatusWord.{state_in, owed_in}
 use Rattle.channel_machine.specs.PackedStatus.{call_in, values_in}
@@ -26,5 +26,5 @@ returns c =
       terms = λ j. record { interface = c.args.terms.now.interface; call = call j; values = values j };
       modulus = ap (λ f. f.modulus) c.new.ensures.flow ∙ c.new-flow.ensures.modulus;
       windows = ap (λ f. f.windows) c.new.ensures.flow ∙ c.new-flow.ensures.windows;
-      nothing_sent = subst (λ f. Stands f no_counts) (sym c.new.ensures.flow) c.new-flow.ensures.stands;
+      nothing_sent = subst (λ f. ResiduesRepresent f no_counts) (sym c.new.ensures.flow) c.new-flow.ensures.represented;
     }

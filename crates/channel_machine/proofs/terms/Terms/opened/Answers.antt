@@ -1,6 +1,6 @@
 use Rattle.std.proofs.Common.{sym, ◌∙◌, ap, subst}
 use Rattle.channel_machine.specs.Terms.{AreUsable}
-use Rattle.channel_machine.specs.TermsStand.{values_of, with_asked}
+use Rattle.channel_machine.specs.TermsRepresent.{values_of, with_asked}
 use Rattle.channel_machine.proofs.Usable.{usable_of, usable_asked}
 use Rattle.channel_machine.proofs.terms.Terms.opened.Goals as goal
 

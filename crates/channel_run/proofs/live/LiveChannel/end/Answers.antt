@@ -7,8 +7,8 @@ use Rattle.channel_run.proofs.live.LiveChannel.end.Goals as goal
 
 pub finish-requires : goal.finish-requires
 finish-requires g c =
-    let p = c.requires.stands.0 in
-    let s = c.requires.stands.1 in
+    let p = c.requires.represented.0 in
+    let s = c.requires.represented.1 in
     let done : Piece = record p { end = c.args.end } in
     let place = c.in_ok-close.ensures.place in
     record {

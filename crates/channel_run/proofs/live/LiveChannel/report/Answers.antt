@@ -8,8 +8,8 @@ use Rattle.channel_run.proofs.live.LiveChannel.report.Goals as goal
 
 pub report-requires : goal.report-requires
 report-requires g c =
-    let p = c.requires.stands.0 in
-    let s = c.requires.stands.1 in
+    let p = c.requires.represented.0 in
+    let s = c.requires.represented.1 in
     record {
       within = (
         piece_events (so_far p),

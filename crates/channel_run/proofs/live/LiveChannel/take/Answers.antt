@@ -45,8 +45,8 @@ returns-in-Some-clause-finding g c = λ p s.
     sym (ap (λ l. findings_of (l ++ data_events p.epoch p.channel c.args.item.now (Some c.in-Some.octets))) (returns-in-Some-clause-apart g c))
     ∙ ap findings_of (returns-in-Some-clause-events g c p s)
 
-pub returns-in-Some-clause-stands : goal.returns-in-Some-clause-stands
-returns-in-Some-clause-stands g c = λ p s small.
+pub returns-in-Some-clause-represented : goal.returns-in-Some-clause-represented
+returns-in-Some-clause-represented g c = λ p s small.
     let item : Item = c.args.item.now in
     let before : GapChannel = channel_so_far p in
     let n = c.in-Some.octets in
@@ -68,7 +68,7 @@ returns-in-Some-clause-stands g c = λ p s small.
       epoch = s.epoch;
       machine =
           subst (g.C.Channel.represents c.advance.new.self)
-          ((λ j. (row_step (s.interface j) (s.number j) before item).after) ∙ sym (channel_more p.interface p.channel (fresh_at p.interface p.start p.epoch p.channel) p.items item)) (step.stands before s.machine);
+          ((λ j. (row_step (s.interface j) (s.number j) before item).after) ∙ sym (channel_more p.interface p.channel (fresh_at p.interface p.start p.epoch p.channel) p.items item)) (step.represented before s.machine);
       counted = subst counts (sym (piece_more p item)) (subst (λ (l : List Event). counts (es ++ l)) (sym events) counted);
     }
 
@@ -85,8 +85,8 @@ returns-in_ok-finding-in-None-clause-finding g c = λ p s.
     c.as_slice.ensures.value ∙ sym (append-nil c.advance.new.events.items) ∙ returns-in_ok-finding-in-None-clause-events g c p s in
     one_finding p.interface p.epoch p.channel before c.args.item.now c.as_slice.result.now c.in_ok-finding-in-None.finding listed c.in_ok-finding-in-None.ensures.found
 
-pub returns-in_ok-finding-in-None-clause-stands : goal.returns-in_ok-finding-in-None-clause-stands
-returns-in_ok-finding-in-None-clause-stands g c = λ p s small.
+pub returns-in_ok-finding-in-None-clause-represented : goal.returns-in_ok-finding-in-None-clause-represented
+returns-in_ok-finding-in-None-clause-represented g c = λ p s small.
     let item : Item = c.args.item.now in
     let before : GapChannel = channel_so_far p in
     let step = c.in_ok-octets.ensures in
@@ -105,6 +105,6 @@ returns-in_ok-finding-in-None-clause-stands g c = λ p s small.
       epoch = s.epoch;
       machine =
           subst (g.C.Channel.represents c.advance.new.self)
-          ((λ j. (row_step (s.interface j) (s.number j) before item).after) ∙ sym (channel_more p.interface p.channel (fresh_at p.interface p.start p.epoch p.channel) p.items item)) (step.stands before s.machine);
+          ((λ j. (row_step (s.interface j) (s.number j) before item).after) ∙ sym (channel_more p.interface p.channel (fresh_at p.interface p.start p.epoch p.channel) p.items item)) (step.represented before s.machine);
       counted = subst counts (sym (piece_more p item)) counted;
     }

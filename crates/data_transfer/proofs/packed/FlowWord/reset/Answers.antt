@@ -1,7 +1,7 @@
 use Rattle.std.proofs.Common.{ap, sym, subst}
 use Rattle.line_model.specs.channels.FlowControl.{no_counts}
-use Rattle.data_transfer.specs.FlowResidues.{Stands}
-use Rattle.data_transfer.proofs.WordLemmas.{Keeps, nothing_sent, cleared, nothing_stands}
+use Rattle.data_transfer.specs.FlowResidues.{ResiduesRepresent}
+use Rattle.data_transfer.proofs.WordLemmas.{Keeps, nothing_sent, cleared, nothing_represents}
 use Rattle.data_transfer.proofs.packed.FlowWord.reset.Goals as goal
 
 -- the word that is written
@@ -22,5 +22,5 @@ returns-clause-windows c = ap (λ p. p.flow.windows) (written c).parts
 pub returns-clause-owner_bits : goal.returns-clause-owner_bits
 returns-clause-owner_bits c = ap (λ p. p.owner_bits) (written c).parts
 
-pub returns-clause-stands : goal.returns-clause-stands
-returns-clause-stands c = subst (λ p. Stands p.flow no_counts) (sym (written c).parts) (nothing_stands c.args.self.now.flow)
+pub returns-clause-represented : goal.returns-clause-represented
+returns-clause-represented c = subst (λ p. ResiduesRepresent p.flow no_counts) (sym (written c).parts) (nothing_represents c.args.self.now.flow)

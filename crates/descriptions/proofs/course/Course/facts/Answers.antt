@@ -12,7 +12,7 @@ use Rattle.descriptions.proofs.course.Course.facts.Goals as goal
 pub returns-clause-facts : goal.returns-clause-facts
 returns-clause-facts g c i earlier r l =
     let o = observer i earlier in
-    let to = routed (x25 i) o.line r in
+    let to = routed (x25 i) o.level r in
     let by = taker_is i to o (observer i (earlier ++ r ∷ [])) c.args.last.now.judge l.judge in
     let events = c.events_of-events.ensures in
     record {

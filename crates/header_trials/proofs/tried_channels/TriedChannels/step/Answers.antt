@@ -23,5 +23,5 @@ returns-clause-channels g c = λ states h.
     let own = subst (λ n. IsChannel g.C.Channel i n k (states k) c.deref_mut.result.now) (sym same)
     (subst (IsChannel g.C.Channel i c.args.self.now.gaps k (states k)) (sym c.deref_mut.ensures.value) (c.in_ok-taken.ensures.out states h)) in
     let next = (row_step i k (states k) c.args.item.now).after in
-    let taken = subst (λ n. IsCaughtUp g.C.Channel i n k next c.take_row.new.channel) same (c.in_ok-reaction.ensures.stands i k (states k) own) in
+    let taken = subst (λ n. IsCaughtUp g.C.Channel i n k next c.take_row.new.channel) same (c.in_ok-reaction.ensures.represented i k (states k) own) in
     put_back g.C.Channel i walk.start walk.epoch k states next c.args.self.now c.take_out.new.self _ c.take_row.new.channel h (c.in_ok-taken.ensures.others states h) taken c.put.ensures same

@@ -13,6 +13,6 @@ returns-clause-out g c = λ states h.
       number = c.fresh.ensures.number;
       taken = omega arith;
       before = fresh_at walk.interface walk.start walk.epoch k;
-      stands = c.fresh.ensures.stands;
+      represented = c.fresh.ensures.represented;
       state_is = subst (IsOpenChannelOf g.C.Channel walk.interface walk.start walk.epoch c.args.self.now.gaps k (states k)) (sym c.take.ensures.value ∙ ap (option_map (λ b. b.value)) c.in_default.is) (h.each k);
     })

@@ -19,7 +19,7 @@ take_row-requires-clause-next g c =
       row.0,
       next_tried g.C.Channel (text ++ course.read) c.loop-after.rest.now c.loop-after.self c.next_row.new.self course.taken (c.in-Ok-Some.ensures.header (text ++ course.read) course.taken.reads),
       row.2,
-      subst (IsTraceUnder c.next_row.new.self.interface) (row.1.rows (text ++ course.read) course.taken.reads) (read_under c.next_row.new.self ((text ++ course.read) ++ row.1.taken) (row.1.stands (text ++ course.read) course.taken.reads)),
+      subst (IsTraceUnder c.next_row.new.self.interface) (row.1.rows (text ++ course.read) course.taken.reads) (read_under c.next_row.new.self ((text ++ course.read) ++ row.1.taken) (row.1.represented (text ++ course.read) course.taken.reads)),
     )
 
 pub loop-after-preserved : goal.loop-after-preserved
@@ -29,7 +29,7 @@ loop-after-preserved g c = λ text h.
     course_row g.C.Channel text c.args.chunk.now c.loop-after.rest.now c.in-Ok-Some.after.now c.next_row.new.row c.next_row.new.self c.loop-after.self c.take_row.new.self course c.in_ok-take_row-in-Ok-Some.ensures.lines row
     (c.in_ok-take_row-in-Ok-Some.ensures.tried (early_rows (text ++ course.read)) row.0
     (next_tried g.C.Channel (text ++ course.read) c.loop-after.rest.now c.loop-after.self c.next_row.new.self course.taken (c.in-Ok-Some.ensures.header (text ++ course.read) course.taken.reads))
-    row.2 (subst (IsTraceUnder c.next_row.new.self.interface) (row.1.rows (text ++ course.read) course.taken.reads) (read_under c.next_row.new.self ((text ++ course.read) ++ row.1.taken) (row.1.stands (text ++ course.read) course.taken.reads))))
+    row.2 (subst (IsTraceUnder c.next_row.new.self.interface) (row.1.rows (text ++ course.read) course.taken.reads) (read_under c.next_row.new.self ((text ++ course.read) ++ row.1.taken) (row.1.represented (text ++ course.read) course.taken.reads))))
 
 pub returns-in-Ok-None-clause-taken : goal.returns-in-Ok-None-clause-taken
 returns-in-Ok-None-clause-taken g c text h =

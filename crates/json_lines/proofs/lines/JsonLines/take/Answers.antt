@@ -1,6 +1,6 @@
 use Rattle.std.proofs.Common.{◌≡◌, ◌∙◌, sym, ◌<◌, false, length, subst, arith}
 use Rattle.std.proofs.lemmas.Grind.{common_steps}
-use Rattle.json_lines.proofs.StandingLemmas.{goes_of, nothing_refused, stands_of}
+use Rattle.json_lines.proofs.BetweenCallsLemmas.{goes_of, nothing_refused, represents_of}
 use Rattle.json_lines.proofs.lines.JsonLines.take.Goals as goal
 
 pub loop-byte-preserved : goal.loop-byte-preserved
@@ -11,10 +11,10 @@ loop-byte-preserved g c =
       λ before w. c.take_byte.ensures.goes before (t.2 before w),
     )
 
-pub returns-clause-stands : goal.returns-clause-stands
-returns-clause-stands g c before s =
+pub returns-clause-represented : goal.returns-clause-represented
+returns-clause-represented g c before s =
     let t = c.loop-byte.invariant in
     let w = t.2 before (goes_of before _ c.args.self.now s) in
     let fine : c.args.self.now.buffer.failed ≡ false = sym c.has_failed.ensures ∙ c.if-has_failed.false in
-    stands_of before _ (record c.loop-byte.self { buffer = c.flush.new.self }) (record { writes = c.flush.ensures.sent before _ w.writes; line = w.line }) c.flush.ensures.empty
+    represents_of before _ (record c.loop-byte.self { buffer = c.flush.new.self }) (record { writes = c.flush.ensures.sent before _ w.writes; line = w.line }) c.flush.ensures.empty
     (λ some. nothing_refused before _ c.args.self.now s fine (subst (λ bytes. 0 < length bytes) t.1 some) c.flush.new.self.failed)

@@ -1,5 +1,5 @@
 use Rattle.std.proofs.Common.{◌≡◌, ℕ, List, ◌++◌, Option, take}
-use Rattle.json_lines.specs.Standing.{Goes}
+use Rattle.json_lines.specs.BetweenCalls.{Goes}
 use Rattle.json_lines.proofs.lines.JsonLines.take.Given as goal
 
 abbrev pub invariant-loop-byte : goal.invariant-loop-byte

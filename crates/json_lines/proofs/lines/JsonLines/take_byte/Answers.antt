@@ -4,7 +4,7 @@ use Rattle.line_model.specs.text.Text.{begun_line}
 use Rattle.json_lines.specs.Json.{json_line, line_room}
 use Rattle.line_model.specs.basics.Written.{Puts}
 use Rattle.json_lines.proofs.JsonLemmas.{cut_more, cut_full, is_other}
-use Rattle.json_lines.proofs.StandingLemmas.{ends_line, goes_on}
+use Rattle.json_lines.proofs.BetweenCallsLemmas.{ends_line, goes_on}
 use Rattle.json_lines.proofs.lines.JsonLines.take_byte.Goals as goal
 
 pub returns-then-byte-eq10-clause-goes : goal.returns-then-byte-eq10-clause-goes

@@ -17,14 +17,14 @@ overflow_add-self g c =
     let few = c.feed-read.ensures.few s.live.running in
     omega (arith, findings_written, fed, few, ap (λ (xs : List Finding). length xs) c.found-found.ensures, c.type_inv.chunk)
 
-pub returns-clause-stands : goal.returns-clause-stands
-returns-clause-stands g c text s =
+pub returns-clause-represented : goal.returns-clause-represented
+returns-clause-represented g c text s =
     let findings_written = s.few in
     let few = c.feed-read.ensures.few s.live.running in
     let count = ap (λ (xs : List Finding). length xs) c.found-found.ensures in
     let more = found_length c.feed-read.new.self.found.items (found text) (found (text ++ c.args.chunk.now)) (c.in_ok-read.ensures.found text s.live) in
     always c.write_findings-written.result _ (record {
-      live = c.in_ok-read.ensures.stands text s.live;
+      live = c.in_ok-read.ensures.represented text s.live;
       running = s.running;
       findings_written = omega (arith, s.findings_written, count, more);
       few = omega (arith, findings_written, few, count, c.in_ok-read.ensures.size);

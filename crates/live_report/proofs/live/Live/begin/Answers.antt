@@ -11,7 +11,7 @@ use Rattle.live_report.specs.Found.{HasFound, IsFoundBy, IsFoundUpTo, found, fou
 use Rattle.live_report.specs.Lives.{IsLastRow, IsObserving}
 use Rattle.live_report.proofs.FoundLemmas.{at_most_one, found_next, found_unheaded, found_up_to}
 use Rattle.live_report.proofs.ChunkLemmas.{ReadsRow, taken_is_last}
-use Rattle.live_report.proofs.LiveLemmas.{chunk_text, first_found, first_rows, first_observed, found_headed, found_no_more, found_no_row, nothing_seen, stands_observing}
+use Rattle.live_report.proofs.LiveLemmas.{chunk_text, first_found, first_rows, first_observed, found_headed, found_no_more, found_no_row, nothing_seen, represents_observing}
 use Rattle.live_report.proofs.live.Live.begin.Goals as goal
 
 pub returns-in_err-rest-clause-found : goal.returns-in_err-rest-clause-found
@@ -63,16 +63,16 @@ observe_chunk-requires g c =
     let none = nothing_seen g.C.Channel.interface_of g.C.Channel.number_of g.C.Channel.represents c.args.self.now room.0 room.1 c.requires.bare in
     let row : ReadsRow c.args.self.now.lines c.next_row.new.self c.args.chunk.now c.in-Some.rest.now c.next_row.new.row = rw c.in-Some.is at c.in_ok-rest.ensures.ok in
     let observed = first_observed g.C.Channel.interface_of g.C.Channel.number_of g.C.Channel.represents c.in-Some-interface.interface room.0 c.args.chunk.now c.in-Some.rest.now c.next_row.new.row c.args.self.now.lines c.next_row.new.self c.take.new.self room.1.reads none row (c.in-Some-interface.ensures.kept ∙ ap (λ v. v.lines.interface) c.self.view_is)
-    (c.in_ok-first.ensures.stands c.in-Some-interface.interface [] c.new-observer.ensures.walked (first_rows c.in-Some-interface.interface c.args.self.now.lines c.next_row.new.self room.0 c.args.chunk.now c.in-Some.rest.now c.next_row.new.row room.1.reads none row (c.in-Some-interface.ensures.kept ∙ ap (λ v. v.lines.interface) c.self.view_is))) in
+    (c.in_ok-first.ensures.represented c.in-Some-interface.interface [] c.new-observer.ensures.walked (first_rows c.in-Some-interface.interface c.args.self.now.lines c.next_row.new.self room.0 c.args.chunk.now c.in-Some.rest.now c.next_row.new.row room.1.reads none row (c.in-Some-interface.ensures.kept ∙ ap (λ v. v.lines.interface) c.self.view_is))) in
     (c.in-Some-interface.interface, room.0 ++ row.1.taken, observed)
 
-pub returns-clause-stands : goal.returns-clause-stands
-returns-clause-stands g c text s =
+pub returns-clause-represented : goal.returns-clause-represented
+returns-clause-represented g c text s =
     let none = nothing_seen g.C.Channel.interface_of g.C.Channel.number_of g.C.Channel.represents c.args.self.now text s c.requires.bare in
     let row : ReadsRow c.args.self.now.lines c.next_row.new.self c.args.chunk.now c.in-Some.rest.now c.next_row.new.row = rw c.in-Some.is at c.in_ok-rest.ensures.ok in
     let observed = first_observed g.C.Channel.interface_of g.C.Channel.number_of g.C.Channel.represents c.in-Some-interface.interface text c.args.chunk.now c.in-Some.rest.now c.next_row.new.row c.args.self.now.lines c.next_row.new.self c.take.new.self s.reads none row (c.in-Some-interface.ensures.kept ∙ ap (λ v. v.lines.interface) c.self.view_is)
-    (c.in_ok-first.ensures.stands c.in-Some-interface.interface [] c.new-observer.ensures.walked (first_rows c.in-Some-interface.interface c.args.self.now.lines c.next_row.new.self text c.args.chunk.now c.in-Some.rest.now c.next_row.new.row s.reads none row (c.in-Some-interface.ensures.kept ∙ ap (λ v. v.lines.interface) c.self.view_is))) in
-    stands_observing g.C.Channel.interface_of g.C.Channel.number_of g.C.Channel.represents c.in-Some-interface.interface _ (text ++ c.args.chunk.now) c.observe_chunk.new.observer
+    (c.in_ok-first.ensures.represented c.in-Some-interface.interface [] c.new-observer.ensures.walked (first_rows c.in-Some-interface.interface c.args.self.now.lines c.next_row.new.self text c.args.chunk.now c.in-Some.rest.now c.next_row.new.row s.reads none row (c.in-Some-interface.ensures.kept ∙ ap (λ v. v.lines.interface) c.self.view_is))) in
+    represents_observing g.C.Channel.interface_of g.C.Channel.number_of g.C.Channel.represents c.in-Some-interface.interface _ (text ++ c.args.chunk.now) c.observe_chunk.new.observer
     (subst (λ x. IsObserving g.C.Channel.interface_of g.C.Channel.number_of g.C.Channel.represents c.in-Some-interface.interface x c.observe_chunk.new.lines c.observe_chunk.new.observer) (chunk_text c.args.self.now.lines c.next_row.new.self text c.args.chunk.now c.in-Some.rest.now c.next_row.new.row row)
     (c.in_ok-observe_chunk.ensures.observes c.in-Some-interface.interface (text ++ row.1.taken) observed)) refl s.running (c.in_ok-observe_chunk.ensures.keeps ∙ c.in_ok-first.ensures.keeps ∙ c.new-observer.ensures.keeps ∙ ap (λ v. v.keeps_rows) c.self.view_is)
     (λ keeps. subst (λ x. IsLastRow (early_rows x) c.observe_chunk.new.rows.last) (chunk_text c.args.self.now.lines c.next_row.new.self text c.args.chunk.now c.in-Some.rest.now c.next_row.new.row row)
@@ -84,7 +84,7 @@ returns-in_err-observe_chunk-clause-refused g c text s =
     let none = nothing_seen g.C.Channel.interface_of g.C.Channel.number_of g.C.Channel.represents c.args.self.now text s c.requires.bare in
     let row : ReadsRow c.args.self.now.lines c.next_row.new.self c.args.chunk.now c.in-Some.rest.now c.next_row.new.row = rw c.in-Some.is at c.in_ok-rest.ensures.ok in
     let observed = first_observed g.C.Channel.interface_of g.C.Channel.number_of g.C.Channel.represents c.in-Some-interface.interface text c.args.chunk.now c.in-Some.rest.now c.next_row.new.row c.args.self.now.lines c.next_row.new.self c.take.new.self s.reads none row (c.in-Some-interface.ensures.kept ∙ ap (λ v. v.lines.interface) c.self.view_is)
-    (c.in_ok-first.ensures.stands c.in-Some-interface.interface [] c.new-observer.ensures.walked (first_rows c.in-Some-interface.interface c.args.self.now.lines c.next_row.new.self text c.args.chunk.now c.in-Some.rest.now c.next_row.new.row s.reads none row (c.in-Some-interface.ensures.kept ∙ ap (λ v. v.lines.interface) c.self.view_is))) in
+    (c.in_ok-first.ensures.represented c.in-Some-interface.interface [] c.new-observer.ensures.walked (first_rows c.in-Some-interface.interface c.args.self.now.lines c.next_row.new.self text c.args.chunk.now c.in-Some.rest.now c.next_row.new.row s.reads none row (c.in-Some-interface.ensures.kept ∙ ap (λ v. v.lines.interface) c.self.view_is))) in
     passed_on c.from_residual-in_err-observe_chunk.result c.in_err-observe_chunk.field-0.0 _ c.from_residual-in_err-observe_chunk.ensures.1
     (subst (λ x. IsFaultOf (early x) c.in_err-observe_chunk.field-0.0) (chunk_text c.args.self.now.lines c.next_row.new.self text c.args.chunk.now c.in-Some.rest.now c.next_row.new.row row)
     (c.in_err-observe_chunk.ensures.refused c.in-Some-interface.interface (text ++ row.1.taken) observed))
@@ -97,7 +97,7 @@ returns-clause-found g c text s =
     let given = text ++ row.1.taken in
     let sound = first_rows i c.args.self.now.lines c.next_row.new.self text c.args.chunk.now c.in-Some.rest.now c.next_row.new.row s.reads none row (c.in-Some-interface.ensures.kept ∙ ap (λ v. v.lines.interface) c.self.view_is) in
     let observed = first_observed g.C.Channel.interface_of g.C.Channel.number_of g.C.Channel.represents i text c.args.chunk.now c.in-Some.rest.now c.next_row.new.row c.args.self.now.lines c.next_row.new.self c.take.new.self s.reads none row (c.in-Some-interface.ensures.kept ∙ ap (λ v. v.lines.interface) c.self.view_is)
-    (c.in_ok-first.ensures.stands i [] c.new-observer.ensures.walked sound) in
+    (c.in_ok-first.ensures.represented i [] c.new-observer.ensures.walked sound) in
     let headed = found_headed c.next_row.new.self given c.in-Some.rest.now i observed.reads observed.header in
     let all = chunk_text c.args.self.now.lines c.next_row.new.self text c.args.chunk.now c.in-Some.rest.now c.next_row.new.row row in
     let first = first_found i text c.args.chunk.now c.in-Some.rest.now c.next_row.new.row c.args.self.now.lines c.next_row.new.self c.args.self.now.found.items c.append_finding.new.findings.items (option_to_list c.in_ok-first.first) s.reads none row
@@ -115,7 +115,7 @@ returns-in_err-observe_chunk-clause-found g c text s =
     let given = text ++ row.1.taken in
     let sound = first_rows i c.args.self.now.lines c.next_row.new.self text c.args.chunk.now c.in-Some.rest.now c.next_row.new.row s.reads none row (c.in-Some-interface.ensures.kept ∙ ap (λ v. v.lines.interface) c.self.view_is) in
     let observed = first_observed g.C.Channel.interface_of g.C.Channel.number_of g.C.Channel.represents i text c.args.chunk.now c.in-Some.rest.now c.next_row.new.row c.args.self.now.lines c.next_row.new.self c.take.new.self s.reads none row (c.in-Some-interface.ensures.kept ∙ ap (λ v. v.lines.interface) c.self.view_is)
-    (c.in_ok-first.ensures.stands i [] c.new-observer.ensures.walked sound) in
+    (c.in_ok-first.ensures.represented i [] c.new-observer.ensures.walked sound) in
     let headed = found_headed c.next_row.new.self given c.in-Some.rest.now i observed.reads observed.header in
     let all = chunk_text c.args.self.now.lines c.next_row.new.self text c.args.chunk.now c.in-Some.rest.now c.next_row.new.row row in
     let first = first_found i text c.args.chunk.now c.in-Some.rest.now c.next_row.new.row c.args.self.now.lines c.next_row.new.self c.args.self.now.found.items c.append_finding.new.findings.items (option_to_list c.in_ok-first.first) s.reads none row

@@ -14,14 +14,14 @@ pub returns-clause-fed : goal.returns-clause-fed
 returns-clause-fed g c = record {
   fed = λ none.
       let room = c.requires.fed.fed c.in_default.is in
-      let w = ok_by c.feed_rows-answer.result _ (c.feed_rows-answer.ensures.stands room.0 (record { reads = room.1.reads; running = room.1.running; observed = room.1.observed; keeps = room.1.keeps; last = room.1.last })) (sym c.err-self.ensures.value ∙ none) in
+      let w = ok_by c.feed_rows-answer.result _ (c.feed_rows-answer.ensures.represented room.0 (record { reads = room.1.reads; running = room.1.running; observed = room.1.observed; keeps = room.1.keeps; last = room.1.last })) (sym c.err-self.ensures.value ∙ none) in
       (room.0 ++ c.args.chunk.now, record { reads = w.reads; running = none; observed = w.observed; keeps = w.keeps; last = w.last });
   kinds = subst (λ o. IfSome o IsTextFault) (sym c.err-self.ensures.value) (fault_of c.feed_rows-answer.result IsTextFault c.feed_rows-answer.ensures.kinds);
 }
 
-pub returns-clause-stands : goal.returns-clause-stands
-returns-clause-stands g c text s =
-    on_sound c.feed_rows-answer.result c.err-self.result _ _ c.err-self.ensures.value (c.feed_rows-answer.ensures.stands text (record { reads = s.reads; running = s.running; observed = s.observed; keeps = s.keeps; last = s.last }))
+pub returns-clause-represented : goal.returns-clause-represented
+returns-clause-represented g c text s =
+    on_sound c.feed_rows-answer.result c.err-self.result _ _ c.err-self.ensures.value (c.feed_rows-answer.ensures.represented text (record { reads = s.reads; running = s.running; observed = s.observed; keeps = s.keeps; last = s.last }))
     (λ w none. record { reads = w.reads; running = none; observed = w.observed; keeps = w.keeps; last = w.last })
 
 pub returns-clause-refused : goal.returns-clause-refused

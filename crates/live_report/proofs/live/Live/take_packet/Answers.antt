@@ -10,7 +10,7 @@ use Rattle.trace_text.specs.RowTexts.{row_text}
 use Rattle.trace_text.specs.Represents.{Represents as IsReaderOf, TakesRow}
 use Rattle.live_report.specs.Found.{HasFound, found, found_at}
 use Rattle.live_report.specs.Lives.{IsLastRow, IsObserving}
-use Rattle.live_report.proofs.LiveLemmas.{found_headed, observing_of, passed_row, passed_rows, stands_observing}
+use Rattle.live_report.proofs.LiveLemmas.{found_headed, observing_of, passed_row, passed_rows, represents_observing}
 use Rattle.live_report.proofs.live.Live.take_packet.Goals as goal
 
 pub take_row-requires : goal.take_row-requires
@@ -30,7 +30,7 @@ returns-then-not-pass_row-clause-passed g c text s report_is =
       header = ap (λ (v : Progress). v.interface) same ∙ seen.1.header;
       observes = seen.1.observes;
     } in
-    stands_observing g.C.Channel.interface_of g.C.Channel.number_of g.C.Channel.represents seen.0 _ text c.in-Some.observer w refl s.running (subst (λ x. IfSome x (λ o. o.keeps_rows ≡ c.args.self.now.keeps_rows)) c.in-Some.is s.keeps) s.last
+    represents_observing g.C.Channel.interface_of g.C.Channel.number_of g.C.Channel.represents seen.0 _ text c.in-Some.observer w refl s.running (subst (λ x. IfSome x (λ o. o.keeps_rows ≡ c.args.self.now.keeps_rows)) c.in-Some.is s.keeps) s.last
 
 pub returns-clause-taken : goal.returns-clause-taken
 returns-clause-taken g c text s report_is =
@@ -41,8 +41,8 @@ returns-clause-taken g c text s report_is =
     let items = items_of seen.0 (early_rows text) in
     let sound = passed_rows seen.0 c.args.self.now.lines c.pass_row.new.self text (row_text row) row s.reads takes (c.pass_row.ensures.interface ∙ seen.1.header) in
     let w = passed_row g.C.Channel.interface_of g.C.Channel.number_of g.C.Channel.represents seen.0 text (row_text row) row c.args.self.now.lines c.pass_row.new.self c.in-Some.observer c.take_row.new.self c.args.self.now.found.items c.append_finding.new.findings.items (option_to_list c.in_ok-finding.finding)
-    seen.1 takes c.pass_row.ensures.interface (c.in_ok-finding.ensures.stands seen.0 items seen.1.observes sound) c.in_ok-append_finding.ensures.ok (c.in_ok-finding.ensures.finding seen.0 items seen.1.observes) in
-    stands_observing g.C.Channel.interface_of g.C.Channel.number_of g.C.Channel.represents seen.0 _ (text ++ row_text row) c.take_row.new.self w.0 refl s.running (c.in_ok-finding.ensures.keeps ∙ subst (λ x. IfSome x (λ o. o.keeps_rows ≡ c.args.self.now.keeps_rows)) c.in-Some.is s.keeps)
+    seen.1 takes c.pass_row.ensures.interface (c.in_ok-finding.ensures.represented seen.0 items seen.1.observes sound) c.in_ok-append_finding.ensures.ok (c.in_ok-finding.ensures.finding seen.0 items seen.1.observes) in
+    represents_observing g.C.Channel.interface_of g.C.Channel.number_of g.C.Channel.represents seen.0 _ (text ++ row_text row) c.take_row.new.self w.0 refl s.running (c.in_ok-finding.ensures.keeps ∙ subst (λ x. IfSome x (λ o. o.keeps_rows ≡ c.args.self.now.keeps_rows)) c.in-Some.is s.keeps)
     (λ keeps. subst (IsLastRow (early_rows (text ++ row_text row))) (sym (c.in_ok-keep_row.ensures keeps)) w.2)
 
 pub returns-clause-found : goal.returns-clause-found
@@ -54,7 +54,7 @@ returns-clause-found g c text s report_is =
     let items = items_of seen.0 (early_rows text) in
     let sound = passed_rows seen.0 c.args.self.now.lines c.pass_row.new.self text (row_text row) row s.reads takes (c.pass_row.ensures.interface ∙ seen.1.header) in
     let w = passed_row g.C.Channel.interface_of g.C.Channel.number_of g.C.Channel.represents seen.0 text (row_text row) row c.args.self.now.lines c.pass_row.new.self c.in-Some.observer c.take_row.new.self c.args.self.now.found.items c.append_finding.new.findings.items (option_to_list c.in_ok-finding.finding)
-    seen.1 takes c.pass_row.ensures.interface (c.in_ok-finding.ensures.stands seen.0 items seen.1.observes sound) c.in_ok-append_finding.ensures.ok (c.in_ok-finding.ensures.finding seen.0 items seen.1.observes) in
+    seen.1 takes c.pass_row.ensures.interface (c.in_ok-finding.ensures.represented seen.0 items seen.1.observes sound) c.in_ok-append_finding.ensures.ok (c.in_ok-finding.ensures.finding seen.0 items seen.1.observes) in
     let headed = found_headed c.args.self.now.lines text (row_text row) seen.0 s.reads seen.1.header in
     subst (λ x. HasFound c.args.self.now.found.items c.append_finding.new.findings.items x (found (text ++ row_text row))) (sym headed.0)
     (subst (λ x. HasFound c.args.self.now.found.items c.append_finding.new.findings.items (found_at seen.0 text) x) (sym headed.1) w.1)

@@ -1,7 +1,7 @@
 use Rattle.std.proofs.Common.{◌∙◌, ap, subst, sym, List}
 use Rattle.line_model.specs.declared.event.Event.{Event}
 use Rattle.live_report.specs.JudgedRows.{IsJudgedRow, judged_row}
-use Rattle.live_report.specs.Turns.{with_data}
+use Rattle.live_report.specs.Effects.{with_data}
 use Rattle.live_report.proofs.observer.Observer.keep.Goals.{in-Channel-default-default-default-Some+in_ok-push, in-Channel+in-None-1, in-Restart-1}
 use Rattle.live_report.proofs.observer.Observer.keep.Goals as goal
 

@@ -3,7 +3,7 @@ use Rattle.restart_epochs.specs.Cutting.{no_cutting}
 use Rattle.restart_epochs.specs.ChannelTables.{IsEmpty}
 use Rattle.restart_epochs.specs.OpenRows.{no_rows}
 use Rattle.live_report.specs.Observing.{epoch_at}
-use Rattle.live_report.proofs.StandLemmas.{open_channels_none, nothing_taken}
+use Rattle.live_report.proofs.RepresentLemmas.{open_channels_none, nothing_taken}
 use Rattle.live_report.proofs.observer.Observer.new.Goals as goal
 
 pub returns-clause-walked : goal.returns-clause-walked
@@ -11,7 +11,7 @@ returns-clause-walked g c =
     nothing_taken g.C.Channel.interface_of g.C.Channel.number_of g.C.Channel.represents c.args.interface.now _
     (record {
       interface = c.new.ensures.interface;
-      line = c.new.ensures.machine;
+      level = c.new.ensures.machine;
       epoch = c.new.ensures.epoch;
       start = c.new.ensures.start;
       packets = c.new.ensures.packets;

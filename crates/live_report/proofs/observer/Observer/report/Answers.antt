@@ -1,5 +1,5 @@
 use Rattle.std.proofs.Common.{◌∙◌, ap, arith, length, map, sym}
-use Rattle.line_model.specs.pieces.Plans.{value}
+use Rattle.line_model.specs.pieces.Plans.{result_of}
 use Rattle.line_model.proofs.Posts.{length-values}
 use Rattle.restart_epochs.specs.Cutting.{given_of}
 use Rattle.restart_epochs.proofs.Listings.{listing}
@@ -14,7 +14,7 @@ report_channels-requires-clause-room g c =
     let s = room.2 in (
       epoch_at s.cutting,
       s.cutting.open_rows,
-      map value (given_of room.0 room.1),
+      map result_of (given_of room.0 room.1),
       s.holds.open_channels,
       pieces_here g.C.Channel.interface_of g.C.Channel.number_of g.C.Channel.represents s.cutting _ _ s.holds s.bounds,
       listing room.0 room.1 s.cutting s.cut,
@@ -24,7 +24,7 @@ report_channels-requires-clause-room g c =
 pub returns-clause-report : goal.returns-clause-report
 returns-clause-report g c i rs s =
     c.finish.ensures.report i rs _
-    (c.in_ok-report_channels.ensures.values (epoch_at s.cutting) s.cutting.open_rows (map value (given_of i rs)) s.holds.open_channels
+    (c.in_ok-report_channels.ensures.values (epoch_at s.cutting) s.cutting.open_rows (map result_of (given_of i rs)) s.holds.open_channels
     (pieces_here g.C.Channel.interface_of g.C.Channel.number_of g.C.Channel.represents s.cutting _ _ s.holds s.bounds) (listing i rs s.cutting s.cut) (c.in_ok-parts.ensures.same ∙ s.holds.ended))
     (of_walk g.C.Channel.interface_of g.C.Channel.number_of g.C.Channel.represents i rs c.args.self.now s c.in_ok-findings.findings.items c.row_counts.result (c.in_ok-findings.ensures.items ∙ c.as_slice.ensures.value) c.row_counts.ensures.packets c.row_counts.ensures.gaps)
 

@@ -1,12 +1,12 @@
 use Rattle.std.proofs.Common.{◌∙◌, arith, ap, subst, sym, length, map}
-use Rattle.line_model.specs.pieces.Plans.{value}
+use Rattle.line_model.specs.pieces.Plans.{result_of}
 use Rattle.line_model.proofs.Posts.{length-values}
 use Rattle.restart_epochs.specs.Cutting.{given_of}
 use Rattle.restart_epochs.specs.Walks.{HasRoom, IsAdvanced}
 use Rattle.live_report.specs.OpenChannels.{OpenChannelsFor}
-use Rattle.live_report.specs.Turns.{epoch_of, with_data}
+use Rattle.live_report.specs.Effects.{epoch_of, with_data}
 use Rattle.live_report.proofs.TakeLemmas.{rows_after, said_here}
-use Rattle.live_report.proofs.WalkLemmas.{finds_next, rows_next, stands_here, turns_here, walks_on}
+use Rattle.live_report.proofs.WalkLemmas.{finds_next, rows_next, represents_here, effects_here, walks_on}
 use Rattle.live_report.proofs.observer.Observer.take_by_machine.Goals as goal
 
 pub step-requires : goal.step-requires
@@ -14,22 +14,22 @@ step-requires g c =
     let s = c.requires.room.2 in
     record { epochs = omega (arith, s.holds.epoch, s.bounds.epochs, s.bounds.rows, s.bounds.last) }
 
-pub turn-requires-clause-room : goal.turn-requires-clause-room
-turn-requires-clause-room g c =
+pub apply-requires-clause-room : goal.apply-requires-clause-room
+apply-requires-clause-room g c =
     let room = c.requires.room in
     let s = room.2 in
     let o = c.args.self.now in
     let one = c.args.item.now in
     let same = c.in_ok-step.ensures.same in (
       s.cutting.open_rows,
-      map value (given_of room.0 room.1),
-      stands_here g.C.Channel room.0 room.1 o c.step.new.self s same,
+      map result_of (given_of room.0 room.1),
+      represents_here g.C.Channel room.0 room.1 o c.step.new.self s same,
       s.holds.ended,
-      turns_here g.C.Channel room.0 room.1 o one c.in_ok-step.step c.step.new.self s room.3 c.in_ok-step.ensures.step same,
+      effects_here g.C.Channel room.0 room.1 o one c.in_ok-step.step c.step.new.self s room.3 c.in_ok-step.ensures.step same,
     )
 
-pub turn-requires-clause-pieces : goal.turn-requires-clause-pieces
-turn-requires-clause-pieces g c =
+pub apply-requires-clause-pieces : goal.apply-requires-clause-pieces
+apply-requires-clause-pieces g c =
     let s = c.requires.room.2 in
     let pieces = ap (λ e. e.pieces) s.holds.ended ∙ length-values (given_of c.requires.room.0 c.requires.room.1) ∙ sym s.cut.given in
     let channels = ap (λ l. length l) s.holds.open_channels.channels in
@@ -48,8 +48,8 @@ advance-requires-clause-packets g c =
 pub advance-requires-clause-room : goal.advance-requires-clause-room
 advance-requires-clause-room g c = subst (λ w. HasRoom w c.in_ok-step.step) (sym (ap (λ o. o.walk) c.in_ok-keep.ensures.rest ∙ c.in_ok-judged.ensures.walk)) c.in_ok-step.ensures.room
 
-pub returns-clause-stands : goal.returns-clause-stands
-returns-clause-stands g c i rs s sound =
+pub returns-clause-represented : goal.returns-clause-represented
+returns-clause-represented g c i rs s sound =
     let o = c.args.self.now in
     let v = c.step.new.self in
     let step = c.in_ok-step.step in
@@ -57,20 +57,20 @@ returns-clause-stands g c i rs s sound =
     let same = c.in_ok-step.ensures.same in
     let is = c.in_ok-step.ensures.step in
     let rows = s.cutting.open_rows in
-    let here = stands_here g.C.Channel i rs o v s same in
-    let rows_then = rows_after step.turn one s.cutting.gap rows in
-    let may = turns_here g.C.Channel i rs o one step v s sound is same in
-    let turned = rows_next g.C.Channel i rs o one step s in
+    let here = represents_here g.C.Channel i rs o v s same in
+    let rows_then = rows_after step.effect one s.cutting.gap rows in
+    let may = effects_here g.C.Channel i rs o one step v s sound is same in
+    let affected = rows_next g.C.Channel i rs o one step s in
     let rest = c.in_ok-keep.ensures.rest in
     let judge = c.in_ok-judged.judged.judge in
-    walks_on g.C.Channel i rs o _ one step v c.in_ok-judged.judged c.turn.new.self.events.items s sound is same
+    walks_on g.C.Channel i rs o _ one step v c.in_ok-judged.judged c.apply.new.self.events.items s sound is same
     (subst (λ w. IsAdvanced step w c.advance.new.self) (ap (λ k. k.walk) rest ∙ c.in_ok-judged.ensures.walk) c.advance.ensures)
-    (ap (λ k. k.ended) rest ∙ c.in_ok-judged.ensures.ended rows here (map value (given_of i rs)) s.holds.ended)
+    (ap (λ k. k.ended) rest ∙ c.in_ok-judged.ensures.ended rows here (map result_of (given_of i rs)) s.holds.ended)
     (ap (λ k. k.open_channels.gap) rest ∙ c.in_ok-judged.ensures.gap)
-    (subst (OpenChannelsFor g.C.Channel.interface_of g.C.Channel.number_of g.C.Channel.represents (epoch_of v) rows_then) (sym (ap (λ k. k.open_channels.table) rest)) (c.in_ok-judged.ensures.open_channels rows here rows_then may turned))
-    (c.in_ok-judged.ensures.judge rows here rows_then may turned) (c.in_ok-judged.ensures.finding rows here) (c.in_ok-judged.ensures.events rows here)
+    (subst (OpenChannelsFor g.C.Channel.interface_of g.C.Channel.number_of g.C.Channel.represents (epoch_of v) rows_then) (sym (ap (λ k. k.open_channels.table) rest)) (c.in_ok-judged.ensures.open_channels rows here rows_then may affected))
+    (c.in_ok-judged.ensures.judge rows here rows_then may affected) (c.in_ok-judged.ensures.finding rows here) (c.in_ok-judged.ensures.events rows here)
     (λ keeps. c.in_ok-keep.ensures.last (sym (ap (λ k. k.keeps_rows) rest) ∙ keeps))
-    (λ keeps. c.in_ok-keep.ensures.events (sym (ap (λ k. k.keeps_rows) rest) ∙ keeps) ∙ ap (λ w. with_data w.epoch judge one c.turn.new.self.events.items) c.in_ok-judged.ensures.walk)
+    (λ keeps. c.in_ok-keep.ensures.events (sym (ap (λ k. k.keeps_rows) rest) ∙ keeps) ∙ ap (λ w. with_data w.epoch judge one c.apply.new.self.events.items) c.in_ok-judged.ensures.walk)
     (λ known few. c.in_ok-keep.ensures.uncounted i v.epoch rs known (ap (λ w. w.interface) c.in_ok-judged.ensures.walk ∙ same.interface ∙ s.holds.interface ∙ s.cut.interface) few (c.in_ok-judged.ensures.uncounted ∙ s.uncounted))
 
 pub returns-clause-finding : goal.returns-clause-finding
@@ -80,4 +80,4 @@ returns-clause-finding g c i rs s =
     let one = c.args.item.now in
     let same = c.in_ok-step.ensures.same in
     let packet = said_here g.C.Channel.interface_of g.C.Channel.number_of g.C.Channel.represents c.requires.room.0 c.requires.room.1 o one s.cutting.interface c.requires.room.2 c.requires.room.3 s.holds.interface in
-    finds_next g.C.Channel i rs o one c.in_ok-step.step v c.in_ok-judged.judged s packet c.in_ok-step.ensures.step same (c.in_ok-judged.ensures.finding s.cutting.open_rows (stands_here g.C.Channel i rs o v s same))
+    finds_next g.C.Channel i rs o one c.in_ok-step.step v c.in_ok-judged.judged s packet c.in_ok-step.ensures.step same (c.in_ok-judged.ensures.finding s.cutting.open_rows (represents_here g.C.Channel i rs o v s same))

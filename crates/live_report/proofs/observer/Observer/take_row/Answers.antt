@@ -24,12 +24,12 @@ take_item-requires g c =
     let said = says room.0 c.args.self.now.walk.interface read c.args.row c.packet-packet.result c.said_octets.result.now c.packet-packet.ensures (s.holds.interface ∙ s.cut.interface) c.said_octets.ensures c.row.view_is in
     record { room = (room.0, room.1, s, subst (λ r. AreItems room.0 (room.1 ++ r ∷ [])) (sym said) room.3) }
 
-pub returns-clause-stands : goal.returns-clause-stands
-returns-clause-stands g c i rs s sound =
+pub returns-clause-represented : goal.returns-clause-represented
+returns-clause-represented g c i rs s sound =
     let read : ReadRow = record { number = c.row.inside.number; side = c.row.inside.side; length = c.row.inside.length; octets = c.row.inside.octets.now; gap = c.row.inside.gap } in
     let said = says i c.args.self.now.walk.interface read c.args.row c.packet-packet.result c.said_octets.result.now c.packet-packet.ensures (s.holds.interface ∙ s.cut.interface) c.said_octets.ensures c.row.view_is in
     subst (λ r. OnOk c.take_item.result (HasWalked g.C.Channel i (rs ++ r ∷ []) c.take_item.new.self)) said
-    (c.take_item.ensures.stands i rs s (subst (λ r. AreItems i (rs ++ r ∷ [])) (sym said) sound))
+    (c.take_item.ensures.represented i rs s (subst (λ r. AreItems i (rs ++ r ∷ [])) (sym said) sound))
 
 pub returns-clause-finding : goal.returns-clause-finding
 returns-clause-finding g c i rs s =

@@ -11,12 +11,12 @@ take-requires g c =
     let room = c.requires.room in
     record { room = (begun_piece room.0 room.1 room.2, room.3.live, subst (λ item. IsPiece room.0.interface room.1 (room.2 ++ item ∷ [])) (sym c.gap_of_all.ensures) room.4) }
 
-pub returns-clause-stands : goal.returns-clause-stands
-returns-clause-stands g c e k items stands small =
+pub returns-clause-represented : goal.returns-clause-represented
+returns-clause-represented g c e k items represented small =
     let p = begun_piece e k items in
     let gap = c.gap_of_all.ensures in
     record {
       live = subst (λ item. IsLive g.C.Channel.interface_of g.C.Channel.number_of g.C.Channel.represents c.take.new.self (with_item p item)) gap
-          (c.in_ok-take.ensures.stands p stands.live (subst (λ item. IsPiece e.interface k (items ++ item ∷ [])) (sym gap) small));
+          (c.in_ok-take.ensures.represented p represented.live (subst (λ item. IsPiece e.interface k (items ++ item ∷ [])) (sym gap) small));
       last = sym (last_pushed items (gap_item c.args.gap));
     }

@@ -1,7 +1,7 @@
 use Rattle.std.proofs.Common.{ap, subst}
 use Rattle.std.specs.Option.{option_map}
 use Rattle.restart_epochs.specs.ChannelTables.{HasTaken}
-use Rattle.live_report.specs.Turns.{epoch_of}
+use Rattle.live_report.specs.Effects.{epoch_of}
 use Rattle.live_report.proofs.OpenChannelLemmas.{on_both, out_none}
 use Rattle.live_report.proofs.open_channels.OpenChannels.take_out.Goals as goal
 

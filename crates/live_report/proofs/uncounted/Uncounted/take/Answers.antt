@@ -1,6 +1,6 @@
 use Rattle.std.proofs.Common.{◌≡◌, ◌∙◌, ap, sym, subst}
 use Rattle.live_report.specs.JudgedRows.{IsJudgedRow, judged_row}
-use Rattle.live_report.specs.Turns.{with_data}
+use Rattle.live_report.specs.Effects.{with_data}
 use Rattle.live_report.specs.Uncounted.{counts_data, user_octets, with_one}
 use Rattle.live_report.proofs.UncountedLemmas.{has_data, uncounted_more, uncounted_same, was_counted}
 use Rattle.live_report.proofs.uncounted.Uncounted.take.Goals as goal

@@ -4,7 +4,7 @@ use Rattle.restart_epochs.proofs.block_cut.BlockCutter.new.Goals as goal
 
 pub returns : goal.returns
 returns g c = cut_begun c.args.machine _ (record {
-  line = c.of_block.ensures.machine;
+  level = c.of_block.ensures.machine;
   epoch = c.of_block.ensures.epoch;
   packets = c.of_block.ensures.packets;
   gaps = c.of_block.ensures.gaps;

@@ -13,19 +13,19 @@ returns g c l items apart =
     let step = c.in_ok-step.step in
     let is = c.in_ok-step.ensures.step in
     let same = c.in_ok-step.ensures.same in
-    let turned = c.in_ok-turn.ensures in
+    let affected = c.in_ok-apply.ensures in
     cut_more l items _ _ item step is
     (record {
-      line = c.advance.ensures.machine;
+      level = c.advance.ensures.machine;
       epoch = c.advance.ensures.epoch;
-      start = c.advance.ensures.start ∙ (λ j. start_after (turned.0 j).epoch (turned.0 j).start step.epoch step.machine) ∙ (λ j. start_after (same.epoch j) (same.start j) step.epoch step.machine);
-      packets = c.advance.ensures.packets ∙ ap (λ n. n + 1) (ap (λ w. w.packets) turned.0 ∙ same.packets);
-      gaps = c.advance.ensures.gaps ∙ (λ j. (turned.0 j).gaps + cond (is.gap j) 1 0) ∙ (λ j. same.gaps j + gap_count item j);
+      start = c.advance.ensures.start ∙ (λ j. start_after (affected.0 j).epoch (affected.0 j).start step.epoch step.machine) ∙ (λ j. start_after (same.epoch j) (same.start j) step.epoch step.machine);
+      packets = c.advance.ensures.packets ∙ ap (λ n. n + 1) (ap (λ w. w.packets) affected.0 ∙ same.packets);
+      gaps = c.advance.ensures.gaps ∙ (λ j. (affected.0 j).gaps + cond (is.gap j) 1 0) ∙ (λ j. same.gaps j + gap_count item j);
       last = ap (λ x. x.number) c.item.view_is;
       octets = c.in-Some.ensures.0;
-      findings = c.advance.ensures.findings ∙ ap (λ (fs : List Finding). fs ++ option_to_list step.finding) (ap (λ w. w.findings.items) turned.0 ∙ same.findings);
-      gap = turned.1;
-      cut = subst (λ n. HasCut step.turn item n before.walk.start before.gap before.ended.items c.turn.new.self.ended.items before.rows c.turn.new.self.rows) same.epoch
-          (subst (λ s. HasCut step.turn item c.step.new.self.epoch s before.gap before.ended.items c.turn.new.self.ended.items before.rows c.turn.new.self.rows) same.start turned.2);
+      findings = c.advance.ensures.findings ∙ ap (λ (fs : List Finding). fs ++ option_to_list step.finding) (ap (λ w. w.findings.items) affected.0 ∙ same.findings);
+      gap = affected.1;
+      cut = subst (λ n. HasCut step.effect item n before.walk.start before.gap before.ended.items c.apply.new.self.ended.items before.rows c.apply.new.self.rows) same.epoch
+          (subst (λ s. HasCut step.effect item c.step.new.self.epoch s before.gap before.ended.items c.apply.new.self.ended.items before.rows c.apply.new.self.rows) same.start affected.2);
     })
     apart

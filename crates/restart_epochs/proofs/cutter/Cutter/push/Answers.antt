@@ -7,28 +7,28 @@ use Rattle.restart_epochs.specs.Walks.{IsStep}
 use Rattle.restart_epochs.proofs.Taken.{pushed_by, taken_bounds, taken_by}
 use Rattle.restart_epochs.proofs.cutter.Cutter.push.Goals as goal
 
-pub turn-requires-clause-pieces : goal.turn-requires-clause-pieces
-turn-requires-clause-pieces g c k = subst (λ (i : Interface). IsPiece i k (items_out c.self.inside.pieces.gap c.self.inside.pieces.rows k)) (sym c.in_ok-step.ensures.same.interface) (channel_piece _ k c.self.invariant)
+pub apply-requires-clause-pieces : goal.apply-requires-clause-pieces
+apply-requires-clause-pieces g c k = subst (λ (i : Interface). IsPiece i k (items_out c.self.inside.pieces.gap c.self.inside.pieces.rows k)) (sym c.in_ok-step.ensures.same.interface) (channel_piece _ k c.self.invariant)
 
 pub invariant_of-self-2 : goal.invariant_of-self-2
 invariant_of-self-2 g c =
     let item = c.args.item.now in
-    let t = taken_by c.args.self.now c.self.inside.walk c.step.new.self c.advance.new.self _ c.turn.new.self.given _ c.turn.new.self.gap _ c.turn.new.self.rows _ _ c.item.inside.number (c.self.inside.octets + c.item.inside.length) item c.in_ok-step.step c.self.view_is
-    c.in_ok-step.ensures.step c.in_ok-step.ensures.same c.advance.ensures c.in_ok-turn.ensures.rows c.in_ok-turn.ensures.gap c.in_ok-turn.ensures.count (ap (λ x. x.number) c.item.view_is) (ap (λ x. c.self.inside.octets + x.length) c.item.view_is) in
-    let is = subst (λ v. IsStep v.line v.epoch item c.in_ok-step.step) c.self.view_is c.in_ok-step.ensures.step in
+    let t = taken_by c.args.self.now c.self.inside.walk c.step.new.self c.advance.new.self _ c.apply.new.self.given _ c.apply.new.self.gap _ c.apply.new.self.rows _ _ c.item.inside.number (c.self.inside.octets + c.item.inside.length) item c.in_ok-step.step c.self.view_is
+    c.in_ok-step.ensures.step c.in_ok-step.ensures.same c.advance.ensures c.in_ok-apply.ensures.rows c.in_ok-apply.ensures.gap c.in_ok-apply.ensures.count (ap (λ x. x.number) c.item.view_is) (ap (λ x. c.self.inside.octets + x.length) c.item.view_is) in
+    let is = subst (λ v. IsStep v.level v.epoch item c.in_ok-step.step) c.self.view_is c.in_ok-step.ensures.step in
     taken_bounds c.args.self.now _ item c.in_ok-step.step (subst IsCutting c.self.view_is c.self.invariant) c.requires.said c.requires.rising c.requires.number c.requires.octets is t
 
-pub returns-clause-stands : goal.returns-clause-stands
-returns-clause-stands g c i rows s =
-    (pushed_by c.args.self.now c.self.inside.walk c.step.new.self c.advance.new.self _ c.turn.new.self.given _ c.turn.new.self.gap _ c.turn.new.self.rows _ _ c.item.inside.number (c.self.inside.octets + c.item.inside.length) c.args.item.now c.in_ok-step.step c.args.out.now.items c.turn.new.out.items
-    c.self.view_is (subst IsCutting c.self.view_is c.self.invariant) c.requires.rising c.requires.said c.in_ok-step.ensures.step c.in_ok-step.ensures.same c.advance.ensures c.in_ok-turn.ensures.rows c.in_ok-turn.ensures.gap c.in_ok-turn.ensures.count (ap (λ x. x.number) c.item.view_is) (ap (λ x. c.self.inside.octets + x.length) c.item.view_is) c.in_ok-turn.ensures.given).stands i rows s
+pub returns-clause-represented : goal.returns-clause-represented
+returns-clause-represented g c i rows s =
+    (pushed_by c.args.self.now c.self.inside.walk c.step.new.self c.advance.new.self _ c.apply.new.self.given _ c.apply.new.self.gap _ c.apply.new.self.rows _ _ c.item.inside.number (c.self.inside.octets + c.item.inside.length) c.args.item.now c.in_ok-step.step c.args.out.now.items c.apply.new.out.items
+    c.self.view_is (subst IsCutting c.self.view_is c.self.invariant) c.requires.rising c.requires.said c.in_ok-step.ensures.step c.in_ok-step.ensures.same c.advance.ensures c.in_ok-apply.ensures.rows c.in_ok-apply.ensures.gap c.in_ok-apply.ensures.count (ap (λ x. x.number) c.item.view_is) (ap (λ x. c.self.inside.octets + x.length) c.item.view_is) c.in_ok-apply.ensures.given).represented i rows s
 
 pub returns-clause-given : goal.returns-clause-given
 returns-clause-given g c i rows pieces s was =
-    (pushed_by c.args.self.now c.self.inside.walk c.step.new.self c.advance.new.self _ c.turn.new.self.given _ c.turn.new.self.gap _ c.turn.new.self.rows _ _ c.item.inside.number (c.self.inside.octets + c.item.inside.length) c.args.item.now c.in_ok-step.step c.args.out.now.items c.turn.new.out.items
-    c.self.view_is (subst IsCutting c.self.view_is c.self.invariant) c.requires.rising c.requires.said c.in_ok-step.ensures.step c.in_ok-step.ensures.same c.advance.ensures c.in_ok-turn.ensures.rows c.in_ok-turn.ensures.gap c.in_ok-turn.ensures.count (ap (λ x. x.number) c.item.view_is) (ap (λ x. c.self.inside.octets + x.length) c.item.view_is) c.in_ok-turn.ensures.given).given i rows pieces s was
+    (pushed_by c.args.self.now c.self.inside.walk c.step.new.self c.advance.new.self _ c.apply.new.self.given _ c.apply.new.self.gap _ c.apply.new.self.rows _ _ c.item.inside.number (c.self.inside.octets + c.item.inside.length) c.args.item.now c.in_ok-step.step c.args.out.now.items c.apply.new.out.items
+    c.self.view_is (subst IsCutting c.self.view_is c.self.invariant) c.requires.rising c.requires.said c.in_ok-step.ensures.step c.in_ok-step.ensures.same c.advance.ensures c.in_ok-apply.ensures.rows c.in_ok-apply.ensures.gap c.in_ok-apply.ensures.count (ap (λ x. x.number) c.item.view_is) (ap (λ x. c.self.inside.octets + x.length) c.item.view_is) c.in_ok-apply.ensures.given).given i rows pieces s was
 
 pub returns-clause-appended : goal.returns-clause-appended
 returns-clause-appended g c i rows s =
-    (pushed_by c.args.self.now c.self.inside.walk c.step.new.self c.advance.new.self _ c.turn.new.self.given _ c.turn.new.self.gap _ c.turn.new.self.rows _ _ c.item.inside.number (c.self.inside.octets + c.item.inside.length) c.args.item.now c.in_ok-step.step c.args.out.now.items c.turn.new.out.items
-    c.self.view_is (subst IsCutting c.self.view_is c.self.invariant) c.requires.rising c.requires.said c.in_ok-step.ensures.step c.in_ok-step.ensures.same c.advance.ensures c.in_ok-turn.ensures.rows c.in_ok-turn.ensures.gap c.in_ok-turn.ensures.count (ap (λ x. x.number) c.item.view_is) (ap (λ x. c.self.inside.octets + x.length) c.item.view_is) c.in_ok-turn.ensures.given).appended i rows s
+    (pushed_by c.args.self.now c.self.inside.walk c.step.new.self c.advance.new.self _ c.apply.new.self.given _ c.apply.new.self.gap _ c.apply.new.self.rows _ _ c.item.inside.number (c.self.inside.octets + c.item.inside.length) c.args.item.now c.in_ok-step.step c.args.out.now.items c.apply.new.out.items
+    c.self.view_is (subst IsCutting c.self.view_is c.self.invariant) c.requires.rising c.requires.said c.in_ok-step.ensures.step c.in_ok-step.ensures.same c.advance.ensures c.in_ok-apply.ensures.rows c.in_ok-apply.ensures.gap c.in_ok-apply.ensures.count (ap (λ x. x.number) c.item.view_is) (ap (λ x. c.self.inside.octets + x.length) c.item.view_is) c.in_ok-apply.ensures.given).appended i rows s

@@ -4,19 +4,19 @@ use Rattle.line_model.specs.declared.route.Route.TheVariants.{ToChannel}
 use Rattle.line_model.specs.packets.Says.{packet_channel}
 use Rattle.line_model.specs.channels.GapRestart.{GapRouting, routing}
 use Rattle.restart_epochs.specs.declared.walk.ChannelEffect.TheVariants as effect
-use Rattle.restart_epochs.specs.Walks.{epoch_after, route_finding, turn_of}
+use Rattle.restart_epochs.specs.Walks.{epoch_after, route_finding, effect_of}
 use Rattle.restart_epochs.proofs.walk.EpochWalk.channel_of.Goals as goal
 
 pub returns-in-Channel : goal.returns-in-Channel
 returns-in-Channel g c =
-    let line = c.args.self.now.machine in
+    let level = c.args.self.now.machine in
     let row = c.args.item.now in
     let handed : c.in-Channel.channel ≡ packet_channel row.packet = search (tests, rules) in
-    let routed : record { route = ToChannel; after = line } ≡ routing line row = search (tests, rules) in
+    let routed : record { route = ToChannel; after = level } ≡ routing level row = search (tests, rules) in
     record {
       machine = ap (λ (r : GapRouting). r.after) routed;
       epoch = ap (λ (r : GapRouting). epoch_after c.args.self.now.epoch r.route) routed;
       finding = ap (λ (r : GapRouting). route_finding row r.route) routed;
       gap = refl;
-      turn = ap effect.ToChannel handed ∙ ap (λ (r : GapRouting). turn_of row.packet r.route) routed;
+      effect = ap effect.ToChannel handed ∙ ap (λ (r : GapRouting). effect_of row.packet r.route) routed;
     }

@@ -7,7 +7,7 @@ pub loop-item-init : goal.loop-item-init
 loop-item-init g c =
     let is = c.piece.view_is in
     record {
-      stands = c.in_ok-live.ensures.stands (record c.args.piece.now { items = [] }) (sym (ap (λ v. v.interface) is)) (sym (ap (λ v. v.channel) is)) (sym (ap (λ v. v.epoch) is)) (sym (ap (λ v. v.start) is)) refl;
+      represented = c.in_ok-live.ensures.represented (record c.args.piece.now { items = [] }) (sym (ap (λ v. v.interface) is)) (sym (ap (λ v. v.channel) is)) (sym (ap (λ v. v.epoch) is)) (sym (ap (λ v. v.start) is)) refl;
       left = sym c.rows-item-items.ensures ∙ sym c.into_iter-item-iterator.ensures.into_iter_gives;
     }
 
@@ -16,7 +16,7 @@ take-requires g c =
     let p = c.args.piece.now in
     let whole : IsPiece p.interface p.channel p.items = subst (λ q. IsPiece q.interface q.channel q.items) c.piece.view_is c.piece.invariant in
     let room = next_item p.interface p.channel p.items c.loop-item.yielded _ c.next.new.self c.in-Some.item whole c.loop-item.invariant.left c.in-Some.ensures.steps in
-    record { room = (record p { items = c.loop-item.yielded }, c.loop-item.invariant.stands, room) }
+    record { room = (record p { items = c.loop-item.yielded }, c.loop-item.invariant.represented, room) }
 
 pub taken_row-requires : goal.taken_row-requires
 taken_row-requires g c =
@@ -24,9 +24,9 @@ taken_row-requires g c =
     let whole : IsPiece p.interface p.channel p.items = subst (λ q. IsPiece q.interface q.channel q.items) c.piece.view_is c.piece.invariant in
     let room = next_item p.interface p.channel p.items c.loop-item.yielded _ c.next.new.self c.in-Some.item whole c.loop-item.invariant.left c.in-Some.ensures.steps in
     record {
-      stands = (
+      represented = (
         record p { items = c.loop-item.yielded ++ c.in-Some.item ∷ [] },
-        c.in_ok-taken.ensures.stands (record p { items = c.loop-item.yielded }) c.loop-item.invariant.stands room,
+        c.in_ok-taken.ensures.represented (record p { items = c.loop-item.yielded }) c.loop-item.invariant.represented room,
       );
     }
 
@@ -36,11 +36,11 @@ loop-item-preserved g c =
     let whole : IsPiece p.interface p.channel p.items = subst (λ q. IsPiece q.interface q.channel q.items) c.piece.view_is c.piece.invariant in
     let room = next_item p.interface p.channel p.items c.loop-item.yielded _ c.next.new.self c.in-Some.item whole c.loop-item.invariant.left c.in-Some.ensures.steps in
     record {
-      stands = c.in_ok-taken.ensures.stands (record p { items = c.loop-item.yielded }) c.loop-item.invariant.stands room;
+      represented = c.in_ok-taken.ensures.represented (record p { items = c.loop-item.yielded }) c.loop-item.invariant.represented room;
       left = c.loop-item.invariant.left ∙ ap (λ l. c.loop-item.yielded ++ l) c.in-Some.ensures.steps ∙ sym (append_assoc c.loop-item.yielded (c.in-Some.item ∷ []) c.next.new.self);
     }
 
 pub end-requires : goal.end-requires
 end-requires g c =
     let p = c.args.piece.now in
-    record { stands = (record p { items = c.loop-item.yielded }, c.loop-item.invariant.stands) }
+    record { represented = (record p { items = c.loop-item.yielded }, c.loop-item.invariant.represented) }

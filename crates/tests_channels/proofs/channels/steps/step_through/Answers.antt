@@ -8,7 +8,7 @@ pub loop-item-init : goal.loop-item-init
 loop-item-init g c = record {
   interface = c.fresh-channel.ensures.interface;
   number = c.fresh-channel.ensures.number;
-  stands = (_, c.fresh-channel.ensures.stands);
+  represented = (_, c.fresh-channel.ensures.represented);
   left = subst (All (IsItem c.args.interface.now 1)) (sym (c.into_iter-item-iterator.ensures.into_iter_gives ∙ c.iter-item-items.ensures)) c.requires.items;
 }
 
@@ -23,10 +23,10 @@ step_until_taken-requires g c =
 
 pub loop-item-preserved : goal.loop-item-preserved
 loop-item-preserved g c =
-    let known = c.loop-item.invariant.stands in
+    let known = c.loop-item.invariant.represented in
     record {
       interface = c.in_ok-growths.ensures.interface known.0 known.1 ∙ c.loop-item.invariant.interface;
       number = c.in_ok-growths.ensures.number known.0 known.1 ∙ c.loop-item.invariant.number;
-      stands = c.in_ok-growths.ensures.stands known.0 known.1;
+      represented = c.in_ok-growths.ensures.represented known.0 known.1;
       left = All-rest (IsItem c.args.interface.now 1) c.in-Some.item c.next.new.self c.loop-item.item-iterator c.in-Some.ensures.steps c.loop-item.invariant.left;
     }

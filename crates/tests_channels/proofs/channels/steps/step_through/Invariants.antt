@@ -7,6 +7,6 @@ abbrev pub invariant-loop-item : goal.invariant-loop-item
 invariant-loop-item g l = record {
   interface : g.C.Channel.interface_of l.channel ≡ l.interface;
   number : g.C.Channel.number_of l.channel ≡ 1;
-  stands : (c : GapChannel) × g.C.Channel.represents l.channel c;
+  represented : (c : GapChannel) × g.C.Channel.represents l.channel c;
   left : All (IsItem l.interface 1) l.item-iterator;
 }

@@ -1,5 +1,5 @@
 use Rattle.std.proofs.Common.{◌≡◌, ◌+◌, ◌++◌, ℕ, List, ap, arith, length, length-append, refl, sym}
-use Rattle.trace_reading.proofs.Parts.{err_wider, held_after, held_same, ok_is, stands_front}
+use Rattle.trace_reading.proofs.Parts.{err_wider, held_after, held_same, ok_is, represents_front}
 use Rattle.trace_reading.proofs.feeding.FedText.send_lines.Goals as goal
 
 pub take_room-requires-in_default-clause-held : goal.take_room-requires-in_default-clause-held
@@ -19,7 +19,7 @@ returns-in_default-clause-refused g c =
 
 pub hand_out-requires-clause-place : goal.hand_out-requires-clause-place
 hand_out-requires-clause-place g c =
-    stands_front g.P.TraceText.text c.split_room.new.self.taken.sent (c.in-Some.lines.items ++ c.split_room.new.self.room.items) c.in-Some.lines.items c.split_room.new.self.room.items refl
+    represents_front g.P.TraceText.text c.split_room.new.self.taken.sent (c.in-Some.lines.items ++ c.split_room.new.self.room.items) c.in-Some.lines.items c.split_room.new.self.room.items refl
     (held_same g.P.TraceText.text c.args.self.now.taken.work.now.queue c.split_room.new.self.taken.work.now.queue c.args.pass.now c.args.self.now.taken.sent c.split_room.new.self.taken.sent c.args.self.now.room.items (c.in-Some.lines.items ++ c.split_room.new.self.room.items) c.args.self.now.taken.text c.split_room.new.self.taken.text
     c.requires.held c.split_room.ensures.same.0 c.split_room.ensures.same.1 (ap (λ v. v.queue) c.split_room.ensures.same.2) c.in-Some.ensures.parts).place
 

@@ -1,7 +1,7 @@
 use Rattle.std.proofs.Common.{◌≡◌, ◌∙◌, ◌+◌, ◌++◌, ℕ, List, ap, arith, drop, length, length-append, refl, subst, sym, take}
 use Rattle.std.specs.Prelude.{OnOk}
 use Rattle.std.proofs.lemmas.List.{take-append-drop}
-use Rattle.trace_reading.proofs.Parts.{err_wider, held_after, held_same, stands_front}
+use Rattle.trace_reading.proofs.Parts.{err_wider, held_after, held_same, represents_front}
 use Rattle.trace_reading.specs.Readings.{IsHeld}
 use Rattle.trace_reading.proofs.feeding.FedText.take_front.Goals as goal
 
@@ -10,7 +10,7 @@ parts : (room same : List ℕ) (count : ℕ) → same ≡ room → room ≡ take
 parts room same count is = sym (take-append-drop count room) ∙ ap (λ xs. take count xs ++ drop count room) (sym is)
 
 pub take-taken-requires-clause-place : goal.take-taken-requires-clause-place
-take-taken-requires-clause-place g c = stands_front g.P.TraceText.text c.args.self.now.taken.sent c.args.self.now.room.items (take c.args.count c.as_slice.result.now) (drop c.args.count c.args.self.now.room.items) (parts c.args.self.now.room.items c.as_slice.result.now c.args.count c.as_slice.ensures) c.requires.held.place
+take-taken-requires-clause-place g c = represents_front g.P.TraceText.text c.args.self.now.taken.sent c.args.self.now.room.items (take c.args.count c.as_slice.result.now) (drop c.args.count c.args.self.now.room.items) (parts c.args.self.now.room.items c.as_slice.result.now c.args.count c.as_slice.ensures) c.requires.held.place
 
 pub returns-clause-held : goal.returns-clause-held
 returns-clause-held g c =

@@ -22,10 +22,10 @@ pub returns-clause-cut : goal.returns-clause-cut
 returns-clause-cut g c before h =
     let i = c.args.self.now.interface in
     let is = c.item_of_row-item.ensures.item in
-    on_ok_both c.push.result _ _ _ (c.push.ensures.stands i before h.stands) c.push.ensures.counted
-    (λ stands counted. cut_more c.args.self.now c.push.new.self before (item_read i c.args.row.now) h.counting (subst (λ r. Represents i (before ++ r ∷ []) c.push.new.self) is stands) (subst (λ r. IsCounted r c.args.self.now.cutter c.push.new.self) is counted))
+    on_ok_both c.push.result _ _ _ (c.push.ensures.represented i before h.represented) c.push.ensures.counted
+    (λ represented counted. cut_more c.args.self.now c.push.new.self before (item_read i c.args.row.now) h.counting (subst (λ r. Represents i (before ++ r ∷ []) c.push.new.self) is represented) (subst (λ r. IsCounted r c.args.self.now.cutter c.push.new.self) is counted))
 
 pub returns-clause-pieces : goal.returns-clause-pieces
 returns-clause-pieces g c before h =
     let i = c.args.self.now.interface in
-    subst (λ r. OnOk c.push.result (HasAppended c.args.pieces.now.items c.push.new.out.items (given_of i before) (given_of i (before ++ r ∷ [])))) c.item_of_row-item.ensures.item (c.push.ensures.appended i before h.stands)
+    subst (λ r. OnOk c.push.result (HasAppended c.args.pieces.now.items c.push.new.out.items (given_of i before) (given_of i (before ++ r ∷ [])))) c.item_of_row-item.ensures.item (c.push.ensures.appended i before h.represented)

@@ -4,7 +4,7 @@ use Rattle.trace_reading.proofs.text_cutter.RowCutter.join.Goals as goal
 pub join-requires : goal.join-requires
 join-requires g c =
     let next = c.requires.next in
-    record { next = (c.args.self.interface, next.0, next.1, next.2.stands, next.4, may_come next.0 next.1 c.args.self next.2 next.3) }
+    record { next = (c.args.self.interface, next.0, next.1, next.2.represented, next.4, may_come next.0 next.1 c.args.self next.2 next.3) }
 
 pub returns-clause-cut : goal.returns-clause-cut
 returns-clause-cut g c before cut items sound block =
@@ -13,4 +13,4 @@ returns-clause-cut g c before cut items sound block =
 
 pub returns-clause-pieces : goal.returns-clause-pieces
 returns-clause-pieces g c before cut items sound block =
-    (c.in_ok-cutter.ensures.taken items block (may_come before items c.args.self cut sound)).appended c.args.self.interface before cut.stands
+    (c.in_ok-cutter.ensures.taken items block (may_come before items c.args.self cut sound)).appended c.args.self.interface before cut.represented

@@ -41,7 +41,7 @@ returns-in_default-2-clause-taken g c text taken =
     let end : ReadsChunk c.args.self.now.lines c.next_row.new.self c.args.bytes.now = rw c.in_default-2.is at c.in_ok-rest.ensures.ok in
     let none = no_rows_yet c.args.self.now text taken c.in_default.is in
     record {
-      reads = end.stands text taken.reads;
+      reads = end.represented text taken.reads;
       cut = none_cut c.args.self.now.row_cutter c.next_row.new.self.interface (early_rows (text ++ c.args.bytes.now)) c.in_default.is (end.rows text taken.reads ∙ none);
     }
 

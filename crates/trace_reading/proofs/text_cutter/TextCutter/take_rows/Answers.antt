@@ -10,7 +10,7 @@ join-requires g c =
     let is = sym c.take.ensures.value ∙ c.in-Some.is in
     let at = at_start c.args.start.now c.args.self.now.row_cutter f (c.if-not-is_at.ensures refl) is in
     let p = passes c.requires.0 c.requires.1 c.args.start.now c.args.self.now c.args.self.now.lines c.pass_block.new.self c.args.rows f c.requires.2 c.requires.3 refl is at
-    (λ rs stands headed block span. c.pass_block.ensures.passed f.interface c.requires.0 c.requires.1 rs c.if-not-pass_block.false stands headed block span) in
+    (λ rs represented headed block span. c.pass_block.ensures.passed f.interface c.requires.0 c.requires.1 rs c.if-not-pass_block.false represented headed block span) in
     record { next = (items_of f.interface (early_rows c.requires.0), items_of f.interface p.rs, p.before, p.trace, p.cut) }
 
 pub returns-clause-taken : goal.returns-clause-taken
@@ -19,7 +19,7 @@ returns-clause-taken g c text taken bytes read _ =
     let is = sym c.take.ensures.value ∙ c.in-Some.is in
     let at = at_start c.args.start.now c.args.self.now.row_cutter f (c.if-not-is_at.ensures refl) is in
     let p = passes text bytes c.args.start.now c.args.self.now c.args.self.now.lines c.pass_block.new.self c.args.rows f taken read refl is at
-    (λ rs stands headed block span. c.pass_block.ensures.passed f.interface text bytes rs c.if-not-pass_block.false stands headed block span) in
+    (λ rs represented headed block span. c.pass_block.ensures.passed f.interface text bytes rs c.if-not-pass_block.false represented headed block span) in
     block_taken text bytes c.args.self.now.lines c.pass_block.new.self c.args.rows f c.in_ok-join.field-0 _ p (c.in_ok-join.ensures.cut (items_of f.interface (early_rows text)) p.before (items_of f.interface p.rs) p.trace p.cut) c.in_ok-join.ensures.interface refl refl
 
 pub returns-clause-pieces : goal.returns-clause-pieces
@@ -28,5 +28,5 @@ returns-clause-pieces g c text taken bytes read _ =
     let is = sym c.take.ensures.value ∙ c.in-Some.is in
     let at = at_start c.args.start.now c.args.self.now.row_cutter f (c.if-not-is_at.ensures refl) is in
     let p = passes text bytes c.args.start.now c.args.self.now c.args.self.now.lines c.pass_block.new.self c.args.rows f taken read refl is at
-    (λ rs stands headed block span. c.pass_block.ensures.passed f.interface text bytes rs c.if-not-pass_block.false stands headed block span) in
+    (λ rs represented headed block span. c.pass_block.ensures.passed f.interface text bytes rs c.if-not-pass_block.false represented headed block span) in
     block_pieces text bytes c.args.self.now.lines c.pass_block.new.self c.args.rows f c.args.pieces.now.items c.join.new.pieces.items p (c.in_ok-join.ensures.pieces (items_of f.interface (early_rows text)) p.before (items_of f.interface p.rs) p.trace p.cut)

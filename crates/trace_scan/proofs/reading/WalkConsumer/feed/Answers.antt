@@ -10,7 +10,7 @@ feed-requires g c =
     record { fed = record { fed = λ running. (was.2, was.3.0); kinds = subst (λ o. IfSome o IsTextFault) (sym was.3.0.running) tt } }
 
 pub returns-clause-fed : goal.returns-clause-fed
-returns-clause-fed g c first start text was = walked_more c.feed.result _ _ was.1 (c.feed.ensures.stands text was.0)
+returns-clause-fed g c first start text was = walked_more c.feed.result _ _ was.1 (c.feed.ensures.represented text was.0)
 
 pub returns-clause-refused : goal.returns-clause-refused
 returns-clause-refused g c first start text was = walk_refused c.feed.result _ _ was.1 (c.feed.ensures.refused text was.0) c.feed.ensures.kinds

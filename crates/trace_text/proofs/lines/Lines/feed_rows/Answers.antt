@@ -22,7 +22,7 @@ returns-in_err-row-clause-header g c text s =
     let exit = err_from_is_err_and c.from_residual.result c.from_residual.ensures.1 in
     rw (exit.1, exit.2)
     (fed-head (Unit {0}) (Unit {0}) c.args.self.now c.loop-row.self c.args.out.now.items c.loop-row.out.items c.args.chunk.now c.loop-row.rest.now Memory c.loop-row.self.interface f text s
-    (head_stopped (Unit {0}) c.loop-row.self (text ++ f.fed) c.loop-row.rest.now Memory c.loop-row.self.interface (f.stands text s) tt tt refl))
+    (head_stopped (Unit {0}) c.loop-row.self (text ++ f.fed) c.loop-row.rest.now Memory c.loop-row.self.interface (f.represented text s) tt tt refl))
 
 pub returns-in_err-push-clause-appended : goal.returns-in_err-push-clause-appended
 returns-in_err-push-clause-appended g c text s =
@@ -49,13 +49,13 @@ returns-in_err-push-clause-header g c text s =
     let f = c.loop-row.invariant in
     let exit = err_from_is_err_and c.from_residual-in_err-push.result c.from_residual-in_err-push.ensures.1 in
     rw (exit.1, exit.2)
-    (inr (c.in_ok-after.ensures.header (text ++ f.fed) (f.stands text s) ∙ ap early_head (whole_chunk text f.fed c.loop-row.rest.now c.args.chunk.now f.whole)))
+    (inr (c.in_ok-after.ensures.header (text ++ f.fed) (f.represented text s) ∙ ap early_head (whole_chunk text f.fed c.loop-row.rest.now c.args.chunk.now f.whole)))
 
 pub returns-in_default-clause-ok : goal.returns-in_default-clause-ok
 returns-in_default-clause-ok g c text s =
     let f = c.loop-row.invariant in
     let read : ReadsChunk c.loop-row.self c.find_row.new.self c.loop-row.rest.now = rw c.in_default.is at c.in_ok-after.ensures.ok in
-    rw (whole_chunk text f.fed c.loop-row.rest.now c.args.chunk.now f.whole) at (read.stands (text ++ f.fed) (f.stands text s))
+    rw (whole_chunk text f.fed c.loop-row.rest.now c.args.chunk.now f.whole) at (read.represented (text ++ f.fed) (f.represented text s))
 
 pub returns-in_default-clause-appended : goal.returns-in_default-clause-appended
 returns-in_default-clause-appended g c text s =
@@ -65,7 +65,7 @@ returns-in_default-clause-appended g c text s =
 pub returns-in_default-clause-header : goal.returns-in_default-clause-header
 returns-in_default-clause-header g c text s =
     let f = c.loop-row.invariant in
-    c.in_ok-after.ensures.header (text ++ f.fed) (f.stands text s) ∙ ap early_head (whole_chunk text f.fed c.loop-row.rest.now c.args.chunk.now f.whole)
+    c.in_ok-after.ensures.header (text ++ f.fed) (f.represented text s) ∙ ap early_head (whole_chunk text f.fed c.loop-row.rest.now c.args.chunk.now f.whole)
 
 pub returns-in_default-clause-size : goal.returns-in_default-clause-size
 returns-in_default-clause-size g c =
@@ -79,21 +79,21 @@ returns-in_err-after-clause-refused g c text s =
     let exit = err_from_is_err_and c.from_residual-in_err-after.result c.from_residual-in_err-after.ensures.1 in
     rw (exit.1, exit.2)
     (subst (λ (xs : List ℕ). IsFaultOf (early xs) c.in_err-after.field-0.0) (whole_chunk text f.fed c.loop-row.rest.now c.args.chunk.now f.whole)
-    (c.in_err-after.ensures.refused (text ++ f.fed) (f.stands text s)))
+    (c.in_err-after.ensures.refused (text ++ f.fed) (f.represented text s)))
 
 pub returns-in_err-after-clause-appended : goal.returns-in_err-after-clause-appended
 returns-in_err-after-clause-appended g c text s =
     let f = c.loop-row.invariant in
     let exit = err_from_is_err_and c.from_residual-in_err-after.result c.from_residual-in_err-after.ensures.1 in
     rw (exit.1, exit.2)
-    (fed-refused (Unit {0}) c.args.self.now c.loop-row.self c.args.out.now.items c.loop-row.out.items c.args.chunk.now c.loop-row.rest.now c.in_err-after.field-0.0 f text s (c.in_err-after.ensures.known (text ++ f.fed) (f.stands text s)))
+    (fed-refused (Unit {0}) c.args.self.now c.loop-row.self c.args.out.now.items c.loop-row.out.items c.args.chunk.now c.loop-row.rest.now c.in_err-after.field-0.0 f text s (c.in_err-after.ensures.known (text ++ f.fed) (f.represented text s)))
 
 pub returns-in_err-after-clause-header : goal.returns-in_err-after-clause-header
 returns-in_err-after-clause-header g c text s =
     let f = c.loop-row.invariant in
     let exit = err_from_is_err_and c.from_residual-in_err-after.result c.from_residual-in_err-after.ensures.1 in
     rw (exit.1, exit.2)
-    (fed-head (Unit {0}) (Option (Bor (List ℕ))) c.args.self.now c.loop-row.self c.args.out.now.items c.loop-row.out.items c.args.chunk.now c.loop-row.rest.now c.in_err-after.field-0.0 c.find_row.new.self.interface f text s (c.in_err-after.ensures.header (text ++ f.fed) (f.stands text s)))
+    (fed-head (Unit {0}) (Option (Bor (List ℕ))) c.args.self.now c.loop-row.self c.args.out.now.items c.loop-row.out.items c.args.chunk.now c.loop-row.rest.now c.in_err-after.field-0.0 c.find_row.new.self.interface f text s (c.in_err-after.ensures.header (text ++ f.fed) (f.represented text s)))
 
 pub returns-in_err-after-clause-kinds : goal.returns-in_err-after-clause-kinds
 returns-in_err-after-clause-kinds g c =

@@ -3,7 +3,7 @@ use Rattle.std.specs.Prelude.{IfErr}
 use Rattle.std.proofs.lemmas.List.{length-map}
 use Rattle.std.proofs.lemmas.Result.{IfOk-from_err, err_from_is_err_and}
 use Rattle.line_model.specs.declared.fault.Fault.TheVariants.{Memory}
-use Rattle.line_model.specs.pieces.Plans.{value}
+use Rattle.line_model.specs.pieces.Plans.{result_of}
 use Rattle.line_model.specs.work.Book.{IsValue}
 use Rattle.workers.specs.Vouching.{IsRunOfOne}
 use Rattle.workers.proofs.Pieces.{values_are, runs_of}
@@ -19,7 +19,7 @@ pub post-requires-clause-vouched : goal.post-requires-clause-vouched
 post-requires-clause-vouched g c =
     let pieces = c.witness_of.ensures.witness.1 ∙ ap (λ v. v.pieces) c.loop.invariant.pass in
     let ran = g.L.QueueName.ran in
-    let runs : All (λ p. ran p (value p)) c.args.bundle.now = λ k d lt. c.requires.queue.2 _ _ (c.in_ok-reports.ensures.ran k d lt) in
+    let runs : All (λ p. ran p (result_of p)) c.args.bundle.now = λ k d lt. c.requires.queue.2 _ _ (c.in_ok-reports.ensures.ran k d lt) in
     subst (λ l. All (IsRunOfOne ran l) c.loop.reports) (sym pieces) (subst (All (IsRunOfOne ran c.args.pass.now.pieces)) (sym c.loop.invariant.values) (runs_of ran c.args.pass.now.pieces c.args.bundle.now c.requires.taken runs))
 
 pub loop-preserved : goal.loop-preserved
@@ -43,7 +43,7 @@ returns-in-Ok-clause-same g c = c.witness_of.ensures.same ∙ c.loop.invariant.p
 pub returns-in-Ok-clause-posted : goal.returns-in-Ok-clause-posted
 returns-in-Ok-clause-posted g c =
     let i = c.loop.invariant in
-    omega (arith, ap (λ s. s.posts) c.in-Ok.ensures.share, ap (λ s. s.posts) i.share, ap length i.values, length-map c.args.bundle.now value)
+    omega (arith, ap (λ s. s.posts) c.in-Ok.ensures.share, ap (λ s. s.posts) i.share, ap length i.values, length-map c.args.bundle.now result_of)
 
 pub returns-in_err-reports-clause-posted : goal.returns-in_err-reports-clause-posted
 returns-in_err-reports-clause-posted g c = IfOk-from_err _ _ c.from_residual.ensures.0

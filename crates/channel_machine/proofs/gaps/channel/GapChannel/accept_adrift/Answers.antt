@@ -1,5 +1,5 @@
 use Rattle.std.proofs.Common.{refl, sym, ap}
-use Rattle.channel_machine.specs.GapChannels.{StandsAdrift}
+use Rattle.channel_machine.specs.GapChannels.{RepresentsAdrift}
 use Rattle.channel_machine.specs.GapView.KnownCertainty.{Adrift}
 use Rattle.channel_machine.proofs.AdriftLemmas.{at_entry}
 use Rattle.channel_machine.proofs.AdriftRows.{accepted_adrift}
@@ -7,6 +7,6 @@ use Rattle.channel_machine.proofs.gaps.channel.GapChannel.accept_adrift.Goals as
 
 pub returns-clause-does : goal.returns-clause-does
 returns-clause-does g c xs shows is k s =
-    let st : StandsAdrift _ c.args.adrift k = at_entry _ c.args.self.now c.args.adrift k c.self.view_is s in
+    let st : RepresentsAdrift _ c.args.adrift k = at_entry _ c.args.self.now c.args.adrift k c.self.view_is s in
     accepted_adrift c.args.row.now.origin _ c.args.self.now _ _ _ c.args.adrift c.is_hidden_when_accepted-hidden.result c.args.row.now.side xs k c.self.view_is st
-    (sym (c.if-not-is_calling.ensures k st.stands)) (c.is_hidden_when_accepted-hidden.ensures k st.stands) (c.in_ok-accept_adrift.ensures.does k xs shows) refl (ap (λ b. Adrift b) c.hiding.ensures)
+    (sym (c.if-not-is_calling.ensures k st.represented)) (c.is_hidden_when_accepted-hidden.ensures k st.represented) (c.in_ok-accept_adrift.ensures.does k xs shows) refl (ap (λ b. Adrift b) c.hiding.ensures)

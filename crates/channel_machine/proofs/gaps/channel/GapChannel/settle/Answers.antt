@@ -1,11 +1,11 @@
 use Rattle.std.proofs.Common.{refl, sym, ◌∙◌, ap, subst}
 use Rattle.line_model.specs.declared.interface.Interface.{Interface}
 use Rattle.line_model.specs.channels.GapStep.{brought_up, settled_doubts}
-use Rattle.channel_machine.specs.Channels.{Stands}
+use Rattle.channel_machine.specs.Channels.{StatusRepresents}
 use Rattle.channel_machine.specs.GapChannels.{GapKnown, interface_of}
 use Rattle.channel_machine.specs.GapSteps.{IsBare}
 use Rattle.channel_machine.specs.GapView.KnownCertainty.{Settled}
-use Rattle.channel_machine.specs.SettledNumbers.{NumbersStand}
+use Rattle.channel_machine.specs.SettledNumbers.{NumbersRepresent}
 use Rattle.channel_machine.specs.Settling.{settled_after}
 use Rattle.channel_machine.proofs.AdriftRows.{settles}
 use Rattle.channel_machine.proofs.gaps.channel.GapChannel.settle.Goals as goal
@@ -15,7 +15,7 @@ returns-clause-does g c b k s bare =
     settles c.args.row.now.origin _ c.args.self.now _ _ _ c.args.item.now c.args.adrift.now b c.args.settling.now c.new-numbers.result k c.self.view_is c.requires.side c.requires.header
     (subst (λ (q : GapKnown). IsBare (brought_up (interface_of q) k).after) (sym c.self.view_is) bare)
     (c.new-numbers.ensures.doubts ∙ ap (λ h. settled_doubts h c.args.settling.now.side c.args.settling.now.header) c.is_hidden.ensures)
-    (λ d. subst (λ (i : Interface). NumbersStand i.modulus c.new-numbers.result (settled_after i.modulus c.args.settling.now d)) c.interface-interface.ensures (c.new-numbers.ensures.numbers d))
+    (λ d. subst (λ (i : Interface). NumbersRepresent i.modulus c.new-numbers.result (settled_after i.modulus c.args.settling.now d)) c.interface-interface.ensures (c.new-numbers.ensures.numbers d))
     c.new-numbers.ensures.sequences
-    (c.in_ok-carry_on.ensures.does k (subst (λ (q : GapKnown). Stands q.channel k) (sym c.self.view_is) s))
+    (c.in_ok-carry_on.ensures.does k (subst (λ (q : GapKnown). StatusRepresents q.channel k) (sym c.self.view_is) s))
     refl (ap (λ v. Settled v) c.in_ok-settled.ensures.ok)

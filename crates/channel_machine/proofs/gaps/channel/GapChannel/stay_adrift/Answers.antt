@@ -2,7 +2,7 @@ use Rattle.std.proofs.Common.{◌≡◌, refl, sym, ◌∙◌, ap, subst}
 use Rattle.line_model.specs.basics.Records.{Item}
 use Rattle.line_model.specs.packets.Says.{header_in}
 use Rattle.line_model.specs.channels.GapStep.{brought_up, last_after, receive_of}
-use Rattle.channel_machine.specs.Channels.{Stands}
+use Rattle.channel_machine.specs.Channels.{StatusRepresents}
 use Rattle.channel_machine.specs.GapChannels.{GapKnown, interface_of}
 use Rattle.channel_machine.specs.GapSteps.{IsBare}
 use Rattle.channel_machine.proofs.AdriftRows.{stayed}
@@ -19,5 +19,5 @@ returns-clause-does g c b o l none k s bare =
     stayed c.args.row.now.origin _ c.args.self.now _ _ _ r c.args.adrift b c.receive.new.self c.args.row.now.side (header_in r.packet) o l k c.self.view_is none
     (subst (λ (q : GapKnown). IsBare (brought_up (interface_of q) k).after) (sym c.self.view_is) bare)
     is
-    (c.in_ok-carry_on.ensures.does k (subst (λ (q : GapKnown). Stands q.channel k) (sym c.self.view_is) s))
+    (c.in_ok-carry_on.ensures.does k (subst (λ (q : GapKnown). StatusRepresents q.channel k) (sym c.self.view_is) s))
     refl refl

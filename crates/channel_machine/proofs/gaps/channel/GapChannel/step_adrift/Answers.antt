@@ -13,9 +13,9 @@ use Rattle.line_model.specs.channels.Gaps.{drifting}
 use Rattle.line_model.specs.channels.GapStep.{GapOutcome, adrift_acceptance, adrift_call, adrift_entry, adrift_fault, adrift_reset, cleared_by, confirmed_clear, owed_after, resetting_state, with_certainty}
 use Rattle.packet_decode.specs.Shown.{shown}
 use Rattle.channel_machine.specs.Contents.{AreOf}
-use Rattle.channel_machine.specs.GapChannels.{GapDoes, GapKnown, StandsAdrift, adrift_at, interface_of, number_of}
+use Rattle.channel_machine.specs.GapChannels.{GapDoes, GapKnown, RepresentsAdrift, adrift_at, interface_of, number_of}
 use Rattle.channel_machine.proofs.AdriftLemmas.{at_entry}
-use Rattle.channel_machine.proofs.AdriftRows.{owing_stands, step_by}
+use Rattle.channel_machine.proofs.AdriftRows.{owing_represents, step_by}
 use Rattle.channel_machine.proofs.gaps.channel.GapChannel.step_adrift.Goals as goal
 
 pub returns-in-OpensCall-Call-clause-does : goal.returns-in-OpensCall-Call-clause-does
@@ -26,8 +26,8 @@ returns-in-OpensCall-Call-clause-does g c is k s =
     let i = interface_of p in
     let n = number_of p in
     let q : gaps.GapChannel = adrift_at p a k in
-    let st : StandsAdrift _ a k = at_entry _ p a k c.self.view_is s in
-    let fault : None ≡ adrift_fault i n k r = subst (λ (q : GapKnown). None ≡ adrift_fault (interface_of q) (number_of q) k r) c.self.view_is (c.in-Ok.ensures.fault k st.stands) in
+    let st : RepresentsAdrift _ a k = at_entry _ p a k c.self.view_is s in
+    let fault : None ≡ adrift_fault i n k r = subst (λ (q : GapKnown). None ≡ adrift_fault (interface_of q) (number_of q) k r) c.self.view_is (c.in-Ok.ensures.fault k st.represented) in
     let entry : OpensCall ≡ adrift_entry (is_permanent i n) (packet_class r.packet) =
     sym c.in-OpensCall-Call.is-0 ∙ c.adrift_entry-entry.ensures
     ∙ (λ j. adrift_entry ((c.is_permanent.ensures ∙ ap (λ (q : GapKnown). is_permanent (interface_of q) (number_of q)) c.self.view_is) j)
@@ -45,8 +45,8 @@ returns-in-Accepts-Accepted-clause-does g c is k s =
     let i = interface_of p in
     let n = number_of p in
     let q : gaps.GapChannel = adrift_at p a k in
-    let st : StandsAdrift _ a k = at_entry _ p a k c.self.view_is s in
-    let fault : None ≡ adrift_fault i n k r = subst (λ (q : GapKnown). None ≡ adrift_fault (interface_of q) (number_of q) k r) c.self.view_is (c.in-Ok.ensures.fault k st.stands) in
+    let st : RepresentsAdrift _ a k = at_entry _ p a k c.self.view_is s in
+    let fault : None ≡ adrift_fault i n k r = subst (λ (q : GapKnown). None ≡ adrift_fault (interface_of q) (number_of q) k r) c.self.view_is (c.in-Ok.ensures.fault k st.represented) in
     let entry : Accepts ≡ adrift_entry (is_permanent i n) (packet_class r.packet) =
     sym c.in-Accepts-Accepted.is-0 ∙ c.adrift_entry-entry.ensures
     ∙ (λ j. adrift_entry ((c.is_permanent.ensures ∙ ap (λ (q : GapKnown). is_permanent (interface_of q) (number_of q)) c.self.view_is) j)
@@ -64,8 +64,8 @@ returns-in-Clears-default-clause-does g c is k s =
     let i = interface_of p in
     let n = number_of p in
     let q : gaps.GapChannel = adrift_at p a k in
-    let st : StandsAdrift _ a k = at_entry _ p a k c.self.view_is s in
-    let fault : None ≡ adrift_fault i n k r = subst (λ (q : GapKnown). None ≡ adrift_fault (interface_of q) (number_of q) k r) c.self.view_is (c.in-Ok.ensures.fault k st.stands) in
+    let st : RepresentsAdrift _ a k = at_entry _ p a k c.self.view_is s in
+    let fault : None ≡ adrift_fault i n k r = subst (λ (q : GapKnown). None ≡ adrift_fault (interface_of q) (number_of q) k r) c.self.view_is (c.in-Ok.ensures.fault k st.represented) in
     let entry : Clears ≡ adrift_entry (is_permanent i n) (packet_class r.packet) =
     sym c.in-Clears-default.is-0 ∙ c.adrift_entry-entry.ensures
     ∙ (λ j. adrift_entry ((c.is_permanent.ensures ∙ ap (λ (q : GapKnown). is_permanent (interface_of q) (number_of q)) c.self.view_is) j)
@@ -82,8 +82,8 @@ returns-in-ConfirmsClear-default-clause-does g c is k s =
     let i = interface_of p in
     let n = number_of p in
     let q : gaps.GapChannel = adrift_at p a k in
-    let st : StandsAdrift _ a k = at_entry _ p a k c.self.view_is s in
-    let fault : None ≡ adrift_fault i n k r = subst (λ (q : GapKnown). None ≡ adrift_fault (interface_of q) (number_of q) k r) c.self.view_is (c.in-Ok.ensures.fault k st.stands) in
+    let st : RepresentsAdrift _ a k = at_entry _ p a k c.self.view_is s in
+    let fault : None ≡ adrift_fault i n k r = subst (λ (q : GapKnown). None ≡ adrift_fault (interface_of q) (number_of q) k r) c.self.view_is (c.in-Ok.ensures.fault k st.represented) in
     let entry : ConfirmsClear ≡ adrift_entry (is_permanent i n) (packet_class r.packet) =
     sym c.in-ConfirmsClear-default.is-0 ∙ c.adrift_entry-entry.ensures
     ∙ (λ j. adrift_entry ((c.is_permanent.ensures ∙ ap (λ (q : GapKnown). is_permanent (interface_of q) (number_of q)) c.self.view_is) j)
@@ -100,8 +100,8 @@ returns-in-Resets-default-clause-does g c is k s =
     let i = interface_of p in
     let n = number_of p in
     let q : gaps.GapChannel = adrift_at p a k in
-    let st : StandsAdrift _ a k = at_entry _ p a k c.self.view_is s in
-    let fault : None ≡ adrift_fault i n k r = subst (λ (q : GapKnown). None ≡ adrift_fault (interface_of q) (number_of q) k r) c.self.view_is (c.in-Ok.ensures.fault k st.stands) in
+    let st : RepresentsAdrift _ a k = at_entry _ p a k c.self.view_is s in
+    let fault : None ≡ adrift_fault i n k r = subst (λ (q : GapKnown). None ≡ adrift_fault (interface_of q) (number_of q) k r) c.self.view_is (c.in-Ok.ensures.fault k st.represented) in
     let entry : Resets ≡ adrift_entry (is_permanent i n) (packet_class r.packet) =
     sym c.in-Resets-default.is-0 ∙ c.adrift_entry-entry.ensures
     ∙ (λ j. adrift_entry ((c.is_permanent.ensures ∙ ap (λ (q : GapKnown). is_permanent (interface_of q) (number_of q)) c.self.view_is) j)
@@ -112,7 +112,7 @@ returns-in-Resets-default-clause-does g c is k s =
       owed = (c.owed_after-owed.ensures ∙ (λ j. owed_after (c.requires.side j) (c.in-Resets-default.is-0 j) (c.owed.ensures j))) j;
     }) in
     subst P (step_by Resets i n r a q fault entry)
-    (subst P (λ j. adrift_reset i n (owing j).owed (owing j) ((c.resetting_state.ensures ∙ ap (λ x. resetting_state x) c.requires.side) j) q) (c.reset_adrift.ensures.does k (owing_stands p.channel a c.owing.result k (ap (λ v. v.hidden) owing) s)))
+    (subst P (λ j. adrift_reset i n (owing j).owed (owing j) ((c.resetting_state.ensures ∙ ap (λ x. resetting_state x) c.requires.side) j) q) (c.reset_adrift.ensures.does k (owing_represents p.channel a c.owing.result k (ap (λ v. v.hidden) owing) s)))
 
 pub returns-in-ConfirmsReset-default-clause-does : goal.returns-in-ConfirmsReset-default-clause-does
 returns-in-ConfirmsReset-default-clause-does g c is k s =
@@ -122,8 +122,8 @@ returns-in-ConfirmsReset-default-clause-does g c is k s =
     let i = interface_of p in
     let n = number_of p in
     let q : gaps.GapChannel = adrift_at p a k in
-    let st : StandsAdrift _ a k = at_entry _ p a k c.self.view_is s in
-    let fault : None ≡ adrift_fault i n k r = subst (λ (q : GapKnown). None ≡ adrift_fault (interface_of q) (number_of q) k r) c.self.view_is (c.in-Ok.ensures.fault k st.stands) in
+    let st : RepresentsAdrift _ a k = at_entry _ p a k c.self.view_is s in
+    let fault : None ≡ adrift_fault i n k r = subst (λ (q : GapKnown). None ≡ adrift_fault (interface_of q) (number_of q) k r) c.self.view_is (c.in-Ok.ensures.fault k st.represented) in
     let entry : ConfirmsReset ≡ adrift_entry (is_permanent i n) (packet_class r.packet) =
     sym c.in-ConfirmsReset-default.is-0 ∙ c.adrift_entry-entry.ensures
     ∙ (λ j. adrift_entry ((c.is_permanent.ensures ∙ ap (λ (q : GapKnown). is_permanent (interface_of q) (number_of q)) c.self.view_is) j)
@@ -134,7 +134,7 @@ returns-in-ConfirmsReset-default-clause-does g c is k s =
       owed = (c.owed_after-owed-in-ConfirmsReset-default.ensures ∙ (λ j. owed_after (c.requires.side j) (c.in-ConfirmsReset-default.is-0 j) (c.owed-in-ConfirmsReset-default.ensures j))) j;
     }) in
     subst P (step_by ConfirmsReset i n r a q fault entry)
-    (subst P (λ j. adrift_reset i n (owing j).owed (owing j) D1 q) (c.reset_adrift-in-ConfirmsReset-default.ensures.does k (owing_stands p.channel a c.owing-in-ConfirmsReset-default.result k (ap (λ v. v.hidden) owing) s)))
+    (subst P (λ j. adrift_reset i n (owing j).owed (owing j) D1 q) (c.reset_adrift-in-ConfirmsReset-default.ensures.does k (owing_represents p.channel a c.owing-in-ConfirmsReset-default.result k (ap (λ v. v.hidden) owing) s)))
 
 pub returns-in-Carries-default-clause-does : goal.returns-in-Carries-default-clause-does
 returns-in-Carries-default-clause-does g c is k s =
@@ -144,8 +144,8 @@ returns-in-Carries-default-clause-does g c is k s =
     let i = interface_of p in
     let n = number_of p in
     let q : gaps.GapChannel = adrift_at p a k in
-    let st : StandsAdrift _ a k = at_entry _ p a k c.self.view_is s in
-    let fault : None ≡ adrift_fault i n k r = subst (λ (q : GapKnown). None ≡ adrift_fault (interface_of q) (number_of q) k r) c.self.view_is (c.in-Ok.ensures.fault k st.stands) in
+    let st : RepresentsAdrift _ a k = at_entry _ p a k c.self.view_is s in
+    let fault : None ≡ adrift_fault i n k r = subst (λ (q : GapKnown). None ≡ adrift_fault (interface_of q) (number_of q) k r) c.self.view_is (c.in-Ok.ensures.fault k st.represented) in
     let entry : Carries ≡ adrift_entry (is_permanent i n) (packet_class r.packet) =
     sym c.in-Carries-default.is-0 ∙ c.adrift_entry-entry.ensures
     ∙ (λ j. adrift_entry ((c.is_permanent.ensures ∙ ap (λ (q : GapKnown). is_permanent (interface_of q) (number_of q)) c.self.view_is) j)

@@ -7,7 +7,7 @@ use Rattle.line_model.specs.declared.interface.Interface.{Interface}
 use Rattle.line_model.specs.basics.Records.{Item, Piece}
 use Rattle.line_model.specs.channels.Gaps.{GapChannel}
 use Rattle.line_model.specs.pieces.Plan.{has_some}
-use Rattle.line_model.specs.pieces.Plans.{value}
+use Rattle.line_model.specs.pieces.Plans.{result_of}
 use Rattle.line_model.specs.text.Text.{last_or}
 use Rattle.line_model.proofs.Rising.{RisesFrom, rises-from_index}
 use Rattle.restart_epochs.specs.OpenRows.{OpenRows, no_rows, rows_of, IsSame}
@@ -82,17 +82,17 @@ may_come i c rs r last octets h =
 
 -- ---- one more row
 
-pub next_stands : {A C : Type 0} → (I : C → Interface) (N : C → ℕ) (S : C → GapChannel → Type 0) (i : Interface) (rs : List Item) (r : Item) (more : List Piece) (before new : Observer A C) (after : Cutting)
-    → (s : Represents I N S i rs before) → AreItems i (rs ++ r ∷ []) → Pushed i rs r more after → IsCutting after → IsCounted r s.cutting after → Holds I N S after (map value (given_of i rs) ++ map value more) new
+pub next_represents : {A C : Type 0} → (I : C → Interface) (N : C → ℕ) (S : C → GapChannel → Type 0) (i : Interface) (rs : List Item) (r : Item) (more : List Piece) (before new : Observer A C) (after : Cutting)
+    → (s : Represents I N S i rs before) → AreItems i (rs ++ r ∷ []) → Pushed i rs r more after → IsCutting after → IsCounted r s.cutting after → Holds I N S after (map result_of (given_of i rs) ++ map result_of more) new
     → (new.keeps_rows ≡ true → KnowsLast i (rs ++ r ∷ []) new.last new.events.items) → new.uncounted ≡ uncounted_of i (rs ++ r ∷ []) → Represents I N S i (rs ++ r ∷ []) new
-next_stands I N S i rs r more before new after s sound pushed bounds counted holds known uncounted = record {
+next_represents I N S i rs r more before new after s sound pushed bounds counted holds known uncounted = record {
   sound = sound;
   cutting = after;
-  cut = pushed.stands;
+  cut = pushed.represented;
   bounds = bounds;
   last = counted.last ∙ sym (ap (last_or 0) (map-append (λ (x : Item). x.number) rs (r ∷ [])) ∙ last_or-add 0 r.number (map (λ x. x.number) rs));
   octets = counted.octets ∙ ap (λ n. n + r.length) s.octets ∙ sym (sum_by_push (λ (x : Item). x.length) rs r);
-  holds = subst (λ reports. Holds I N S after reports new) (sym (ap (map value) pushed.given ∙ map-append value (given_of i rs) more)) holds;
+  holds = subst (λ reports. Holds I N S after reports new) (sym (ap (map result_of) pushed.given ∙ map-append result_of (given_of i rs) more)) holds;
   row = known;
   uncounted = uncounted;
 }
@@ -109,7 +109,7 @@ nothing_taken I N S i o holds uncounted = record {
   bounds = nothing_bound i;
   last = refl;
   octets = refl;
-  holds = subst (λ reports. Holds I N S (no_cutting i) reports o) (sym (ap (map value) (of_no_length (given_of i []) (nothing_cut i).given))) holds;
+  holds = subst (λ reports. Holds I N S (no_cutting i) reports o) (sym (ap (map result_of) (of_no_length (given_of i []) (nothing_cut i).given))) holds;
   row = λ keeps. no_row i o.last o.events.items;
   uncounted = uncounted;
 }

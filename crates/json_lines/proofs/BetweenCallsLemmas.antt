@@ -7,7 +7,7 @@ use Rattle.line_model.specs.basics.Device.{with_more}
 use Rattle.line_model.specs.text.Text.{begun_line, is_lf}
 use Rattle.line_model.proofs.TextLemmas.{begun-lf, ended-more, begun-more}
 use Rattle.json_lines.specs.Json.{json_line, json_text, line_room}
-use Rattle.json_lines.specs.Standing.{Goes, IsFirstPart, Stands, since}
+use Rattle.json_lines.specs.BetweenCalls.{Goes, IsFirstPart, IsBetweenCalls, since}
 use Rattle.line_model.specs.basics.Written.{Writes, Puts}
 use Rattle.json_lines.specs.declared.lines.JsonLines.{JsonLines}
 use Rattle.json_lines.proofs.JsonLemmas.{json_lf, json_line_cut}
@@ -36,7 +36,7 @@ parts_of before taken given text is h =
 
 -- ---- between calls and inside them
 
-writes_by : (before taken : Option (List ℕ) × ℕ) (l : JsonLines) (failed : Bool) → l.buffer.failed ≡ failed → Stands before taken l → Writes before taken l.buffer (json_text l.given.bytes)
+writes_by : (before taken : Option (List ℕ) × ℕ) (l : JsonLines) (failed : Bool) → l.buffer.failed ≡ failed → IsBetweenCalls before taken l → Writes before taken l.buffer (json_text l.given.bytes)
 writes_by before taken l false is s = record {
   sent = json_text l.given.bytes;
   left = [];
@@ -58,19 +58,19 @@ writes_by before taken l true is s =
       cause = λ e. s.5 e;
     }
 
-pub goes_of : (before taken : Option (List ℕ) × ℕ) (l : JsonLines) → Stands before taken l → Goes before taken l
+pub goes_of : (before taken : Option (List ℕ) × ℕ) (l : JsonLines) → IsBetweenCalls before taken l → Goes before taken l
 goes_of before taken l s = record { writes = writes_by before taken l l.buffer.failed refl s; line = s.0 }
 
-pub stands_of : (before taken : Option (List ℕ) × ℕ) (l : JsonLines) → Goes before taken l → l.buffer.bytes.items ≡ [] → (0 < length l.refused.bytes → l.buffer.failed ≡ true) → Stands before taken l
-stands_of before taken l g empty refused =
+pub represents_of : (before taken : Option (List ℕ) × ℕ) (l : JsonLines) → Goes before taken l → l.buffer.bytes.items ≡ [] → (0 < length l.refused.bytes → l.buffer.failed ≡ true) → IsBetweenCalls before taken l
+represents_of before taken l g empty refused =
     let w = g.writes in
     let all : l.buffer.failed ≡ false → taken.0 ≡ with_more before.0 (json_text l.given.bytes) = λ fine.
     w.took ∙ ap (with_more before.0) (sym (append-nil w.sent) ∙ ap (λ left. w.sent ++ left) (sym (w.held fine ∙ empty)) ∙ w.whole) in
     (g.line, empty, all, first_part before.0 taken.0 w.sent w.left (json_text l.given.bytes) w.took w.whole, w.rising, w.cause, refused)
 
 -- nothing was taken yet
-pub stands_new : (taken : Option (List ℕ) × ℕ) (l : JsonLines) → l.line.items ≡ [] → l.buffer.bytes.items ≡ [] → l.buffer.failed ≡ false → l.given.bytes ≡ [] → l.refused.bytes ≡ [] → Stands taken taken l
-stands_new taken l line empty fine given refused =
+pub represents_new : (taken : Option (List ℕ) × ℕ) (l : JsonLines) → l.line.items ≡ [] → l.buffer.bytes.items ≡ [] → l.buffer.failed ≡ false → l.given.bytes ≡ [] → l.refused.bytes ≡ [] → IsBetweenCalls taken taken l
+represents_new taken l line empty fine given refused =
     let text : json_text l.given.bytes ≡ [] = ap json_text given in
     let none : (o : Option (List ℕ)) → o ≡ with_more o [] = λ o. sym (with_more-nil o) in (
       line ∙ ap (λ t. take line_room (begun_line t)) (sym given),
@@ -83,7 +83,7 @@ stands_new taken l line empty fine given refused =
     )
 
 -- a sink that has not failed has refused nothing
-pub nothing_refused : (before taken : Option (List ℕ) × ℕ) (l : JsonLines) → Stands before taken l → l.buffer.failed ≡ false → 0 < length l.refused.bytes → (failed : Bool) → failed ≡ true
+pub nothing_refused : (before taken : Option (List ℕ) × ℕ) (l : JsonLines) → IsBetweenCalls before taken l → l.buffer.failed ≡ false → 0 < length l.refused.bytes → (failed : Bool) → failed ≡ true
 nothing_refused before taken l s fine some any = absurd (let failed = s.6 some in cc)
 
 -- ---- a byte more

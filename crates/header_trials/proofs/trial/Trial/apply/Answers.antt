@@ -3,7 +3,7 @@ use Rattle.std.specs.Prelude.{IfOk, OnOk}
 use Rattle.channel_run.specs.Run.{row_events}
 use Rattle.header_trials.specs.Reactions.{reaction_on}
 use Rattle.header_trials.specs.Tried.{AreChannels, events_after, states_after}
-use Rattle.header_trials.proofs.trial.Trial.turn.Goals as goal
+use Rattle.header_trials.proofs.trial.Trial.apply.Goals as goal
 
 pub returns-in-ToChannel-clause-channels : goal.returns-in-ToChannel-clause-channels
 returns-in-ToChannel-clause-channels g c states channels =

@@ -10,14 +10,14 @@ use Rattle.line_model.specs.declared.state.StateName.TheVariants.{R1 as Name1, R
 use Rattle.line_model.specs.declared.table.Action.{Action}
 use Rattle.line_model.specs.declared.table.Action.TheVariants.{Move, Error, Ends}
 use Rattle.line_model.specs.channels.Tables.{action}
-use Rattle.line_model.specs.channels.RestartMachine.{LineState, Routing, is_outside, restart_name, outside_step, restart_move, restart_moving, restart_error, restart_fault, restart_step, passes_joining, inside_step, line_step}
+use Rattle.line_model.specs.channels.RestartMachine.{InterfaceState, Routing, is_outside, restart_name, outside_step, restart_move, restart_moving, restart_error, restart_fault, restart_step, passes_joining, inside_step, level_step}
 use Rattle.line_model.specs.basics.Records.{Item}
 use Rattle.line_model.specs.packets.Classes.{packet_class}
 use Rattle.line_model.specs.packets.Says.{gap_of}
-use Rattle.line_model.specs.channels.GapRestart.{GapLine, gap_on, is_of_restart, is_ready, routing, routing_by}
-use Rattle.restart_epochs.proofs.Routes.{adrift_no, gap_of_all, is_to_channel, line_of, stepped_if}
+use Rattle.line_model.specs.channels.GapRestart.{GapInterfaceState, gap_on, is_of_restart, is_ready, routing, routing_by}
+use Rattle.restart_epochs.proofs.Routes.{adrift_no, gap_of_all, is_to_channel, level_of, stepped_if}
 
-kept_outside : (l : LineState) (a : Action) → (outside_step l a).after ≡ l
+kept_outside : (l : InterfaceState) (a : Action) → (outside_step l a).after ≡ l
 kept_outside l (Error n) = refl
 kept_outside l a = refl
 
@@ -28,28 +28,28 @@ moves_on R1 t = refl
 moves_on s Name2 = refl
 moves_on s t = refl
 
-kept_moving : (l : LineState) (t : StateName) (f : Option ℕ) → is_to_channel (restart_moving l t f).route ≡ true → (restart_moving l t f).after ≡ l
+kept_moving : (l : InterfaceState) (t : StateName) (f : Option ℕ) → is_to_channel (restart_moving l t f).route ≡ true → (restart_moving l t f).after ≡ l
 kept_moving l t (Some n) h = refl
 kept_moving l t None h = absurd (true≢false (sym h ∙ moves_on l.state t))
 
-errs_on : (s : RState) (w j : Bool) (n : ℕ) → is_to_channel (restart_error (line_of s w j) T n).route ≡ false
+errs_on : (s : RState) (w j : Bool) (n : ℕ) → is_to_channel (restart_error (level_of s w j) T n).route ≡ false
 errs_on R1 w j n = refl
 errs_on R2 w j n = refl
 errs_on R3 w j n = refl
 
-kept_acted : (l : LineState) (x : Side) (k : Class) (n : ℕ) (a : Action) → is_to_channel (restart_step l x k n a).route ≡ true → (restart_step l x k n a).after ≡ l
+kept_acted : (l : InterfaceState) (x : Side) (k : Class) (n : ℕ) (a : Action) → is_to_channel (restart_step l x k n a).route ≡ true → (restart_step l x k n a).after ≡ l
 kept_acted l x k n (Move t) h = kept_moving l t (restart_fault k n) h
 kept_acted l N k n (Error f) h = refl
 kept_acted l T k n (Error f) h = absurd (true≢false (sym h ∙ errs_on l.state l.owed l.joining f))
 kept_acted l x k n Ends h = absurd (true≢false (sym h))
 kept_acted l x k n a h = refl
 
-kept_inside : (passes : Bool) (l : LineState) (x : Side) (k : Class) (n : ℕ) → is_to_channel (inside_step passes l x k n).route ≡ true → (inside_step passes l x k n).after ≡ l
+kept_inside : (passes : Bool) (l : InterfaceState) (x : Side) (k : Class) (n : ℕ) → is_to_channel (inside_step passes l x k n).route ≡ true → (inside_step passes l x k n).after ≡ l
 kept_inside true l x k n h = refl
 kept_inside false l x k n h = kept_acted l x k n (action x (restart_name l.state) l.owed k) h
 
-kept_line : (l : LineState) (x : Side) (k : Class) (n : ℕ) → is_to_channel (line_step l x k n).route ≡ true → (line_step l x k n).after ≡ l
-kept_line l x k n h = at (is_outside k) refl h
+kept_level : (l : InterfaceState) (x : Side) (k : Class) (n : ℕ) → is_to_channel (level_step l x k n).route ≡ true → (level_step l x k n).after ≡ l
+kept_level l x k n h = at (is_outside k) refl h
   where
     step : Bool → Routing
     step b = elim b [
@@ -61,7 +61,7 @@ kept_line l x k n h = at (is_outside k) refl h
     at true e t = kept_outside l (action x (restart_name l.state) l.owed k)
     at false e t = kept_inside (passes_joining l k) l x k n t
 
-pub kept_row : (g : GapLine) (r : Item) → is_to_channel (routing g r).route ≡ true → (routing g r).after ≡ g
+pub kept_row : (g : GapInterfaceState) (r : Item) → is_to_channel (routing g r).route ≡ true → (routing g r).after ≡ g
 kept_row g r h = at (gap_of r.packet) h
   where
     k : Class
@@ -69,7 +69,7 @@ kept_row g r h = at (gap_of r.packet) h
 
     by : (v : Bool) → is_to_channel (stepped_if v g r.side k r.length).route ≡ true → (stepped_if v g r.side k r.length).after ≡ g
     by true t = absurd (true≢false (sym t ∙ adrift_no g r.side k (restart_fault k r.length)))
-    by false t = ap (λ l. record g { line = l }) (kept_line g.line r.side k r.length t)
+    by false t = ap (λ l. record g { level = l }) (kept_level g.level r.side k r.length t)
 
     on : (s : RState) → (gap_on s g).after ≡ g
     on R1 = refl
@@ -78,5 +78,5 @@ kept_row g r h = at (gap_of r.packet) h
 
     at : (o : Option (Option ℕ)) → is_to_channel (routing_by o g r.side k r.length).route ≡ true → (routing_by o g r.side k r.length).after ≡ g
     at None t = by (g.adrift && is_ready g && is_of_restart k) t
-    at (Some None) t = absurd (true≢false (sym t ∙ gap_of_all g g.line.state))
-    at (Some (Some c)) t = on g.line.state
+    at (Some None) t = absurd (true≢false (sym t ∙ gap_of_all g g.level.state))
+    at (Some (Some c)) t = on g.level.state

@@ -48,7 +48,7 @@ pub record Agreed : Type 0 where
   pub values : Values
 
 -- what was agreed represents the packets of the call
-pub record TermsStand (t : Agreed) (c : Channel) : Type 0 where
+pub record TermsRepresent (t : Agreed) (c : Channel) : Type 0 where
   pub call : t.call ≡ option_map opened_of c.opening
   pub values : t.values ≡ values_in_force t.interface c
 

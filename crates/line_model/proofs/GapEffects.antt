@@ -38,10 +38,10 @@ use Rattle.line_model.specs.observer.Peak.{how_many}
 use Rattle.line_model.proofs.CallSteps.{Risen, Transferred, marks, marks_append, settings_unmarked}
 use Rattle.line_model.proofs.GapWeights.{either}
 use Rattle.line_model.proofs.Marks.{up_is}
-use Rattle.line_model.proofs.MovesCalls.{stands_up}
+use Rattle.line_model.proofs.MovesCalls.{occurs_up}
 use Rattle.line_model.proofs.Phases.{Phase, Closed, Opened, IsUp, phase_of, suits}
 use Rattle.line_model.proofs.RowOpenings.{is_opened, IsOnce, ending_once, opening_once, step_once, verdict_once}
-use Rattle.line_model.proofs.Turns.{stays, Turns, calm_turns, ending_state, ending_turns, is_held, IsSound, judged_in, judged_turns, opening_turns, rising_turns, step_turns, verdict_with}
+use Rattle.line_model.proofs.Effects.{stays, Effects, calm_effects, ending_state, ending_effects, is_held, IsSound, judged_in, judged_effects, opening_effects, rising_effects, step_effects, verdict_with}
 
 -- ---- channels adrift are in known states
 
@@ -53,15 +53,15 @@ abbrev pub suits_certainty : Certainty → ChannelState → Bool
 suits_certainty (Adrift a) s = is_known s
 suits_certainty t s = true
 
--- a step that makes a turn, and leaves a state that suits what is certain
-pub record GapTurns (p : Bool) (g : GapChannel) (o : GapOutcome) : Type 0 where
-  pub turns : Turns p g.channel (record { reported = o.reported; after = o.after.channel })
+-- a step that has an effect, and leaves a state that suits what is certain
+pub record GapEffects (p : Bool) (g : GapChannel) (o : GapOutcome) : Type 0 where
+  pub effects : Effects p g.channel (record { reported = o.reported; after = o.after.channel })
   pub suited : suits_certainty o.after.certainty o.after.channel.state ≡ true
 
--- the first of two where a test is true makes a turn where both do
-either_turns : (p : Bool) (g : GapChannel) (o q : GapOutcome) (b : Bool) → (b ≡ true → GapTurns p g o) → (b ≡ false → GapTurns p g q) → GapTurns p g (either b o q)
-either_turns p g o q true h k = h refl
-either_turns p g o q false h k = k refl
+-- the first of two where a test is true has an effect where both do
+either_effects : (p : Bool) (g : GapChannel) (o q : GapOutcome) (b : Bool) → (b ≡ true → GapEffects p g o) → (b ≡ false → GapEffects p g q) → GapEffects p g (either b o q)
+either_effects p g o q true h k = h refl
+either_effects p g o q false h k = k refl
 
 transfer_known : (s : ChannelState) → is_transfer s ≡ true → is_known s ≡ true
 transfer_known (Setup q) h = refl
@@ -85,19 +85,19 @@ transfer_phase p (Transfer d) Unknown h k = absurd (false≢true k)
 waits : (c : Channel) → IsSound false c → is_open c ≡ true → is_in_transfer c ≡ false → phase_of false c.state ≡ Opened
 waits c s o t = at (phase_of false c.state) (sym s.held ∙ o) (sym (up_is false c.state) ∙ t)
   where
-    at : (f : Phase) → is_held f ≡ true → stands_up f ≡ false → f ≡ Opened
+    at : (f : Phase) → is_held f ≡ true → occurs_up f ≡ false → f ≡ Opened
     at Closed h u = absurd (false≢true h)
     at Opened h u = refl
     at IsUp h u = absurd (false≢true (sym u))
 
 -- ---- a channel adrift
 
-passing_turns : (p : Bool) (g : GapChannel) → IsSound p g.channel → suits_certainty g.certainty g.channel.state ≡ true → GapTurns p g (passing g)
-passing_turns p g s h = record { turns = calm_turns p g.channel (report_nothing g.channel) s refl refl refl; suited = h }
+passing_effects : (p : Bool) (g : GapChannel) → IsSound p g.channel → suits_certainty g.certainty g.channel.state ≡ true → GapEffects p g (passing g)
+passing_effects p g s h = record { effects = calm_effects p g.channel (report_nothing g.channel) s refl refl refl; suited = h }
 
 -- a packet that brings a call up, and the channel after it is in data transfer
 record Brought (p : Bool) (c : Channel) (o : Outcome) : Type 0 where
-  turns : Turns p c o
+  effects : Effects p c o
   in_transfer : is_transfer o.after.state ≡ true
 
 brought : (p : Bool) (i : Interface) (c : Channel) → IsSound p c → is_known c.state ≡ true → (p || is_open c) ≡ true → Brought p c (brought_up i c)
@@ -114,40 +114,40 @@ brought p i c s known used = at (is_in_transfer c) refl
         let sound : IsSound false c = subst (λ b. IsSound b c) e s in
         let held : is_open c ≡ true = subst (λ b. (b || is_open c) ≡ true) e used in
         subst (λ b. Brought b c (coming_up (largest_terms i) c)) (sym e)
-        (record { turns = rising_turns false c (record (entering P4 false c) { accepting = Some (largest_terms i) }) sound refl refl (waits c sound held t) refl; in_transfer = refl })
+        (record { effects = rising_effects false c (record (entering P4 false c) { accepting = Some (largest_terms i) }) sound refl refl (waits c sound held t) refl; in_transfer = refl })
 
     at : (b : Bool) → is_in_transfer c ≡ b → Brought p c (either b (report_nothing c) (coming_up (largest_terms i) c))
-    at true t = record { turns = calm_turns p c (report_nothing c) s refl refl refl; in_transfer = t }
+    at true t = record { effects = calm_effects p c (report_nothing c) s refl refl refl; in_transfer = t }
     at false t = up p refl t
 
 -- more events, which are not of calls, and another channel in data transfer
 brought_more : (p : Bool) (c d : Channel) (o : Outcome) (ws : List What) → Brought p c o → d.opening ≡ o.after.opening → is_transfer d.state ≡ true → marks ws ≡ []
-    → Turns p c (record { reported = o.reported ++ ws; after = d })
+    → Effects p c (record { reported = o.reported ++ ws; after = d })
 brought_more p c d o ws h same t none = record {
-  turned = record {
-    turn = h.turns.turned.turn;
-    before = h.turns.turned.before;
-    behind = phase ∙ h.turns.turned.behind;
-    marked = marks_append o.reported ws ∙ ap (λ l. marks o.reported ++ l) none ∙ append-nil (marks o.reported) ∙ h.turns.turned.marked;
+  affected = record {
+    effect = h.effects.affected.effect;
+    before = h.effects.affected.before;
+    behind = phase ∙ h.effects.affected.behind;
+    marked = marks_append o.reported ws ∙ ap (λ l. marks o.reported ++ l) none ∙ append-nil (marks o.reported) ∙ h.effects.affected.marked;
   };
   sound = record {
     suits = transfer_suits p d.state t;
-    held = ap (λ o. elim o [ None ↦ false | Some q ↦ true ]) same ∙ h.turns.sound.held ∙ sym (ap is_held phase);
+    held = ap (λ o. elim o [ None ↦ false | Some q ↦ true ]) same ∙ h.effects.sound.held ∙ sym (ap is_held phase);
   };
 }
   where
     phase : phase_of p d.state ≡ phase_of p o.after.state
     phase = transfer_phase p d.state o.after.state t h.in_transfer
 
-reset_turns : (p : Bool) (i : Interface) (n : ℕ) (w : Owed) (a : WhileAdrift) (s : StateName) (g : GapChannel) → is_permanent i n ≡ p → is_transfer (state_named s) ≡ true → IsSound p g.channel → is_known g.channel.state ≡ true
-    → GapTurns p g (adrift_reset i n w a s g)
-reset_turns p i n w a s g e t h known =
-    either_turns p g _ _ (is_in_use i n g.channel)
+reset_effects : (p : Bool) (i : Interface) (n : ℕ) (w : Owed) (a : WhileAdrift) (s : StateName) (g : GapChannel) → is_permanent i n ≡ p → is_transfer (state_named s) ≡ true → IsSound p g.channel → is_known g.channel.state ≡ true
+    → GapEffects p g (adrift_reset i n w a s g)
+reset_effects p i n w a s g e t h known =
+    either_effects p g _ _ (is_in_use i n g.channel)
     (λ used. record {
-      turns = brought_more p g.channel (entering s false (brought_up i g.channel).after) (brought_up i g.channel) [] (brought p i g.channel h known (subst (λ b. (b || is_open g.channel) ≡ true) e used)) refl t refl;
+      effects = brought_more p g.channel (entering s false (brought_up i g.channel).after) (brought_up i g.channel) [] (brought p i g.channel h known (subst (λ b. (b || is_open g.channel) ≡ true) e used)) refl t refl;
       suited = transfer_known (state_named s) t;
     })
-    (λ none. record { turns = calm_turns p g.channel (report_nothing g.channel) h refl refl refl; suited = known })
+    (λ none. record { effects = calm_effects p g.channel (report_nothing g.channel) h refl refl refl; suited = known })
 
 -- what a packet of data transfer comes to in data transfer
 record Carried (d : Channel) (o : GapOutcome) : Type 0 where
@@ -179,33 +179,33 @@ known_suits Certain s h = refl
 known_suits (Adrift a) s h = h
 known_suits (Settled b) s h = refl
 
-transfer_turns : (p : Bool) (i : Interface) (n : ℕ) (r : Item) (a : WhileAdrift) (g : GapChannel) → is_permanent i n ≡ p → IsSound p g.channel → is_known g.channel.state ≡ true → suits_certainty g.certainty g.channel.state ≡ true
-    → GapTurns p g (adrift_transfer i n r a g)
-transfer_turns p i n r a g e h known suited =
+transfer_effects : (p : Bool) (i : Interface) (n : ℕ) (r : Item) (a : WhileAdrift) (g : GapChannel) → is_permanent i n ≡ p → IsSound p g.channel → is_known g.channel.state ≡ true → suits_certainty g.certainty g.channel.state ≡ true
+    → GapEffects p g (adrift_transfer i n r a g)
+transfer_effects p i n r a g e h known suited =
     let up : Outcome = brought_up i g.channel in
     let d : GapChannel = record g { channel = up.after } in
     let b : WhileAdrift = record a { hidden = hidden_when_up a g.channel } in
-    either_turns p g _ _ (is_in_use i n g.channel)
+    either_effects p g _ _ (is_in_use i n g.channel)
     (λ used.
     let w = brought p i g.channel h known (subst (λ b. (b || is_open g.channel) ≡ true) e used) in
     let o = carried i r b d w.in_transfer in
     record {
-      turns = brought_more p g.channel (adrift_carried i r b d).after.channel up (adrift_carried i r b d).reported w o.same_opening o.in_transfer o.unmarked;
+      effects = brought_more p g.channel (adrift_carried i r b d).after.channel up (adrift_carried i r b d).reported w o.same_opening o.in_transfer o.unmarked;
       suited = known_suits (adrift_carried i r b d).after.certainty (adrift_carried i r b d).after.channel.state (transfer_known (adrift_carried i r b d).after.channel.state o.in_transfer);
     })
-    (λ none. passing_turns p g h suited)
+    (λ none. passing_effects p g h suited)
 
-acceptance_turns : (i : Interface) (x : Side) (xs : List ℕ) (a : WhileAdrift) (g : GapChannel) → IsSound false g.channel → suits_certainty g.certainty g.channel.state ≡ true → GapTurns false g (adrift_acceptance i x xs a g)
-acceptance_turns i x xs a g h suited =
+acceptance_effects : (i : Interface) (x : Side) (xs : List ℕ) (a : WhileAdrift) (g : GapChannel) → IsSound false g.channel → suits_certainty g.certainty g.channel.state ≡ true → GapEffects false g (adrift_acceptance i x xs a g)
+acceptance_effects i x xs a g h suited =
     let terms : List ℕ = terms_of_acceptance (a.hidden || is_own_acceptance x g.channel.opening) i xs in
-    either_turns false g _ _ (is_open g.channel && not (is_in_transfer g.channel))
+    either_effects false g _ _ (is_open g.channel && not (is_in_transfer g.channel))
     (λ both.
     let w = and_parts (is_open g.channel) (not (is_in_transfer g.channel)) both in
     record {
-      turns = rising_turns false g.channel (record (entering P4 false g.channel) { accepting = Some terms }) h refl refl (waits g.channel h w.0 (down (is_in_transfer g.channel) w.1)) refl;
+      effects = rising_effects false g.channel (record (entering P4 false g.channel) { accepting = Some terms }) h refl refl (waits g.channel h w.0 (down (is_in_transfer g.channel) w.1)) refl;
       suited = refl;
     })
-    (λ none. passing_turns false g h suited)
+    (λ none. passing_effects false g h suited)
   where
     down : (b : Bool) → not b ≡ true → b ≡ false
     down true e = absurd (false≢true e)
@@ -246,34 +246,34 @@ resetting_transfer : (x : Side) → is_transfer (state_named (resetting_state x)
 resetting_transfer T = refl
 resetting_transfer N = refl
 
-entry_turns : (p : Bool) (e : AdriftEntry) → entry_suits p e ≡ true → (i : Interface) (n : ℕ) (r : Item) (a : WhileAdrift) (g : GapChannel) → is_permanent i n ≡ p
-    → IsSound p g.channel → is_known g.channel.state ≡ true → suits_certainty g.certainty g.channel.state ≡ true → GapTurns p g (adrift_step_by e i n r a g)
-entry_turns false OpensCall f i n r a g q s k t =
+entry_effects : (p : Bool) (e : AdriftEntry) → entry_suits p e ≡ true → (i : Interface) (n : ℕ) (r : Item) (a : WhileAdrift) (g : GapChannel) → is_permanent i n ≡ p
+    → IsSound p g.channel → is_known g.channel.state ≡ true → suits_certainty g.certainty g.channel.state ≡ true → GapEffects p g (adrift_step_by e i n r a g)
+entry_effects false OpensCall f i n r a g q s k t =
     let w = calling_known r.side in
     let d : Channel = entering (calling_state r.side) false g.channel in
-    record { turns = opening_turns false Gap (is_side T r.side) r.octets g.channel d s refl w.0 w.1; suited = ended_known Gap d w.2 }
-entry_turns false Accepts f i n r a g q s k t = acceptance_turns i r.side r.octets a g s t
-entry_turns false Clears f i n r a g q s k t =
-    record { turns = ending_turns false (cleared_by r.side) g.channel (entering P1 false g.channel) s refl refl refl; suited = ended_known (cleared_by r.side) (entering P1 false g.channel) refl }
-entry_turns false ConfirmsClear f i n r a g q s k t = record {
-  turns = ending_turns false Gap g.channel (entering P1 false g.channel) s refl refl refl;
+    record { effects = opening_effects false Gap (is_side T r.side) r.octets g.channel d s refl w.0 w.1; suited = ended_known Gap d w.2 }
+entry_effects false Accepts f i n r a g q s k t = acceptance_effects i r.side r.octets a g s t
+entry_effects false Clears f i n r a g q s k t =
+    record { effects = ending_effects false (cleared_by r.side) g.channel (entering P1 false g.channel) s refl refl refl; suited = ended_known (cleared_by r.side) (entering P1 false g.channel) refl }
+entry_effects false ConfirmsClear f i n r a g q s k t = record {
+  effects = ending_effects false Gap g.channel (entering P1 false g.channel) s refl refl refl;
   suited = confirmed_suits _ (owed_after r.side ConfirmsClear a.owed) (ending Gap (entering P1 false g.channel)).after.state (ended_known Gap (entering P1 false g.channel) refl);
 }
-entry_turns true OpensCall f i n r a g q s k t = absurd (false≢true f)
-entry_turns true Accepts f i n r a g q s k t = absurd (false≢true f)
-entry_turns true Clears f i n r a g q s k t = absurd (false≢true f)
-entry_turns true ConfirmsClear f i n r a g q s k t = absurd (false≢true f)
-entry_turns p Resets f i n r a g q s k t = reset_turns p i n (owed_after r.side Resets a.owed) a (resetting_state r.side) g q (resetting_transfer r.side) s k
-entry_turns p ConfirmsReset f i n r a g q s k t = reset_turns p i n (owed_after r.side ConfirmsReset a.owed) a D1 g q refl s k
-entry_turns p Carries f i n r a g q s k t = transfer_turns p i n r a g q s k t
-entry_turns p DoesNothing f i n r a g q s k t = passing_turns p g s t
+entry_effects true OpensCall f i n r a g q s k t = absurd (false≢true f)
+entry_effects true Accepts f i n r a g q s k t = absurd (false≢true f)
+entry_effects true Clears f i n r a g q s k t = absurd (false≢true f)
+entry_effects true ConfirmsClear f i n r a g q s k t = absurd (false≢true f)
+entry_effects p Resets f i n r a g q s k t = reset_effects p i n (owed_after r.side Resets a.owed) a (resetting_state r.side) g q (resetting_transfer r.side) s k
+entry_effects p ConfirmsReset f i n r a g q s k t = reset_effects p i n (owed_after r.side ConfirmsReset a.owed) a D1 g q refl s k
+entry_effects p Carries f i n r a g q s k t = transfer_effects p i n r a g q s k t
+entry_effects p DoesNothing f i n r a g q s k t = passing_effects p g s t
 
-adrift_turns : (i : Interface) (n : ℕ) (r : Item) (a : WhileAdrift) (g : GapChannel) → IsSound (is_permanent i n) g.channel → is_known g.channel.state ≡ true → suits_certainty g.certainty g.channel.state ≡ true
-    → GapTurns (is_permanent i n) g (adrift_step i n r a g)
-adrift_turns i n r a g s k t =
+adrift_effects : (i : Interface) (n : ℕ) (r : Item) (a : WhileAdrift) (g : GapChannel) → IsSound (is_permanent i n) g.channel → is_known g.channel.state ≡ true → suits_certainty g.certainty g.channel.state ≡ true
+    → GapEffects (is_permanent i n) g (adrift_step i n r a g)
+adrift_effects i n r a g s k t =
     let p = is_permanent i n in
     let e = adrift_entry p (packet_class r.packet) in
-    either_turns p g _ _ (is_some (adrift_fault i n g.channel r)) (λ fault. passing_turns p g s t) (λ none. entry_turns p e (entry_suited p (packet_class r.packet)) i n r a g refl s k t)
+    either_effects p g _ _ (is_some (adrift_fault i n g.channel r)) (λ fault. passing_effects p g s t) (λ none. entry_effects p e (entry_suited p (packet_class r.packet)) i n r a g refl s k t)
 
 -- ---- a settled channel
 
@@ -348,20 +348,20 @@ certainty_suits f c s = at (is_open c || is_in_d1 c.state)
 
 -- ---- a packet
 
-pub packet_turns : (t : Certainty) (i : Interface) (n : ℕ) (r : Item) (g : GapChannel) → g.certainty ≡ t → IsSound (is_permanent i n) g.channel → suits_certainty t g.channel.state ≡ true
-    → GapTurns (is_permanent i n) g (packet_step t i n r g)
-packet_turns Certain i n r g e s k = record { turns = step_turns i n g.channel r s; suited = refl }
-packet_turns (Adrift a) i n r g e s k = adrift_turns i n r a g s k (ap (λ t. suits_certainty t g.channel.state) e ∙ k)
-packet_turns (Settled b) i n r g e s k =
+pub packet_effects : (t : Certainty) (i : Interface) (n : ℕ) (r : Item) (g : GapChannel) → g.certainty ≡ t → IsSound (is_permanent i n) g.channel → suits_certainty t g.channel.state ≡ true
+    → GapEffects (is_permanent i n) g (packet_step t i n r g)
+packet_effects Certain i n r g e s k = record { effects = step_effects i n g.channel r s; suited = refl }
+packet_effects (Adrift a) i n r g e s k = adrift_effects i n r a g s k (ap (λ t. suits_certainty t g.channel.state) e ∙ k)
+packet_effects (Settled b) i n r g e s k =
     let p = is_permanent i n in
     let j = judged_in p g.channel r in
     let fault = packet_fault i n g.channel r in
     let v = verdict j fault in
     let o = settled_verdict i j.state r v b g.channel in
     record {
-      turns =
-          subst (λ out. Turns p g.channel out) (settled_is i j.state r v b g.channel)
-          (judged_turns i p g.channel r fault (transferring_in_doubt i j.state (packet_class r.packet) r b g.channel).outcome s (transferring_is i j.state (packet_class r.packet) r b g.channel));
+      effects =
+          subst (λ out. Effects p g.channel out) (settled_is i j.state r v b g.channel)
+          (judged_effects i p g.channel r fault (transferring_in_doubt i j.state (packet_class r.packet) r b g.channel).outcome s (transferring_is i j.state (packet_class r.packet) r b g.channel));
       suited = certainty_suits (doubts_in o.outcome.after.state o.doubts) o.outcome.after o.outcome.after.state;
     }
 
@@ -433,10 +433,10 @@ left_by true c s = record { same_phase = at c.state s.suits; suits = refl; known
     at Unknown h = refl
 left_by false c s = at (is_in_transfer c) c.opening (up_is false c.state) s.held
   where
-    at : (t : Bool) (o : Option Opening) → t ≡ stands_up (phase_of false c.state) → is_some o ≡ is_held (phase_of false c.state) → Left false c (state_named (idle_name t o))
+    at : (t : Bool) (o : Option Opening) → t ≡ occurs_up (phase_of false c.state) → is_some o ≡ is_held (phase_of false c.state) → Left false c (state_named (idle_name t o))
     at true o u h = record { same_phase = is_up (phase_of false c.state) u; suits = refl; known = refl }
       where
-        is_up : (f : Phase) → true ≡ stands_up f → IsUp ≡ f
+        is_up : (f : Phase) → true ≡ occurs_up f → IsUp ≡ f
         is_up Closed e = absurd (false≢true (sym e))
         is_up Opened e = absurd (false≢true (sym e))
         is_up IsUp e = refl
@@ -448,7 +448,7 @@ left_by false c s = at (is_in_transfer c) c.opening (up_is false c.state) s.held
         is_closed IsUp e = absurd (false≢true e)
     at false (Some o) u h = waiting o.out
       where
-        is_opened : (f : Phase) → false ≡ stands_up f → true ≡ is_held f → Opened ≡ f
+        is_opened : (f : Phase) → false ≡ occurs_up f → true ≡ is_held f → Opened ≡ f
         is_opened Closed e g = absurd (false≢true (sym g))
         is_opened Opened e g = refl
         is_opened IsUp e g = absurd (false≢true e)
@@ -457,16 +457,16 @@ left_by false c s = at (is_in_transfer c) c.opening (up_is false c.state) s.held
         waiting true = record { same_phase = is_opened (phase_of false c.state) u h; suits = refl; known = refl }
         waiting false = record { same_phase = is_opened (phase_of false c.state) u h; suits = refl; known = refl }
 
-pub gap_turns : (i : Interface) (n : ℕ) (all_channels : Bool) (g : GapChannel) → IsSound (is_permanent i n) g.channel → GapTurns (is_permanent i n) g (record { reported = []; after = gap_step i n all_channels g })
-gap_turns i n all_channels g s =
+pub gap_effects : (i : Interface) (n : ℕ) (all_channels : Bool) (g : GapChannel) → IsSound (is_permanent i n) g.channel → GapEffects (is_permanent i n) g (record { reported = []; after = gap_step i n all_channels g })
+gap_effects i n all_channels g s =
     let p = is_permanent i n in
     let c = g.channel in
     let w = left_by p c s in
     let named : StateName = idle_name (p || is_in_transfer c) c.opening in
     let same = gap_state (is_hidden_by_gap i n c) i (entering named false c) in
     record {
-      turns = record {
-        turned = record { turn = stays (phase_of p c.state); before = refl; behind = ap (phase_of p) same.0 ∙ w.same_phase; marked = refl };
+      effects = record {
+        affected = record { effect = stays (phase_of p c.state); before = refl; behind = ap (phase_of p) same.0 ∙ w.same_phase; marked = refl };
         sound = record {
           suits = ap (suits p) same.0 ∙ w.suits;
           held = ap (λ o. elim o [ None ↦ false | Some q ↦ true ]) same.1 ∙ s.held ∙ sym (ap is_held (ap (phase_of p) same.0 ∙ w.same_phase));

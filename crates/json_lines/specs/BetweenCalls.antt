@@ -26,8 +26,8 @@ pub record Goes (before taken : Option (List ℕ) × ℕ) (l : JsonLines) : Type
   pub line : HoldsLine l
 
 -- between calls: the sink took these objects and nothing is held back, or it has failed and took a first part of them
-abbrev pub Stands : (before taken : Option (List ℕ) × ℕ) → JsonLines → Type 0
-Stands before taken l =
+abbrev pub IsBetweenCalls : (before taken : Option (List ℕ) × ℕ) → JsonLines → Type 0
+IsBetweenCalls before taken l =
     HoldsLine l
     × (held_bytes l.buffer ≡ [])
     × (has_failed l.buffer ≡ false → taken.0 ≡ with_more before.0 (json_text l.given.bytes))
