@@ -32,7 +32,7 @@ def table(rule: str, edit: str) -> Proof:
 
 def owed(rule: str) -> Proof:
     """A code of a DCE that sends another packet in place of its indication, though it does not owe one."""
-    edit = "crates/line_model/must-fail/owed_indication_is_an_error.edit"
+    edit = "crates/line_model/must-fail-more/owed_indication_is_an_error.edit"
     return Proof(rule, "crates/line_model/src/table.rt", "table_n", edit, comparison=("crates/line_model/src/table.rt", "owed_or"))
 
 
