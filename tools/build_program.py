@@ -242,7 +242,7 @@ def build_libraries(*above: str) -> bool:
 def build() -> bool:
     """Builds the program, and returns whether it is built."""
     kit()
-    say("proving and building the program, which takes half an hour or more the first time; bin/x25try prints a report in a minute or two")
+    say("proving and building the program, which takes 20 to 50 minutes the first time; bin/x25try prints a report in a minute or two")
     began = time.time()
     for folder in (LIBRARIES, FRESH, PROGRAM.parent):
         folder.mkdir(parents=True, exist_ok=True)
