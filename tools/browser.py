@@ -2,6 +2,7 @@
 from __future__ import annotations
 
 import base64
+import contextlib
 import json
 import os
 import pathlib
@@ -30,6 +31,12 @@ KEYS = {"Tab": 9, "Enter": 13, "Escape": 27, "End": 35, "Home": 36, "ArrowLeft":
 TEXTS = {"Enter": "\r"}
 LOCAL = ("file:", "about:", "data:")
 INCH = 25.4
+# The error of a command that the browser was asked while it went to another page.
+LEFT = "Inspected target navigated or closed"
+
+
+class LeftPage(RuntimeError):
+    """The browser went to another page before it answered."""
 
 
 class Browser:
@@ -76,7 +83,8 @@ class Browser:
             reply = self.next_message()
             if reply.get("id") == self.asked:
                 if "error" in reply:
-                    raise RuntimeError(f"{method}: {reply['error']}")
+                    fault = LeftPage if reply["error"].get("message") == LEFT else RuntimeError
+                    raise fault(f"{method}: {reply['error']}")
                 return reply["result"]
 
     def next_message(self) -> dict[str, Any]:
@@ -111,11 +119,20 @@ class Browser:
         begun = time.monotonic()
         self.ask("Page.navigate", url="about:blank")
         self.ask("Page.navigate", url=pathlib.Path(path).resolve().as_uri() + part)
-        while not self.value("document.documentElement?.dataset.ready === 'yes'"):
-            if time.monotonic() - begun > SECONDS:
-                raise TimeoutError(f"{path} is not ready: {self.faults}")
-            time.sleep(0.02)
+        if not self.wait_for("document.documentElement?.dataset.ready === 'yes'", True):
+            raise TimeoutError(f"{path} is not ready: {self.faults}")
         return time.monotonic() - begun
+
+    def wait_for(self, expression: str, wanted: object) -> Any:
+        """Waits until an expression has this value, also while the browser goes to another page. Returns the last value."""
+        begun, found = time.monotonic(), None
+        while time.monotonic() - begun < SECONDS:
+            with contextlib.suppress(LeftPage):
+                found = self.value(expression)
+                if found == wanted:
+                    break
+            time.sleep(0.02)
+        return found
 
     def value(self, expression: str) -> Any:
         """The value of an expression in the page."""

@@ -40,9 +40,7 @@ class Shown:
 
     def is_so(self, expression, wanted=True):
         """Looks until it is so: what a click does comes later."""
-        end = time.monotonic() + SECONDS
-        while (got := self.browser.value(expression)) != wanted and time.monotonic() < end:
-            time.sleep(0.05)
+        got = self.browser.wait_for(expression, wanted)
         if got != wanted:
             self.said.append(f"{expression} is {got!r}, expected {wanted!r}")
 

@@ -1,8 +1,6 @@
 """An index and a comparison in Chromium: they are whole, sorted by a click, and fit small screens and paper."""
 from __future__ import annotations
 
-import time
-
 from browser import Browser
 from lists import EXAMPLES, FILES, OVERLAPPING, SEVEN, InFolder
 
@@ -32,11 +30,7 @@ class LookedAt(InFolder):
         self.assertEqual(browser.value(NAMES), sorted(browser.value(NAMES)))
         browser.value("document.querySelector('tbody a[href=\\'seven-calls.html\\']').click()")
         end = "document.documentElement?.dataset.ready === 'yes' && document.querySelector('#name')?.textContent"
-        for _ in range(100):
-            if browser.value(end) == "seven-calls.trace":
-                break
-            time.sleep(0.05)
-        self.assertEqual(browser.value(end), "seven-calls.trace")
+        self.assertEqual(browser.wait_for(end, "seven-calls.trace"), "seven-calls.trace")
         self.assertEqual(browser.faults, [])
 
     def test_widths_and_colours(self):
