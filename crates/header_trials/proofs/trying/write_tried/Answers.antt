@@ -1,4 +1,5 @@
-use Rattle.std.proofs.Common.{◌∙◌, ap, sym, subst}
+use Rattle.std.proofs.Common.{◌∙◌, ap, sym, subst, arith}
+use Rattle.std.proofs.lemmas.Grind.{common_steps, elements}
 use Rattle.line_model.specs.basics.Device.{with_more}
 use Rattle.line_model.specs.basics.Written.{HasFront}
 use Rattle.header_trials.specs.TriedLines.{AreTriedLines, fewest, tried_text}
@@ -25,3 +26,9 @@ returns-in_err-write_lines-clause-part g c x h e =
       lines = lines_of_trials g.C.Channel x c.in_ok-trials.trials.items tried (c.in_ok-trials.ensures.tried x h) (λ own is rs all. c.in_ok-tried.ensures.all own is rs (subst (AreTrials g.C.Channel own rs is) (sym c.as_slice.ensures.value) all)) c.in_ok-tried.ensures.sorted;
       part = subst (λ l. HasFront (g.K.Sink.taken c.args.sink.now) (g.K.Sink.taken c.write_lines.new.sink) (tried_text l)) c.as_slice-2.ensures.value c.in_err-write_lines.ensures.part;
     }
+
+pub returns-in_err-tried-clause-write_failed : goal.returns-in_err-tried-clause-write_failed
+returns-in_err-tried-clause-write_failed g c = grind (arith, elements)
+
+pub returns-clause-write_failed : goal.returns-clause-write_failed
+returns-clause-write_failed g c = grind (arith, common_steps)

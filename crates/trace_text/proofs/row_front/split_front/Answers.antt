@@ -1,4 +1,4 @@
-use Rattle.std.proofs.Common.{◌-◌, List, ℕ, get_or, length, take, drop, refl, sym, arith, rules}
+use Rattle.std.proofs.Common.{◌-◌, List, ℕ, get_or, length, take, drop, refl, arith, rules}
 use Rattle.line_model.specs.declared.state.Side.TheVariants.{T, N}
 use Rattle.line_model.proofs.DeviceLemmas.{rest_of}
 use Rattle.trace_text.proofs.NumberLemmas.{digit_wraps, digits_more}

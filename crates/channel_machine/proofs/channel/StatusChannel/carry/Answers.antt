@@ -1,4 +1,5 @@
-use Rattle.std.proofs.Common.{[], append-nil, sym}
+use Rattle.std.proofs.Common.{[], append-nil, sym, arith}
+use Rattle.std.proofs.lemmas.Grind.{common_steps, elements}
 use Rattle.line_model.specs.channels.ChannelStep.{transferring}
 use Rattle.channel_machine.proofs.Taking.{passes_listed}
 use Rattle.channel_machine.proofs.channel.StatusChannel.carry.Goals as goal
@@ -9,3 +10,9 @@ returns-in-Ok-clause-does g c k s =
     let es = c.args.events.now.items in
     passes_listed j.origin c.args.self.now c.accept_control.new.self es es [] (transferring c.args.self.now.terms.interface j.state c.args.class c.args.item.now k)
     (c.in-Ok.ensures.judged k j.state s) (sym (append-nil es))
+
+pub returns-in-Data-clause-does : goal.returns-in-Data-clause-does
+returns-in-Data-clause-does g c = grind (arith, common_steps)
+
+pub returns-in-Err : goal.returns-in-Err
+returns-in-Err g c = grind (arith, elements)

@@ -1,4 +1,5 @@
-use Rattle.std.proofs.Common.{◌≡◌, ◌∙◌, ap, sym, subst, false, append-nil}
+use Rattle.std.proofs.Common.{◌≡◌, ◌∙◌, ap, sym, subst, false, append-nil, arith}
+use Rattle.std.proofs.lemmas.Grind.{common_steps}
 use Rattle.std.specs.Prelude.{IfOk}
 use Rattle.line_model.specs.channels.ChannelStep.{call_change, entering, changing}
 use Rattle.line_model.specs.packets.Classes.{packet_class}
@@ -37,3 +38,6 @@ returns-in-Keeps-clause-does g c k item of r from s =
       represented = c.enter.ensures.represented k (subst (λ t. TermsRepresent t k) (sym terms_are) s.terms) s.transfer.settings;
       reports = sym (append-nil c.args.events.now.items);
     })
+
+pub returns-in_ok-reserve-in-Ends-clause-does : goal.returns-in_ok-reserve-in-Ends-clause-does
+returns-in_ok-reserve-in-Ends-clause-does g c = grind (arith, common_steps)

@@ -1,4 +1,5 @@
-use Rattle.std.proofs.Common.{◌≡◌, ◌≤◌, ◌-◌, ◌∙◌, ℕ, List, Some, ap, drop, length, sym, subst, take}
+use Rattle.std.proofs.Common.{◌≡◌, ◌≤◌, ◌-◌, ◌∙◌, ℕ, List, Some, ap, drop, length, sym, subst, take, arith}
+use Rattle.std.proofs.lemmas.Grind.{elements}
 use Rattle.line_model.specs.channels.ChannelStep.{data_step}
 use Rattle.line_model.specs.basics.Records.{Item}
 use Rattle.line_model.specs.packets.Classes.{header_length}
@@ -26,3 +27,6 @@ returns-in-None-clause-does g c k s =
     accepted_by judgement.origin c.args.self.now c.accept_data.new.self c.args.events.now.items c.accept_data.new.events.items
     x judgement.state (packet x h ys) (counted_in_force i x h.send h.receive k) k (data_step i judgement.state r (Some h) k)
     c.in_ok-code.ensures.rest s step _ c.in-None.is (c.in_ok-code.ensures.accepted_data k s)
+
+pub returns-in-Some-clause-does : goal.returns-in-Some-clause-does
+returns-in-Some-clause-does g c = grind (arith, elements)

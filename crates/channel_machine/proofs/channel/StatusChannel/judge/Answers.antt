@@ -1,4 +1,5 @@
-use Rattle.std.proofs.Common.{◌≡◌, ◌∙◌, ap, subst, sym, true}
+use Rattle.std.proofs.Common.{◌≡◌, ◌∙◌, ap, subst, sym, true, arith}
+use Rattle.std.proofs.lemmas.Grind.{elements}
 use Rattle.line_model.specs.channels.GapStep.{is_in_d1}
 use Rattle.channel_machine.specs.Channels.{Known}
 use Rattle.channel_machine.specs.Entries.{is_entry}
@@ -15,3 +16,6 @@ pub returns-clause-in_d1 : goal.returns-clause-in_d1
 returns-clause-in_d1 g c normal =
     subst (λ t. is_in_d1 t ≡ true) (c.state.ensures ∙ ap (λ (o : Known). o.state) c.self.view_is)
     (normal_in_d1 c.is_permanent.result c.args.side c.state.result c.is_owed.result c.args.class c.judged.result.1 (ap (λ j. j.entry) (sym c.judged.ensures)) normal)
+
+pub returns-then-is_in_d1-clause-judged : goal.returns-then-is_in_d1-clause-judged
+returns-then-is_in_d1-clause-judged g c = grind (arith, elements)

@@ -1,4 +1,5 @@
-use Rattle.std.proofs.Common.{◌≡◌, None, refl, sym, ◌∙◌, ap}
+use Rattle.std.proofs.Common.{◌≡◌, None, refl, sym, ◌∙◌, ap, arith}
+use Rattle.std.proofs.lemmas.Grind.{elements}
 use Rattle.std.specs.Prelude.{is_none, option_map}
 use Rattle.line_model.specs.basics.Records.{Item}
 use Rattle.line_model.specs.packets.Says.{gap_of}
@@ -55,3 +56,15 @@ returns-in_default-clause-events g c k s =
     let r = c.args.item.now in
     let rarely = c.handle_rarely-in_default in
     adds_events rarely.result (origin_at c.args.epoch (number_of self) r) self rarely.new.self c.args.events.now.items rarely.new.events.items (interface_of self) k r refl (rarely.ensures.does k s)
+
+pub returns-in-None-clause-interface : goal.returns-in-None-clause-interface
+returns-in-None-clause-interface g c = grind (arith, elements)
+
+pub returns-in-None-clause-number : goal.returns-in-None-clause-number
+returns-in-None-clause-number g c = grind (arith, elements)
+
+pub returns-in-Some-clause-interface : goal.returns-in-Some-clause-interface
+returns-in-Some-clause-interface g c = grind (arith, elements)
+
+pub returns-in-Some-clause-number : goal.returns-in-Some-clause-number
+returns-in-Some-clause-number g c = grind (arith, elements)

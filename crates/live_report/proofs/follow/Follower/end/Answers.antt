@@ -1,4 +1,5 @@
 use Rattle.std.proofs.Common.{◌≡◌, ◌∙◌, ◌≤◌, List, refl, sym, ap, subst, length, drop, arith, Err}
+use Rattle.std.proofs.lemmas.Grind.{elements}
 use Rattle.std.specs.Prelude.{IfSome}
 use Rattle.trace_text.proofs.SourceLemmas.{passed_on, same_fault}
 use Rattle.line_model.specs.basics.Device.{with_more}
@@ -123,3 +124,6 @@ returns-clause-taken g c text before s has e = absurd (no_fault Summary _ Write 
 
 pub returns-clause-again : goal.returns-clause-again
 returns-clause-again g c fault r = absurd (apart c.args.self.refused fault c.in_default.is r)
+
+pub returns-clause-uncounted : goal.returns-clause-uncounted
+returns-clause-uncounted g c = grind (arith, elements)

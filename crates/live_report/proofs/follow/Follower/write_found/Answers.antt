@@ -1,4 +1,5 @@
 use Rattle.std.proofs.Common.{◌++◌, List, ap, length, arith, subst, sym}
+use Rattle.std.proofs.lemmas.Grind.{common_steps}
 use Rattle.std.specs.Prelude.{IfSome}
 use Rattle.std.proofs.lemmas.Result.{IfErr-weaker}
 use Rattle.trace_text.proofs.SourceLemmas.{passed_on}
@@ -61,3 +62,6 @@ returns-clause-kinds g c = IfErr-weaker c.write_findings-written.result _ IsRepo
 
 pub returns-in_err-read-clause-kinds : goal.returns-in_err-read-clause-kinds
 returns-in_err-read-clause-kinds g c = passed_on c.from_residual.result c.in_err-read.field-0.0 _ c.from_residual.ensures.1 (text_report c.in_err-read.field-0.0 c.in_err-read.ensures.kinds)
+
+pub returns-in_err-read-clause-at_line : goal.returns-in_err-read-clause-at_line
+returns-in_err-read-clause-at_line g c = grind (arith, common_steps)

@@ -1,4 +1,5 @@
-use Rattle.std.proofs.Common.{rules, ◌≡◌, ◌∙◌, ap, sym, subst, ◌++◌, length}
+use Rattle.std.proofs.Common.{rules, ◌≡◌, ◌∙◌, ap, sym, subst, ◌++◌, length, arith}
+use Rattle.std.proofs.lemmas.Grind.{common_steps}
 use Rattle.std.specs.List.{flat_map}
 use Rattle.restart_epochs.specs.OpenRows.{IsTakenOut, OpenRows, last_number, rows_of}
 use Rattle.restart_epochs.proofs.ListedRows.{others_taken}
@@ -85,3 +86,9 @@ returns-clause-rows g c =
     let both : first ++ rest ≡ rows_of before channel ++ flat_map (rows_of before) after.channels = sym split ∙ all ∙ ap (flat_map (rows_of before)) taken.channels in
     same_rest first rest (rows_of before channel) (flat_map (rows_of before) after.channels) both count
     ∙ sym (rows_kept before after channel taken.others after.channels taken.once)
+
+pub invariant_of-result : goal.invariant_of-result
+invariant_of-result g c = grind (arith, common_steps)
+
+pub returns-in_default-list-clause-first : goal.returns-in_default-list-clause-first
+returns-in_default-list-clause-first g c = grind (arith, common_steps)

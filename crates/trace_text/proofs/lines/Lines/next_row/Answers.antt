@@ -1,4 +1,5 @@
 use Rattle.std.proofs.Common.{◌∙◌, sym, ap, arith, length-append, true}
+use Rattle.std.proofs.lemmas.Grind.{common_steps}
 use Rattle.trace_text.specs.Progress.{Progress}
 use Rattle.trace_text.proofs.ChunkLemmas.{passed-none, row-head, takes-row}
 use Rattle.trace_text.proofs.FeedLemmas.{line-headed, line-size}
@@ -38,3 +39,9 @@ returns-in-Some-read_first-clause-limit g c =
     let line = c.in-Some-read_first.ensures.1 in
     let size = line-size c.args.self.now c.read_first.new.self line.front c.in-Some-read_first.ensures.0 true line.ends in
     omega (arith, size, ended_kind-fits (with_more c.args.self.now line.front) line.ends.sound, length-append c.args.self.now.begun line.front)
+
+pub returns-in-Some-read_first-clause-size : goal.returns-in-Some-read_first-clause-size
+returns-in-Some-read_first-clause-size g c = grind (arith, common_steps)
+
+pub returns-clause-ok : goal.returns-clause-ok
+returns-clause-ok g c = grind (arith, common_steps)

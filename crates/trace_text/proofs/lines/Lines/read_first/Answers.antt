@@ -1,4 +1,5 @@
 use Rattle.std.proofs.Common.{◌≡◌, ◌+◌, ◌-◌, ◌∙◌, sym, ap, ap₂, arith, subst, length, ℕ, List, None}
+use Rattle.std.proofs.lemmas.Grind.{common_steps, elements}
 use Rattle.std.proofs.lemmas.Bool.{eqb-true}
 use Rattle.std.specs.Vec.{vec_len}
 use Rattle.line_model.specs.basics.Records.{Row}
@@ -35,3 +36,9 @@ returns g c =
       ap₂ (λ (n : ℕ) (os : List ℕ). record { number = front.number; side = front.side; length = n; octets = os; gap = None }) (sym written.count) (c.in_ok-convert_digits.ensures back.rest.now written)
           ∙ ap (λ b. kept_row b row) (sym c.if-whole.false),
     )
+
+pub overflow_sub-chunk : goal.overflow_sub-chunk
+overflow_sub-chunk g c = grind (arith, common_steps)
+
+pub count_line-requires-clause-some : goal.count_line-requires-clause-some
+count_line-requires-clause-some g c = grind (arith, elements)

@@ -1,4 +1,5 @@
-use Rattle.std.proofs.Common.{◌≡◌, sym, ◌∙◌, ap, subst, true, false, Some, None}
+use Rattle.std.proofs.Common.{◌≡◌, sym, ◌∙◌, ap, subst, true, false, Some, None, arith}
+use Rattle.std.proofs.lemmas.Grind.{common_steps}
 use Rattle.std.specs.Prelude.{IfOk, option_and_then}
 use Rattle.line_model.specs.basics.Records.{Item}
 use Rattle.line_model.specs.packets.Says.{header_in}
@@ -51,3 +52,9 @@ returns-in-None-clause-does g c is k s =
     subst (λ (o : GapOutcome). IfOk c.stay_adrift.result (λ _. GapDoes c.args.row.now.origin c.args.self.now c.stay_adrift.new.self c.args.events.now.items c.stay_adrift.new.events.items o))
     (transfer_stays i n r a b c.args.self.now k hiding used free)
     (c.stay_adrift.ensures.does a (receive_of r) (option_and_then (acknowledged_data b r.side) (receive_of r)) none k s.represented bare)
+
+pub returns-then-not-is_in_use-clause-does : goal.returns-then-not-is_in_use-clause-does
+returns-then-not-is_in_use-clause-does g c = grind (arith, common_steps)
+
+pub returns-then-is_resetting-clause-does : goal.returns-then-is_resetting-clause-does
+returns-then-is_resetting-clause-does g c = grind (arith, common_steps)

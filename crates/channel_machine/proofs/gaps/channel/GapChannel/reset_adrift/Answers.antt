@@ -1,4 +1,5 @@
-use Rattle.std.proofs.Common.{refl, sym, ◌∙◌, None}
+use Rattle.std.proofs.Common.{refl, sym, ◌∙◌, None, arith}
+use Rattle.std.proofs.lemmas.Grind.{common_steps}
 use Rattle.line_model.specs.channels.Gaps as gaps
 use Rattle.channel_machine.specs.GapChannels.{RepresentsAdrift}
 use Rattle.channel_machine.proofs.AdriftLemmas.{at_entry}
@@ -11,3 +12,6 @@ returns-clause-does g c k s =
     reset_adrift c.args.row.now.origin _ c.args.self.now _ _ _ c.args.adrift c.new.result c.args.to k c.self.view_is st c.requires.transfer (sym (c.if-not-is_in_use.ensures k st.represented))
     (c.new.ensures ∙ (λ j. record { owed = c.owed.ensures j; hidden = c.is_hidden_when_up-hidden.ensures k st.represented j; last = gaps.of_both None }))
     (c.in_ok-reset_adrift.ensures.does k st.represented) refl refl
+
+pub returns-then-not-is_in_use-clause-does : goal.returns-then-not-is_in_use-clause-does
+returns-then-not-is_in_use-clause-does g c = grind (arith, common_steps)

@@ -1,4 +1,5 @@
-use Rattle.std.proofs.Common.{◌≡◌, sym, ◌∙◌, ap, subst, false, None}
+use Rattle.std.proofs.Common.{◌≡◌, sym, ◌∙◌, ap, subst, false, None, arith}
+use Rattle.std.proofs.lemmas.Grind.{common_steps, elements}
 use Rattle.std.specs.Prelude.{IfOk}
 use Rattle.line_model.specs.basics.Records.{Item}
 use Rattle.line_model.specs.declared.event.How.TheVariants.{Gap}
@@ -153,3 +154,12 @@ returns-in-Carries-default-clause-does g c is k s =
     let P : GapOutcome → Type 0 = λ o. IfOk c.carry_adrift.result (λ _. GapDoes c.args.row.now.origin p c.carry_adrift.new.self c.args.events.now.items c.carry_adrift.new.events.items o) in
     subst P (step_by Carries i n r a q fault entry)
     (c.carry_adrift.ensures.does is k s)
+
+pub returns-in_default-clause-does : goal.returns-in_default-clause-does
+returns-in_default-clause-does g c = grind (arith, common_steps)
+
+pub returns-in_default-2-2 : goal.returns-in_default-2-2
+returns-in_default-2-2 g c = grind (arith, elements)
+
+pub returns-in_default-2-3-clause-does : goal.returns-in_default-2-3-clause-does
+returns-in_default-2-3-clause-does g c = grind (arith, common_steps)

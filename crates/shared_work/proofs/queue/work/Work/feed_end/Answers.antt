@@ -1,4 +1,5 @@
-use Rattle.std.proofs.Common.{ap, subst, rules}
+use Rattle.std.proofs.Common.{ap, subst, rules, arith}
+use Rattle.std.proofs.lemmas.Grind.{common_steps}
 use Rattle.crossbeam_queue.specs.Fifo.{Held}
 use Rattle.crossbeam_queue.specs.Passes.{ruled_capacity}
 use Rattle.shared_work.specs.queue.Rule.{AreInQueue}
@@ -20,3 +21,9 @@ returns-clause-full g c =
           let here = subst (λ r. Held (ruled_capacity c.self.inside.queue) (AreInQueue g.P.Plan.pieces r)) known full in
           rw w.result-is (subst (λ n. Held n (AreInQueue g.P.Plan.pieces c.args.pass.now.record_of)) capacity here)
     ]
+
+pub returns-clause-ok : goal.returns-clause-ok
+returns-clause-ok g c = grind (arith, common_steps)
+
+pub returns-clause-err : goal.returns-clause-err
+returns-clause-err g c = grind (arith, common_steps)
