@@ -18,6 +18,7 @@ import tempfile
 
 sys.dont_write_bytecode = True
 from build_program import CRATES, FRESH, OUT, ROOT, build_libraries, is_older, kit, libraries, library, rattle, run, say, slots, sources  # noqa: E402
+from marks import Mark, mark_of  # noqa: E402
 
 NAME = "x25scan_c"
 FOLDER = OUT / "library"
@@ -102,6 +103,11 @@ def build(folder: pathlib.Path) -> int:
         if not is_made:
             say(f"the library was not built: {why.strip()}")
             return 3
+    if (mark := mark_of(folder / SONAME)) is not Mark.PROVED:
+        for name in (SONAME, "libx25scan.a"):
+            (folder / name).unlink()
+        say(f"the library was not built: what the kit compiled of x25scan_c {mark.value}; prove it with bin/x25prove first")
+        return 3
     link = folder / "libx25scan.so"
     link.unlink(missing_ok=True)
     link.symlink_to(SONAME)

@@ -13,7 +13,8 @@ from collections.abc import Iterator, Sequence
 
 import package_forms
 from build_library import FOLDER, SONAME
-from package_files import ROOT, File, Release
+from marks import Mark, mark_of
+from package_files import ROOT, File, Refusal, Release
 
 MODULE = "library/python/x25scan"
 CONTROL = """\
@@ -33,6 +34,12 @@ Description: {about}
 def is_built() -> bool:
     """Whether the library is there."""
     return (FOLDER / SONAME).exists()
+
+
+def refuse_unproved() -> None:
+    """Raises a refusal where the library is not of proved code."""
+    if (mark := mark_of(FOLDER / SONAME)) is not Mark.PROVED:
+        raise Refusal(f"{FOLDER / SONAME} {mark.value}, and only a proved library is packed: tools/build_library.py builds it")
 
 
 def shared() -> Iterator[File]:

@@ -10,6 +10,7 @@ import sys
 from collections.abc import Sequence
 from typing import NoReturn
 
+from x25tools_lib import scanner as programs
 from x25tools_lib.options import Status
 from x25tools_lib.refusals import Refusal
 from x25tools_lib.streams import Waiting, is_open, mute_errors, write_text
@@ -49,7 +50,7 @@ def make(job: Job, messages: Messages) -> None:
 
 def run(words: argparse.Namespace, arguments: Sequence[str], waiting: Waiting) -> Status:
     """Runs the parsed command line, and returns the exit status."""
-    messages, job = Messages(), Job(words, arguments, Scanner(words.scanner), waiting)
+    messages, job = Messages(), Job(words, arguments, Scanner(words.scanner or programs.found("x25page")), waiting)
     try:
         if words.is_each:
             return several.run(job)

@@ -7,7 +7,6 @@ from collections.abc import Sequence
 
 from x25tools_lib.options import Words, check, option_among, header_words, reading_words, side_words
 from x25tools_lib.refusals import PageWhy, Why
-from x25tools_lib.scanner import SCANNER
 
 REASONS = ", ".join(why.value for why in (*Why, *PageWhy))
 NAMES_OF_PAGES = """\
@@ -64,7 +63,7 @@ def parser() -> Words:
                        help="print the facts, or with --compare what differs, as text on standard output, and write a page "
                        "only where -o names one")
     words.add_argument("--scanner", metavar="PROGRAM",
-                       help="the x25scan to run, by default bin/x25scan next to this program")
+                       help="the x25scan to run, by default the proved one of this folder, else the one that bin/x25try runs")
     reading_words(words.add_argument_group("reading of a capture"))
     side_words(words.add_argument_group("sides of a capture"))
     header_words(words.add_argument_group("header of a capture, by default estimated from what was seen"))
@@ -75,7 +74,6 @@ def parsed(arguments: Sequence[str]) -> argparse.Namespace:
     """The parsed command line; exits the program where it is refused."""
     words = parser().parse_args(arguments)
     check(words, parser())
-    words.scanner = words.scanner or str(SCANNER)
     words.has_several = words.is_each or words.is_comparison
     if words.page == "-":
         parser().error("the page is a file: -o names it")

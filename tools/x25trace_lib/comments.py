@@ -10,10 +10,10 @@ from collections.abc import Callable, Generator, Iterable
 from typing import IO, Any, BinaryIO
 
 from x25tools_lib import notes
+from x25tools_lib import scanner as programs
 from x25tools_lib.frames import Frames
 from x25tools_lib.halves import Halves
 from x25tools_lib.refusals import Refusal, Why
-from x25tools_lib.scanner import SCANNER
 
 from . import spool
 from .captures import Captures
@@ -44,7 +44,7 @@ def found(trace: IO[str], scanner: str | None, halves: Halves) -> Comments:
 
     Where something was recorded in one direction only, its comments say no more than that.
     """
-    words = [str(scanner or SCANNER), "--annotate"]
+    words = [scanner or programs.found("x25trace"), "--annotate"]
     with subprocess.Popen(words, stdin=trace, stdout=subprocess.PIPE, text=True, encoding="ascii") as running:
         assert running.stdout
         comments = comments_of(running.stdout, halves)

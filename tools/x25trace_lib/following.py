@@ -9,7 +9,7 @@ from collections.abc import Sequence
 from types import FrameType
 from typing import TextIO, cast
 
-from x25tools_lib.scanner import SCANNER
+from x25tools_lib import scanner as programs
 from x25tools_lib.streams import Waiting
 from x25tools_lib.waking import WAKER
 
@@ -29,7 +29,7 @@ class Follower:
     """
 
     def __init__(self, scanner: str | None, forms: Sequence[str], waiting: Waiting) -> None:
-        self.waiting, self.name = waiting, str(scanner or SCANNER)
+        self.waiting, self.name = waiting, scanner or programs.found("x25trace")
         waiting.handle(*ENDINGS)
         # If x25scan has ended, the next write fails.
         signal.signal(signal.SIGPIPE, signal.SIG_IGN)

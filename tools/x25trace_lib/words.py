@@ -72,8 +72,8 @@ def parser() -> Words:
                        help="write this pcapng file in place of the trace: the capture, with what x25scan finds as "
                        "comments of its frames")
     words.add_argument("--scanner", metavar="PROGRAM",
-                       help="the x25scan that tries headers, and that --follow and --comments run, by default bin/x25scan "
-                       "next to this program")
+                       help="the x25scan that tries headers, and that --follow and --comments run, by default the proved "
+                       "one of this folder, else the one that bin/x25try runs")
     reading_words(words.add_argument_group("reading"))
     side_words(words.add_argument_group("sides"))
     header_words(words.add_argument_group("header, by default estimated from what was seen"))
