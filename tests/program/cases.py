@@ -57,9 +57,6 @@ def file_cases():
 
 def word_cases():
     """Words that ask for no scan, and wrong words."""
-    version = pattern(rb"x25scan \d+\.\d+\.\d+\nproved with Rattle, logic [0-9a-f]{16}\n")
-    yield RunCase("the version", ("--version",), output=version)
-    yield RunCase("the version by its letter", ("-V",), output=version)
     helped = pattern(rb"Reports what .*Usage: x25scan \[OPTIONS\] \[FILE\].*--workers.*--alone.*--follow.*--json.*--annotate.*--rows.*--channel.*--call.*--progress.*--notes.*--explain.*Examples:\n.*Exit status:\n  0 .*\n  64 .*TRACE.md.*\n")
     yield RunCase("help", ("--help",), output=helped)
     yield RunCase("help by its letter", ("-h",), output=helped)
