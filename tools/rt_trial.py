@@ -26,7 +26,7 @@ CHUNK = 1 << 20
 WITH_VALUE = {"--workers", "--channel", "--call", "--explain"}
 WITHOUT_TRACE = re.compile(r"--explain(=.*)?|--help|-h|--version|-V")
 # What rt prints after the program's standard error.
-ENDED = re.compile(rb"(?:interpreter: .*\n)?checked: .*\nraces: .*\nrun=ended status=(\d+) .*\n\Z")
+ENDED = re.compile(rb"(?:interpreter: .*\n)?checked: .*\n(?:races: .*\n)?run=ended status=(\d+) .*\n\Z")
 REASON = re.compile(rb"^checked: (?:fault|no-answer): (.*)$", re.MULTILINE)
 VERSION = re.compile(rb"\Ax25scan (\S+)\nproved with [^\n]*\n\Z")
 OPEN_FAULTS = {
