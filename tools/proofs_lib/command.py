@@ -11,6 +11,7 @@ import subprocess
 import sys
 from collections.abc import Callable, Iterator, Sequence
 from types import FrameType
+from typing import NoReturn
 
 from .adoption import adopt as adopt_all
 from .adoption import sum_of_all
@@ -57,7 +58,7 @@ class Interrupted(BaseException):
 class Words(argparse.ArgumentParser):
     """The words of the command line; wrong ones have the exit status that the help says."""
 
-    def error(self, message: str) -> None:  # type: ignore[override]
+    def error(self, message: str) -> NoReturn:
         self.exit(USAGE, f"x25prove: {message}; bin/x25prove --help lists the options\n")
 
 
