@@ -86,6 +86,8 @@ class Ledger:
 
     def __init__(self, say: Say = ignore) -> None:
         self.counts: Counter[Reason] = Counter()
+        # Whether something is damaged or missing, of a known number or not.
+        self.is_hurt = False
         self.reported: Counter[Topic | Reason] = Counter()
         self.say = say
         self.keep: Say = ignore
@@ -96,6 +98,12 @@ class Ledger:
         """Counts what is left out."""
         if many:
             self.counts[reason] += many
+            self.is_hurt |= reason.damage
+
+    def miss(self, reason: Reason, many: int) -> None:
+        """Counts what is missing; a number that is not known is 0."""
+        self.counts[reason] += many
+        self.is_hurt = True
 
     def note(self, words: str) -> None:
         """Adds a comment to the trace only."""
@@ -111,8 +119,8 @@ class Ledger:
             self.say("more messages like the last one are not shown; a trace has them as comments")
 
     def damaged(self, reason: Reason, words: str, many: int = 1) -> None:
-        """Counts damage, and reports it."""
-        self.counts[reason] += many
+        """Counts damage, and reports it; a number that is not known is 0."""
+        self.miss(reason, many)
         self.report(reason, words)
 
     def lack(self, halves: Iterable[Half]) -> None:
@@ -124,7 +132,7 @@ class Ledger:
     @property
     def whole(self) -> bool:
         """Whether surely no packet is missing."""
-        return not self.halves and not any(reason.damage for reason in self.counts)
+        return not self.halves and not self.is_hurt
 
     def lines(self) -> list[str]:
         """The counts, a line each, in the order of the reasons."""

@@ -22,6 +22,11 @@ KINDS_OF_PACKET = {
 }
 
 
+def without_check(octets: bytes, length: int, check: int) -> tuple[bytes, int]:
+    """The octets and the length of a frame without its check sequence. One that is not longer counts as cut off."""
+    return octets[:max(length - check, 0)], max(length - check, 1)
+
+
 @dataclass(slots=True)
 class Dropped:
     """A place where the capture has a number of dropped frames: before a frame, or after the last one so far.

@@ -14,7 +14,7 @@ from .channels import Channels
 from .estimate import Estimator, header_of
 from .halves import halves_of
 from .frames import Dropped, Frame
-from .packets import LONGEST, Missing, Packet, Type, channel_of, without
+from .packets import Missing, Packet, Type, channel_of
 from .reading import Reading
 from .spool import LAST_NUMBER, Rows, gap_words, on_channel
 from .trace import LARGEST_TEXT
@@ -44,11 +44,6 @@ class Live:
         for carrier, packet in self.reading.packets(frames):
             if isinstance(packet, Missing):
                 self.miss(carrier, packet)
-                continue
-            if len(packet.octets) > LONGEST:
-                words = f"frame {packet.frame}: a packet of {len(packet.octets)} octets"
-                self.ledger.damaged(Reason.LONG_PACKET, words)
-                self.miss(carrier, without(packet))
                 continue
             if self.carrier is None:
                 self.begin(carrier, packet, out, start)
@@ -134,8 +129,6 @@ class Live:
         self.sides.add(side)
         words = f"{packet.side.letter} {packet.octets.hex().upper() or '-'}\n"
         if circuit is not None:
-            if not circuit.both and side is not circuit.side:
-                circuit.see(side)
             self.begin_circuit(circuit)
             circuit.rows += 1
             if circuit.channel is None:

@@ -12,7 +12,7 @@ from .frames import Direction, Dropped, Frame
 from .internet import Internet
 from .lapb import Lapb, kind_of, unframe
 from .links import LINKS, OPENERS, USER_LINKS, Carried, Found, Opener
-from .packets import Item, Missing, Packet, left_out
+from .packets import LONGEST, Item, Missing, Packet, left_out, without
 from .xot import Xot
 
 CARRIERS = {
@@ -72,12 +72,24 @@ class Reading:
                 packets = self.from_link(frame, carried, at)
             else:
                 packets = self.from_packet(frame, carried, at)
-            for packet in packets:
+            for packet in self.short_enough(packets):
                 yield carrier, packet
         self.internet.end()
-        for packet in self.xot.end():
-            yield Carrier.XOT, packet
+        for packets in self.xot.end():
+            for packet in self.short_enough(packets):
+                yield Carrier.XOT, packet
         self.lapb.end()
+
+    def short_enough(self, packets: Iterable[Item]) -> list[Item]:
+        """What a frame gives, once it has reported all; a packet that is too long becomes a gap."""
+        return [
+            packet if isinstance(packet, Missing) or len(packet.octets) <= LONGEST else self.too_long(packet)
+            for packet in packets
+        ]
+
+    def too_long(self, packet: Packet) -> Missing:
+        self.ledger.damaged(Reason.LONG_PACKET, f"frame {packet.frame}: a packet of {len(packet.octets)} octets")
+        return without(packet)
 
     def dropped(self, dropped: Dropped) -> Missing:
         """The gap where frames were dropped."""

@@ -8,11 +8,13 @@ What moves, in one direction of a connection:
 A segment waits while octets before it are missing, and also while it acknowledges octets of the other direction that
 were not delivered yet: its sender had them, so what it sends may answer them. Missing octets are given up once the
 other side has acknowledged them and more segments wait than a recorder puts out of order.
+
+Of an octet that several segments have, the copy that was recorded first counts: held segments do not overlap.
 """
 from __future__ import annotations
 
 import bisect
-from dataclasses import dataclass
+from dataclasses import dataclass, replace
 
 from x25tools_lib.ledger import Ledger, Reason
 
@@ -83,9 +85,40 @@ class Stream:
         assert self.next is not None
         return self.next
 
+    def place(self, segment: Segment) -> int:
+        """How far a segment's first octet is ahead of those delivered."""
+        return ahead(segment.sequence, self.following)
+
     def hold(self, segment: Segment) -> None:
         """Keeps a segment in the order of the sequence numbers."""
-        bisect.insort(self.held, segment, key=lambda other: ahead(other.sequence, self.following))
+        bisect.insort(self.held, segment, key=self.place)
+
+    def parts(self, segment: Segment) -> list[Segment]:
+        """The parts of a segment that no held one has, in their order; a FIN goes with the last part."""
+        begin, first, parts = self.place(segment), self.place(segment), list[Segment]()
+        end = begin + len(segment.payload) + segment.missing
+        at = bisect.bisect_right(self.held, begin, key=self.place)
+        for held in self.held[max(at - 1, 0):]:
+            held_begin = self.place(held)
+            if held_begin >= end:
+                break
+            if held_begin > begin:
+                parts.append(part_of(segment, begin - first, held_begin - first))
+            begin = max(begin, held_begin + len(held.payload) + held.missing)
+        if begin < end or segment.flags & FIN and not self.has_end(end):
+            parts.append(part_of(segment, min(begin, end) - first, end - first, segment.flags))
+        return parts
+
+    def has_end(self, end: int) -> bool:
+        """Whether a held segment has the FIN at a place."""
+        return any(held.flags & FIN and self.place(held) + len(held.payload) + held.missing == end for held in self.held)
+
+
+def part_of(segment: Segment, begin: int, end: int, flags: int = 0) -> Segment:
+    """The part of a segment between two of its octets; those that were cut off are at the end."""
+    payload = segment.payload[begin:end]
+    sequence = (segment.sequence + begin) % CIRCLE
+    return replace(segment, sequence=sequence, payload=payload, missing=end - begin - len(payload), flags=flags)
 
 
 class Budget:
@@ -181,9 +214,13 @@ class Connection:
             events.append(Gap(index, segment.frame, 0, UNSAID, segment.time))
 
     def keep(self, stream: Stream, segment: Segment) -> None:
-        """Holds a segment until it can be delivered."""
-        stream.hold(segment)
-        self.charge(len(segment.payload) + SEGMENT_COST)
+        """Holds what a segment has and no held one, until it can be delivered."""
+        parts = stream.parts(segment)
+        if not parts:
+            self.ledger.left_out(Reason.REPEATED_OCTETS)
+        for part in parts:
+            stream.hold(part)
+            self.charge(len(part.payload) + SEGMENT_COST)
 
     def take_back(self, stream: Stream) -> Segment:
         """Removes and returns the first segment that waits."""

@@ -22,7 +22,7 @@ from .estimate import Estimator, estimates, header_of, seen_of
 from .evidence import Evidence, largest, ranked_first
 from .frames import Dropped, Frame
 from .halves import halves_of
-from .packets import LONGEST, Missing, channel_of, without
+from .packets import Missing, channel_of
 from .ranking import MOST_ROWS, NO_SCANNER, Ranker
 from .reading import Reading
 from .spool import Spool
@@ -52,11 +52,6 @@ class Trace:
                 self.miss(packet)
                 continue
             octets, circuit = packet.octets, packet.circuit
-            if len(octets) > LONGEST:
-                words = f"frame {packet.frame}: a packet of {len(octets)} octets"
-                self.ledger.damaged(Reason.LONG_PACKET, words)
-                self.miss(without(packet))
-                continue
             if carrier is not None:
                 carriers[carrier] += 1
             if circuit is None:
@@ -65,8 +60,6 @@ class Trace:
                 see(key, False, packet.side, octets, True)
                 add(packet, 0)
                 continue
-            if not circuit.both and packet.side is not circuit.side:
-                circuit.see(packet.side)
             see(circuit.number, circuit.from_opening, packet.side, octets, False)
             add(packet, circuit.number)
             circuit.rows += 1

@@ -1,7 +1,6 @@
 """XOT: packets of X.25 in TCP connections, one connection a circuit."""
 from __future__ import annotations
 
-import heapq
 import struct
 from collections import deque
 from collections.abc import Callable, Iterable, Iterator
@@ -267,8 +266,7 @@ class Xot:
         circuit.has_gaps = True
         circuit.lacks[gap.index] |= gap.octets > 0
         circuit.miss(gap.frame, gap.time)
-        # An unknown number of octets, 0 here, is damage too.
-        self.ledger.counts[Reason.LOST_OCTETS] += gap.octets
+        self.ledger.miss(Reason.LOST_OCTETS, gap.octets)
         self.ledger.left_out(Reason.PASSED_OCTETS, len(rest))
         if gap.how:
             words = f"frame {gap.frame}: connection {circuit.number}: {gap.octets} octets"
@@ -309,14 +307,11 @@ class Xot:
                 words = f"connection {circuit.number} ends after {len(rest)} octets of a packet of {side}"
                 self.ledger.damaged(Reason.CUT_XOT, words)
 
-    def end(self) -> Iterable[Item]:
-        """The packets that waited when the recording ended, as their frames come."""
-        left = [
-            self.close(connection, circuit)
-            for connection, index, circuit in self.table.values()
-            if index == 0 and not circuit.ended
-        ]
-        return heapq.merge(*left, key=lambda packet: packet.frame)
+    def end(self) -> Iterator[Iterable[Item]]:
+        """The packets that waited when the recording ended, of one connection after the other, in their order."""
+        left = [entry for entry in self.table.values() if entry[1] == 0 and not entry[2].ended]
+        for connection, _, circuit in sorted(left, key=lambda entry: entry[2].number):
+            yield self.close(connection, circuit)
 
     def packets(self, circuit: Circuit, chunk: Chunk) -> list[Item]:
         """The packets that end in a chunk, and the gap before them."""
@@ -386,6 +381,8 @@ class Xot:
             known = flows and line_channel == circuit.last_line_channel and not circuit.confirmed
             if not known and not self.follow(circuit, chunk.frame, side, octets):
                 return None
+        if side is not circuit.side and not circuit.both:
+            circuit.see(side)
         return Packet(chunk.frame, side, octets, circuit, chunk.time)
 
     def follow(self, circuit: Circuit, frame: int, side: Side, octets: bytes) -> bool:
