@@ -3,7 +3,6 @@ import os
 import signal
 import unittest
 
-from x25tools_lib.choices import SideBy
 from x25tools_lib.halves import Halves
 from x25tools_lib.header import Header
 from x25tools_lib.ledger import Ledger, Reason
@@ -16,6 +15,7 @@ from x25trace_lib.comments import comments_of
 from x25trace_lib.internet import FIN, Fragments, Segment
 from x25trace_lib.frames import Direction, Frame, without_check
 from x25trace_lib.lapb import Lapb, kind_of
+from x25trace_lib.link_ends import Ends
 from x25trace_lib.packets import Missing, Packet, Type
 from x25trace_lib.spool import Spool
 from x25trace_lib.tcp import MOST_OF_ONE, PATIENCE, PATIENCE_ONE_WAY, Budget, Chunk, Connection, Gap
@@ -296,7 +296,7 @@ class Gaps(unittest.TestCase):
 
     def items(self, *frames):
         """What the frames of a link give: the first octets of packets, and ? for a gap."""
-        lapb, found = Lapb(Ledger(), None, SideBy.ADDRESS, False), []
+        lapb, found = Lapb(Ledger(), None, Ends(Ledger(), None, False, {})), []
         for number, octets in enumerate((b"\1\x3f", UA, *frames), 1):
             direction = Direction.RECEIVED if octets in OF_DCE else Direction.SENT
             found += lapb.take(Frame(number, 207, octets, len(octets), direction), octets, False)

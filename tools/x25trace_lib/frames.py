@@ -54,6 +54,8 @@ class Frame:
     time: int | None = None
     # The number of tunnels around it.
     depth: int = 0
+    # The source address of its link header, where that is read.
+    source: bytes = b""
 
     def within(self, begin: int, end: int, octets: bytes) -> Frame:
         """The frame in the octets of a tunnel, which may be cut off before its end."""

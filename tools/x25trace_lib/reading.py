@@ -11,7 +11,8 @@ from x25tools_lib.sides import Side
 from .frames import Direction, Dropped, Frame
 from .internet import Internet
 from .lapb import Lapb, kind_of, unframe
-from .links import LINKS, OPENERS, USER_LINKS, Carried, Found, Opener
+from .link_ends import Ends
+from .links import LINKS, OPENERS, USER_LINKS, Carried, Found, Opener, source_of
 from .packets import LONGEST, Item, Missing, Packet, left_out, without
 from .xot import Xot
 
@@ -31,7 +32,7 @@ class Reading:
         self.ledger, self.choices = ledger, choices
         self.internet = Internet(ledger, choices.ports)
         self.xot = Xot(ledger, choices.ports, choices.dte, choices.swapped)
-        self.lapb = Lapb(ledger, choices.link_modulus, choices.side_by, choices.swapped)
+        self.lapb = Lapb(ledger, choices.link_modulus, Ends(ledger, choices.side_by, choices.swapped, choices.stations))
         self.frames = 0
         # Whether frames may be missing before the next one; only sequence numbers in them would show it.
         self.is_damaged = False
@@ -69,6 +70,7 @@ class Reading:
                 segment = segment_of(frame, at)
                 packets = take(segment) if segment else ()
             elif carrier is Carrier.LAPB:
+                frame.source = source_of(opener, frame.octets)
                 packets = self.from_link(frame, carried, at)
             else:
                 packets = self.from_packet(frame, carried, at)
