@@ -6,10 +6,11 @@ from typing import TextIO
 
 from x25tools_lib.choices import Carrier
 from x25tools_lib.header import Wishes
-from x25tools_lib.ledger import Ledger, Reason
+from x25tools_lib.ledger import Ledger, Reason, Topic
 from x25tools_lib.notes import comment, time_text
 from x25tools_lib.sides import Side
 
+from .beginning import Beginning
 from .channels import Channels
 from .estimate import Estimator, header_of
 from .halves import halves_of
@@ -30,6 +31,7 @@ class Live:
         self.header = header_of(wishes, Estimator(), 0, 0, False, True)
         self.channels = Channels(self.header)
         self.rows = Rows(True, has_comments)
+        self.beginning = Beginning()
         self.carrier: Carrier | None = None
         self.out: TextIO | None = None
         self.waiting: list[str | tuple[Carrier | None, Missing]] = []
@@ -50,6 +52,8 @@ class Live:
             if carrier is not self.carrier:
                 self.ledger.left_out(Reason.SECOND_CARRIER)
             else:
+                if packet.circuit is None and self.beginning.is_open:
+                    self.see_beginning(carrier, packet)
                 self.write_row(packet)
         if self.carrier is None:
             raise self.reading.no_packet()
@@ -58,6 +62,13 @@ class Live:
             self.put(comment(half.text))
         for words in self.ledger.lines():
             self.put(comment(words))
+
+    def see_beginning(self, carrier: Carrier | None, packet: Packet) -> None:
+        """Reads one of the first packets of a line: a gap row is before one that shows that a restart was not whole."""
+        words = self.beginning.see(packet)
+        if words and self.wishes.join is None:
+            self.ledger.report(Topic.BEGINNING, words)
+            self.write_gap(carrier, Missing(packet.frame, packet.time))
 
     def begin(self, carrier: Carrier | None, packet: Packet, out: TextIO, start: str) -> None:
         """Writes the header, after a comment. On a line a restart shows the beginning, with XOT each connection does."""
@@ -96,6 +107,8 @@ class Live:
         """Writes a gap row, or keeps it until there is a packet; options decide about a gap before the beginning."""
         if missing.is_beginning and self.wishes.join is not None:
             return
+        if missing.circuit is missing.channel is None:
+            self.beginning.miss()
         if self.out is None:
             self.waiting.append((carrier, missing))
         else:
