@@ -175,6 +175,7 @@ class Copies(unittest.TestCase):
         self.ledger = Ledger()
         self.connection = Connection(self.ledger, Budget(), ENDS)
         self.connection.feed(0, segment(0, b"a"))
+        self.connection.feed(1, segment(0, b"", 2, 1))
 
     def given_out(self, *segments):
         events = [event for one in segments for event in self.connection.feed(0, one)]
@@ -283,12 +284,15 @@ class Gaps(unittest.TestCase):
         return found
 
     def test_of_an_end_of_which_nothing_was_recorded(self):
-        opened = [(0, 2, 99, None, b""), (0, 0, 100, 500, b"")]
-        self.assertEqual(self.lost(*opened), [(1, 0)])
-        self.assertEqual(self.lost(*opened, (0, 0, 100, 507, b"call")), [(1, 0), (1, 7)])
+        """The first acknowledgement of the opener says where it begins; what is missing then may come later."""
+        opened, call = [(0, 2, 99, None, b""), (0, 0, 100, 500, b"")], (0, 0, 100, 507, b"call")
+        self.assertEqual(self.lost(*opened, call), [])
+        self.assertEqual(self.lost(*opened, call, (1, 2, 499, 100, b""), (1, 0, 500, 100, b"welcome")), [])
+        self.assertEqual(self.lost(*opened, call, *[(0, 0, 104 + at, 507, b"m") for at in range(PATIENCE)]), [(1, 7)])
         # Its last word has a number too.
-        self.assertEqual(self.lost(*opened, (0, 1, 100, 500, b""), (0, 0, 101, 501, b"")), [(1, 0)])
-        self.assertEqual(self.lost(*opened, (1, 0, 507, 100, b"data")), [(1, 0), (1, 7)])
+        self.assertEqual(self.lost(*opened, (0, 1, 100, 500, b""), (0, 0, 101, 501, b"")), [])
+        self.assertEqual(self.lost(*opened, call, (0, 1, 104, 507, b"")), [(1, 7)])
+        self.assertEqual(self.lost((0, 2, 99, None, b""), (1, 0, 507, 100, b"data")), [(1, 0)])
 
     def test_of_an_end_whose_opening_was_recorded(self):
         opened = [(0, 2, 99, None, b""), (1, 2, 499, 100, b""), (0, 0, 100, 500, b"")]

@@ -69,7 +69,7 @@ class Topic(enum.Enum):
     CHANNEL = "logical channels that change inside of a connection"
     PVC_SETUP = "set-ups of permanent circuits"
     PORT = "ports that look like XOT"
-    ORDER = "files that are not in the order of their times"
+    ORDER = "files that are not in the order of their times, and recorders whose clocks differ"
 
 
 Say = Callable[[str], object]

@@ -23,13 +23,15 @@ class State(enum.Enum):
 class Beginning:
     """The first packets of a line.
 
-    The other side answers a restart by a restart of its own or by a confirmation. A side that sends on a channel before
-    that has had the answer: it was not recorded, so the recording began inside of the restart.
+    The other side answers a restart by a restart of its own or by a confirmation. Where both sides send on channels and
+    no answer came, the one that restarted has had it: it was not recorded, so the recording began inside of the restart.
     """
 
     def __init__(self) -> None:
         self.state = State.EMPTY
         self.restarted: Side | None = None
+        # The sides that have sent on a channel since then.
+        self.sending: set[Side] = set()
 
     @property
     def is_open(self) -> bool:
@@ -49,14 +51,15 @@ class Beginning:
             is_restart = kind == Type.RESTART and not channel
             self.state = State.RESTARTING if is_restart else State.JOINED
             self.restarted = side
-        elif side is not self.restarted:
-            if kind in RESTARTS and not channel:
-                self.state = State.WHOLE
         elif channel:
-            self.state = State.JOINED
-            words = f"frame {packet.frame}: the {side.title}, which had restarted, sends on channel {channel}"
-            return f"{words}, and no answer of the {side.other.title} was recorded: the recording began inside of the restart"
-        return None
+            self.sending.add(side)
+        elif side is not self.restarted and kind in RESTARTS:
+            self.state = State.WHOLE
+        if len(self.sending) < 2 or self.restarted is None:
+            return None
+        self.state = State.JOINED
+        words = f"frame {packet.frame}: both sides send on channels after the restart of the {self.restarted.title}"
+        return f"{words}, and no answer of the {self.restarted.other.title} was recorded: the recording began inside of it"
 
     def miss(self) -> None:
         """Reads a gap, in which the answer may be."""

@@ -148,6 +148,10 @@ class Connection:
             self.streams[1 - index].next = segment.acknowledged
         segment.sequence = (segment.sequence + 1) % CIRCLE
 
+    def is_late(self, index: int) -> bool:
+        """Whether the opening segment of an end was not recorded before what acknowledges it."""
+        return self.streams[index].first is None and self.streams[index].next is not None
+
     def was_seen(self, index: int) -> bool:
         """Whether a segment of an end was recorded: one that opened its direction, or acknowledged the other direction."""
         return self.streams[index].first is not None or self.streams[1 - index].acknowledged is not None
@@ -199,7 +203,9 @@ class Connection:
         if segment.acknowledged is None:
             return
         stream = self.streams[index]
-        if stream.next is None and stream.acknowledged is not None:
+        if stream.next is None and self.opens(1 - index, segment):
+            stream.next = segment.acknowledged
+        elif stream.next is None and stream.acknowledged is not None:
             many = ahead(segment.acknowledged, stream.acknowledged)
             # A FIN takes a sequence number, which the other side may acknowledge after its own FIN.
             if many > self.leaving[1 - index]:
@@ -207,6 +213,11 @@ class Connection:
         elif stream.next is None:
             self.miss_opening(index, segment, events)
         stream.acknowledged = segment.acknowledged
+
+    def opens(self, index: int, segment: Segment) -> bool:
+        """Whether a segment is the first of the opener after its SYN: the other end has sent no octet that it acknowledges."""
+        first = self.streams[index].first
+        return index == 0 and first is not None and segment.sequence == (first + 1) % CIRCLE
 
     def miss_opening(self, index: int, segment: Segment, events: list[Event]) -> None:
         """Adds the gap of a direction whose opening is missing while the other side's was recorded; octets may be missing too."""
@@ -283,8 +294,9 @@ class Connection:
 
     def judge(self, events: list[Event]) -> None:
         """Gives up octets that will not come, while segments wait for them."""
-        # Both ends sent FIN and had acknowledged all octets.
+        # Both ends sent FIN and had acknowledged all octets; or one did, and nothing of the other one was recorded.
         ended = all(self.leaving) and self.acknowledged_all()
+        ended |= any(self.leaving[index] and not self.was_seen(1 - index) for index in (0, 1))
         while self.cost and (ended or self.is_overdue()):
             self.lose(events)
 
@@ -325,7 +337,8 @@ class Connection:
         index, many, head = self.missing()
         stream = self.streams[index]
         if many > 0:
-            events.append(Gap(index, head.frame, many, NOT_RECORDED, head.time))
+            how = UNSAID if index == 1 and not self.was_seen(1) else NOT_RECORDED
+            events.append(Gap(index, head.frame, many, how, head.time))
             stream.next = (stream.following + many) % CIRCLE
         else:
             # Each direction acknowledges what comes next in the other one.

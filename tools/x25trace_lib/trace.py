@@ -74,7 +74,7 @@ class Trace:
         """Reads one of the first packets of a line."""
         words = self.beginning.see(packet)
         if words and self.wishes.join is None:
-            self.ledger.report(Topic.BEGINNING, f"{words} (JOIN)")
+            self.ledger.report(Topic.BEGINNING, words)
 
     def miss(self, missing: Missing) -> None:
         """Adds a gap; options decide about a gap before the beginning."""

@@ -190,6 +190,9 @@ class Xot:
                 return ()
             entry = self.open(segment, False)
         connection, index, circuit = entry
+        if segment.flags & SYN and connection.is_late(index):
+            words = "its opening segment was recorded after the answer to it, so the clocks of two recorders differ"
+            self.ledger.report(Topic.ORDER, f"frame {segment.frame}: connection {circuit.number}: {words}")
         if not circuit.left and connection.takes(index, segment):
             return self.packets(circuit, Chunk(index, segment.frame, segment.payload, segment.time))
         return self.feed(connection, index, circuit, segment)
@@ -427,6 +430,6 @@ class Xot:
         if before is None:
             circuit.line_channels[index] = line_channel
         else:
-            words = f"logical channel {line_channel} after {before} of {circuit.sides[index].name}; a connection has one circuit"
+            words = f"logical channel {line_channel} after {before}; a connection has one circuit"
             self.ledger.report(Topic.CHANNEL, f"frame {chunk.frame}: connection {circuit.number}: {words}")
         circuit.last_channels[index] = line_channel
