@@ -31,19 +31,16 @@ def one_direction():
     """Ports were mirrored in one direction alone."""
     frames = [segment for talk, _ in zip(talks(), range(3)) for segment in connection(talk, FIRST, 0)]
     yield Case("half-dte-on-all-connections", file_of(frames), gaps_header(last=3) + text("""
-        1 ? 1
         3 T 10010B0000
         4 ? 1
         5 T 100100AA
         6 ? 1
         7 T 1001130000
-        8 ? 2
         10 T 10020B0000
         11 ? 2
         12 T 100200AA
         13 ? 2
         14 T 1002130000
-        15 ? 3
         17 T 10030B0000
         18 ? 3
         19 T 100300AA
@@ -58,7 +55,7 @@ def one_direction():
         C 3 1 3 out - - 17 19 21 T 1 1 0 0 1
         A - 3 3
         P 1 5
-        G 12
+        G 9
         Z 9 0 3 3 3
     """), tshark=None)
     frames = connection(Talk(), UNCLEARED, 1)
@@ -83,33 +80,32 @@ def among_others():
         7 N 100121
         8 T 1001130000
         9 N 100117
-        13 ? 2
         15 T 10020B0000
         16 ? 2
         17 T 100200AA
         18 ? 2
         19 T 1002130000
-        28 T 10030B0000
-        29 N 10030F
-        30 T 100300AA
-        31 N 100321
-        32 T 1003130000
-        33 N 100317
+        20 ? 3
+        21 N 10030F
+        22 ? 3
+        23 N 100321
+        24 ? 3
+        25 N 100317
+        28 T 10040B0000
+        29 N 10040F
+        30 T 100400AA
+        31 N 100421
+        32 T 1004130000
+        33 N 100417
         34 ? 2
-        35 ? 4
-        36 N 10040F
-        37 ? 4
-        38 N 100421
-        39 ? 4
-        40 N 100417
-        41 ? 4
+        35 ? 3
     """), GIVEN, status=1, report=text("""
         C 1 1 1 out - - 4 5 8 T 1 1 0 0 1
         C 2 1 2 out - - 15 17 19 T 1 1 0 0 1
-        C 3 1 3 out - - 28 29 32 T 1 1 0 0 1
+        C 3 1 4 out - - 28 29 32 T 1 1 0 0 1
         A - 3 3
         P 1 5
-        G 8
+        G 7
         Z 18 0 3 3 3
     """), tshark=None)
 

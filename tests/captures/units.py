@@ -3,22 +3,22 @@ import os
 import signal
 import unittest
 
-from x25tools_lib.choices import SideBy
 from x25tools_lib.halves import Halves
 from x25tools_lib.header import Header
-from x25tools_lib.ledger import Ledger
+from x25tools_lib.ledger import Ledger, Reason
 from x25tools_lib.notes import Head
 from x25tools_lib.sides import Side
 from x25tools_lib.streams import TOGETHER, Interrupted, Waiting
 from x25tools_lib.waking import Waker
 from x25trace_lib.channels import assign
 from x25trace_lib.comments import comments_of
-from x25trace_lib.internet import Segment
-from x25trace_lib.frames import Direction, Frame
+from x25trace_lib.internet import FIN, Fragments, Segment
+from x25trace_lib.frames import Direction, Frame, without_check
 from x25trace_lib.lapb import Lapb, kind_of
+from x25trace_lib.link_ends import Ends
 from x25trace_lib.packets import Missing, Packet, Type
 from x25trace_lib.spool import Spool
-from x25trace_lib.tcp import MOST_OF_ONE, PATIENCE, PATIENCE_ONE_WAY, Budget, Connection, Gap
+from x25trace_lib.tcp import MOST_OF_ONE, PATIENCE, PATIENCE_ONE_WAY, Budget, Chunk, Connection, Gap
 from x25trace_lib.xot import Circuit
 
 ENDS = (b"\1\2\3\4\4\1", b"\1\2\3\5\7\xce")
@@ -168,6 +168,78 @@ class Memory(unittest.TestCase):
         self.assertEqual(connection.cost, 0)
 
 
+class Copies(unittest.TestCase):
+    """Of an octet that several frames have, the copy that was recorded first counts."""
+
+    def setUp(self):
+        self.ledger = Ledger()
+        self.connection = Connection(self.ledger, Budget(), ENDS)
+        self.connection.feed(0, segment(0, b"a"))
+        self.connection.feed(1, segment(0, b"", 2, 1))
+
+    def given_out(self, *segments):
+        events = [event for one in segments for event in self.connection.feed(0, one)]
+        return [(event.frame, event.octets) for event in events]
+
+    def test_segments_that_wait(self):
+        """Frame 5 has octets 4 to 6, frame 6 octets 2 to 9 with other values, and frame 7 octet 1."""
+        late = segment(4, b"xyz", 5), segment(2, b"23456789", 6), segment(1, b"1", 7)
+        self.assertEqual(self.given_out(*late), [(7, b"1"), (6, b"23"), (5, b"xyz"), (6, b"789")])
+        self.assertEqual((self.connection.cost, self.connection.budget.used), (0, 0))
+
+    def test_repeats_that_wait(self):
+        """A segment that held ones have whole is left out, and only what they lack of another is held."""
+        self.assertEqual(self.given_out(segment(2, b"cd", 5), segment(2, b"CD", 6), segment(2, b"CDe", 7)), [])
+        self.assertEqual(self.ledger.counts[Reason.REPEATED_OCTETS], 1)
+        self.assertEqual(self.given_out(segment(1, b"b", 8)), [(8, b"b"), (5, b"cd"), (7, b"e")])
+
+    def test_end_of_a_direction(self):
+        """The FIN of a segment goes with its last part, once."""
+        end = segment(2, b"cd", 6)
+        end.flags = FIN
+        again = segment(3, b"D", 7)
+        again.flags = FIN
+        self.assertEqual(self.given_out(segment(2, b"C", 5), end, again), [])
+        self.assertEqual(self.given_out(segment(1, b"b", 8)), [(8, b"b"), (5, b"C"), (6, b"d")])
+        self.assertTrue(self.connection.streams[0].ended)
+
+    def test_octets_that_were_cut_off(self):
+        """Their place is taken, also where a later frame has them."""
+        cut = segment(2, b"cd", 5)
+        cut.missing = 2
+        events = [event for one in (cut, segment(2, b"CDEFG", 6), segment(1, b"b", 7)) for event in self.connection.feed(0, one)]
+        self.assertEqual(events, [Chunk(0, 7, b"b", None), Chunk(0, 5, b"cd", None), Gap(0, 5, 2, "were cut off"),
+                                  Chunk(0, 6, b"G", None)])
+
+    def test_fragments(self):
+        """Of fragments with one offset the first counts, and of an octet that several have the first copy."""
+        fragments, identity = Fragments(Ledger()), (6, b"", b"", 1)
+        frame = Frame(1, 1, b"", 0, Direction.UNKNOWN)
+        for place, octets, last in ((8, b"B" * 16, False), (8, b"X" * 24, True), (20, b"C" * 8, True)):
+            self.assertIsNone(fragments.add(frame, identity, place, octets, last))
+        self.assertEqual(fragments.add(frame, identity, 0, b"A" * 16, False), b"A" * 8 + b"B" * 16 + b"C" * 4)
+
+
+class Sums(unittest.TestCase):
+    def test_unknown_number(self):
+        """A gap of unknown size is damage too, and adds nothing to a sum."""
+        ledger = Ledger()
+        self.assertTrue(ledger.whole)
+        ledger.left_out(Reason.OTHER_PORT)
+        ledger.left_out(Reason.PASSED_OCTETS, 0)
+        self.assertTrue(ledger.whole)
+        ledger.miss(Reason.LOST_OCTETS, 0)
+        self.assertFalse(ledger.whole)
+        self.assertEqual(ledger.lines(), ["left out: TCP segments of other ports: 1"])
+
+    def test_check_sequences(self):
+        """A frame that is not longer than its check sequence has no octets, and counts as cut off."""
+        self.assertEqual(without_check(b"abcdef", 6, 2), (b"abcd", 4))
+        self.assertEqual(without_check(b"abc", 6, 2), (b"abc", 4))
+        for check in (6, 8):
+            self.assertEqual(without_check(b"abcdef", 6, check), (b"", 1))
+
+
 class Comments(unittest.TestCase):
     """Comments on findings and calls name rows, whose numbers may not be those of their frames."""
 
@@ -212,12 +284,15 @@ class Gaps(unittest.TestCase):
         return found
 
     def test_of_an_end_of_which_nothing_was_recorded(self):
-        opened = [(0, 2, 99, None, b""), (0, 0, 100, 500, b"")]
-        self.assertEqual(self.lost(*opened), [(1, 0)])
-        self.assertEqual(self.lost(*opened, (0, 0, 100, 507, b"call")), [(1, 0), (1, 7)])
+        """The first acknowledgement of the opener says where it begins; what is missing then may come later."""
+        opened, call = [(0, 2, 99, None, b""), (0, 0, 100, 500, b"")], (0, 0, 100, 507, b"call")
+        self.assertEqual(self.lost(*opened, call), [])
+        self.assertEqual(self.lost(*opened, call, (1, 2, 499, 100, b""), (1, 0, 500, 100, b"welcome")), [])
+        self.assertEqual(self.lost(*opened, call, *[(0, 0, 104 + at, 507, b"m") for at in range(PATIENCE)]), [(1, 7)])
         # Its last word has a number too.
-        self.assertEqual(self.lost(*opened, (0, 1, 100, 500, b""), (0, 0, 101, 501, b"")), [(1, 0)])
-        self.assertEqual(self.lost(*opened, (1, 0, 507, 100, b"data")), [(1, 0), (1, 7)])
+        self.assertEqual(self.lost(*opened, (0, 1, 100, 500, b""), (0, 0, 101, 501, b"")), [])
+        self.assertEqual(self.lost(*opened, call, (0, 1, 104, 507, b"")), [(1, 7)])
+        self.assertEqual(self.lost((0, 2, 99, None, b""), (1, 0, 507, 100, b"data")), [(1, 0)])
 
     def test_of_an_end_whose_opening_was_recorded(self):
         opened = [(0, 2, 99, None, b""), (1, 2, 499, 100, b""), (0, 0, 100, 500, b"")]
@@ -225,7 +300,7 @@ class Gaps(unittest.TestCase):
 
     def items(self, *frames):
         """What the frames of a link give: the first octets of packets, and ? for a gap."""
-        lapb, found = Lapb(Ledger(), None, SideBy.ADDRESS, False), []
+        lapb, found = Lapb(Ledger(), None, Ends(Ledger(), None, False, {})), []
         for number, octets in enumerate((b"\1\x3f", UA, *frames), 1):
             direction = Direction.RECEIVED if octets in OF_DCE else Direction.SENT
             found += lapb.take(Frame(number, 207, octets, len(octets), direction), octets, False)

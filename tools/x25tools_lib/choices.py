@@ -23,10 +23,11 @@ class Carrier(enum.Enum):
 
 
 class SideBy(enum.Enum):
-    """What decides first which side sent a LAPB frame."""
+    """What decides which side sent a LAPB frame: its address octet, its direction, or the source of its link header."""
 
     ADDRESS = "address"
     DIRECTION = "direction"
+    LINK_ADDRESS = "link-address"
 
 
 @dataclass
@@ -39,6 +40,9 @@ class Choices:
     only: Carrier | None = None
     interfaces: frozenset[int] = frozenset()
     senders: dict[int, Side] = field(default_factory=dict)
+    # The sides of link addresses that options name.
+    stations: dict[bytes, Side] = field(default_factory=dict)
     swapped: bool = False
-    side_by: SideBy = SideBy.ADDRESS
+    # None has the address octet decide, as long as the ends of a link have two.
+    side_by: SideBy | None = None
     link_modulus: int | None = None

@@ -64,11 +64,12 @@ class Topic(enum.Enum):
     UNKNOWN_LINK = "link types that are not known"
     LINK_FRAME = "frames that set up or end a LAPB link"
     DIRECTION = "contradictions of direction and address"
+    BEGINNING = "a recording that begins inside of a restart"
     CONNECTION = "connections that end with their call"
     CHANNEL = "logical channels that change inside of a connection"
     PVC_SETUP = "set-ups of permanent circuits"
     PORT = "ports that look like XOT"
-    ORDER = "files that are not in the order of their times"
+    ORDER = "files that are not in the order of their times, and recorders whose clocks differ"
 
 
 Say = Callable[[str], object]
@@ -86,6 +87,8 @@ class Ledger:
 
     def __init__(self, say: Say = ignore) -> None:
         self.counts: Counter[Reason] = Counter()
+        # Whether something is damaged or missing, of a known number or not.
+        self.is_hurt = False
         self.reported: Counter[Topic | Reason] = Counter()
         self.say = say
         self.keep: Say = ignore
@@ -96,6 +99,12 @@ class Ledger:
         """Counts what is left out."""
         if many:
             self.counts[reason] += many
+            self.is_hurt |= reason.damage
+
+    def miss(self, reason: Reason, many: int) -> None:
+        """Counts what is missing; a number that is not known is 0."""
+        self.counts[reason] += many
+        self.is_hurt = True
 
     def note(self, words: str) -> None:
         """Adds a comment to the trace only."""
@@ -111,8 +120,8 @@ class Ledger:
             self.say("more messages like the last one are not shown; a trace has them as comments")
 
     def damaged(self, reason: Reason, words: str, many: int = 1) -> None:
-        """Counts damage, and reports it."""
-        self.counts[reason] += many
+        """Counts damage, and reports it; a number that is not known is 0."""
+        self.miss(reason, many)
         self.report(reason, words)
 
     def lack(self, halves: Iterable[Half]) -> None:
@@ -124,7 +133,7 @@ class Ledger:
     @property
     def whole(self) -> bool:
         """Whether surely no packet is missing."""
-        return not self.halves and not any(reason.damage for reason in self.counts)
+        return not self.halves and not self.is_hurt
 
     def lines(self) -> list[str]:
         """The counts, a line each, in the order of the reasons."""

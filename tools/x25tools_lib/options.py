@@ -4,6 +4,7 @@ from __future__ import annotations
 import argparse
 import enum
 import ipaddress
+import re
 import sys
 from collections.abc import Callable, Collection
 from typing import NoReturn
@@ -11,6 +12,10 @@ from typing import NoReturn
 from .choices import KINDS, KINDS_TEXT, XOT_PORT, Carrier, Choices, SideBy
 from .header import LARGEST_SIZE, LAST_CHANNEL, SMALLEST_SIZE, Wishes
 from .sides import Side
+
+# A link address as people write it, and how many octets it has.
+LINK_ADDRESS = re.compile(r"[0-9A-Fa-f]{2}(?:([:-])[0-9A-Fa-f]{2})(?:\1[0-9A-Fa-f]{2}){4}")
+LINK_LENGTH = 6
 
 
 class Status(enum.IntEnum):
@@ -51,11 +56,13 @@ def size(word: str) -> int:
 
 
 def address(word: str) -> bytes:
-    """The octets of an address."""
+    """The octets of an address: 4 of IPv4, 16 of IPv6, 6 of a link."""
+    if LINK_ADDRESS.fullmatch(word):
+        return bytes.fromhex(word.replace("-", ":").replace(":", ""))
     try:
         return ipaddress.ip_address(word).packed
     except ValueError as fault:
-        raise argparse.ArgumentTypeError(f"{word!r} is not an address of IPv4 or IPv6") from fault
+        raise argparse.ArgumentTypeError(f"{word!r} is not an address of IPv4 or IPv6, nor of a link") from fault
 
 
 def kind(word: str) -> tuple[int | None, str]:
@@ -66,13 +73,21 @@ def kind(word: str) -> tuple[int | None, str]:
     return number(0, 65_535)(link) if parted else None, name
 
 
-def sender(word: str) -> tuple[int, Side]:
-    """An interface, and the side that sends on it."""
-    interface, _, name = word.partition("=")
+def sender(word: str) -> tuple[int | bytes, Side]:
+    """An interface or a link address, and the side that sends on it."""
+    place, _, name = word.partition("=")
     sides = {"dte": Side.T, "dce": Side.N}
     if name not in sides:
         raise argparse.ArgumentTypeError(f"{word!r} is not of the form INTERFACE=dte or INTERFACE=dce")
-    return number(0, 65_535)(interface), sides[name]
+    return address(place) if LINK_ADDRESS.fullmatch(place) else number(0, 65_535)(place), sides[name]
+
+
+def stations_of(words: argparse.Namespace) -> dict[bytes, Side]:
+    """The sides of the link addresses that --dte and --sender name."""
+    stations = {place: side for place, side in words.sender if isinstance(place, bytes)}
+    if words.dte is not None and len(words.dte) == LINK_LENGTH:
+        stations[words.dte] = Side.T
+    return stations
 
 
 def reading_words(group: argparse._ArgumentGroup) -> None:
@@ -92,11 +107,15 @@ def reading_words(group: argparse._ArgumentGroup) -> None:
 def side_words(group: argparse._ArgumentGroup) -> None:
     """The options of which side is the DTE."""
     group.add_argument("--dte", metavar="ADDRESS", type=address,
-                       help="the XOT host that is the DTE, by default the one that opens each connection")
-    group.add_argument("--side", choices=[one.value for one in SideBy], default=SideBy.ADDRESS.value,
-                       help="what decides the side of a LAPB frame, by default its address")
+                       help="the XOT host that is the DTE, by default the one that opens each connection; or the link "
+                       "address of the DTE of a LAPB link")
+    group.add_argument("--side", choices=[one.value for one in SideBy],
+                       help="what decides the side of a LAPB frame: its address octet, its direction, or the source address "
+                       "of its Ethernet or cooked header; by default the address octet, as long as the ends have two, and "
+                       "then the direction, or else the source address")
     group.add_argument("--sender", metavar="N=dte|dce", type=sender, action="append", default=[],
-                       help="the side that sends the packets recorded by an interface; may be repeated")
+                       help="the side that sends the packets recorded by an interface, or from a link address; may be "
+                       "repeated")
     group.add_argument("--swap", action="store_true",
                        help="exchange the sides: the recording host is the DCE")
 
@@ -131,9 +150,10 @@ def chosen(words: argparse.Namespace) -> tuple[Choices, Wishes]:
         dte=words.dte,
         only=words.only and Carrier(words.only),
         interfaces=frozenset(words.interface),
-        senders=dict(words.sender),
+        senders={place: side for place, side in words.sender if isinstance(place, int)},
+        stations=stations_of(words),
         swapped=words.swap,
-        side_by=SideBy(words.side),
+        side_by=words.side and SideBy(words.side),
         link_modulus=words.link_modulus,
     )
     return choices, wishes

@@ -9,7 +9,7 @@ from x25tools_lib.refusals import Refusal, Why
 from x25tools_lib.sides import Side
 
 from .evidence import Evidence
-from .packets import MODULI, PACKET_SIZES, SET_UP, WINDOWS, Missing, Type, channel_of, facilities_of
+from .packets import MODULI, PACKET_SIZES, SET_UP, WINDOWS, Missing, Type, facilities_of
 from .xot import Circuit
 
 STANDARD_SIZE = 128
@@ -39,7 +39,6 @@ class Estimator:
         self.largest = 0
         self.most = 0
         self.restarted = False
-        self.first_is_restart: bool | None = None
         self.highest = 0
         # Channels of a line with calls, and those with data and no known call.
         self.with_calls: set[int] = set()
@@ -49,8 +48,6 @@ class Estimator:
 
     def see(self, key: int, known: bool, side: Side, octets: bytes, line: bool) -> None:
         """Reads a packet of a channel; `known` means that the channel's state was known from its beginning."""
-        if self.first_is_restart is None:
-            self.first_is_restart = line and len(octets) >= 3 and octets[2] == Type.RESTART and not channel_of(octets)
         if len(octets) < 3:
             return
         modulus = MODULI.get(octets[0] & 0x30)

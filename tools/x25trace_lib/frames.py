@@ -22,6 +22,11 @@ KINDS_OF_PACKET = {
 }
 
 
+def without_check(octets: bytes, length: int, check: int) -> tuple[bytes, int]:
+    """The octets and the length of a frame without its check sequence. One that is not longer counts as cut off."""
+    return octets[:max(length - check, 0)], max(length - check, 1)
+
+
 @dataclass(slots=True)
 class Dropped:
     """A place where the capture has a number of dropped frames: before a frame, or after the last one so far.
@@ -49,6 +54,8 @@ class Frame:
     time: int | None = None
     # The number of tunnels around it.
     depth: int = 0
+    # The source address of its link header, where that is read.
+    source: bytes = b""
 
     def within(self, begin: int, end: int, octets: bytes) -> Frame:
         """The frame in the octets of a tunnel, which may be cut off before its end."""

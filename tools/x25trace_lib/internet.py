@@ -51,6 +51,18 @@ def port_of(end: bytes) -> int:
     return int.from_bytes(end[-2:], "big")
 
 
+# The fragments of a datagram as they came: at its place the octets of each, and whether it is the last one.
+Parts = dict[int, tuple[bytes, bool]]
+
+
+def joined(parts: Parts, size: int) -> bytes:
+    """The octets of a datagram; of an octet that several fragments have, the copy that came first counts."""
+    whole = bytearray(size)
+    for begin, (part, _) in reversed(parts.items()):
+        whole[begin:begin + len(part)] = part
+    return bytes(whole[:size])
+
+
 class Fragments:
     """Datagrams of which not all fragments were seen, up to a limit; the oldest is given up first."""
 
@@ -59,22 +71,29 @@ class Fragments:
 
     def __init__(self, ledger: Ledger) -> None:
         self.ledger = ledger
-        self.waiting: OrderedDict[Identity, tuple[int, dict[int, tuple[bytes, bool]]]] = OrderedDict()
+        self.waiting: OrderedDict[Identity, tuple[int, Parts]] = OrderedDict()
 
     def add(self, frame: Frame, identity: Identity, place: int, octets: bytes, last: bool) -> bytes | None:
         """The whole datagram's octets once this fragment completes it, else None."""
         _, parts = self.waiting.setdefault(identity, (frame.number, {}))
-        parts[place] = (octets, last)
-        whole = bytearray()
-        for begin, (part, ends) in sorted(parts.items()):
-            if begin > len(whole) or begin + len(part) > self.LARGEST:
-                break
-            whole[begin:] = part
-            if ends:
-                del self.waiting[identity]
-                return bytes(whole)
+        parts.setdefault(place, (octets, last))
+        size = self.size(parts)
+        if size is not None:
+            del self.waiting[identity]
+            return joined(parts, size)
         if len(self.waiting) > self.MOST:
             self.give_up_oldest()
+        return None
+
+    def size(self, parts: Parts) -> int | None:
+        """The size of a datagram whose parts are all there; None where one is missing."""
+        size = 0
+        for begin, (part, ends) in sorted(parts.items()):
+            if begin > size or begin + len(part) > self.LARGEST:
+                return None
+            size = max(size, begin + len(part))
+            if ends:
+                return begin + len(part)
         return None
 
     def give_up_oldest(self) -> None:

@@ -15,15 +15,13 @@ import enum
 from collections.abc import Sequence
 from dataclasses import dataclass, field
 
-from x25tools_lib.choices import SideBy
 from x25tools_lib.ledger import Ledger, Reason, Topic
 from x25tools_lib.sides import Side
 
-from .frames import Direction, Frame
+from .frames import Frame
+from .link_ends import COMMAND_SIDES, RESPONSE_SIDES, Ends
 from .packets import Item, Missing, Packet, left_out
 
-COMMAND_SIDES = {0x01: Side.T, 0x03: Side.N}
-RESPONSE_SIDES = {0x03: Side.T, 0x01: Side.N}
 POLL = 0x10
 REJECT = 0x09
 SUPERVISORY = (0x01, 0x05, REJECT)
@@ -108,6 +106,8 @@ class Held:
     time: int | None
     # The number of gaps of the link written before it.
     gaps: int
+    # Whether its receiver had asked for another frame before.
+    is_after_reject: bool = False
 
 
 @dataclass(slots=True)
@@ -122,6 +122,8 @@ class Way:
     is_missed: bool = False
     # Whether the place of the held frames is uncertain.
     is_doubtful: bool = False
+    # Whether the receiver rejected the frames from the next one on, which has not come since.
+    is_rejected: bool = False
     # The last frame of each number, and whether all since the set-up of the link were recorded.
     sent: dict[int, Held] = field(default_factory=dict)
     is_set_up: bool = False
@@ -144,39 +146,21 @@ class Way:
 class Lapb:
     """One link."""
 
-    def __init__(self, ledger: Ledger, modulus: int | None, side_by: SideBy, swapped: bool) -> None:
-        self.ledger = ledger
+    def __init__(self, ledger: Ledger, modulus: int | None, ends: Ends) -> None:
+        self.ledger, self.ends, self.named = ledger, ends, ends.named
         self.modulus = self.given = modulus
         self.circle = modulus or 8
-        self.side_by = side_by
-        # Which side the recording host is: by the options, or by the addresses of frames with a direction.
-        by_direction = side_by is SideBy.DIRECTION
-        self.host = Side.N if swapped and by_direction else Side.T
-        self.swapped = swapped and not by_direction
-        self.host_known = by_direction
-        self.contradictions = 0
         self.gaps = 0
         self.ways = {side: Way() for side in Side}
 
-    def directed(self, direction: Direction) -> Side | None:
-        """The side that sent a frame of a direction, or None where the direction or the host's side is not known."""
-        if direction is Direction.UNKNOWN or not self.host_known:
-            return None
-        return self.host if direction is Direction.SENT else self.host.other
-
-    def side(self, table: dict[int, Side], address: int, direction: Direction) -> Side:
-        """The side of a frame that is known for a command or a response."""
-        by_address, by_direction = table[address], self.directed(direction)
-        self.contradictions += by_direction not in (None, by_address)
-        if self.side_by is SideBy.DIRECTION:
-            return by_direction or by_address
-        if direction is not Direction.UNKNOWN:
-            self.host = by_address if direction is Direction.SENT else by_address.other
-            self.host_known = True
-        return by_address
-
-    def named(self, side: Side) -> Side:
-        return side.other if self.swapped else side
+    def side(self, frame: Frame, address: int, is_command: bool) -> Side:
+        """The side of a frame that is surely a command, or surely a response."""
+        side, is_news = self.ends.sender(frame, address, is_command)
+        if is_news:
+            # An RR of this end, recorded before, may have been taken for one of the other end.
+            self.ways[side] = Way(is_set_up=self.ways[side].is_set_up)
+            self.ways[side].next = self.ways[side].acknowledged = 0 if self.ways[side].is_set_up else None
+        return side
 
     def take(self, frame: Frame, octets: bytes, cut: bool) -> Sequence[Item]:
         """The packets that a frame (address, control, information) completes, and the gaps between them."""
@@ -197,7 +181,7 @@ class Lapb:
             final = octets[2] & 1 if wide else control & POLL
             return self.supervisory(frame, octets, receive, final)
         send = control >> 1 if wide else control >> 1 & 7
-        side = self.side(COMMAND_SIDES, octets[0], frame.direction)
+        side = self.side(frame, octets[0], True)
         before: Sequence[Item] = ()
         if receive != self.ways[side.other].acknowledged:
             before = self.acknowledge(frame, side.other, receive, True)
@@ -212,7 +196,7 @@ class Lapb:
         """
         if kind not in NAMES:
             return ()
-        side = self.side(COMMAND_SIDES if kind in COMMANDS else RESPONSE_SIDES, address, frame.direction)
+        side = self.side(frame, address, kind in COMMANDS)
         self.ways[side].is_seen = True
         self.ledger.report(Topic.LINK_FRAME, f"frame {frame.number}: {NAMES[kind]} of {self.named(side).name}")
         if kind in (Unnumbered.SABM, Unnumbered.SABME) and self.given is None:
@@ -229,7 +213,7 @@ class Lapb:
 
     def supervisory(self, frame: Frame, octets: bytes, receive: int, final: int) -> Sequence[Item]:
         """Reads an RR, RNR or REJ. Where it may be a command or a response, it proves no loss."""
-        side = self.directed(frame.direction)
+        side = self.ends.known(frame)
         proves = side is not None
         if side is None:
             if final:
@@ -244,6 +228,7 @@ class Lapb:
         if octets[1] & 0x0F == REJECT and way.next == receive:
             # The receiver refused all held frames; they will be repeated.
             self.drop_held(way)
+            way.is_rejected = True
         return self.acknowledge(frame, side.other, receive, proves)
 
     def acknowledge(self, frame: Frame, side: Side, receive: int, proves: bool) -> Sequence[Item]:
@@ -306,6 +291,7 @@ class Lapb:
         """Reads an I frame: the next one, a repetition, or one to hold."""
         way, packets = self.ways[side], tuple[Item, ...]()
         way.is_seen = True
+        self.drop_refused(way, send, packet)
         if way.next not in (None, send):
             is_held = send in way.held
             if is_held or self.repeats(way, send):
@@ -362,6 +348,24 @@ class Lapb:
         way = self.ways[self.named(side)]
         return way.is_missed or not way.is_seen
 
+    def drop_refused(self, way: Way, send: int, packet: Held) -> None:
+        """Removes held frames that their receiver refused, as a frame shows that comes.
+
+        A held frame was refused where its number comes again with its packet. Those that came after a reject were refused
+        where the frame that the reject asks for comes.
+        """
+        if send in way.held and way.is_same(send, packet):
+            del way.held[send]
+            self.ledger.left_out(Reason.UNTAKEN_FRAME)
+        if way.is_rejected and way.next == send:
+            refused = [number for number, held in way.held.items() if held.is_after_reject]
+            self.ledger.left_out(Reason.UNTAKEN_FRAME, len(refused))
+            for number in refused:
+                del way.held[number]
+        packet.is_after_reject = way.is_rejected and way.next != send
+        way.is_rejected &= way.next != send
+        way.is_doubtful &= bool(way.held)
+
     def drop_held(self, way: Way) -> None:
         if way.held:
             self.ledger.left_out(Reason.UNTAKEN_FRAME, len(way.held))
@@ -380,6 +384,4 @@ class Lapb:
     def end(self) -> None:
         for way in self.ways.values():
             self.drop_held(way)
-        if self.contradictions:
-            words = "LAPB frames whose direction and address octet contradict each other"
-            self.ledger.report(Topic.DIRECTION, f"{words}: {self.contradictions}")
+        self.ends.end()

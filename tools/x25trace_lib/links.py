@@ -39,6 +39,8 @@ MPLS = frozenset((0x8847, 0x8848))
 PPP_MPLS = frozenset((0x0281, 0x0283))
 PPP_PROTOCOLS = {0x0021: Carried.IP, 0x0057: Carried.IP}
 IPV4 = (Carried.IP, 14)
+# A cooked header has room for eight octets of an address.
+LONGEST_ADDRESS = 8
 # The most tunnels in tunnels: no network nests more.
 DEEPEST = 8
 
@@ -205,6 +207,20 @@ LINKS: dict[int | str | None, Opener] = {
 
 # Link types for private use: DLT_USER0 to DLT_USER15.
 USER_LINKS = range(147, 163)
+
+# Where the source address is in a link header: of Ethernet, and after its length in a cooked header.
+COOKED_SOURCES = {cooked_1: (5, 6), cooked_2: (11, 12)}
+
+
+def source_of(opener: Opener, octets: bytes) -> bytes:
+    """The source address of a link header; none where it has none."""
+    if opener is ethernet:
+        return octets[6:12]
+    if opener not in COOKED_SOURCES:
+        return b""
+    length_at, begin = COOKED_SOURCES[opener]
+    return octets[begin:begin + min(octets[length_at], LONGEST_ADDRESS)]
+
 
 # What reads the frames of each kind, in the order of the kinds.
 OPENERS: dict[str, Opener] = dict(

@@ -6,15 +6,16 @@ from typing import TextIO
 
 from x25tools_lib.choices import Carrier
 from x25tools_lib.header import Wishes
-from x25tools_lib.ledger import Ledger, Reason
+from x25tools_lib.ledger import Ledger, Reason, Topic
 from x25tools_lib.notes import comment, time_text
 from x25tools_lib.sides import Side
 
+from .beginning import Beginning
 from .channels import Channels
 from .estimate import Estimator, header_of
 from .halves import halves_of
 from .frames import Dropped, Frame
-from .packets import LONGEST, Missing, Packet, Type, channel_of, without
+from .packets import Missing, Packet, Type, channel_of
 from .reading import Reading
 from .spool import LAST_NUMBER, Rows, gap_words, on_channel
 from .trace import LARGEST_TEXT
@@ -30,6 +31,7 @@ class Live:
         self.header = header_of(wishes, Estimator(), 0, 0, False, True)
         self.channels = Channels(self.header)
         self.rows = Rows(True, has_comments)
+        self.beginning = Beginning()
         self.carrier: Carrier | None = None
         self.out: TextIO | None = None
         self.waiting: list[str | tuple[Carrier | None, Missing]] = []
@@ -45,16 +47,13 @@ class Live:
             if isinstance(packet, Missing):
                 self.miss(carrier, packet)
                 continue
-            if len(packet.octets) > LONGEST:
-                words = f"frame {packet.frame}: a packet of {len(packet.octets)} octets"
-                self.ledger.damaged(Reason.LONG_PACKET, words)
-                self.miss(carrier, without(packet))
-                continue
             if self.carrier is None:
                 self.begin(carrier, packet, out, start)
             if carrier is not self.carrier:
                 self.ledger.left_out(Reason.SECOND_CARRIER)
             else:
+                if packet.circuit is None and self.beginning.is_open:
+                    self.see_beginning(carrier, packet)
                 self.write_row(packet)
         if self.carrier is None:
             raise self.reading.no_packet()
@@ -63,6 +62,13 @@ class Live:
             self.put(comment(half.text))
         for words in self.ledger.lines():
             self.put(comment(words))
+
+    def see_beginning(self, carrier: Carrier | None, packet: Packet) -> None:
+        """Reads one of the first packets of a line: a gap row is before one that shows that a restart was not whole."""
+        words = self.beginning.see(packet)
+        if words and self.wishes.join is None:
+            self.ledger.report(Topic.BEGINNING, words)
+            self.write_gap(carrier, Missing(packet.frame, packet.time))
 
     def begin(self, carrier: Carrier | None, packet: Packet, out: TextIO, start: str) -> None:
         """Writes the header, after a comment. On a line a restart shows the beginning, with XOT each connection does."""
@@ -101,6 +107,8 @@ class Live:
         """Writes a gap row, or keeps it until there is a packet; options decide about a gap before the beginning."""
         if missing.is_beginning and self.wishes.join is not None:
             return
+        if missing.circuit is missing.channel is None:
+            self.beginning.miss()
         if self.out is None:
             self.waiting.append((carrier, missing))
         else:
@@ -134,8 +142,6 @@ class Live:
         self.sides.add(side)
         words = f"{packet.side.letter} {packet.octets.hex().upper() or '-'}\n"
         if circuit is not None:
-            if not circuit.both and side is not circuit.side:
-                circuit.see(side)
             self.begin_circuit(circuit)
             circuit.rows += 1
             if circuit.channel is None:

@@ -12,7 +12,7 @@ from x25tools_lib.ledger import Ledger, Reason
 from x25tools_lib.notes import SECOND
 from x25tools_lib.refusals import Refusal, Why
 
-from .frames import KINDS_OF_PACKET, Direction, Dropped, Frame
+from .frames import KINDS_OF_PACKET, Direction, Dropped, Frame, without_check
 from .source import Source
 
 FILE_HEADER = 24
@@ -91,8 +91,7 @@ class Pcap:
             length = max(length, kept)
             self.recorded = octets, length
             if self.check:
-                length -= self.check
-                octets = octets[:length]
+                octets, length = without_check(octets, length, self.check)
             direction = Direction.UNKNOWN
             if size > KIND_AT:
                 direction = KINDS_OF_PACKET.get(header[KIND_AT], direction)

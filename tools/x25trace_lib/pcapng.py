@@ -10,7 +10,7 @@ from x25tools_lib.ledger import Ledger, Reason
 from x25tools_lib.notes import SECOND
 from x25tools_lib.refusals import Refusal, Why
 
-from .frames import Direction, Dropped, Frame
+from .frames import Direction, Dropped, Frame, without_check
 from .source import Source
 
 MAGIC = b"\x0a\x0d\x0d\x0a"
@@ -248,8 +248,7 @@ class Pcapng:
         interface = self.interfaces[which]
         length = max(length, kept)
         if interface.check:
-            length -= interface.check
-            octets = octets[:length]
+            octets, length = without_check(octets, length, interface.check)
         direction = self.direction(body, at + kept + -kept % 4)
         time = interface.time(*stamp) if stamp else None
         return Frame(self.number, interface.link, octets, length, direction, self.first_interface + which, time)

@@ -11,8 +11,9 @@ from x25tools_lib.sides import Side
 from .frames import Direction, Dropped, Frame
 from .internet import Internet
 from .lapb import Lapb, kind_of, unframe
-from .links import LINKS, OPENERS, USER_LINKS, Carried, Found, Opener
-from .packets import Item, Missing, Packet, left_out
+from .link_ends import Ends
+from .links import LINKS, OPENERS, USER_LINKS, Carried, Found, Opener, source_of
+from .packets import LONGEST, Item, Missing, Packet, left_out, without
 from .xot import Xot
 
 CARRIERS = {
@@ -31,7 +32,7 @@ class Reading:
         self.ledger, self.choices = ledger, choices
         self.internet = Internet(ledger, choices.ports)
         self.xot = Xot(ledger, choices.ports, choices.dte, choices.swapped)
-        self.lapb = Lapb(ledger, choices.link_modulus, choices.side_by, choices.swapped)
+        self.lapb = Lapb(ledger, choices.link_modulus, Ends(ledger, choices.side_by, choices.swapped, choices.stations))
         self.frames = 0
         # Whether frames may be missing before the next one; only sequence numbers in them would show it.
         self.is_damaged = False
@@ -69,15 +70,28 @@ class Reading:
                 segment = segment_of(frame, at)
                 packets = take(segment) if segment else ()
             elif carrier is Carrier.LAPB:
+                frame.source = source_of(opener, frame.octets)
                 packets = self.from_link(frame, carried, at)
             else:
                 packets = self.from_packet(frame, carried, at)
-            for packet in packets:
+            for packet in self.short_enough(packets):
                 yield carrier, packet
         self.internet.end()
-        for packet in self.xot.end():
-            yield Carrier.XOT, packet
+        for packets in self.xot.end():
+            for packet in self.short_enough(packets):
+                yield Carrier.XOT, packet
         self.lapb.end()
+
+    def short_enough(self, packets: Iterable[Item]) -> list[Item]:
+        """What a frame gives, once it has reported all; a packet that is too long becomes a gap."""
+        return [
+            packet if isinstance(packet, Missing) or len(packet.octets) <= LONGEST else self.too_long(packet)
+            for packet in packets
+        ]
+
+    def too_long(self, packet: Packet) -> Missing:
+        self.ledger.damaged(Reason.LONG_PACKET, f"frame {packet.frame}: a packet of {len(packet.octets)} octets")
+        return without(packet)
 
     def dropped(self, dropped: Dropped) -> Missing:
         """The gap where frames were dropped."""

@@ -8,11 +8,13 @@ What moves, in one direction of a connection:
 A segment waits while octets before it are missing, and also while it acknowledges octets of the other direction that
 were not delivered yet: its sender had them, so what it sends may answer them. Missing octets are given up once the
 other side has acknowledged them and more segments wait than a recorder puts out of order.
+
+Of an octet that several segments have, the copy that was recorded first counts: held segments do not overlap.
 """
 from __future__ import annotations
 
 import bisect
-from dataclasses import dataclass
+from dataclasses import dataclass, replace
 
 from x25tools_lib.ledger import Ledger, Reason
 
@@ -83,9 +85,40 @@ class Stream:
         assert self.next is not None
         return self.next
 
+    def place(self, segment: Segment) -> int:
+        """How far a segment's first octet is ahead of those delivered."""
+        return ahead(segment.sequence, self.following)
+
     def hold(self, segment: Segment) -> None:
         """Keeps a segment in the order of the sequence numbers."""
-        bisect.insort(self.held, segment, key=lambda other: ahead(other.sequence, self.following))
+        bisect.insort(self.held, segment, key=self.place)
+
+    def parts(self, segment: Segment) -> list[Segment]:
+        """The parts of a segment that no held one has, in their order; a FIN goes with the last part."""
+        begin, first, parts = self.place(segment), self.place(segment), list[Segment]()
+        end = begin + len(segment.payload) + segment.missing
+        at = bisect.bisect_right(self.held, begin, key=self.place)
+        for held in self.held[max(at - 1, 0):]:
+            held_begin = self.place(held)
+            if held_begin >= end:
+                break
+            if held_begin > begin:
+                parts.append(part_of(segment, begin - first, held_begin - first))
+            begin = max(begin, held_begin + len(held.payload) + held.missing)
+        if begin < end or segment.flags & FIN and not self.has_end(end):
+            parts.append(part_of(segment, min(begin, end) - first, end - first, segment.flags))
+        return parts
+
+    def has_end(self, end: int) -> bool:
+        """Whether a held segment has the FIN at a place."""
+        return any(held.flags & FIN and self.place(held) + len(held.payload) + held.missing == end for held in self.held)
+
+
+def part_of(segment: Segment, begin: int, end: int, flags: int = 0) -> Segment:
+    """The part of a segment between two of its octets; those that were cut off are at the end."""
+    payload = segment.payload[begin:end]
+    sequence = (segment.sequence + begin) % CIRCLE
+    return replace(segment, sequence=sequence, payload=payload, missing=end - begin - len(payload), flags=flags)
 
 
 class Budget:
@@ -114,6 +147,10 @@ class Connection:
         if segment.acknowledged is not None and self.streams[1 - index].next is None:
             self.streams[1 - index].next = segment.acknowledged
         segment.sequence = (segment.sequence + 1) % CIRCLE
+
+    def is_late(self, index: int) -> bool:
+        """Whether the opening segment of an end was not recorded before what acknowledges it."""
+        return self.streams[index].first is None and self.streams[index].next is not None
 
     def was_seen(self, index: int) -> bool:
         """Whether a segment of an end was recorded: one that opened its direction, or acknowledged the other direction."""
@@ -166,7 +203,9 @@ class Connection:
         if segment.acknowledged is None:
             return
         stream = self.streams[index]
-        if stream.next is None and stream.acknowledged is not None:
+        if stream.next is None and self.opens(1 - index, segment):
+            stream.next = segment.acknowledged
+        elif stream.next is None and stream.acknowledged is not None:
             many = ahead(segment.acknowledged, stream.acknowledged)
             # A FIN takes a sequence number, which the other side may acknowledge after its own FIN.
             if many > self.leaving[1 - index]:
@@ -175,15 +214,24 @@ class Connection:
             self.miss_opening(index, segment, events)
         stream.acknowledged = segment.acknowledged
 
+    def opens(self, index: int, segment: Segment) -> bool:
+        """Whether a segment is the first of the opener after its SYN: the other end has sent no octet that it acknowledges."""
+        first = self.streams[index].first
+        return index == 0 and first is not None and segment.sequence == (first + 1) % CIRCLE
+
     def miss_opening(self, index: int, segment: Segment, events: list[Event]) -> None:
         """Adds the gap of a direction whose opening is missing while the other side's was recorded; octets may be missing too."""
         if self.streams[1 - index].first is not None:
             events.append(Gap(index, segment.frame, 0, UNSAID, segment.time))
 
     def keep(self, stream: Stream, segment: Segment) -> None:
-        """Holds a segment until it can be delivered."""
-        stream.hold(segment)
-        self.charge(len(segment.payload) + SEGMENT_COST)
+        """Holds what a segment has and no held one, until it can be delivered."""
+        parts = stream.parts(segment)
+        if not parts:
+            self.ledger.left_out(Reason.REPEATED_OCTETS)
+        for part in parts:
+            stream.hold(part)
+            self.charge(len(part.payload) + SEGMENT_COST)
 
     def take_back(self, stream: Stream) -> Segment:
         """Removes and returns the first segment that waits."""
@@ -246,8 +294,9 @@ class Connection:
 
     def judge(self, events: list[Event]) -> None:
         """Gives up octets that will not come, while segments wait for them."""
-        # Both ends sent FIN and had acknowledged all octets.
+        # Both ends sent FIN and had acknowledged all octets; or one did, and nothing of the other one was recorded.
         ended = all(self.leaving) and self.acknowledged_all()
+        ended |= any(self.leaving[index] and not self.was_seen(1 - index) for index in (0, 1))
         while self.cost and (ended or self.is_overdue()):
             self.lose(events)
 
@@ -288,7 +337,8 @@ class Connection:
         index, many, head = self.missing()
         stream = self.streams[index]
         if many > 0:
-            events.append(Gap(index, head.frame, many, NOT_RECORDED, head.time))
+            how = UNSAID if index == 1 and not self.was_seen(1) else NOT_RECORDED
+            events.append(Gap(index, head.frame, many, how, head.time))
             stream.next = (stream.following + many) % CIRCLE
         else:
             # Each direction acknowledges what comes next in the other one.

@@ -11,18 +11,19 @@ from typing import IO
 from x25tools_lib import notes
 from x25tools_lib.choices import Carrier
 from x25tools_lib.header import LAST_CHANNEL, Header, Wishes
-from x25tools_lib.ledger import Ledger, Reason
+from x25tools_lib.ledger import Ledger, Reason, Topic
 from x25tools_lib.notes import Head, comment
 from x25tools_lib.refusals import Refusal, Why
 from x25tools_lib.sides import Side
 from x25tools_lib.streams import CHUNK
 
+from .beginning import Beginning
 from .channels import assign
 from .estimate import Estimator, estimates, header_of, seen_of
 from .evidence import Evidence, largest, ranked_first
 from .frames import Dropped, Frame
 from .halves import halves_of
-from .packets import LONGEST, Missing, channel_of, without
+from .packets import Missing, Packet, channel_of
 from .ranking import MOST_ROWS, NO_SCANNER, Ranker
 from .reading import Reading
 from .spool import Spool
@@ -38,7 +39,7 @@ class Trace:
     ) -> None:
         self.ledger, self.reading, self.wishes, self.ranker = ledger, reading, wishes, ranker
         self.spool = Spool(has_comments)
-        self.estimator = Estimator()
+        self.estimator, self.beginning = Estimator(), Beginning()
         reading.xot.on_end = self.estimator.forget
         self.carriers: Counter[Carrier] = Counter()
         self.sides: set[Side] = set()
@@ -46,27 +47,22 @@ class Trace:
 
     def gather(self, frames: Iterable[Frame | Dropped]) -> None:
         """Reads all packets of the frames, and the gaps between them."""
-        see, add, carriers, sides = self.estimator.see, self.spool.add, self.carriers, self.sides
+        see, add, carriers, sides, beginning = self.estimator.see, self.spool.add, self.carriers, self.sides, self.beginning
         for carrier, packet in self.reading.packets(frames):
             if isinstance(packet, Missing):
                 self.miss(packet)
                 continue
             octets, circuit = packet.octets, packet.circuit
-            if len(octets) > LONGEST:
-                words = f"frame {packet.frame}: a packet of {len(octets)} octets"
-                self.ledger.damaged(Reason.LONG_PACKET, words)
-                self.miss(without(packet))
-                continue
             if carrier is not None:
                 carriers[carrier] += 1
             if circuit is None:
+                if beginning.is_open:
+                    self.begin(packet)
                 sides.add(packet.side)
                 key = channel_of(octets) if len(octets) >= 2 else 0
                 see(key, False, packet.side, octets, True)
                 add(packet, 0)
                 continue
-            if not circuit.both and packet.side is not circuit.side:
-                circuit.see(packet.side)
             see(circuit.number, circuit.from_opening, packet.side, octets, False)
             add(packet, circuit.number)
             circuit.rows += 1
@@ -74,8 +70,16 @@ class Trace:
             if circuit.rows == 1:
                 circuit.first_row = circuit.last_row
 
+    def begin(self, packet: Packet) -> None:
+        """Reads one of the first packets of a line."""
+        words = self.beginning.see(packet)
+        if words and self.wishes.join is None:
+            self.ledger.report(Topic.BEGINNING, words)
+
     def miss(self, missing: Missing) -> None:
         """Adds a gap; options decide about a gap before the beginning."""
+        if missing.circuit is missing.channel is None:
+            self.beginning.miss()
         if not missing.is_beginning or self.wishes.join is None:
             self.estimator.miss(missing)
             self.spool.add_gap(missing)
@@ -89,8 +93,7 @@ class Trace:
             raise Refusal(Why.MIXED, f"{words}; a trace is of one interface: --only says which")
         has_gaps = self.spool.gaps > 0
         if Carrier.XOT not in self.carriers:
-            estimator = self.estimator
-            join = not estimator.first_is_restart
+            estimator, join = self.estimator, self.beginning.is_joined
             return header_of(self.wishes, estimator, estimator.permanent, estimator.highest, join, has_gaps)
         used = [circuit for circuit in self.reading.xot.circuits if circuit.rows]
         permanent = sum(circuit.permanent for circuit in used)

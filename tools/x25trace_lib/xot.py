@@ -1,7 +1,6 @@
 """XOT: packets of X.25 in TCP connections, one connection a circuit."""
 from __future__ import annotations
 
-import heapq
 import struct
 from collections import deque
 from collections.abc import Callable, Iterable, Iterator
@@ -13,7 +12,7 @@ from x25tools_lib.sides import Side
 
 from .internet import RST, SYN, Segment, port_of
 from .packets import LONGEST, Item, Missing, Packet, Type, address_text, channel_of, modulus_of
-from .tcp import Budget, Chunk, Connection, Event, Gap, ahead
+from .tcp import CIRCLE, Budget, Chunk, Connection, Event, Gap, ahead
 
 HEAD = struct.Struct(">HH")
 PVC_SETUP = 0xF5
@@ -33,8 +32,9 @@ class Circuit:
     from_opening: bool
     permanent: bool = False
     modulus: int | None = None
-    line_channel: int | None = None
-    last_line_channel: int | None = None
+    # The first and the last logical channel of the packets from each end: each end may have one of its own.
+    line_channels: list[int | None] = field(default_factory=lambda: [None, None])
+    last_channels: list[int | None] = field(default_factory=lambda: [None, None])
     caller: Side | None = None
     called: bool = False
     cleared_by: Side | None = None
@@ -69,8 +69,15 @@ class Circuit:
     def shown_words(self) -> str:
         """The comment before its first row."""
         again = ", which another one had before" if self.again else ""
-        line = "" if self.line_channel is None else f", logical channel {self.line_channel} in the capture"
-        return circuit_text(self.number, self.channel, f"{again}: {self.who()}{line}")
+        return circuit_text(self.number, self.channel, f"{again}: {self.who()}{self.line_words()}")
+
+    def line_words(self) -> str:
+        """Its logical channels in the capture."""
+        known = {side.title: channel for side, channel in zip(self.sides, self.line_channels) if channel is not None}
+        if len(set(known.values())) < 2:
+            return "".join(f", logical channel {channel} in the capture" for channel in set(known.values()))
+        channels = " and ".join(f"{channel} of the {title}" for title, channel in known.items())
+        return f", logical channels {channels} in the capture"
 
     @property
     def is_free(self) -> bool:
@@ -124,8 +131,8 @@ class Circuit:
             self.confirmed = True
 
 
-def begins(octets: bytes, circuit: Circuit) -> bool | None:
-    """Whether a segment begins with an XOT header and a packet of a circuit; None where more octets are needed."""
+def begins(octets: bytes, circuit: Circuit, index: int) -> bool | None:
+    """Whether a segment from an end begins with an XOT header and a packet of a circuit; None where more octets are needed."""
     if not b"\0\0".startswith(octets[:2]):
         return False
     if len(octets) < HEAD.size + 3:
@@ -133,7 +140,8 @@ def begins(octets: bytes, circuit: Circuit) -> bool | None:
     packet = octets[HEAD.size:]
     if modulus_of(packet) is None or circuit.modulus not in (None, modulus_of(packet)):
         return False
-    if circuit.line_channel is not None and channel_of(packet) not in (circuit.line_channel, circuit.last_line_channel):
+    first, last = circuit.line_channels[index], circuit.last_channels[index]
+    if first is not None and channel_of(packet) not in (first, last):
         return False
     at = 0
     while len(octets) - at >= HEAD.size:
@@ -182,6 +190,9 @@ class Xot:
                 return ()
             entry = self.open(segment, False)
         connection, index, circuit = entry
+        if segment.flags & SYN and connection.is_late(index):
+            words = "its opening segment was recorded after the answer to it, so the clocks of two recorders differ"
+            self.ledger.report(Topic.ORDER, f"frame {segment.frame}: connection {circuit.number}: {words}")
         if not circuit.left and connection.takes(index, segment):
             return self.packets(circuit, Chunk(index, segment.frame, segment.payload, segment.time))
         return self.feed(connection, index, circuit, segment)
@@ -194,10 +205,12 @@ class Xot:
 
     def goes_on(self, connection: Connection, index: int, segment: Segment) -> bool:
         """Whether an opening segment belongs to a known connection: its second one, or a repeated one."""
-        first = connection.streams[index].first
-        if first is not None:
-            return first == segment.sequence
-        return segment.acknowledged is not None and not connection.over
+        stream = connection.streams[index]
+        if stream.first is not None:
+            return stream.first == segment.sequence
+        # A SYN may be recorded after its answer.
+        is_first = segment.acknowledged is None and stream.next == (segment.sequence + 1) % CIRCLE
+        return (segment.acknowledged is not None or is_first) and not connection.over
 
     def open(self, segment: Segment, syn: bool) -> Entry:
         """Begins a connection; its opener is the sender of the first SYN, else the end without an XOT port."""
@@ -267,8 +280,7 @@ class Xot:
         circuit.has_gaps = True
         circuit.lacks[gap.index] |= gap.octets > 0
         circuit.miss(gap.frame, gap.time)
-        # An unknown number of octets, 0 here, is damage too.
-        self.ledger.counts[Reason.LOST_OCTETS] += gap.octets
+        self.ledger.miss(Reason.LOST_OCTETS, gap.octets)
         self.ledger.left_out(Reason.PASSED_OCTETS, len(rest))
         if gap.how:
             words = f"frame {gap.frame}: connection {circuit.number}: {gap.octets} octets"
@@ -309,14 +321,11 @@ class Xot:
                 words = f"connection {circuit.number} ends after {len(rest)} octets of a packet of {side}"
                 self.ledger.damaged(Reason.CUT_XOT, words)
 
-    def end(self) -> Iterable[Item]:
-        """The packets that waited when the recording ended, as their frames come."""
-        left = [
-            self.close(connection, circuit)
-            for connection, index, circuit in self.table.values()
-            if index == 0 and not circuit.ended
-        ]
-        return heapq.merge(*left, key=lambda packet: packet.frame)
+    def end(self) -> Iterator[Iterable[Item]]:
+        """The packets that waited when the recording ended, of one connection after the other, in their order."""
+        left = [entry for entry in self.table.values() if entry[1] == 0 and not entry[2].ended]
+        for connection, _, circuit in sorted(left, key=lambda entry: entry[2].number):
+            yield self.close(connection, circuit)
 
     def packets(self, circuit: Circuit, chunk: Chunk) -> list[Item]:
         """The packets that end in a chunk, and the gap before them."""
@@ -347,13 +356,13 @@ class Xot:
 
     def found(self, circuit: Circuit, chunk: Chunk, octets: bytes) -> bytes:
         """The octets from a segment on that begins with a packet, or none. A segment that is too short to decide is kept."""
-        found = begins(octets, circuit)
+        found = begins(octets, circuit, chunk.index)
         if found is False and octets is not chunk.octets:
             self.ledger.left_out(Reason.PASSED_OCTETS, len(octets) - len(chunk.octets))
             circuit.miss(chunk.frame, chunk.time)
             circuit.rests[chunk.index] = b""
             octets = chunk.octets
-            found = begins(octets, circuit)
+            found = begins(octets, circuit, chunk.index)
         if found is None:
             circuit.rests[chunk.index] = octets
         elif found:
@@ -383,14 +392,16 @@ class Xot:
         if len(octets) >= 3:
             kind, line_channel = octets[2], (octets[0] & 15) << 8 | octets[1]
             flows = not kind & 1 or kind & 0x1F == Type.READY
-            known = flows and line_channel == circuit.last_line_channel and not circuit.confirmed
-            if not known and not self.follow(circuit, chunk.frame, side, octets):
+            known = flows and line_channel == circuit.last_channels[chunk.index] and not circuit.confirmed
+            if not known and not self.follow(circuit, chunk, octets):
                 return None
+        if side is not circuit.side and not circuit.both:
+            circuit.see(side)
         return Packet(chunk.frame, side, octets, circuit, chunk.time)
 
-    def follow(self, circuit: Circuit, frame: int, side: Side, octets: bytes) -> bool:
+    def follow(self, circuit: Circuit, chunk: Chunk, octets: bytes) -> bool:
         """Follows the circuit by a packet that is not data or RR on its last channel; returns whether it is one of the circuit."""
-        kind, line_channel = octets[2], channel_of(octets)
+        kind, line_channel, frame, side = octets[2], channel_of(octets), chunk.frame, circuit.sides[chunk.index]
         if kind == PVC_SETUP and not circuit.called:
             self.set_up(circuit, frame, side)
             return False
@@ -400,8 +411,8 @@ class Xot:
             return False
         if circuit.confirmed or kind in CALL_TYPES:
             circuit.step(side, kind, len(octets))
-        if circuit.last_line_channel != line_channel:
-            self.other_channel(circuit, frame, line_channel)
+        if circuit.last_channels[chunk.index] != line_channel:
+            self.other_channel(circuit, chunk, line_channel)
         if circuit.modulus is None:
             circuit.modulus = modulus_of(octets)
         return True
@@ -413,11 +424,12 @@ class Xot:
         words = f"{side.name} sets up a permanent circuit"
         self.ledger.report(Topic.PVC_SETUP, f"frame {frame}: connection {circuit.number}: {words}")
 
-    def other_channel(self, circuit: Circuit, frame: int, line_channel: int) -> None:
-        """Reads a logical channel that differs from that of the previous packet."""
-        if circuit.line_channel is None:
-            circuit.line_channel = line_channel
+    def other_channel(self, circuit: Circuit, chunk: Chunk, line_channel: int) -> None:
+        """Reads a logical channel that differs from that of the previous packet of its side."""
+        index, before = chunk.index, circuit.last_channels[chunk.index]
+        if before is None:
+            circuit.line_channels[index] = line_channel
         else:
-            words = f"logical channel {line_channel} after {circuit.last_line_channel}; a connection has one circuit"
-            self.ledger.report(Topic.CHANNEL, f"frame {frame}: connection {circuit.number}: {words}")
-        circuit.last_line_channel = line_channel
+            words = f"logical channel {line_channel} after {before}; a connection has one circuit"
+            self.ledger.report(Topic.CHANNEL, f"frame {chunk.frame}: connection {circuit.number}: {words}")
+        circuit.last_channels[index] = line_channel
