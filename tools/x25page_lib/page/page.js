@@ -72,6 +72,7 @@ function drawAll() {
   if (place("lanes")) drawStrip();
   drawLadder();
   drawCharts();
+  findingTable.table?.draw();
 }
 
 // A page that is printed is drawn for the width of the paper.

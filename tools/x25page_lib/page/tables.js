@@ -57,8 +57,9 @@ class Table {
   }
 
   draw() {
-    this.body.replaceChildren(...this.lines.slice(0, this.shown).map((line) => this.line(line)));
-    const rest = this.lines.length - this.shown;
+    const shown = printing.width ? Math.max(this.shown, AT_ONCE) : this.shown;
+    this.body.replaceChildren(...this.lines.slice(0, shown).map((line) => this.line(line)));
+    const rest = this.lines.length - shown;
     const act = () => { this.shown += 4 * AT_ONCE; this.draw(); };
     this.more.replaceChildren(...(rest > 0
       ? [make("button", { type: "button", click: act }, `${count(Math.min(rest, 4 * AT_ONCE))} more of ${count(rest)}`),
@@ -174,6 +175,9 @@ function showCalls() {
   update();
 }
 
+// The table of findings, which has more lines on paper.
+const findingTable = { table: null };
+
 // The packet of a finding: its kind, the state in which it came, and its values.
 function foundPacketText([, , , , , , values, , kindAt, stateAt]) {
   const state = facts.states[stateAt];
@@ -198,7 +202,7 @@ function showFindings() {
     columns.push({ name: "May follow from", style: "number", value: (it) => it[7],
       show: (it) => (it[7] === null ? "-" : make("a", { href: `#packets/${it[7]}` }, shortName(it[7]))) });
   }
-  const table = new Table("finding-table", columns, facts.marks, { link: (it) => `${it[4]}/${it[0]}`, atOnce: FEW });
+  const table = findingTable.table = new Table("finding-table", columns, facts.marks, { link: (it) => `${it[4]}/${it[0]}`, atOnce: FEW });
   place("findings").append(make("h2", {}, "Findings"), make("div", { class: "card flush" }, table.element),
     leftOut(facts.left_out.marks, "finding", "x25scan prints all of them.") ?? "");
   showFoundChannels();
