@@ -10,6 +10,9 @@ from .rows import Row
 ACCEPTED_BY = {"call_request": "call_connected", "incoming_call": "call_accepted"}
 CLEARS = {"clear_request": "T", "clear_indication": "N"}
 MOST_KEPT = 500
+# Why a call was not judged, in words after a number.
+WHYS = {"found": "accepted though the request broke the protocol", "waiting": "begun on a channel that waits for an indication",
+        "state": "begun in a state that allows no call"}
 
 
 @dataclass
@@ -33,6 +36,11 @@ class Unjudged:
     data: list[int] = field(default_factory=lambda: [0, 0])
     octets: list[int] = field(default_factory=lambda: [0, 0])
 
+    @property
+    def why(self) -> str:
+        """Why it was not judged: a word of WHYS."""
+        return "waiting" if self.waits_for is not None else "found" if self.code is not None else "state"
+
     def line(self) -> list[Any]:
         """The array of a page."""
         return [self.channel, self.side, self.calling, self.called, self.packet, self.ended, self.how, *self.data, *self.octets,
@@ -46,6 +54,7 @@ class UnjudgedCalls:
         self.open: dict[int, Unjudged] = {}
         self.all: list[Unjudged] = []
         self.many = self.data = self.octets = 0
+        self.whys = dict.fromkeys(WHYS, 0)
 
     def see(self, row: Row, key: str, waits_for: int | None) -> None:
         """Reads a row that is not quiet, with the key of its ladder and the error that its channel waits to be answered."""
@@ -73,6 +82,7 @@ class UnjudgedCalls:
         if row.kind == call.accepted_by and not call.is_up:
             call.is_up = True
             self.many += 1
+            self.whys[call.why] += 1
             if len(self.all) < MOST_KEPT:
                 self.all.append(call)
         elif row.call is not None:
@@ -103,9 +113,10 @@ class UnjudgedCalls:
         return [it.line() for it in self.all]
 
     def sentence(self) -> str:
-        """How many there are, and what they carried."""
-        once, packets = self.many == 1, f"{self.data:,} data packet{'' if self.data == 1 else 's'}"
-        carried = f"{packets} of {self.octets:,} octet{'' if self.octets == 1 else 's'}" if self.data else "no data"
-        return (f"{'One call was' if once else f'{self.many:,} calls were'} not judged, and {'is' if once else 'are'} in no sum: "
-                f"accepted though the request broke the protocol, or begun on a channel that waits for an indication, with "
-                f"{carried}")
+        """How many there are, why they were not judged, and what they carried."""
+        reasons = [f"{self.whys[why]:,} {words}" for why, words in WHYS.items() if self.whys[why]]
+        head = "One call was not judged" if self.many == 1 else f"{self.many:,} calls were not judged"
+        of_them = "its" if self.many == 1 else "their"
+        carried = (f"{of_them} {self.data:,} data packet{'' if self.data == 1 else 's'} with {self.octets:,} "
+                   f"octet{'' if self.octets == 1 else 's'} {'is' if self.data == 1 else 'are'} in no sum")
+        return f"{head}: {', '.join(reasons)}{f'; {carried}' if self.data else ''}"

@@ -229,9 +229,9 @@ function showFoundChannels() {
 function showUnjudged() {
   if (!facts.unjudged.length) return;
   const why = ([, , , , , , , , , , , code, state, waitsFor, key]) => {
-    if (code !== null) return ["its request has a finding: ", word(codeTopic(code), code, `code ${code}`)];
     const channel = ["the channel was in ", word("state", state, state)];
-    return waitsFor === null ? channel : [...channel, ", where the DCE had not reacted to ", packetLink(key, waitsFor)];
+    if (waitsFor !== null) return [...channel, ", where the DCE had not reacted to ", packetLink(key, waitsFor)];
+    return code === null ? channel : ["its request has a finding: ", word(codeTopic(code), code, `code ${code}`)];
   };
   const columns = [
     { name: NUMBERED_BY, ...NUMBER_WORD, style: "number", value: (it) => it[4],
