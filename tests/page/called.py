@@ -114,7 +114,7 @@ class Called(unittest.TestCase):
         facts = Page(self.folder / "gaps-that-share-a-row.html").facts
         self.assertEqual(facts["messages"][-2:], ["missing: octets of TCP connections: 15",
                                                   "in the trace: gap rows, where packets may be missing: 1"])
-        sentence = "The DTE broke the protocol once, in what was recorded: 1 gap."
+        sentence = "The DTE (192.0.2.1) broke the protocol once, in what was recorded: 1 gap."
         self.assertEqual(facts["verdict"][1], sentence)
         self.assertIn(sentence.encode(), self.run_page("--win", "7", "--summary", capture).stdout)
 
@@ -160,15 +160,26 @@ class Called(unittest.TestCase):
         self.refused(64, "argument --win: '0' is not a number from 1 to 127", "--win", "0", CAPTURE)
 
     def test_what_stands_there(self):
-        """What is no page is not written over, unless -o names it; the input never is."""
+        """What is no page is not written over, also where -o names it, unless that is forced; the input never is."""
         other = self.folder / "seven-calls.html"
         other.write_bytes(OLD)
-        self.refused(2, "Output: seven-calls.html exists and is no page of x25page: -o names another file", TRACE)
+        words = "exists and is no page of x25page: -o names another file, --force writes over it"
+        self.refused(2, f"Output: seven-calls.html {words}", TRACE)
+        self.refused(2, f"Output: {other} {words}", "-o", other, TRACE)
         self.assertEqual(other.read_bytes(), OLD)
-        self.assertEqual(self.run_page("-o", other, TRACE).returncode, 0)
+        self.assertEqual(self.run_page("--force", "-o", other, TRACE).returncode, 0)
+        self.assertEqual(self.run_page("-o", other, TRACE).returncode, 0, "a page is written anew")
+        empty = self.folder / "empty"
+        empty.touch()
+        self.assertEqual(self.run_page("-o", empty, TRACE).returncode, 0, "an empty file has nothing to lose")
+        link = self.folder / "link.html"
+        link.symlink_to(self.folder / "capture.pcap")
+        (self.folder / "capture.pcap").write_bytes(CAPTURE.read_bytes())
+        self.refused(2, f"Output: {link} {words}", "-o", link, TRACE)
         copy = self.folder / "copy.trace"
         copy.write_bytes(TRACE.read_bytes())
-        self.refused(2, "Output: copy.trace is what the page is made of", "-o", "copy.trace", "copy.trace")
+        for force in ([], ["--force"]):
+            self.refused(2, "Output: copy.trace is what the page is made of", *force, "-o", "copy.trace", "copy.trace")
         self.refused(2, "Output: . is a folder", "-o", ".", "copy.trace")
 
     def test_failed_writes(self):

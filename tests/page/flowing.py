@@ -9,7 +9,6 @@ from unittest import mock
 sys.path.insert(0, str(pathlib.Path(__file__).resolve().parents[2] / "tools"))
 
 from x25page_lib.facts import WORDS, Facts  # noqa: E402
-from x25tools_lib.halves import Halves  # noqa: E402
 from x25tools_lib.notes import Head  # noqa: E402
 
 FINDING = {"code": "1", "name": "Invalid P(S)", "wrong": "wrong", "then": "", "clause": "X.25"}
@@ -83,7 +82,7 @@ class Flowing(unittest.TestCase):
     def facts_of(objects, budget, has_fast_path):
         """The facts of a page with this budget of octets, and how many rows did not use the fast path."""
         with mock.patch("x25page_lib.facts.PAGE", WORDS + budget):
-            facts = Facts(Halves(Head()))
+            facts = Facts(Head())
             facts.ladders.budget = budget
             facts.use.begin(2, 8)
             if not has_fast_path:

@@ -10,8 +10,9 @@ sys.path.insert(0, str(pathlib.Path(__file__).resolve().parents[2] / "tools"))
 from x25page_lib.calls import COLUMNS, MEMBERS, Calls  # noqa: E402
 from x25page_lib.facts import Thinned, Times  # noqa: E402
 from x25page_lib.ladders import LEVELS, Ladders, Run  # noqa: E402
+from x25page_lib.reactions import Reactions  # noqa: E402
 from x25page_lib.rows import Kept as KeptRow, Row, RowForms, microseconds  # noqa: E402
-from x25page_lib.suspicions import Debts, warnings  # noqa: E402
+from x25page_lib.suspicions import warnings  # noqa: E402
 from x25tools_lib.frames import Frames  # noqa: E402
 
 FINDING = {"code": "1", "name": "Invalid P(S)", "wrong": "<b>", "then": "", "clause": "X.25"}
@@ -208,10 +209,11 @@ class Doubts(unittest.TestCase):
     HEADER = {"MOD": "8", "WIN": "1", "SIZE": "128", "SVC": "4"}
 
     def seen(self, rows):
-        debts = Debts(Frames())
+        reactions = Reactions(Frames())
         for row in rows:
-            debts.see(row)
-        return debts
+            reactions.see(row, "call-1")
+        reactions.finish()
+        return reactions
 
     def test_the_dce_went_on(self):
         rows = [FAULTY, row_of(3, "rr", side="N", owed=True), row_of(4, "rr", side="N", owed=True)]
@@ -240,6 +242,6 @@ class Doubts(unittest.TestCase):
 
     def test_both_sides(self):
         codes = [["39", "Packet too long", "", [5, 9], None], ["20", "", "", [5, 9], None], ["1", "", "", [9, 0], None]]
-        (sentence, name, values), = warnings(self.HEADER, codes, Debts(Frames()))
+        (sentence, name, values), = warnings(self.HEADER, codes, Reactions(Frames()))
         self.assertIn("SIZE 128", sentence)
         self.assertEqual((name, values), ("SIZE", [256, 512]))

@@ -7,10 +7,10 @@ import unittest
 sys.path.insert(0, str(pathlib.Path(__file__).resolve().parents[2] / "tools"))
 
 from x25page_lib.facts import Facts  # noqa: E402
+from x25page_lib.gathering import Messages, Read  # noqa: E402
 from x25page_lib.ladders import LEVELS  # noqa: E402
 from x25page_lib.summary import Summary  # noqa: E402
-from x25page_lib.verdicts import verdict_of  # noqa: E402
-from x25tools_lib.halves import Halves  # noqa: E402
+from x25page_lib.verdicts import Blame, verdict_of  # noqa: E402
 from x25tools_lib.notes import Head  # noqa: E402
 
 HEADER = "X25 3 MOD 8 WIN 2 SIZE 128 PVC 0 IN 0 TWO 2 OUT 2"
@@ -57,7 +57,7 @@ class Said:
 
     def facts(self):
         """The facts of all that was said."""
-        facts = Facts(Halves(Head()))
+        facts = Facts(Head())
         sums = {"packets": self.packet, "findings": self.findings, "calls": self.calls, "octets": 0, "segments": 0}
         facts.take([*self.objects, {"line": "peak", "count": 1, "packet": 1}, {"line": "sums", **sums}])
         return facts
@@ -130,8 +130,8 @@ class Headline(unittest.TestCase):
             (5, (1, 0), 0, 0): "The DTE broke the protocol once.",
             (0, (0, 0), 0, 1): "The trace has no packets.",
         }
-        for given, sentence in said.items():
-            self.assertEqual(verdict_of(*given).sentence, sentence)
+        for (packets, counts, *rest), sentence in said.items():
+            self.assertEqual(verdict_of(packets, Blame(counts), *rest).sentence, sentence)
 
     def test_of_a_trace(self):
         said = Said()
@@ -140,7 +140,7 @@ class Headline(unittest.TestCase):
         said.row(1, call, ("T", "data", "d1 d3"), finding=FINDING, counted=None)
         facts = said.facts()
         self.assertEqual(facts.verdict().sentence, "The DTE broke the protocol once, in what was recorded: 1 gap.")
-        self.assertIn("1 gap.\n", Summary("x", Head(HEADER), facts).text())
+        self.assertIn("1 gap.\n", Summary(Read("x", Head(HEADER), facts, Messages(None), {}, "x", "", "", "")).text())
 
 
 class Waiting(unittest.TestCase):
@@ -189,9 +189,8 @@ class Waiting(unittest.TestCase):
             said.row(1, call, ("N", "rr", "d3 d3"), owed=True)
             if gap:
                 said.gap(None if gap == "all" else gap)
-            facts = said.facts()
-            facts.debts.end()
-            self.assertEqual(facts.debts.unpaid, unpaid)
+            ignored = said.facts().reactions.ignored
+            self.assertEqual({code: it.many for code, it in ignored.items()}, unpaid)
 
 
 if __name__ == "__main__":

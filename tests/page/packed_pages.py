@@ -14,6 +14,11 @@ from pages import PROGRAM, SECONDS, Page, run
 SCANNER = pathlib.Path()
 
 
+def unnamed(done):
+    """The lines of a summary that do not name the file."""
+    return [line for line in done.stdout.splitlines()[1:] if not line.startswith(b"  the other way: ")]
+
+
 class Packed(unittest.TestCase):
     """Each test runs in a folder of its own."""
 
@@ -47,16 +52,16 @@ class Packed(unittest.TestCase):
     def test_text(self):
         """Files, standard input and pipes with a name, whose first octets may come alone."""
         for source in (TRACE, CAPTURE):
-            wanted = self.page("--summary", source).stdout.partition(b"\n")[2]
+            wanted = unnamed(self.page("--summary", source))
             self.pack(source, "packed.gz")
             octets = (self.folder / "packed.gz").read_bytes()
-            self.assertEqual(self.page("--summary", "packed.gz").stdout.partition(b"\n")[2], wanted)
-            self.assertEqual(self.page("--summary", "-", input=octets).stdout.partition(b"\n")[2], wanted)
+            self.assertEqual(unnamed(self.page("--summary", "packed.gz")), wanted)
+            self.assertEqual(unnamed(self.page("--summary", "-", input=octets)), wanted)
             for line in ('(head -c 12; sleep 0.1; cat) < packed.gz | "$0" --scanner "$1" --summary -',
                          '"$0" --scanner "$1" --summary <(head -c 1 packed.gz; tail -c +2 packed.gz)'):
                 words = ["bash", "-c", line, PROGRAM, SCANNER]
                 done = subprocess.run(words, cwd=self.folder, capture_output=True, timeout=SECONDS)
-                self.assertEqual(done.stdout.partition(b"\n")[2], wanted, done.stderr)
+                self.assertEqual(unnamed(done), wanted, done.stderr)
 
     def test_commands(self):
         """The commands of a page unpack a trace for x25scan, and name a capture as it is."""

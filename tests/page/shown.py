@@ -87,7 +87,7 @@ def clicks(shown):
     shown.is_so("location.hash", "#call-2")
     browser.click("#finding-table tbody tr td:nth-child(4)")
     shown.is_so("location.hash", "#call-7/47")
-    shown.is_so("document.querySelector('#ladder-room .row.faulty').id", "row-47")
+    shown.is_so("document.querySelector('#ladder-room .row.faulty')?.id", "row-47")
     shown.is_so("document.querySelector('#detail .fault-card').textContent.startsWith('Code 1: Invalid P(S)')")
     browser.value("document.querySelector('#detail details').open = true")
     shown.is_so("document.querySelector('#detail pre').textContent.startsWith('0000  10 01 24 21')")

@@ -27,14 +27,14 @@ from .words import parsed
 TERMINATED = 128 + signal.SIGTERM
 
 
-def write(page: Page, path: pathlib.Path) -> None:
+def write(page: Page, path: pathlib.Path, job: Job) -> None:
     """Writes a page, and prints what is in it."""
     with written(path) as out:
         for part in page.parts():
             out.write(part)
-    say(f"{path}: {page.summary()}")
+    job.say(f"{path}: {page.summary()}")
     if page.warnings:
-        say(f"the header may be wrong, and the page says why: {trial(page.read.again)} tries others")
+        job.say(f"the header may be wrong, and the page says why: {trial(page.read.again)} tries others")
 
 
 def make(job: Job, messages: Messages) -> None:
@@ -43,14 +43,15 @@ def make(job: Job, messages: Messages) -> None:
     path = None if words.summary and words.page is None else path_of(words)
     found = read(job, messages)
     if words.summary:
-        write_text(Summary(found.name, found.head, found.facts).text())
+        write_text(Summary(found).text())
     if path is not None:
-        write(Page(found), path)
+        write(Page(found), path, job)
 
 
 def run(words: argparse.Namespace, arguments: Sequence[str], waiting: Waiting) -> Status:
     """Runs the parsed command line, and returns the exit status."""
-    messages, job = Messages(), Job(words, arguments, Scanner(words.scanner or programs.found("x25page")), waiting)
+    job = Job(words, arguments, Scanner(words.scanner or programs.found("x25page")), waiting)
+    messages = Messages(job.say)
     try:
         if words.is_each:
             return several.run(job)

@@ -7,26 +7,27 @@ import signal
 from dataclasses import replace
 
 from x25tools_lib.options import Status
+from x25tools_lib.refusals import Refusal
 from x25tools_lib.streams import Waiting, stem_of, write_text
 
 from .comparison_page import comparison_page
 from .comparison_text import comparison_text
 from .differences import Section, sections
-from .gathering import Job, Messages, read, say
+from .gathering import Job, Messages, read
 from .places import checked, written
 from .totals import Accounts, Totals, totals_of
 
-LABELS = ("before", "after")
-
-
-def totals(job: Job, label: str, name: str) -> tuple[Totals, bool]:
-    """The totals of an input, and whether it surely has all packets."""
+def totals(job: Job, name: str) -> tuple[Totals, bool]:
+    """The totals of an input, and whether it surely has all packets. Its messages and refusals name it."""
     words = copy.copy(job.words)
     words.captures = [name]
     waiting = Waiting()
     waiting.handle(signal.SIGINT)
-    messages, accounts = Messages(lambda it: say(f"{label}: {it}")), Accounts()
-    found = read(replace(job, words=words, arguments=[name], waiting=waiting), messages, accounts.watch)
+    messages, accounts = Messages(lambda it: job.say(f"{name}: {it}")), Accounts()
+    try:
+        found = read(replace(job, words=words, arguments=[name], waiting=waiting), messages, accounts.watch)
+    except Refusal as refusal:
+        raise refusal if name in refusal.words else Refusal(refusal.why, f"{name}: {refusal.words}") from refusal
     if waiting.interrupted:
         raise KeyboardInterrupt
     return totals_of(found, accounts), messages.whole
@@ -37,9 +38,8 @@ def path_of(job: Job) -> pathlib.Path | None:
     words = job.words
     if words.page is None and words.summary:
         return None
-    is_named = words.page is not None
-    stems = map(stem_of, words.captures)
-    return checked(pathlib.Path(words.page if is_named else f"{'-to-'.join(stems)}.html"), words.captures, is_named)
+    name = words.page or f"{'-to-'.join(map(stem_of, words.captures))}.html"
+    return checked(pathlib.Path(name), words.captures, words.is_forced)
 
 
 def count(found: list[Section]) -> str:
@@ -51,8 +51,8 @@ def count(found: list[Section]) -> str:
 def run(job: Job) -> Status:
     """Reads both, and writes the page or prints the text; returns the status."""
     path, is_whole, both = path_of(job), True, []
-    for label, name in zip(LABELS, job.words.captures):
-        one, whole = totals(job, label, name)
+    for name in job.words.captures:
+        one, whole = totals(job, name)
         both.append(one)
         is_whole = is_whole and whole
     before, after = both
@@ -62,5 +62,5 @@ def run(job: Job) -> Status:
     if path is not None:
         with written(path) as out:
             out.writelines(comparison_page(before, after, found))
-        say(f"{path}: {count(found)}")
+        job.say(f"{path}: {count(found)}")
     return Status.WHOLE if is_whole else Status.DAMAGED

@@ -2,26 +2,30 @@
 from __future__ import annotations
 
 from collections.abc import Callable, Iterable, Iterator, Sequence
-from dataclasses import dataclass, field
+from dataclasses import dataclass
 from typing import Any
 
 from x25tools_lib.halves import Halves
 from x25tools_lib.json_text import names
+from x25tools_lib.notes import Head
 
 from .calls import BYTES, Calls
+from .ends import AllEnds
 from .evenly import Evenly
 from .fast_path import FastPath
+from .found import Findings
 from .ladders import Flowing, Ladders
+from .reactions import Reactions
 from .rows import SECOND, SIDES, Missing, Row, RowForms, in_seconds, microseconds
-from .suspicions import Debts
 from .texts import encoded
+from .unjudged import UnjudgedCalls
 from .use import UNRECORDED, Use
 from .verdicts import Verdict, of_halves, verdict_of
 
 # The bytes that a page may have, and its markup, its words and its other parts; its ladders may have the rest.
 PAGE, WORDS = 25_000_000, 600_000
 CALLS, MARKS, ACCOUNTS, SETTINGS, CHANNELS = 4_500_000, 1_000_000, 500_000, 500_000, 200_000
-MOST_TIMES = 1024
+MOST_TIMES, MOST_DOUBTS = 1024, 5
 SETTING = ("call", "side", "parameter", "word", "value")
 CLEARING = ("p6", "p7")
 LINE, = names("line")
@@ -106,16 +110,6 @@ class Times(Evenly):
         return (self.kept[0][1] / SECOND, self.last[1] / SECOND) if self.kept else None
 
 
-@dataclass
-class Broken:
-    """How often each side had a code, and the first row of each."""
-
-    name: str
-    clause: str
-    counts: list[int] = field(default_factory=lambda: [0, 0])
-    first: list[tuple[int, str] | None] = field(default_factory=lambda: [None, None])
-
-
 @dataclass(slots=True)
 class LastCall:
     """The last call of a channel, to which its clear confirmation still belongs, and the key of its ladder."""
@@ -127,22 +121,21 @@ class LastCall:
 class Facts:
     """The facts of a page so far."""
 
-    def __init__(self, halves: Halves) -> None:
-        self.halves, self.has_halves = halves, bool(halves)
-        # The rows of each side, and of what was recorded of one side alone its findings and those rows, and the calls
-        # that ended by a packet of the side that was not recorded.
-        self.rows_of, self.half_counts, self.half_rows = [0, 0], [0, 0], 0
+    def __init__(self, head: Head) -> None:
+        self.halves, self.ends = Halves(head), AllEnds(head)
+        self.has_halves = bool(self.halves)
+        # The rows of each side, and of what was recorded of one side alone those rows, and the calls that ended by a packet
+        # of the side that was not recorded.
+        self.rows_of, self.half_rows = [0, 0], 0
         self.unrecorded_ends: list[int] = []
         self.forms, self.ladders, self.calls = RowForms(), Ladders(PAGE - WORDS), Calls(CALLS)
-        self.times, self.debts, self.use = Times(), Debts(self.forms.frames), Use()
+        self.times, self.reactions, self.use = Times(), Reactions(self.forms.frames), Use()
+        self.found, self.unjudged = Findings(self.ends), UnjudgedCalls()
         self.fast_path = FastPath(self)
-        self.broken: dict[str, Broken] = {}
         self.marks, self.restarts, self.gaps = Thinned(MARKS), Thinned(MARKS // 4), Thinned(MARKS // 4)
         # The gaps of channels without a call, until the channel's next row.
         self.missing: dict[int | None, Missing] = {}
         self.accounts, self.settings = Budgeted(ACCOUNTS), Budgeted(SETTINGS)
-        # For each channel the findings of both sides and the row of the first one.
-        self.by_channel: dict[int | None, tuple[int | None, list[int], tuple[int, str]]] = {}
         self.found_channels = Budgeted(CHANNELS)
         self.not_counted: list[list[Any]] = []
         self.sums: dict[str, int] = {}
@@ -174,9 +167,10 @@ class Facts:
         """Ends the facts after the last object: the ladders may use the bytes that other parts of the page leave."""
         self.fast_path.settle()
         self.use.finish()
+        self.reactions.finish()
         self.call_text = self.calls.text()
-        for channel, counts, first in sorted(self.by_channel.values(), key=lambda it: -sum(it[1])):
-            self.found_channels.add([channel, *counts, *first])
+        for line in self.found.channel_lines():
+            self.found_channels.add(line)
         self.frame_text = encoded(self.other_frames())
         thinned, budgeted = (self.marks, self.restarts, self.gaps), (self.accounts, self.settings, self.found_channels)
         parts = len(self.call_text) + len(self.frame_text)
@@ -186,8 +180,9 @@ class Facts:
     def packets(self) -> Iterator[int | None]:
         """The numbers of the packets that the page names outside of its ladders."""
         yield from (self.first, self.last, self.peak[1] if self.peak else None)
-        yield from (first[0] for it in self.broken.values() for first in it.first if first)
-        yield from (first[0] for *_, first in self.by_channel.values())
+        yield from self.found.packets()
+        yield from self.reactions.packets()
+        yield from (number for it in self.unjudged.all for number in (it.packet, it.ended))
         yield from self.calls.packets()
         yield from (*self.marks.numbers(), *self.restarts.numbers(), *self.gaps.numbers())
         yield from self.use.packets()
@@ -237,7 +232,8 @@ class Facts:
         missing = Missing(packet, channel, self.forms.frame_of(packet, it.get("frame")))
         self.fast_path.end(channel)
         self.use.miss(channel)
-        self.debts.miss(channel)
+        self.reactions.miss(channel)
+        self.unjudged.miss(channel)
         if self.gaps.takes_next():
             self.gaps.add([packet, channel])
         call = self.last_calls.get(channel)
@@ -263,27 +259,31 @@ class Facts:
 
     def news(self, row: Row, key: str) -> None:
         """Reads a row that is not on the fast path."""
-        packet = row.packet
+        is_half = self.has_halves and self.is_half(row)
         if row.code:
-            self.finding(row, key)
+            self.finding(row, key, is_half)
         elif row.channel is None and row.kind.startswith("restart_") and row.after in ("r2", "r3"):
             if self.restarts.takes_next():
-                self.restarts.add([packet, row.side])
-        is_half = self.has_halves and self.half(row)
+                self.restarts.add([row.packet, row.side])
         self.use.count(row)
         if not is_half:
-            self.use.see(row, key)
-        if self.debts.concerns(row):
-            self.debts.see(row)
+            self.judge(row, key)
         self.ladders.add(key, row)
 
-    def half(self, row: Row) -> bool:
+    def judge(self, row: Row, key: str) -> None:
+        """Reads what a row requests, answers and reports, where both sides were recorded."""
+        self.use.see(row, key)
+        debt = self.reactions.open.get(row.channel) if row.channel is not None else None
+        self.unjudged.see(row, key, debt and debt.packet)
+        if self.reactions.concerns(row):
+            self.reactions.see(row, key)
+
+    def is_half(self, row: Row) -> bool:
         """Counts a row of a part of the line that was recorded in one direction; returns whether it is such a row."""
         if not self.halves.side(row.channel, row.packet):
             return False
         self.half_rows += 1
         if row.finding:
-            self.half_counts[row.side] += 1
             # What the other side sent after it was not recorded.
             row.finding["then"] = ""
         return True
@@ -316,22 +316,14 @@ class Facts:
             self.ladders.finish(call.key)
         self.last_calls.clear()
 
-    def finding(self, row: Row, key: str) -> None:
+    def finding(self, row: Row, key: str, is_half: bool) -> None:
         """Counts the finding of a row."""
-        packet, side, finding = row.packet, row.side, row.finding or {}
-        broken = self.broken.get(finding["code"])
-        if broken is None:
-            broken = self.broken[finding["code"]] = Broken(finding["name"], finding["clause"])
-        broken.counts[side] += 1
-        if broken.first[side] is None:
-            broken.first[side] = (packet, key)
-        if row.channel not in self.by_channel:
-            self.by_channel[row.channel] = (row.channel, [0, 0], (packet, key))
-        self.by_channel[row.channel][1][side] += 1
+        line = self.found.add(row, key, is_half)
         if row.call is not None:
             self.calls.count(row.call)
         if self.marks.takes_next():
-            self.marks.add([packet, side, row.channel, row.code, key, finding["wrong"]])
+            place = self.forms.types.place(row.kind), self.forms.states.place(row.before)
+            self.marks.add([row.packet, row.side, row.channel, row.code, key, *line, *place])
             self.reserve()
 
     def call(self, it: dict[str, Any]) -> None:
@@ -352,19 +344,21 @@ class Facts:
         it.setdefault("gaps", 0)
         self.calls.facts(it)
 
-    def codes(self) -> list[list[Any]]:
-        """Each code with its name, and the count and first row of each side; the most frequent code first."""
-        ordered = sorted(self.broken.items(), key=lambda it: -sum(it[1].counts))
-        return [[code, it.name, it.clause, it.counts, it.first] for code, it in ordered]
-
     def verdict(self) -> Verdict:
         """Who broke the protocol, as far as the recording shows."""
-        counts = [self.count_of(side) - half for side, half in zip(SIDES, self.half_counts)]
+        blame = self.found.blame()
         if self.halves:
-            return of_halves(self.halves.all, counts, self.half_rows < self.sums["packets"])
+            return of_halves(self.halves.all, blame, self.half_rows < self.sums["packets"])
         late = sum(it.late for it in self.use.waits.sums())
-        return verdict_of(self.sums["packets"], counts, late, self.gaps.seen)
+        return verdict_of(self.sums["packets"], blame, late, self.gaps.seen)
 
-    def count_of(self, side: str) -> int:
-        """The number of findings of a side."""
-        return sum(it.counts[SIDES.index(side)] for it in self.broken.values())
+    def doubts(self) -> list[tuple[str, int | None, str]]:
+        """Sentences on what the DCE did about errors of the DTE, each with a packet and the key of its ladder, or a part."""
+        found: list[tuple[str, int | None, str]] = []
+        if self.reactions.ignored:
+            found.append(self.reactions.ignored_sentence())
+        found += [(f"{it.sentence()}: {self.forms.frames.name(it.packet)}.", it.packet, it.key)
+                  for it in self.reactions.unexplained()[:MOST_DOUBTS]]
+        if self.unjudged.many:
+            found.append((f"{self.unjudged.sentence()}.", None, "unjudged"))
+        return found

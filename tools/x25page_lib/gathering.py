@@ -11,7 +11,6 @@ from collections.abc import Callable, Iterator, Sequence
 from dataclasses import dataclass
 from typing import BinaryIO
 
-from x25tools_lib.halves import Halves
 from x25tools_lib.ledger import Ledger
 from x25tools_lib.notes import Head
 from x25tools_lib.streams import Waiting, title_of
@@ -20,9 +19,10 @@ from x25trace_lib.passing import HEADER
 from x25trace_lib.source import first_source
 
 from . import inputs
+from .ends import AllEnds
 from .facts import Facts
 from .scanner import Explained, Scanner, Watch
-from .suspicions import Again
+from .suspicions import Again, number
 from .words import line_with, of_captures, parser
 
 # The options of the numbers for which a page may suggest other values.
@@ -62,10 +62,19 @@ class Job:
     scanner: Scanner
     waiting: Waiting
 
+    def say(self, words: object) -> None:
+        """Prints a line on standard error, unless --quiet is given."""
+        if not self.words.is_quiet:
+            say(words)
+
 
 @dataclass
 class Read:
-    """What was read of an input: its name, what it has besides rows, its facts, and the messages about it."""
+    """What was read of an input: its name, what it has besides rows, its facts, and the messages about it.
+
+    `sides` says which ends are taken for the DTE and the DCE, and on what that rests; `swapped` is the command for the other
+    way, and `program` why the program is not the proved one. Each may be empty.
+    """
 
     name: str
     head: Head
@@ -73,6 +82,9 @@ class Read:
     messages: Messages
     explanations: dict[str, Explained]
     again: Again
+    sides: str
+    swapped: str
+    program: str
 
 
 @contextlib.contextmanager
@@ -118,6 +130,28 @@ def again(words: argparse.Namespace, arguments: Sequence[str], messages: Message
     return f"<(gzip -dc {shown_trace})" if messages.is_packed else shown_trace
 
 
+def swapped(words: argparse.Namespace, reading: Again) -> str:
+    """The command that reads the same captures with the sides exchanged; nothing for a trace, which has its sides."""
+    if isinstance(reading, str):
+        return ""
+    return f"x25page {line_with(shlex.split(reading['all']), flags=('--swap',)) if words.swap else '--swap ' + reading['all']}"
+
+
+def sides_of(words: argparse.Namespace, ends: AllEnds, messages: Messages) -> str:
+    """Which ends are taken for the DTE and the DCE, and on what that rests, in a sentence; nothing where none is known."""
+    dte, dce = ends.hosts()
+    if not dte or not dce:
+        return ""
+    names = [next(iter(it)) if len(it) == 1 else f"{number(len(it), 'host')}" for it in (dte, dce)]
+    taken = f"{names[0]} {'is' if len(dte) == 1 else 'are'} taken for the DTE and {names[1]} for the DCE"
+    if ends.basis or not messages.is_capture:
+        return f"{taken}: {ends.basis}." if ends.basis else f"{taken}, as the trace says."
+    basis = "--dte names it" if words.dte else "the DTE opened the connection"
+    if words.swap:
+        basis = "--swap exchanges the ends" if words.dte else "--swap exchanges the ends, and the DCE opened the connection"
+    return f"{taken}: {basis}."
+
+
 def read(job: Job, messages: Messages, watch: Watch | None = None) -> Read:
     """Reads the named input; `watch` gets the objects of the report before the facts do."""
     words, scanner = job.words, job.scanner
@@ -127,8 +161,9 @@ def read(job: Job, messages: Messages, watch: Watch | None = None) -> Read:
         for line in messages.lines():
             messages.add(line)
         show_header(head, messages)
-        explanations, facts = scanner.explanations(), Facts(Halves(head))
+        explanations, facts = scanner.explanations(), Facts(head)
         facts.use.begin(*(int(head.numbers.get(name) or standard) for name, standard in (("WIN", 2), ("MOD", 8))))
         scanner.report(facts, trace, watch)
     words_again = again(words, job.arguments, messages)
-    return Read(title_of(words.captures), head, facts, messages, explanations, words_again)
+    return Read(title_of(words.captures), head, facts, messages, explanations, words_again, sides_of(words, facts.ends, messages),
+                swapped(words, words_again), scanner.not_proved())

@@ -15,6 +15,23 @@ HEADS = (("Capture or trace", None), ("What is said first of it", None), ("DTE",
          ("Packets", "number"), ("Calls", "number"), ("Segments", "number"), ("Gaps", "number"), ("Header", None))
 
 
+@dataclass(frozen=True)
+class Side:
+    """What an input has of a side: its findings, how many of them may follow from others, and its hosts."""
+
+    findings: int
+    following: int
+    hosts: Sequence[str]
+
+    def cell(self, is_bad: bool) -> Cell:
+        """The number of its findings, with those that may follow from others and with its host, or the number of hosts."""
+        words = [element("span", f"{self.findings:,}")]
+        words += [element("small", f"{self.following:,} may follow")] if self.following else []
+        if self.hosts:
+            words.append(element("small", self.hosts[0] if len(self.hosts) == 1 else number(len(self.hosts), "host")))
+        return Cell(Markup("".join(words)), self.findings, "number found" if self.findings and is_bad else "number")
+
+
 @dataclass
 class Line:
     """The line of an input in the index: its page, or why there is none."""
@@ -22,7 +39,7 @@ class Line:
     path: str
     page: str
     verdict: Verdict
-    counts: Sequence[int] = (0, 0)
+    sides: Sequence[Side] = ()
     sums: dict[str, int] = field(default_factory=dict)
     gaps: int = 0
     # The numbers of the header, by name, and whether each was estimated.
@@ -41,8 +58,7 @@ class Line:
             return [Cell(self.path), Cell(self.verdict.sentence, kind="refused"), *(Cell("", -1) for _ in HEADS[2:])]
         name = element("a", self.path, href=quote(os.fsencode(self.page)))
         sums = [cell(self.sums[it]) for it in ("packets", "calls", "segments")]
-        is_bad = self.verdict.kind == BAD
-        found = [cell(it, "number found" if it and is_bad else "number") for it in self.counts]
+        found = [it.cell(self.verdict.kind == BAD) for it in self.sides]
         gaps = cell(self.gaps, "number lost" if self.gaps else "number")
         header = " ".join(f"{word} {value}" for word, value, _ in self.header)
         return [Cell(name, self.path), self.said(), *found, *sums, gaps, Cell(Markup("".join(self.words())), header)]
@@ -68,12 +84,13 @@ def total(lines: Sequence[Line]) -> str:
     return words + (f"; {number(refused, 'file')} gave no page." if refused else ".")
 
 
-def index_of(lines: Sequence[Line]) -> Iterator[str]:
-    """The text of the index, in parts."""
+def index_of(lines: Sequence[Line], program: str) -> Iterator[str]:
+    """The text of the index, in parts; `program` says why the program is not the proved one."""
     kinds = {line.verdict.kind for line in lines}
     worst = next(kind for kind in (BAD, UNKNOWN, GOOD) if kind in kinds)
     parts = [
         element("h1", total(lines), kind=f"verdict {worst}"),
+        *([element("p", program, kind="not-proved")] if program else []),
         element("p", "DTE and DCE have the findings of each side. A dashed number of a header was estimated.", kind="muted"),
         table(HEADS, (line.cells() for line in lines), "index-table"),
     ]

@@ -7,12 +7,14 @@ from typing import Any
 
 from .gathering import Read
 from .markup import filled, part_of_page, policy_of
-from .rows import SIDES
+from .rows import SIDES, Table
 from .suspicions import number, trial, warnings
 from .texts import encoded
 
-SCRIPTS = ("words.js", "filters.js", "overview.js", "strip.js", "strip_keys.js", "calls_csv.js", "tables.js", "use.js", "rungs.js", "ladder.js",
+SCRIPTS = ("words.js", "ends.js", "filters.js", "overview.js", "reading.js", "strip.js", "strip_keys.js", "calls_csv.js", "tables.js", "use.js", "rungs.js", "ladder.js",
            "detail.js", "packets.js", "find.js", "history.js", "page.js")
+# The hosts of a side that a page names.
+MOST_HOSTS = 100
 
 
 @dataclass
@@ -61,10 +63,10 @@ class Page:
 
     def small(self) -> dict[str, Any]:
         """The members that are small."""
-        facts, head, codes = self.read.facts, self.read.head, self.read.facts.codes()
+        facts, head, codes = self.read.facts, self.read.head, self.read.facts.found.codes()
         verdict = facts.verdict()
         # Where only half was recorded, the header cannot be judged.
-        self.warnings = [] if facts.halves else warnings(head.numbers, codes, facts.debts)
+        self.warnings = [] if facts.halves else warnings(head.numbers, codes, facts.reactions)
         return {
             "name": self.read.name,
             "again": self.read.again,
@@ -72,14 +74,23 @@ class Page:
             "header": head.header,
             "numbers": [[name, value, head.sources.get(name)] for name, value in head.numbers.items()],
             "messages": self.read.messages.all,
+            # Whether surely no packet is missing.
+            "whole": self.read.messages.whole,
+            # Why the program is not the proved one; empty for the proved one.
+            "program": self.read.program,
             "comments": head.comments,
-            "circuits": [[it.row, it.channel, it.words] for it in head.circuits],
+            **self.ends(),
             "sums": facts.sums,
             "peak": facts.peak,
             "codes": codes,
             "verdict": [verdict.kind, verdict.sentence],
             "rows_of": facts.rows_of,
-            "half_counts": facts.half_counts if facts.halves else None,
+            "half_counts": facts.found.half_counts if facts.halves else None,
+            # The findings of each side that may follow from others, and those of each host.
+            "following": facts.found.following,
+            "of_hosts": [lines[:MOST_HOSTS] for lines in facts.found.host_lines()],
+            "doubts": facts.doubts(),
+            "unjudged": facts.unjudged.lines(),
             "unrecorded_ends": facts.unrecorded_ends,
             "warnings": self.warnings,
             "not_counted": facts.not_counted,
@@ -97,6 +108,16 @@ class Page:
             "texts": self.read.explanations,
             "use": facts.use.facts(),
         }
+
+    def ends(self) -> dict[str, Any]:
+        """Which hosts are at the ends of the interface, and of each circuit."""
+        ends, hosts = self.read.facts.ends, Table()
+        circuits = [[it.row, it.channel, it.words, of.connection, *(None if host is None else hosts.place(host) for host in of.hosts)]
+                    for it, (*_, of) in zip(self.read.head.circuits, ends.circuits)]
+        line = [None if host is None else hosts.place(host) for host in ends.line.hosts]
+        by_side = [sorted(it.items(), key=lambda pair: -pair[1]) for it in ends.hosts()]
+        return {"circuits": circuits, "circuits_to": ends.known_to, "line_hosts": line, "hosts": hosts.values(),
+                "side_hosts": [[len(it), it[:MOST_HOSTS]] for it in by_side], "sides": self.read.sides, "swapped": self.read.swapped}
 
     def ladders(self) -> Iterator[str]:
         """The ladders by key."""
@@ -118,12 +139,13 @@ class Page:
             "accounts": facts.accounts.left_out,
             "settings": facts.settings.left_out,
             "found_channels": facts.found_channels.left_out,
+            "unjudged": facts.unjudged.left_out,
         }
 
     def summary(self) -> str:
         """The line about the page for standard error."""
         facts = self.read.facts
-        sums, of_sides = facts.sums, [facts.count_of(side) for side in SIDES]
+        sums, of_sides = facts.sums, [facts.found.count_of(side) for side in range(len(SIDES))]
         said = ", ".join(number(sums[f"{noun}s"], noun) for noun in ("packet", "call", "finding"))
         said += f" (DTE {of_sides[0]:,}, DCE {of_sides[1]:,})" if sums["findings"] else ""
         return f"{said}; {self.size / 1e6:.1f} MB"

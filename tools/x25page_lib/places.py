@@ -19,21 +19,26 @@ from .markup import is_page
 def path_of(words: argparse.Namespace) -> pathlib.Path:
     """The file of the page."""
     if words.page is not None:
-        return checked(pathlib.Path(words.page), words.captures, True)
+        return checked(pathlib.Path(words.page), words.captures, words.is_forced)
     name = pathlib.PurePath(words.captures[0])
     stem = name.name if name.suffix == ".html" else stem_of(name.name)
-    return checked(pathlib.Path(f"{stem}.html"), words.captures, False)
+    return checked(pathlib.Path(f"{stem}.html"), words.captures, words.is_forced)
 
 
-def checked(path: pathlib.Path, inputs: Iterable[str], is_named: bool) -> pathlib.Path:
-    """Returns a path that may be written: not an input and, unless the user named it, no file other than a page."""
-    if not is_named and path.exists() and not path.is_dir() and not is_page(path):
-        raise Refusal(PageWhy.OUTPUT, f"{path} exists and is no page of x25page: -o names another file")
+def checked(path: pathlib.Path, inputs: Iterable[str], is_forced: bool) -> pathlib.Path:
+    """Returns a path that may be written: neither an input nor, unless that is forced, a file that is no page."""
     if path.is_dir():
         raise Refusal(PageWhy.OUTPUT, f"{path} is a folder: -o names a file")
     if any(is_same(path, name) for name in inputs):
         raise Refusal(PageWhy.OUTPUT, f"{path} is what the page is made of: -o names another file")
+    if not is_forced and is_other(path):
+        raise Refusal(PageWhy.OUTPUT, f"{path} exists and is no page of x25page: -o names another file, --force writes over it")
     return path
+
+
+def is_other(path: pathlib.Path) -> bool:
+    """Whether a file has something that is no page; an empty file, a device and a pipe have nothing to lose."""
+    return path.is_file() and path.stat().st_size > 0 and not is_page(path)
 
 
 @contextlib.contextmanager

@@ -29,6 +29,8 @@ TOPICS = {
 HEADING = re.compile(r"(\S.*?) \(([^()]*)\): (.*)")
 PARTS_LEFT_OUT = ("Example: ", "See: ")
 REFUSED = 2
+# How the line of --version begins that only a program has which is not the proved one.
+NOT_PROVED = "NOT PROVED"
 # The name and the sentences of each word.
 Explained = dict[str, list[Any]]
 # A filter that sees the objects of a trace before they are used.
@@ -41,6 +43,7 @@ class Scanner:
     def __init__(self, program: str) -> None:
         self.words = [program]
         self.explained_topics: dict[str, Explained] = {}
+        self.proof: str | None = None
 
     def objects(self, trace: BinaryIO) -> Iterator[dict[str, Any]]:
         """The objects of a trace in an open file."""
@@ -78,6 +81,14 @@ class Scanner:
         if not self.explained_topics:
             self.explained_topics = {topic: self.explained(topic) for topic in TOPICS}
         return self.explained_topics
+
+    def not_proved(self) -> str:
+        """What the program says of itself where it is not the proved one; nothing where it is."""
+        if self.proof is None:
+            words = [*self.words, "--version"]
+            done = subprocess.run(words, stdin=subprocess.DEVNULL, capture_output=True, encoding="utf-8", errors="replace", check=False)
+            self.proof = next((line for line in done.stdout.splitlines() if line.startswith(NOT_PROVED)), "")
+        return self.proof
 
     def explained(self, topic: str) -> Explained:
         """The words of a topic. Where the program has to be built first, standard error says so."""

@@ -19,10 +19,9 @@ from x25trace_lib.source import first_source
 
 from . import inputs
 from .gathering import Job, Messages, read, say
-from .index_page import INDEX, Line, index_of
+from .index_page import INDEX, Line, Side, index_of
 from .pages import Page
 from .places import checked, written
-from .rows import SIDES
 from .suspicions import number
 
 HEADER_OF_TRACE = b"X25 "
@@ -109,7 +108,9 @@ def line_of(page: Page, path: str, name: str) -> Line:
     header = [(word, value, word in found.head.sources) for word, value in found.head.numbers.items()]
     notes = [] if found.messages.whole else ["Packets may be missing: the page says which."]
     notes += ["The header may be wrong: the page says why."] if page.warnings else []
-    return Line(path, name, facts.verdict(), [facts.count_of(side) for side in SIDES], facts.sums, facts.gaps.seen, header, notes)
+    notes += [sentence for sentence, *_ in facts.doubts()]
+    sides = [Side(facts.found.count_of(side), facts.found.following[side], list(hosts)) for side, hosts in enumerate(facts.ends.hosts())]
+    return Line(path, name, facts.verdict(), sides, facts.sums, facts.gaps.seen, header, notes)
 
 
 def write_page(job: Job, one: Input, place: pathlib.Path) -> Outcome:
@@ -122,7 +123,7 @@ def write_page(job: Job, one: Input, place: pathlib.Path) -> Outcome:
         for part in page.parts():
             out.write(part)
     line = line_of(page, one.path, place.name)
-    say(f"{one.path}: {place}: {page.summary()}")
+    job.say(f"{one.path}: {place}: {page.summary()}")
     if waiting.interrupted:
         return Outcome(line, Status.INTERRUPTED)
     return Outcome(line, Status.WHOLE if messages.whole else Status.DAMAGED)
@@ -131,7 +132,7 @@ def write_page(job: Job, one: Input, place: pathlib.Path) -> Outcome:
 def outcome_of(job: Job, one: Input, place: pathlib.Path) -> Outcome:
     """Writes the page of an input, or prints why there is none."""
     try:
-        return write_page(job_of(job, one.path), one, checked(place, [one.path], False))
+        return write_page(job_of(job, one.path), one, checked(place, [one.path], job.words.is_forced))
     except Refusal as refusal:
         say(f"{one.path}: {refusal}")
         return Outcome(Line.refused(one.path, str(refusal)), Status.REFUSED)
@@ -160,10 +161,10 @@ def run(job: Job) -> Status:
     lines = [it.line for it in outcomes]
     if not any(line.page for line in lines):
         raise Refusal(Why.NO_PACKET, f"no page was written: {number(len(every), 'file')}, and none is a capture or a trace")
-    index = checked(folder / INDEX, [], False)
+    index = checked(folder / INDEX, [], job.words.is_forced)
     with written(index) as out:
-        out.writelines(index_of(lines))
+        out.writelines(index_of(lines, job.scanner.not_proved()))
     passed = len(every) - len(found)
     rest = f"; {number(passed, 'other file')} passed over, neither captures nor traces" if passed else ""
-    say(f"{index}: {number(len(lines), 'line')}{rest}")
+    job.say(f"{index}: {number(len(lines), 'line')}{rest}")
     return max(it.status for it in outcomes)

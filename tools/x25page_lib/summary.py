@@ -3,9 +3,7 @@ from __future__ import annotations
 
 import datetime
 
-from x25tools_lib.notes import Head
-
-from .facts import Facts
+from .gathering import Read
 from .suspicions import number, warnings
 from .use import UNRECORDED
 from .verdicts import NAMES, times
@@ -53,20 +51,23 @@ def place(key: str) -> str:
 class Summary:
     """The text of the facts of a trace."""
 
-    def __init__(self, name: str, head: Head, facts: Facts) -> None:
-        self.name, self.head, self.facts = name, head, facts
-        self.named = facts.forms.frames.name
-        self.use = facts.use.facts()
+    def __init__(self, read: Read) -> None:
+        self.read, self.head, self.facts = read, read.head, read.facts
+        self.named = self.facts.forms.frames.name
+        self.use = self.facts.use.facts()
 
     def text(self) -> str:
-        parts = [self.beginning(), self.findings(), self.requests(), self.waits(), self.closed(), self.acknowledged(),
+        parts = [self.beginning(), self.findings(), self.hosts(), self.unjudged(), self.requests(), self.waits(), self.closed(), self.acknowledged(),
                  self.segments(), self.minutes(), self.causes()]
         return "\n".join("\n".join(lines) + "\n" for lines in parts if lines)
 
     def beginning(self) -> list[str]:
         facts, sums = self.facts, self.facts.sums
         counted = ", ".join(number(sums[f"{noun}s"], noun) for noun in ("packet", "call", "octet", "segment"))
-        lines = [f"{self.name}: {facts.verdict().sentence}", f"  {self.head.header}", f"  {counted}"]
+        lines = [f"{self.read.name}: {facts.verdict().sentence}"]
+        lines += [f"  {it}" for it in (self.read.program, self.read.sides, *(sentence for sentence, *_ in facts.doubts())) if it]
+        lines += [f"  the other way: {self.read.swapped}"] if self.read.sides and self.read.swapped else []
+        lines += [f"  {self.head.header}", f"  {counted}"]
         span = facts.times.span()
         if span:
             lines.append(f"  in {length(span[1] - span[0])}, from {moment(span[0])}")
@@ -74,18 +75,41 @@ class Summary:
         lines += [f"  {number(many, 'call')} at once at most, first at {self.named(packet)}"] if packet else []
         lost = sum(it[1] for it in facts.not_counted)
         lines += [f"  {number(lost, 'data packet')} not counted"] if lost else []
-        doubts = [] if facts.halves else warnings(self.head.numbers, facts.codes(), facts.debts)
+        doubts = [] if facts.halves else warnings(self.head.numbers, facts.found.codes(), facts.reactions)
         return lines + [f"  the header may be wrong: {sentence}" for sentence, *_ in doubts]
 
     def findings(self) -> list[str]:
         lines = []
-        for code, name, _, counts, first in self.facts.codes():
+        for code, name, _, counts, first, following in self.facts.found.codes():
             for side, many in enumerate(counts):
                 if many:
                     packet, key = first[side]
-                    where = f"{self.named(packet)}, {place(key)}"
-                    lines.append(f"  {NAMES[side]}, code {code} ({name}): {many:,}, first at {where}")
+                    may = f", {following[side]:,} of which may follow from others" if following[side] else ""
+                    lines.append(f"  {NAMES[side]}, code {code} ({name}): {many:,}{may}, first at {self.named(packet)}, {place(key)}")
         return ["findings", *lines] if lines else []
+
+    def hosts(self) -> list[str]:
+        """The findings of each host, where the hosts are known."""
+        lines = []
+        for side, found in enumerate(self.facts.found.host_lines()):
+            for host, many, following, connections, packet, key in found[:MOST_LINES]:
+                may = f", {following:,} of which may follow from others" if following else ""
+                on = f" on {number(connections, 'connection')}" if connections else ""
+                lines.append(f"  {NAMES[side]} {host}: {many:,}{on}{may}, first at {self.named(packet)}, {place(key)}")
+            rest = len(found) - MOST_LINES
+            lines += [f"  and {number(rest, 'more host')} of the {NAMES[side]}"] if rest > 0 else []
+        return ["findings by host", *lines] if lines else []
+
+    def unjudged(self) -> list[str]:
+        """The calls that were not judged."""
+        lines = []
+        for call in self.facts.unjudged.all[:MOST_LINES]:
+            ends = f"from {call.calling or '-'} to {call.called or '-'}"
+            octets = f"{call.octets[0]:,} octets of the DTE, {call.octets[1]:,} of the DCE"
+            lines.append(f"  {self.named(call.packet)}, channel {call.channel}, {ends}: {octets}; {WAYS[call.how]}")
+        rest = self.facts.unjudged.many - len(lines)
+        lines += [f"  and {rest:,} more"] if rest > 0 else []
+        return ["calls that were not judged", *lines] if lines else []
 
     def requests(self) -> list[str]:
         lines = []

@@ -7,7 +7,6 @@ from typing import Any
 
 from .facts import Facts
 from .gathering import Read
-from .rows import SIDES
 from .verdicts import NAMES, Verdict
 
 # Counts by label.
@@ -70,12 +69,12 @@ def totals_of(found: Read, accounts: Accounts) -> Totals:
     """The totals of what was read."""
     facts = found.facts
     findings: ByWords = {}
-    for code, broken in facts.broken.items():
+    for code, broken in facts.found.broken.items():
         for side, many in zip(NAMES, broken.counts):
             if many:
                 findings[side, code, broken.name] = many
     sums = {name: facts.sums[name] for name in ("packets", "calls", "octets", "segments")}
     sums["calls at once"] = facts.peak[0]
     sums["data packets not counted"] = sum(packets for _, packets, _ in facts.not_counted)
-    sums |= {f"findings of the {name}": facts.count_of(side) for name, side in zip(NAMES, SIDES)}
+    sums |= {f"findings of the {name}": facts.found.count_of(side) for side, name in enumerate(NAMES)}
     return Totals(found.name, found.head.numbers, set(found.head.sources), facts.verdict(), sums, findings, accounts, ends_of(found), waits_of(facts))

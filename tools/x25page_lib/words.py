@@ -3,16 +3,19 @@ from __future__ import annotations
 
 import argparse
 import shlex
+import subprocess
 from collections.abc import Sequence
+from typing import Any, NoReturn
 
 from x25tools_lib.options import Words, check, option_among, header_words, reading_words, side_words
 from x25tools_lib.refusals import PageWhy, Why
+from x25tools_lib.scanner import built
 
 REASONS = ", ".join(why.value for why in (*Why, *PageWhy))
 NAMES_OF_PAGES = """\
 Without -o the page is NAME.html in the current folder, for a file NAME, NAME.pcap or NAME.pcap.gz, and nothing else is
 written. It is one file: a browser shows it from the disk, and it asks no network for anything. It replaces a page of
-that name, but no other file."""
+that name, also where -o names it, but no other file: that needs --force."""
 EPILOG = f"""
 examples:
   x25page day.pcap                      writes day.html, of XOT, LAPB or X.25 in a pcap, pcapng or snoop file
@@ -36,7 +39,24 @@ exit status:
 
 
 # The options that are not about captures.
-OF_PAGES = ("page", "scanner", "summary", "is_each", "is_comparison")
+OF_PAGES = ("page", "scanner", "summary", "is_each", "is_comparison", "is_forced", "is_quiet")
+# Those that a command which reads the same again does not need.
+FLAGS = ("--summary", "--force", "--quiet")
+
+
+class Version(argparse.Action):
+    """Prints the version, which is that of x25scan; a program that is not built yet is not built for it."""
+
+    def __init__(self, **how: Any) -> None:
+        super().__init__(nargs=0, **how)
+
+    def __call__(self, words: argparse.ArgumentParser, *_: Any) -> NoReturn:
+        program = built()
+        if program is None:
+            words.exit(0, f"{words.prog}, whose x25scan is not built yet\n")
+        done = subprocess.run([program, "--version"], stdin=subprocess.DEVNULL, capture_output=True, text=True, check=False)
+        print(words.prog, done.stdout.partition(" ")[2], end="")
+        words.exit(0)
 
 
 def parser() -> Words:
@@ -62,6 +82,10 @@ def parser() -> Words:
     words.add_argument("--summary", action="store_true",
                        help="print the facts, or with --compare what differs, as text on standard output, and write a page "
                        "only where -o names one")
+    words.add_argument("--force", dest="is_forced", action="store_true", help="write also over a file that is no page")
+    words.add_argument("--quiet", dest="is_quiet", action="store_true",
+                       help="print on standard error only why there is no page")
+    words.add_argument("--version", action=Version, help="print the version, and that of x25scan")
     words.add_argument("--scanner", metavar="PROGRAM",
                        help="the x25scan to run, by default the proved one of this folder, else the one that bin/x25try runs")
     reading_words(words.add_argument_group("reading of a capture"))
@@ -103,12 +127,12 @@ def of_captures(words: argparse.Namespace) -> str | None:
     return option_among(words, parser(), OF_PAGES)
 
 
-def line_with(arguments: Sequence[str], *options: str) -> str:
+def line_with(arguments: Sequence[str], *options: str, flags: Sequence[str] = ()) -> str:
     """The command line that reads the same captures again, without the options of a page and without these others."""
     left_out = ("-o", "--scanner", *options)
     rest, words = [], iter(arguments)
     for word in words:
-        if word == "--summary":
+        if word in (*FLAGS, *flags):
             continue
         if word in left_out:
             next(words, None)

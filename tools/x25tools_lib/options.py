@@ -5,7 +5,6 @@ import argparse
 import enum
 import ipaddress
 import re
-import sys
 from collections.abc import Callable, Collection
 from typing import NoReturn
 
@@ -33,8 +32,7 @@ class Words(argparse.ArgumentParser):
     """Refuses a command line as x25scan does."""
 
     def error(self, message: str) -> NoReturn:
-        self.print_usage(sys.stderr)
-        self.exit(Status.WORDS, f"{self.prog}: {message}\n")
+        self.exit(Status.WORDS, f"{self.prog}: {message}\n{self.format_usage()}")
 
 
 def number(first: int, last: int) -> Callable[[str], int]:

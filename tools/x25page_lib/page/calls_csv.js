@@ -1,8 +1,10 @@
-// The table of calls as CSV (RFC 4180, with LF), as x25scan --calls prints it.
+// The table of calls as CSV (RFC 4180, with LF), as x25scan --calls prints it, and with the hosts where they are known.
 
 const TABLE_HEADING = ["call", "channel", "direction", "called", "calling", "opened", "ended", "start", "seconds", "how",
   "cause", "cause_name", "diagnostic", "diagnostic_name", "data_t", "octets_t", "segments_t", "data_n", "octets_n",
   "segments_n", "pays", "payer", "findings", "gaps"];
+// Where the hosts are known, each line ends with the connection and the hosts of both sides.
+const HOST_HEADING = ["connection", "dte", "dce"];
 
 // Seconds with a point, without zeros at the end, of nanoseconds.
 function secondsOf(nanoseconds) {
@@ -29,8 +31,15 @@ function callFields(call) {
     call.octetsN, call.segments - call.segmentsT, call.pays, call.payer, call.findings, hasGaps ? call.gaps : null];
 }
 
+function hostFields({ channel, opened }) {
+  const hosts = SIDES.map((_, side) => hostOf(side, channel, opened));
+  return [connectionOf(channel, opened), ...hosts.map((it) => it && quoted(it))];
+}
+
 function callsCsv() {
-  return [TABLE_HEADING, ...calls.map(callFields)].map((fields) => `${fields.map((it) => it ?? "").join(",")}\n`).join("");
+  const lines = hasHosts ? [[...TABLE_HEADING, ...HOST_HEADING], ...calls.map((it) => [...callFields(it), ...hostFields(it)])]
+    : [TABLE_HEADING, ...calls.map(callFields)];
+  return lines.map((fields) => `${fields.map((it) => it ?? "").join(",")}\n`).join("");
 }
 
 // The button that saves it. The browser asks for no network: the text is in the link.

@@ -1,7 +1,7 @@
-// What the filters of tables mean: "call 4" and "channel 3" are a call and a channel, and other words are looked for in the texts.
+// What the filters of tables mean: "call 4" and "connection 3" are a call and a connection, and other words are looked for in the texts.
 
-const NUMBERED = /\b(?:(call|channel|packet|frame)\s+(\d+)|(code)\s+(x[\dl]|\d+))(?!\S)/g;
-const BEGUN = /\b(?:call|channel|packet|frame|code)\s*$/;
+const NUMBERED = /\b(?:(call|channel|connection|packet|frame)\s+(\d+)|(code)\s+(x[\dl]|\d+))(?!\S)/g;
+const BEGUN = /\b(?:call|channel|connection|packet|frame|code)\s*$/;
 
 // Whether a value is that of a line, or one of its values.
 const isOneOf = (values, value) => [values].flat().some((it) => String(it).toLowerCase() === value);

@@ -125,13 +125,15 @@ function pageButtons() {
 
 // What a call is, in a line of parts.
 function callFacts(call) {
-  const circuit = facts.circuits.filter((it) => it[1] === call.channel && it[0] <= call.opened).at(-1);
+  const circuit = circuitOf(call.channel, call.opened);
+  const hosts = SIDES.map((_, side) => hostOf(side, call.channel, call.opened));
   const settings = facts.settings.filter((it) => it[0] === call.call);
   const fact = (name, ...value) => make("div", {}, make("dt", {}, name), make("dd", {}, ...value));
   return make("dl", { class: "call-facts" },
     fact("from", call.calling ?? "-"), fact("to", call.called ?? "-"),
     fact("direction", word("direction", call.direction, call.direction === "out" ? "outgoing" : "incoming")),
     fact("channel", count(call.channel)),
+    hosts.map((host, side) => host !== null && fact(`host of the ${SIDES[side]}`, host)),
     fact("packets", spanName(call.opened, call.ended)),
     call.start !== null && fact("start", clock(call.start)),
     call.seconds !== null && fact("length", length(call.seconds)),

@@ -1,12 +1,17 @@
-// The top of the page: who broke the protocol, the sums, the header, and what is doubtful.
+// The top of the page: who broke the protocol, what is doubtful, the hosts and findings of each side, and the sums.
 
+// The most hosts of a side that its card names.
+const MOST_NAMED = 3;
 const broken = SIDES.map((_, side) => facts.codes.reduce((sum, code) => sum + code[3][side], 0));
 
 // Whether packets may be missing: what is said of all packets is of those that were recorded.
 const isPart = facts.gaps.length > 0 || facts.half_counts !== null;
 
-// Whether the findings of a side are of half a recording, where they show what is missing.
-const isHalf = (side) => facts.half_counts !== null && (facts.half_counts[side] || !facts.rows_of[side]);
+// What a side is: guilty where both sides were recorded, unknown where it has no finding and half is missing, else clean.
+function guiltOf(side) {
+  if (facts.half_counts !== null) return broken[side] > facts.half_counts[side] ? "guilty" : "half";
+  return broken[side] ? "guilty" : "clean";
+}
 
 function sideCard(side) {
   const most = Math.max(1, ...facts.codes.map((code) => Math.max(...code[3])));
@@ -17,21 +22,43 @@ function sideCard(side) {
   const half = facts.half_counts?.[side];
   const missing = half ? make("p", { class: "muted" }, `Of these, ${count(half)} ${half === 1 ? "is" : "are"} where only `,
     `the ${SIDES[side]} was recorded, and may come from packets of the ${SIDES[1 - side]} that were not.`) : "";
-  const kind = isHalf(side) ? "half" : broken[side] ? "guilty" : "clean";
-  return make("div", { class: `card side ${kind}` },
+  return make("div", { class: `card side ${guiltOf(side)}` },
     make("div", { class: "side-head" },
-      make("h2", {}, word("side", LETTERS[side], SIDES[side])),
-      make("span", { class: "big" }, count(broken[side])),
-      make("span", { class: "muted" }, broken[side] === 1 ? "finding" : "findings")),
-    rows.length ? make("ul", { class: "codes" }, rows) : make("p", { class: "muted" }, kept), missing);
+      make("h2", {}, word("side", LETTERS[side], SIDES[side]), sideHosts(side)),
+      make("span", { class: "big" }, count(broken[side] - facts.following[side])),
+      make("span", { class: "muted" }, broken[side] - facts.following[side] === 1 ? "finding" : "findings", followers(side))),
+    rows.length ? make("ul", { class: "codes" }, rows) : make("p", { class: "muted" }, kept), missing, foundHosts(side));
 }
 
-function codeLine([code, name, , counts, first], side, most) {
+const mayFollow = (many) => many > 0 && make("small", {}, `${count(many)} may follow from others`);
+
+const followers = (side) => facts.following[side] > 0 && `, and ${count(facts.following[side])} that may follow`;
+
+// The hosts of a side: their names where they are few.
+function sideHosts(side) {
+  const [many, hosts] = facts.side_hosts[side];
+  if (!many) return null;
+  return make("small", { class: "hosts" }, many > MOST_NAMED ? plural(many, "host") : hosts.map(([name]) => name).join(", "));
+}
+
+// The findings of each host, where a side has several hosts.
+function foundHosts(side) {
+  const found = facts.of_hosts[side];
+  if (facts.side_hosts[side][0] < 2 || !found.length) return null;
+  const line = ([host, many, following, connections, packet, key]) => make("li", {}, make("b", {}, host), " ",
+    plural(many, "finding"), connections > 0 && ` on ${plural(connections, "connection")}`, mayFollow(following), " ",
+    make("a", { href: `#${key}/${packet}` }, `${many > 1 ? "first at " : ""}${packetName(packet)}`));
+  const rest = found.slice(MOST_NAMED * 2);
+  return make("div", { class: "of-hosts" }, make("ul", {}, found.slice(0, MOST_NAMED * 2).map(line)),
+    rest.length > 0 && make("details", {}, make("summary", {}, `${plural(rest.length, "more host")}`), make("ul", {}, rest.map(line))));
+}
+
+function codeLine([code, name, , counts, first, following], side, most) {
   const bar = make("span", { class: "bar" });
   bar.style.width = `${Math.max(3, 100 * counts[side] / most)}%`;
   const [packet, key] = first[side];
   return make("li", {},
-    make("span", {}, word(codeTopic(code), code, `code ${code}`, "code"), " ", name),
+    make("span", {}, word(codeTopic(code), code, `code ${code}`, "code"), " ", name, mayFollow(following[side])),
     make("span", { class: "bar-room" }, bar),
     make("b", {}, count(counts[side])),
     make("a", { href: `#${key}/${packet}` }, `${counts[side] > 1 ? "first at " : ""}${packetName(packet)}`));
@@ -67,54 +94,21 @@ function duration() {
   return `in ${length(facts.times.at(-1)[1] - facts.times[0][1])}, from ${clock(facts.times[0][1])}`;
 }
 
-function headerLine() {
-  const chips = facts.numbers.map(([name, value, source]) => make("span", { class: source ? "chip estimated" : "chip" },
-    word("header", name), value && ` ${value}`, source && make("small", {}, "estimated: ", make("br"), source)));
-  const isEstimated = facts.numbers.some(([name, , source]) => source && ["WIN", "SIZE"].includes(name));
-  return make("div", { class: "card header" },
-    make("h2", {}, "The header"),
-    make("p", { class: "chips" }, chips.length ? chips : make("code", {}, facts.header)),
-    isEstimated && make("p", { class: "muted" },
-      "Each estimated number says on what it rests. Where WIN or SIZE does not rest on answers of the DCE, ",
-      "data that broke a smaller one is not found. Give --win and --size where you know them."));
-}
-
-function howToTryAll() {
-  return make("div", {}, make("p", {}, "This command tries other headers, and prints the one that fits best first:"),
-    make("pre", {}, facts.trial));
-}
-
-// The commands that make the page again under other values of a number of the header.
-function howToTry([, name, values]) {
-  if (!values.length) return null;
-  const option = { WIN: "--win", SIZE: "--size" }[name];
-  const now = facts.numbers.find((it) => it[0] === name);
-  const isCapture = typeof facts.again !== "string";
-  const commands = values.map((value) => (isCapture
-    ? `x25page ${option} ${value} -o other.html ${facts.again[name]}`
-    : `sed 's/${name} ${now[1]} /${name} ${value} /' ${facts.again} | x25page -o other.html -`));
-  return make("div", {}, make("p", {}, `Try another ${name}, and compare what is found:`),
-    commands.map((line) => make("pre", {}, line)));
-}
-
-function alarm() {
-  if (!facts.warnings.length) return null;
-  const tried = new Set();
-  const ways = facts.warnings.filter(([, name]) => !tried.has(name) && tried.add(name)).map(howToTry);
-  return make("div", { class: "card alarm", role: "note" },
-    make("h2", {}, "The header may be wrong"), facts.warnings.map(([sentence]) => make("p", {}, sentence)),
-    howToTryAll(), ways);
-}
-
-function messages() {
-  if (!facts.messages.length) return null;
-  return make("div", { class: "card" }, make("h2", {}, "What the reading of the capture said"),
-    make("ul", { class: "plain" }, facts.messages.map((line) => make("li", {}, line))));
+// What the reader has to know with the verdict: what the DCE did about errors of the DTE, and what may be wrong.
+function doubts() {
+  const found = facts.doubts.map(([sentence, packet, key]) =>
+    make("li", {}, sentence, " ", make("a", { href: packet === null ? `#${key}` : `#${key}/${packet}` },
+      packet === null ? "Which ones" : "Show it")));
+  const doubt = ([sentence]) => make("li", {}, `The header may be wrong. ${sentence} `, make("a", { href: "#reading" }, "What to try"));
+  found.push(...facts.warnings.map(doubt));
+  return found.length ? make("ul", { class: "card doubts", "aria-label": "What to know with the verdict" }, found) : null;
 }
 
 function showOverview() {
   place("overview").append(
     make("h1", { class: `verdict ${facts.verdict[0]}` }, facts.verdict[1]),
+    facts.program ? make("p", { class: "not-proved" }, facts.program) : "", doubts() ?? "",
     make("div", { class: "sides" }, sideCard(0), sideCard(1)),
-    tiles(), alarm() ?? "", headerLine(), messages() ?? "");
+    facts.sides ? make("p", { class: "taken" }, facts.sides, " ", facts.swapped && make("a", { href: "#reading" }, "The other way")) : "",
+    tiles());
 }

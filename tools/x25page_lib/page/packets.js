@@ -50,7 +50,7 @@ function channelOf(row) {
 
 function listedTexts(row) {
   const codes = row.fault ? `finding ${row.fault.name}` : "";
-  return `${SIDES[row.side]} ${typeName(row.type)} ${codes}`;
+  return `${SIDES[row.side]} ${hostOf(row.side, channelOf(row), row.packet) ?? ""} ${typeName(row.type)} ${codes}`;
 }
 
 // Whether a line of the list is looked for: sums of what is left out are only in the whole list.
@@ -59,7 +59,9 @@ function isListed(it, filter) {
   if (!isRow(it)) return false;
   const row = rowOf(it.item);
   const call = it.key.startsWith("call-") ? Number(it.key.slice(5)) : null;
-  const numbers = { call, channel: channelOf(row), packet: row.packet, frame: rowFrame(row), code: row.fault?.code };
+  const channel = channelOf(row);
+  const numbers = { call, channel, connection: connectionOf(channel, row.packet), packet: row.packet, frame: rowFrame(row),
+    code: row.fault?.code };
   return filter.takes(numbers, listedTexts(row));
 }
 
@@ -67,7 +69,8 @@ const LIST_COLUMNS = [
   [NUMBERED_BY, "number", ({ number, key }, row) => make("a", { href: `#${key}/${number}` },
     shortName(number, rowFrame(row)))],
   ["Time", "number", (it, row) => (row.time === null ? "-" : `+${decimals(row.time)} s`)],
-  ["Sent by", "", (it, row) => [SIDES[row.side], row.side === 0 ? " \u2192" : " \u2190"]],
+  ["Sent by", "", (it, row) => [SIDES[row.side], row.side === 0 ? " \u2192" : " \u2190",
+    hostOf(row.side, channelOf(row), row.packet) !== null && make("small", {}, hostOf(row.side, channelOf(row), row.packet))]],
   ["Channel", "number", (it, row) => channelOf(row) ?? "-"],
   ["Ladder", "", (it) => make("a", { href: `#${it.key}` }, shortKey(it.key))],
   ["What it is", "", (it, row) => packetText(row, " ").map((part) => (part instanceof Node ? part.textContent : part))],
@@ -134,7 +137,7 @@ function showPackets() {
     waiting = setTimeout(() => filterList(place("packet-filter").value), 150);
   };
   const text = make("input", { type: "search", id: "packet-filter", input: later,
-    placeholder: "call 4, channel 3, reset, code 1", "aria-label": "Filter of packets" });
+    placeholder: hasHosts ? "call 4, channel 3, reset, a host" : "call 4, channel 3, reset, code 1", "aria-label": "Filter of packets" });
   const heads = LIST_COLUMNS.map(([name, kindOf]) => make("th", { class: `${kindOf} plain-head`, scope: "col",
     role: "columnheader" }, name));
   place("packets").append(make("div", { class: "section-head" }, make("h2", {}, "All packets"),

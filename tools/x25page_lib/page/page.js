@@ -1,8 +1,8 @@
 // The start of the page: its parts, where its address leads, and its colours.
 
-const PARTS = { overview: "Overview", strip: "Channels", ladder: "Ladder", calls: "Calls", findings: "Findings",
-  waits: "Waits", use: "Use", packets: "Packets", accounts: "Who pays", settings: "PADs", words: "Words",
-  about: "About" };
+const PARTS = { overview: "Overview", findings: "Findings", strip: "Channels", ladder: "Ladder", calls: "Calls",
+  reading: "Reading", waits: "Waits", use: "Use", packets: "Packets", accounts: "Who pays",
+  settings: "PADs", words: "Words", about: "About" };
 const THEMES = { auto: "Auto", light: "Light", dark: "Dark" };
 
 function setTheme(name) {
@@ -27,6 +27,7 @@ function storedTheme() {
 function showTop() {
   document.title = `${facts.name}: x25page`;
   place("name").textContent = facts.name;
+  place("foot").append(facts.program);
   place("theme").append(...Object.entries(THEMES).map(([name, title]) => make("button",
     { type: "button", "data-name": name, click: () => setTheme(name) }, title)));
   setTheme(storedTheme());
@@ -45,7 +46,8 @@ function leftOutTexts() {
   if (left.level > 1) said.push("Packets that show nothing special are left out, and their sums are shown.");
   say(left.ladders, "ladder", "left out, those without findings first.");
   say(left.restarts, "restart", "not drawn over the channels.");
-  const tables = { calls: "call", marks: "finding", accounts: "account", settings: "setting" };
+  const tables = { calls: "call", unjudged: "call that was not judged", marks: "finding", accounts: "account",
+    settings: "setting" };
   for (const [name, noun] of Object.entries(tables)) {
     say(left[name], noun, "left out of the tables; the sums at the top count them.");
   }
@@ -70,6 +72,7 @@ function drawAll() {
   if (place("lanes")) drawStrip();
   drawLadder();
   drawCharts();
+  findingTable.table?.draw();
 }
 
 // A page that is printed is drawn for the width of the paper.
@@ -92,9 +95,11 @@ function start() {
   showTop();
   showFind();
   showOverview();
+  showFindings();
   showStrip();
   showCalls();
-  showFindings();
+  showUnjudged();
+  showReading();
   showWaits();
   showUse();
   showPackets();

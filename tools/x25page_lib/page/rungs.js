@@ -5,8 +5,10 @@ const LINE = 15;
 const ROW = 38;
 const NARROW = 640;
 const COMPACT = 860;
-const LETTER = 6.5;
-const BOLD_LETTER = 7.5;
+// The fonts of a ladder's notes, and how much wider a line may become on paper than the canvas measures.
+const FONT = '12.5px system-ui, "Segoe UI", Roboto, "Helvetica Neue", "DejaVu Sans", Arial, sans-serif';
+const SLACK = 1.03;
+const pen = document.createElement("canvas").getContext("2d");
 const GAP = "\u00a0\u00a0";
 const CHIP = 34;
 const CHIP_HEIGHT = 20;
@@ -16,9 +18,8 @@ function layout(width) {
   if (width < NARROW) {
     const [dte, dce] = [CHIP / 2 + 3, width - CHIP / 2 - 3];
     const note = dte + 24;
-    const room = dce - note - 22;
     return { width, isNarrow: true, dte, dce, left: dte, right: dce, number: note, note, text: 13, arrow: 42, chip: 18,
-      notes: 62, row: 66, letters: Math.floor(room / LETTER), boldLetters: Math.floor(room / BOLD_LETTER) };
+      notes: 62, row: 66, room: dce - note - 22 };
   }
   const isWide = width > COMPACT;
   const [number, time] = isWide ? [width * 0.05, width * 0.136] : [58, 150];
@@ -26,9 +27,8 @@ function layout(width) {
   const dte = time + 10 + 2 * beside;
   const dce = dte + Math.max(222, width * (isWide ? 0.382 : 0.3));
   const note = dce + beside + (isWide ? 38 : 24);
-  const letters = Math.floor((width - note - 4) / LETTER);
   return { width, isNarrow: false, dte, dce, left: dte - beside, right: dce + beside, number, time, note, text: 14,
-    arrow: ARROW, chip: 0, notes: 16, row: ROW, letters, boldLetters: letters };
+    arrow: ARROW, chip: 0, notes: 16, row: ROW, room: width - note - 6 };
 }
 
 function phase(state) {
@@ -40,20 +40,36 @@ function phase(state) {
   return state[0] === "r" ? "restart" : "unknown";
 }
 
-function wrapped(text, most) {
-  const lines = [""];
-  for (const part of text.split(" ")) {
-    const last = lines.at(-1);
-    if (last && last.length + part.length >= most) lines.push(part);
-    else lines[lines.length - 1] = last ? `${last} ${part}` : part;
-  }
-  return lines.flatMap((line) => (line.length <= most + 8 ? [line] : cut(line, most)));
+// How wide a text of a ladder is, in the units of its drawing.
+function widthOf(text, isBold) {
+  pen.font = `${isBold ? "bold " : ""}${FONT}`;
+  return SLACK * pen.measureText(text).width;
 }
 
-// A word that is longer than a line, in two lines at most.
-function cut(text, most) {
-  const rest = text.slice(most);
-  return [text.slice(0, most), rest.length > most ? `${rest.slice(0, most)}\u2026` : rest];
+// A text in lines that are no wider than a room.
+function wrapped(text, room, isBold = false) {
+  const lines = [""];
+  for (const part of text.split(" ").flatMap((it) => cut(it, room, isBold))) {
+    const last = lines.at(-1);
+    const longer = last ? `${last} ${part}` : part;
+    if (last && widthOf(longer, isBold) > room) lines.push(part);
+    else lines[lines.length - 1] = longer;
+  }
+  return lines;
+}
+
+// A word in parts that are no wider than a room, two at most.
+function cut(text, room, isBold) {
+  if (text.length < 8 || widthOf(text, isBold) <= room) return [text];
+  const fitting = (rest) => {
+    let most = Math.max(1, Math.min(rest.length, Math.floor(rest.length * room / widthOf(rest, isBold))));
+    while (most > 1 && widthOf(rest.slice(0, most), isBold) > room) most -= 1;
+    return most;
+  };
+  const first = fitting(text);
+  const rest = text.slice(first);
+  const second = fitting(`${rest}\u2026`);
+  return [text.slice(0, first), rest.length < second ? rest : `${rest.slice(0, second - 1)}\u2026`];
 }
 
 // What is next to an arrow, line by line: the text and its style.
@@ -61,7 +77,7 @@ function notes(row, at) {
   const { more, fault } = row;
   const found = [];
   const say = (text, style = "", code = null) =>
-    wrapped(text, style === "fault" ? at.boldLetters : at.letters).forEach((line) =>
+    wrapped(text, at.room, style === "fault").forEach((line) =>
       found.push({ text: line, style, code }));
   if (fault) {
     say(`Code ${fault.code}: ${fault.name}`, "fault", fault.code);
@@ -215,7 +231,7 @@ function gapLines(item) {
 // The drawing of a gap, and how high it is.
 function drawGap(item, at, y, state) {
   const inner = at.dce - at.dte - 28;
-  const [first, second] = gapLines(item).map((text) => wrapped(text, Math.floor((inner - 12) / LETTER)));
+  const [first, second] = gapLines(item).map((text) => wrapped(text, inner - 12));
   const height = 20 + LINE * (first.length + second.length);
   const line = (text, place) => draw("text", { class: place < first.length ? "" : "faint", x: (at.dte + at.dce) / 2,
     y: y + 20 + place * LINE, "text-anchor": "middle" }, text);
@@ -230,7 +246,7 @@ function drawGap(item, at, y, state) {
 function drawMissing(gap, at, y) {
   const inner = at.dce - at.dte - 28;
   const text = gapName(gap.missing, gap.channel, frameOf(gap.missing, gap.frame));
-  const lines = wrapped(text, Math.floor((inner - 12) / LETTER));
+  const lines = wrapped(text, inner - 12);
   const height = 20 + LINE * lines.length;
   const breaks = [at.dte, at.dce].map((x) => draw("path", { class: "missing-break",
     d: `M${x - 7} ${y + 9}l14 -6M${x - 7} ${y + height - 3}l14 -6` }));

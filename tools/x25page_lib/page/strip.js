@@ -206,7 +206,7 @@ function under(event) {
 
 function underText({ mark, call, restart, packet, gap }) {
   if (restart !== undefined) return `${upper(packetName(packet))} of the ${SIDES[restart]}: a restart`;
-  if (mark) return `${upper(packetName(mark[0]))} of the ${SIDES[mark[1]]}: code ${mark[3]}. ${mark[5]}`;
+  if (mark) return `${upper(packetName(mark[0]))} of the ${[SIDES[mark[1]], hostOf(mark[1], mark[2], mark[0])].filter(Boolean).join(" ")}: code ${mark[3]}. ${mark[5]}`;
   if (gap) return gapName(...gap);
   if (!call) return "";
   const found = call.findings ? `; ${plural(call.findings, "finding")}` : "";

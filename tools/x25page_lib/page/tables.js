@@ -1,6 +1,8 @@
 // The tables: calls, findings, accounts, PAD settings and words. Each shows some lines at a time, and can be sorted.
 
 const AT_ONCE = 50;
+// The lines of a table that stands before the drawings.
+const FEW = 10;
 
 function compare(a, b) {
   if (a === b) return 0;
@@ -14,6 +16,7 @@ function compare(a, b) {
 class Table {
   constructor(name, columns, lines, options = {}) {
     Object.assign(this, { name, columns, all: lines, lines, options, shown: AT_ONCE, by: null, falling: false });
+    this.atOnce = this.shown = options.atOnce ?? AT_ONCE;
     this.body = make("tbody", { role: "rowgroup" });
     this.head = make("tr", { role: "row" }, columns.map((column, at) => this.heading(column, at)));
     this.more = make("p", { class: "more" });
@@ -45,7 +48,7 @@ class Table {
 
   filter(wanted) {
     this.lines = this.all.filter(wanted);
-    this.shown = AT_ONCE;
+    this.shown = this.atOnce;
     if (this.by !== null) {
       this.falling = !this.falling;
       this.sort(this.by);
@@ -54,8 +57,9 @@ class Table {
   }
 
   draw() {
-    this.body.replaceChildren(...this.lines.slice(0, this.shown).map((line) => this.line(line)));
-    const rest = this.lines.length - this.shown;
+    const shown = printing.width ? Math.max(this.shown, AT_ONCE) : this.shown;
+    this.body.replaceChildren(...this.lines.slice(0, shown).map((line) => this.line(line)));
+    const rest = this.lines.length - shown;
     const act = () => { this.shown += 4 * AT_ONCE; this.draw(); };
     this.more.replaceChildren(...(rest > 0
       ? [make("button", { type: "button", click: act }, `${count(Math.min(rest, 4 * AT_ONCE))} more of ${count(rest)}`),
@@ -105,16 +109,24 @@ function callLink({ call }) {
     !isThere && make("small", { class: "no-ladder" }, "ladder left out")];
 }
 
+const openerOf = (call) => (call.direction === "out" ? 0 : 1);
+
+function smallHost(side, call) {
+  const host = hostOf(side, call.channel, call.opened);
+  return host !== null && make("small", { class: "host" }, host);
+}
+
 function callColumns() {
   const hasTimes = facts.times.length > 0;
   return [
     { name: "Call", word: "call", value: (it) => it.call, style: "number", show: callLink },
     { name: "Findings", word: "findings", value: (it) => it.findings, falls: true, show: codesOf },
-    number("Channel", (it) => it.channel, { word: "channel" }),
+    number("Channel", (it) => it.channel, { word: "channel",
+      show: (it) => [count(it.channel), smallConnection(it.channel, it.opened)] }),
     { name: "From", word: "calling", value: (it) => it.calling, style: "address" },
     { name: "To", word: "called", value: (it) => it.called, style: "address" },
     { name: "By", word: "direction", value: (it) => it.direction,
-      show: (it) => word("direction", it.direction, it.direction === "out" ? "DTE" : "DCE") },
+      show: (it) => [word("direction", it.direction, it.direction === "out" ? "DTE" : "DCE"), smallHost(openerOf(it), it)] },
     hasTimes ? { name: "Start", style: "number", value: (it) => it.start,
       show: (it) => (it.start === null ? "-" : clock(it.start).slice(hasDates ? 11 : 0).replace(" UTC", "")) }
       : number(`${NUMBERED_BY}s from`, (it) => it.opened, { word: "opened", show: (it) => shortName(it.opened) }),
@@ -131,14 +143,16 @@ function callColumns() {
 
 // Whether a call is looked for.
 function isSought(call, filter) {
-  const numbers = { call: call.call, channel: call.channel, code: Object.keys(call.codes || {}) };
-  const texts = [call.calling, call.called, call.payer, causeName(call.cause), causeName(call.diagnostic)];
+  const numbers = { call: call.call, channel: call.channel, connection: connectionOf(call.channel, call.opened),
+    code: Object.keys(call.codes || {}) };
+  const texts = [call.calling, call.called, call.payer, causeName(call.cause), causeName(call.diagnostic),
+    ...SIDES.map((_, side) => hostOf(side, call.channel, call.opened))];
   return filter.takes(numbers, texts.join(" "));
 }
 
 function showCalls() {
   const table = new Table("call-table", callColumns(), calls, { link: (call) => `call-${call.call}` });
-  const text = make("input", { type: "search", id: "call-filter", placeholder: "address, channel 3, call 4, cause",
+  const text = make("input", { type: "search", id: "call-filter", placeholder: hasConnections ? "address, host, connection 3" : "address, channel 3, call 4, cause",
     "aria-label": "Filter of calls" });
   const found = make("input", { type: "checkbox", id: "call-found" });
   const how = make("select", { id: "call-how", "aria-label": "How the call ended" },
@@ -161,19 +175,34 @@ function showCalls() {
   update();
 }
 
+// The table of findings, which has more lines on paper.
+const findingTable = { table: null };
+
+// The packet of a finding: its kind, the state in which it came, and its values.
+function foundPacketText([, , , , , , values, , kindAt, stateAt]) {
+  const state = facts.states[stateAt];
+  return [make("b", {}, typeName(facts.types[kindAt]).toUpperCase()), " in ", word("state", state, state),
+    values && make("small", {}, values)];
+}
+
 function showFindings() {
   if (!facts.marks.length) return;
   const columns = [
     { name: NUMBERED_BY, ...NUMBER_WORD, style: "number", value: (it) => it[0],
       show: (it) => make("a", { href: `#${it[4]}/${it[0]}` }, shortName(it[0])) },
-    { name: "Side", word: "side", value: (it) => it[1], show: (it) => word("side", LETTERS[it[1]], SIDES[it[1]]) },
+    { name: "Sent by", word: "side", value: (it) => it[1], style: hasHosts ? "sender" : "", show: (it) => sideWithHost(it[1], it[2], it[0]) },
+    { name: "Packet", value: (it) => facts.types[it[8]], style: "found-packet", show: foundPacketText },
     { name: "Code", word: "code", value: (it) => it[3],
       show: (it) => [word(codeTopic(it[3]), it[3], it[3], "code"), " ",
       (explained(codeTopic(it[3]), it[3]) || [""])[0]] },
     { name: "What was wrong", value: (it) => upper(it[5]) },
-    { name: "Where", value: (it) => it[4], show: (it) => keyName(it[4]) },
+    { name: "Where", value: (it) => it[4], show: (it) => [keyName(it[4]), smallConnection(it[2], it[0])] },
   ];
-  const table = new Table("finding-table", columns, facts.marks, { link: (it) => `${it[4]}/${it[0]}` });
+  if (facts.following.some(Boolean)) {
+    columns.push({ name: "May follow from", style: "number", value: (it) => it[7],
+      show: (it) => (it[7] === null ? "-" : make("a", { href: `#packets/${it[7]}` }, shortName(it[7]))) });
+  }
+  const table = findingTable.table = new Table("finding-table", columns, facts.marks, { link: (it) => `${it[4]}/${it[0]}`, atOnce: FEW });
   place("findings").append(make("h2", {}, "Findings"), make("div", { class: "card flush" }, table.element),
     leftOut(facts.left_out.marks, "finding", "x25scan prints all of them.") ?? "");
   showFoundChannels();
@@ -190,9 +219,38 @@ function showFoundChannels() {
     { name: "First", value: (it) => it[3], style: "number",
       show: (it) => make("a", { href: `#${it[4]}/${it[3]}` }, packetName(it[3])) },
   ];
-  const table = new Table("channel-table", columns, facts.found_channels, { link: (it) => `${it[4]}/${it[3]}` });
-  place("findings").append(make("h3", {}, "Findings by channel"), make("div", { class: "card flush" }, table.element),
+  const table = new Table("channel-table", columns, facts.found_channels, { link: (it) => `${it[4]}/${it[3]}`, atOnce: FEW });
+  place("findings").append(make("details", { class: "card" }, make("summary", {}, "Findings by channel",
+    make("small", {}, plural(facts.found_channels.length, "channel"))), table.element),
     leftOut(facts.left_out.found_channels, "channel", "x25scan --rows has all findings.") ?? "");
+}
+
+// Calls that both ends had, and that no sum has.
+function showUnjudged() {
+  if (!facts.unjudged.length) return;
+  const why = ([, , , , , , , , , , , code, state, waitsFor, key]) => {
+    const channel = ["the channel was in ", word("state", state, state)];
+    if (waitsFor !== null) return [...channel, ", where the DCE had not reacted to ", packetLink(key, waitsFor)];
+    return code === null ? channel : ["its request has a finding: ", word(codeTopic(code), code, `code ${code}`)];
+  };
+  const columns = [
+    { name: NUMBERED_BY, ...NUMBER_WORD, style: "number", value: (it) => it[4],
+      show: (it) => make("a", { href: `#${it[14]}/${it[4]}` }, shortName(it[4])) },
+    number("Channel", (it) => it[0], { word: "channel", show: (it) => [count(it[0]), smallConnection(it[0], it[4])] }),
+    { name: "From", word: "calling", value: (it) => it[2], style: "address" },
+    { name: "To", word: "called", value: (it) => it[3], style: "address" },
+    { name: "By", value: (it) => it[1], show: (it) => sideWithHost(it[1], it[0], it[4]) },
+    number("Data packets", (it) => it[7] + it[8], { falls: true }),
+    number("Octets of the DTE", (it) => it[9], { falls: true }), number("of the DCE", (it) => it[10], { falls: true }),
+    { name: "How it ended", value: (it) => it[6], show: (it) => [word("end", it[6], (explained("end", it[6]) || [it[6]])[0]),
+      it[5] !== null && make("small", {}, packetName(it[5]))] },
+    { name: "Why it was not judged", value: (it) => it[13], show: why },
+  ];
+  const table = new Table("unjudged-table", columns, facts.unjudged, { link: (it) => `${it[14]}/${it[4]}` });
+  place("unjudged").append(make("h2", {}, "Calls that were not judged"),
+    make("p", { class: "muted" }, "The other side accepted them, and their data is in no sum: the request broke the protocol, or ",
+      "it came where the channel waits for the DCE to reset or clear it."),
+    make("div", { class: "card flush" }, table.element), leftOut(facts.left_out.unjudged, "call", "") ?? "");
 }
 
 function showAccounts() {
