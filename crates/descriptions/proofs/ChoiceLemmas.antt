@@ -1,8 +1,8 @@
 -- Which rows are printed, line by line.
-use Rattle.std.proofs.Common.{◌≡◌, ◌≢◌, ◌∙◌, sym, ap, subst, refl, Bool, true, false, not, ◌&&◌, cond, List, [], ◌∷◌, ◌++◌, length, length-append, drop, Option, Some, None, IfSome, arith, append-nil}
+use Rattle.std.proofs.Common.{◌≡◌, ◌≢◌, ◌∙◌, sym, ap, subst, refl, Bool, true, false, not, ◌&&◌, cond, List, [], ◌∷◌, ◌++◌, length, length-append, drop, Option, Some, None, IfSome, Result, Ok, Err, OnOk, arith, append-nil}
 use Rattle.std.specs.List.{filter_map}
 use Rattle.std.specs.Prelude.{MatchOption}
-use Rattle.std.specs.Option.{option_map, option_to_list}
+use Rattle.std.specs.Option.{is_some, option_map, option_to_list}
 use Rattle.std.proofs.lemmas.List.Elements.{filter_map-append}
 use Rattle.line_model.specs.declared.interface.Interface.{Interface}
 use Rattle.line_model.specs.basics.Records.{Row}
@@ -18,6 +18,9 @@ use Rattle.annotated_trace.specs.declared.rows.Rows.TheVariants.{All, Chosen as 
 use Rattle.descriptions.specs.CallRows.{Follows}
 use Rattle.descriptions.specs.declared.chosen.Chosen.{Chosen}
 use Rattle.descriptions.specs.Choosing.{HasChosen, picked_where}
+use Rattle.descriptions.specs.Follows.{KeepsOrigins}
+use Rattle.descriptions.specs.RowObjects.{KeepsPast}
+use Rattle.descriptions.specs.declared.origins.Origins.{Origins}
 
 -- ---- the row of a line
 
@@ -149,6 +152,9 @@ some_one (Some x) P h none = none x refl
 pub head_is : (o : Option Interface) (i : Interface) → o ≡ Some i → IfSome o (λ j. j ≡ i)
 head_is o i h = subst (λ x. IfSome x (λ j. j ≡ i)) (sym h) refl
 
+pub some_is : (o : Option Interface) (i : Interface) → o ≡ Some i → is_some o ≡ true
+some_is o i h = ap is_some h
+
 pub same_head : (o : Option Interface) (i j : Interface) → o ≡ Some i → IfSome o (λ x. x ≡ j) → i ≡ j
 same_head o i j h k = subst (λ x. IfSome x (λ y. y ≡ j)) h k
 
@@ -162,3 +168,40 @@ chosen_same before l c h none =
       number = h.number;
       call = λ i head. subst (λ rs. Follows i (items_of i rs) c.call) (sym same) (h.call i (head_kept before l i head));
     }
+
+-- ---- what is kept of the rows of lines
+
+pub past_begun : {A : Type 0} (kept : Origins A) → ((i : Interface) → KeepsOrigins i [] kept) → KeepsPast [] kept
+past_begun kept h i head = subst (λ rows. KeepsOrigins i (items_of i rows) kept) (sym no_rows) (h i)
+
+pub past_same : {A : Type 0} (before : List Line) (l : Line) (kept : Origins A) → KeepsPast before kept → row_written before l ≡ None → KeepsPast (before ++ l ∷ []) kept
+past_same before l kept h none i head =
+    subst (λ rs. KeepsOrigins i (items_of i rs) kept) (sym (rows_written before l ∙ ap (λ o. rows_in before ++ option_to_list o) none ∙ append-nil (rows_in before))) (h i (head_kept before l i head))
+
+-- the row that a line writes, where one is printed or not
+written_by : (rows : Rows) (head : Option Interface) (earlier : List Row) (o : Option Row) (picked : Bool) → Some picked ≡ picked_where rows head earlier o → (r : Row) × (o ≡ Some r)
+written_by rows head earlier None picked h = absurd (let bad : Some picked ≡ None = h in cc)
+written_by rows head earlier (Some r) picked h = (r, refl)
+
+pub unwritten_by : (rows : Rows) (head : Option Interface) (earlier : List Row) (o : Option Row) → None ≡ picked_where rows head earlier o → o ≡ None
+unwritten_by rows head earlier None h = refl
+unwritten_by rows head earlier (Some r) h = absurd (let bad : None ≡ Some (is_chosen_if rows head earlier (Some r)) = h in cc)
+
+headed_by : (o : Option Interface) (i : Interface) → is_some o ≡ true → IfSome o (λ j. j ≡ i) → o ≡ Some i
+headed_by None i h k = cc
+headed_by (Some j) i h k = ap (λ x. Some x) k
+
+pub past_more : {A T E : Type 0} (result : Result T E) (rows : Rows) (before : List Line) (l : Line) (picked : Bool) (old new : Origins A) → Some picked ≡ picked_where rows (head_of before) (rows_in before) (row_written before l) → is_some (head_of before) ≡ true → KeepsPast before old
+    → ((i : Interface) (r : Row) → head_of before ≡ Some i → row_written before l ≡ Some r → KeepsOrigins i (items_of i (rows_in before)) old → OnOk result (KeepsOrigins i (items_of i (rows_in before) ++ item_of i r ∷ []) new))
+    → OnOk result (KeepsPast (before ++ l ∷ []) new)
+past_more (Err x) rows before l picked old new picks headed h step = tt
+past_more (Ok x) rows before l picked old new picks headed h step = λ i head.
+    let one = written_by rows (head_of before) (rows_in before) (row_written before l) picked picks in
+    let known = head_kept before l i head in
+    let all : rows_in (before ++ l ∷ []) ≡ rows_in before ++ one.0 ∷ [] = rows_written before l ∙ ap (λ o. rows_in before ++ option_to_list o) one.1 in
+    subst (λ items. KeepsOrigins i items new) (sym (items_written i (rows_in (before ++ l ∷ [])) (rows_in before) one.0 all))
+    (step i one.0 (headed_by (head_of before) i headed known) one.1 (h i known))
+
+pub both_ok : {T E : Type 0} {P : Type 0} (Q : Type 0) (result : Result T E) → P → OnOk result Q → OnOk result (P × Q)
+both_ok Q (Ok x) p q = (p, q)
+both_ok Q (Err x) p q = tt

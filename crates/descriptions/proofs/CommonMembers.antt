@@ -59,7 +59,6 @@ bits_then value v false true = Member (codes "more") (codes "false") _ refl refl
 bits_then value v true false = Member (codes "more") (codes "true") _ refl refl True (Member (codes "qualified") (codes "false") _ refl refl False (Member (codes "delivery") (codes "false") _ refl refl False (octets_member value v)))
 bits_then value v true true = Member (codes "more") (codes "true") _ refl refl True (Member (codes "qualified") (codes "false") _ refl refl False (Member (codes "delivery") (codes "true") _ refl refl True (octets_member value v)))
 
--- its epoch and its call
-pub place_members : (epoch : ℕ) (value : List ℕ) → IsValue value → IsFurther (codes ",\"epoch\":" ++ (decimal epoch ++ (codes ",\"owed\":false,\"call\":" ++ value)))
-place_members epoch value v =
-    number_then (codes "epoch") epoch _ refl refl (Member (codes "owed") (codes "false") _ refl refl False (value_then (codes "call") value refl refl v))
+-- its call
+pub call_member : (value : List ℕ) → IsValue value → IsFurther (codes ",\"call\":" ++ value)
+call_member value v = value_then (codes "call") value refl refl v

@@ -5,6 +5,7 @@ pub mod ChoiceLemmas
 pub mod ObjectLemmas
 pub mod LineLemmas
 pub mod FactLemmas
+pub mod OriginLemmas
 pub mod SentLemmas
 pub mod TableLemmas
 pub mod MemberLemmas

@@ -28,12 +28,15 @@ use Rattle.annotated_trace.specs.Printed.{HasAppended}
 use Rattle.descriptions.specs.Facts.{IsFateOf}
 use Rattle.descriptions.specs.Lines.{Puts, PutsForm}
 use Rattle.descriptions.specs.Members.{IsFurther, IsText, IsValue}
-use Rattle.descriptions.specs.RowObjects.{IsObjectWhere, IsRest, IsRowObject, channel_word, counted_word, events_at, finding_word, head_by, known_word, named_channel, row_head, state_at, state_members, word_after, word_before}
+use Rattle.descriptions.specs.RowObjects.{IsObjectWhere, IsRest, IsRowObject, channel_word, counted_word, events_at, finding_word, head_by, known_word, named_channel, owed_after, owed_at, place_members, row_head, state_at, state_members, word_after, word_before}
 use Rattle.descriptions.specs.CommonObjects.{IsCommonObject, amount_word, is_d1, is_quiet, is_settled, leaves_settled, common_head}
 use Rattle.descriptions.specs.declared.facts.Fate.TheVariants.{Counted}
-use Rattle.descriptions.proofs.ObjectLemmas.{words_are}
+use Rattle.descriptions.proofs.FollowLemmas.{same_epoch}
+use Rattle.descriptions.proofs.ObjectLemmas.{owed_is, words_are}
 use Rattle.descriptions.proofs.OneLine.{rest_one}
-use Rattle.descriptions.proofs.CommonMembers.{place_members}
+use Rattle.descriptions.specs.Follows.{KeepsOrigins, is_renewing}
+use Rattle.descriptions.specs.declared.origins.Origins.{Origins}
+use Rattle.descriptions.proofs.OriginLemmas.{kept_quiet}
 
 -- ---- bytes before others
 
@@ -64,14 +67,6 @@ form_then a b c join first later = record {
       (f.0, l.1 ++ f.1, f.2, l.3 ∙ ap (λ xs. l.1 ++ xs) f.3 ∙ sym (append_assoc l.1 f.1 f.0), join l.1 f.1 l.4 f.4);
 }
 
--- an epoch and a call
-pub place_form : (epoch : ℕ) (a b c d e : Option (List ℕ)) → PutsForm IsValue a b → Puts (codes ",\"owed\":false,\"call\":") b c → Puts (decimal epoch) c d → Puts (codes ",\"epoch\":") d e → PutsForm IsFurther a e
-place_form epoch a b c d e call owed number member =
-    let between = puts_then (codes ",\"epoch\":") (decimal epoch ++ codes ",\"owed\":false,\"call\":") b d e (puts_then (decimal epoch) (codes ",\"owed\":false,\"call\":") b c d owed number) member in
-    form_then {P = λ x. x ≡ codes ",\"epoch\":" ++ (decimal epoch ++ codes ",\"owed\":false,\"call\":")} a b e
-    (λ x y same v. subst IsFurther (ap (λ xs. codes ",\"epoch\":" ++ xs) (sym (append_assoc (decimal epoch) (codes ",\"owed\":false,\"call\":") y)) ∙ ap (λ xs. xs ++ y) (sym same)) (place_members epoch y v))
-    call (form_put (codes ",\"epoch\":" ++ (decimal epoch ++ codes ",\"owed\":false,\"call\":")) b e refl between)
-
 -- ---- what was counted
 
 pub counted_put : (lengths : List ℕ) (octets segments : ℕ) (a b : Option (List ℕ)) → IsFateOf lengths (Counted octets segments)
@@ -91,11 +86,15 @@ pub headed : (a n b s c k d x : List ℕ) → (a ++ (n ++ (b ++ (s ++ (c ++ (k +
 headed a n b s c k d x =
     append_assoc a (n ++ (b ++ (s ++ (c ++ (k ++ d))))) x ∙ ap (λ xs. a ++ xs) (append_assoc n (b ++ (s ++ (c ++ (k ++ d)))) x ∙ ap (λ xs. n ++ xs) (nested b s c k d x))
 
+-- the members between what was counted and the finding, none of which there is
+pub place_end : (epoch : ℕ) → codes ",\"epoch\":" ++ (decimal epoch ++ codes ",\"owed\":false,\"finding\":null") ≡ place_members epoch false ++ finding_word None None
+place_end epoch = ap (λ xs. codes ",\"epoch\":" ++ xs) (sym (append_assoc (decimal epoch) (codes ",\"owed\":false,\"finding\":") (codes "null")))
+
 -- ---- a whole line
 
-pub common_line : (row : JudgedRow) (events : List Event) (a b c d : Option (List ℕ)) (bytes : List ℕ) → is_quiet row ≡ true → gap_of row.packet ≡ None → a ≡ Some [] → Puts (codes "}\n") a b → PutsForm IsFurther b c → Puts (common_head row (all_lengths events)) c d
-    → d ≡ Some bytes → IsCommonObject row events bytes
-common_line row events a b c d bytes quiet gap empty end plain head is =
+pub common_line : (row : JudgedRow) (epoch : ℕ) (events : List Event) (a b c d : Option (List ℕ)) (bytes : List ℕ) → is_quiet row ≡ true → gap_of row.packet ≡ None → is_renewing row.packet ≡ false → a ≡ Some [] → Puts (codes "}\n") a b → PutsForm IsFurther b c
+    → Puts (common_head row epoch (all_lengths events)) c d → d ≡ Some bytes → IsCommonObject row epoch events bytes
+common_line row epoch events a b c d bytes quiet gap renews empty end plain head is =
     let h = head.whole bytes is in
     let p = plain.whole h.0 h.1 in
     let e = end.whole p.0 p.2 in
@@ -103,9 +102,10 @@ common_line row events a b c d bytes quiet gap empty end plain head is =
     record {
       quiet = quiet;
       packet = gap;
+      renews = renews;
       rest = p.1;
       members = p.4;
-      written = h.2 ∙ ap (λ xs. common_head row (all_lengths events) ++ xs) (p.3 ∙ ap (λ xs. p.1 ++ xs) (e.2 ∙ ap (λ xs. codes "}\n" ++ xs) none));
+      written = h.2 ∙ ap (λ xs. common_head row epoch (all_lengths events) ++ xs) (p.3 ∙ ap (λ xs. p.1 ++ xs) (e.2 ∙ ap (λ xs. codes "}\n" ++ xs) none));
     }
 
 -- a line that was lent
@@ -149,6 +149,12 @@ settled_words (judge.Restart before after) h = absurd (let bad : false ≡ true 
 settled_words (judge.Channel k before after accepted) h =
     (settled_word before (both_left (is_settled before) (is_settled after) h), settled_word after (both_right (is_settled before) (is_settled after) h))
 
+settled_owes : (j : Judge) → leaves_settled j ≡ true → owed_after j ≡ false
+settled_owes (judge.Restart before after) h = refl
+settled_owes (judge.Channel k before after accepted) h =
+    let v = view_in after in
+    not_set v.owed (both_left (not v.owed) (not v.adrift) (both_right (is_d1 v.state) (not v.owed && not v.adrift) (both_right (is_settled before) (is_settled after) h)))
+
 taker_of : (i : Interface) (taker : Option ℕ) (o more : Observer GapInterfaceState GapChannel) (j : Judge) → IsJudge i taker o more j → leaves_settled j ≡ true → (n : ℕ) × (taker ≡ Some n)
 taker_of i None o more (judge.Restart before after) h settled = absurd (let bad : false ≡ true = settled in cc)
 taker_of i None o more (judge.Channel k before after accepted) h settled = absurd h
@@ -157,8 +163,8 @@ taker_of i (Some n) o more j h settled = (n, refl)
 further_rest : (read packet : Packet) → read ≡ packet → gap_of packet ≡ None → (rest : List ℕ) → IsFurther rest → IsRest (gap_of read) None rest
 further_rest read packet same none rest h = subst (λ g. IsRest g None rest) (sym (ap gap_of same ∙ none)) h
 
-common_object : (i : Interface) (earlier : List Item) (r : Item) (row : JudgedRow) (events : List Event) (bytes : List ℕ) → IsJudgedRow i earlier r row events → IsCommonObject row events bytes → IsRowObject i earlier r bytes
-common_object i earlier r row events bytes l line =
+common_object : (i : Interface) (earlier : List Item) (r : Item) (row : JudgedRow) (epoch : ℕ) (events : List Event) (bytes : List ℕ) → IsJudgedRow i earlier r row events → epoch ≡ (observer i (earlier ++ r ∷ [])).epoch → IsCommonObject row epoch events bytes → IsRowObject i earlier r bytes
+common_object i earlier r row epoch events bytes l at line =
     let o : Observer GapInterfaceState GapChannel = observer i earlier in
     let more : Observer GapInterfaceState GapChannel = observer i (earlier ++ r ∷ []) in
     let taker : Option ℕ = routed (x25 i) o.level r in
@@ -174,8 +180,10 @@ common_object i earlier r row events bytes l line =
     let members : state_members row.number row.side (named_channel row.packet) (codes "d1") (codes "d1")
     ≡ state_members r.number r.side (named_channel r.packet) (state_at taker o) (state_at taker more) =
     (λ t. state_members (l.number t) (l.side t) (channel t) (before t) (after t)) in
-    let head : common_head row (all_lengths events) ≡ row_head i earlier r None =
-    (λ t. members t ++ (counted_word (all_lengths (came t)) ++ (codes ",\"finding\":" ++ finding_word None)))
+    let own : epoch ≡ o.epoch = at ∙ same_epoch i earlier r on.0 on.1 in
+    let owed : false ≡ owed_at taker more = sym (settled_owes row.judge settled) ∙ owed_is i taker o more row.judge l.judge in
+    let head : common_head row epoch (all_lengths events) ≡ row_head i earlier r None =
+    (λ t. members t ++ (counted_word (all_lengths (came t)) ++ (place_members (own t) (owed t) ++ finding_word None None)))
     ∙ sym (ap (λ g. head_by g i earlier r None) (sym (ap gap_of l.packet) ∙ line.packet)) in
     record {
       found = None;
@@ -189,13 +197,29 @@ common_object i earlier r row events bytes l line =
 pub picked_object : (picked : Bool) (i : Interface) (earlier : List Item) (r : Item) (bytes : List ℕ) → picked ≡ true → IsRowObject i earlier r bytes → IsObjectWhere picked i earlier r bytes
 picked_object picked i earlier r bytes is h = subst (λ b. IsObjectWhere b i earlier r bytes) (sym is) h
 
-pub lent_object : {X : Type 0} (f : X → List ℕ) (o : Option X) (picked : Bool) (i : Interface) (earlier : List Item) (r : Item) (row : JudgedRow) (events : List Event) (digits : List ℕ) → picked ≡ true
-    → IsJudgedRow i earlier r row events → IsText digits → IfSome o (λ x. IsText digits → IsCommonObject row events (f x)) → IfSome o (λ x. IsObjectWhere picked i earlier r (f x))
-lent_object f None picked i earlier r row events digits is l text h = tt
-lent_object f (Some x) picked i earlier r row events digits is l text h = picked_object picked i earlier r (f x) is (common_object i earlier r row events (f x) l (h text))
+pub lent_object : {X : Type 0} (f : X → List ℕ) (o : Option X) (picked : Bool) (i : Interface) (earlier : List Item) (r : Item) (row : JudgedRow) (epoch : ℕ) (events : List Event) (digits : List ℕ) → picked ≡ true
+    → IsJudgedRow i earlier r row events → epoch ≡ (observer i (earlier ++ r ∷ [])).epoch → IsText digits → IfSome o (λ x. IsText digits → IsCommonObject row epoch events (f x)) → IfSome o (λ x. IsObjectWhere picked i earlier r (f x))
+lent_object f None picked i earlier r row epoch events digits is l at text h = tt
+lent_object f (Some x) picked i earlier r row epoch events digits is l at text h = picked_object picked i earlier r (f x) is (common_object i earlier r row epoch events (f x) l at (h text))
+
+-- such a row leaves what is kept of the rows before it as it is
+common_kept : {A : Type 0} (i : Interface) (earlier : List Item) (r : Item) (row : JudgedRow) (epoch : ℕ) (events : List Event) (bytes : List ℕ) (kept : Origins A) → IsJudgedRow i earlier r row events → IsCommonObject row epoch events bytes → KeepsOrigins i earlier kept → KeepsOrigins i (earlier ++ r ∷ []) kept
+common_kept i earlier r row epoch events bytes kept l line h =
+    let on = taker_of i (routed (x25 i) (observer i earlier).level r) (observer i earlier) (observer i (earlier ++ r ∷ [])) row.judge l.judge (both_right (is_none row.finding) (leaves_settled row.judge) line.quiet) in
+    kept_quiet i earlier r row events on.0 kept l on.1 (no_finding row.finding (both_left (is_none row.finding) (leaves_settled row.judge) line.quiet)) line.renews h
+
+pub lent_kept : {X A : Type 0} (f : X → List ℕ) (o : Option X) (i : Interface) (earlier : List Item) (r : Item) (row : JudgedRow) (epoch : ℕ) (events : List Event) (digits : List ℕ) (kept : Origins A)
+    → IsJudgedRow i earlier r row events → IsText digits → IfSome o (λ x. IsText digits → IsCommonObject row epoch events (f x)) → IfSome o (λ x. KeepsOrigins i earlier kept → KeepsOrigins i (earlier ++ r ∷ []) kept)
+lent_kept f None i earlier r row epoch events digits kept l text h = tt
+lent_kept f (Some x) i earlier r row epoch events digits kept l text h = common_kept i earlier r row epoch events (f x) kept l (h text)
 
 -- ---- it is appended
 
 pub object_appended : {T E : Type 0} (r : Result T E) (form : List ℕ → Type 0) (object out after : List ℕ) → after ≡ cond (is_ok r) (out ++ object) out → form object → OnOk r (HasAppended form out after)
 object_appended (Ok x) form object out after e f = record { bytes = object; appended = e; formed = f }
 object_appended (Err x) form object out after e f = tt
+
+-- whatever came of it
+pub on_any : {T E : Type 0} {P : Type 0} (r : Result T E) → P → OnOk r P
+on_any (Ok x) p = p
+on_any (Err x) p = tt

@@ -22,7 +22,8 @@ use Rattle.annotated_trace.specs.Rows.{is_chosen, is_chosen_if}
 use Rattle.annotated_trace.specs.declared.rows.Rows.{Rows}
 use Rattle.descriptions.specs.Choosing.{picked_where}
 use Rattle.descriptions.specs.Facts.{AreFactsOf}
-use Rattle.descriptions.specs.RowObjects.{IsObjectOf, IsObjectWhere, IsRest, IsRowObject, counted_word, events_at, finding_word, gap_head, head_by, joined, known_word, named_channel, packet_head, row_head, state_at, state_members, word_after, word_before}
+use Rattle.descriptions.specs.Follows.{follows_at}
+use Rattle.descriptions.specs.RowObjects.{IsObjectOf, IsObjectWhere, IsRest, IsRowObject, counted_word, events_at, finding_word, gap_head, head_by, joined, known_word, named_channel, owed_after, owed_at, packet_head, place_members, row_head, state_at, state_members, word_after, word_before}
 use Rattle.descriptions.specs.declared.facts.RowFacts.{RowFacts}
 use Rattle.descriptions.proofs.OneLine.{rest_one}
 
@@ -43,6 +44,12 @@ words_are i None o more (judge.Channel k before after accepted) h = absurd h
 words_are i (Some n) o more (judge.Restart before after) h = absurd h
 words_are i (Some n) o more (judge.Channel k before after accepted) h = ((λ t. known_word (h.1.adrift t) (h.1.state t)), (λ t. known_word (h.2.adrift t) (h.2.state t)))
 
+pub owed_is : (i : Interface) (taker : Option ℕ) (o more : Observer GapInterfaceState GapChannel) (j : Judge) → IsJudge i taker o more j → owed_after j ≡ owed_at taker more
+owed_is i None o more (judge.Restart before after) h = refl
+owed_is i None o more (judge.Channel k before after accepted) h = absurd h
+owed_is i (Some n) o more (judge.Restart before after) h = absurd h
+owed_is i (Some n) o more (judge.Channel k before after accepted) h = h.2.owed
+
 -- ---- the beginning of an object
 
 four_parts : (out a b c d : List ℕ) → (((out ++ a) ++ b) ++ c) ++ d ≡ out ++ (a ++ (b ++ (c ++ d)))
@@ -52,7 +59,7 @@ four_parts out a b c d =
 pub head_put : (i : Interface) (earlier : List Item) (r : Item) (facts : RowFacts) (out o1 o2 o3 o4 : List ℕ) → AreFactsOf i earlier r facts
     → o1 ≡ out ++ state_members r.number r.side (named_channel facts.last.now.packet) (word_before facts.last.now.judge) (word_after facts.last.now.judge)
     → o2 ≡ o1 ++ counted_word (all_lengths (events_at i (routed (x25 i) (observer i earlier).level r) (observer i earlier) r))
-    → o3 ≡ o2 ++ codes ",\"finding\":" → o4 ≡ o3 ++ finding_word facts.last.now.finding → o4 ≡ out ++ packet_head i earlier r facts.last.now.finding
+    → o3 ≡ o2 ++ place_members facts.earlier.epoch (owed_after facts.last.now.judge) → o4 ≡ o3 ++ finding_word facts.last.now.finding facts.earlier.follows → o4 ≡ out ++ packet_head i earlier r facts.last.now.finding
 head_put i earlier r facts out o1 o2 o3 o4 h e1 e2 e3 e4 =
     let taker : Option ℕ = routed (x25 i) (observer i earlier).level r in
     let counted : List ℕ = counted_word (all_lengths (events_at i taker (observer i earlier) r)) in
@@ -60,8 +67,12 @@ head_put i earlier r facts out o1 o2 o3 o4 h e1 e2 e3 e4 =
     let members : state_members r.number r.side (named_channel facts.last.now.packet) (word_before facts.last.now.judge) (word_after facts.last.now.judge)
     ≡ state_members r.number r.side (named_channel r.packet) (state_at taker (observer i earlier)) (state_at taker (observer i (earlier ++ r ∷ []))) =
     (λ t. state_members r.number r.side (named_channel (h.packet t)) (words.0 t) (words.1 t)) in
-    e4 ∙ ap (λ xs. xs ++ finding_word facts.last.now.finding) (e3 ∙ ap (λ xs. xs ++ codes ",\"finding\":") (e2 ∙ ap (λ xs. xs ++ counted) (e1 ∙ ap (λ xs. out ++ xs) members)))
-    ∙ four_parts out (state_members r.number r.side (named_channel r.packet) (state_at taker (observer i earlier)) (state_at taker (observer i (earlier ++ r ∷ [])))) counted (codes ",\"finding\":") (finding_word facts.last.now.finding)
+    let more : Observer GapInterfaceState GapChannel = observer i (earlier ++ r ∷ []) in
+    let place : place_members facts.earlier.epoch (owed_after facts.last.now.judge) ≡ place_members (observer i earlier).epoch (owed_at taker more) =
+    (λ t. place_members (h.epoch t) (owed_is i taker (observer i earlier) more facts.last.now.judge h.judge t)) in
+    let found = finding_word facts.last.now.finding (follows_at i earlier r facts.last.now.finding) in
+    e4 ∙ (λ t. e3 t ++ finding_word facts.last.now.finding (h.follows t)) ∙ ap (λ xs. xs ++ found) ((λ t. e2 t ++ place t) ∙ ap (λ xs. xs ++ place_members (observer i earlier).epoch (owed_at taker more)) (ap (λ xs. xs ++ counted) (e1 ∙ ap (λ xs. out ++ xs) members)))
+    ∙ four_parts out (state_members r.number r.side (named_channel r.packet) (state_at taker (observer i earlier)) (state_at taker (observer i (earlier ++ r ∷ [])))) counted (place_members (observer i earlier).epoch (owed_at taker more)) found
 
 -- the beginning of a gap's, or of a packet's
 pub gap_is : (i : Interface) (earlier : List Item) (r : Item) (facts : RowFacts) (channel : Option ℕ) → AreFactsOf i earlier r facts → gap_of facts.last.now.packet ≡ Some channel

@@ -10,6 +10,7 @@ use Rattle.restart_epochs.specs.Cutting.{observer}
 use Rattle.live_report.specs.JudgedRows.{IsJudge}
 use Rattle.live_report.specs.Uncounted.{reason_at}
 use Rattle.live_report.specs.declared.uncounted.Reason.{Reason}
+use Rattle.descriptions.specs.Follows.{follows_at}
 use Rattle.descriptions.specs.RowObjects.{events_at}
 use Rattle.descriptions.specs.declared.facts.Fate.{Fate}
 use Rattle.descriptions.specs.declared.facts.Fate.TheVariants.{Counted, NotCounted}
@@ -27,7 +28,7 @@ abbrev pub reason_in : Fate → Option Reason
 reason_in (NotCounted reason) = Some reason
 reason_in _ = None
 
--- a row after others, the machine that judged it, what it found, what it counted, and why it did not
+-- a row after others, the machine that judged it, what it found, what it counted, why it did not, its epoch, and the finding that its own may follow from
 pub record AreFactsOf (i : Interface) (earlier : List Item) (r : Item) (facts : RowFacts) : Type 0 where
   pub number : facts.last.now.number ≡ r.number
   pub side : facts.last.now.side ≡ r.side
@@ -36,3 +37,5 @@ pub record AreFactsOf (i : Interface) (earlier : List Item) (r : Item) (facts : 
   pub finding : (report_of i (earlier ++ r ∷ [])).findings ≡ (report_of i earlier).findings ++ option_to_list facts.last.now.finding
   pub fate : IsFateOf (all_lengths (events_at i (routed (x25 i) (observer i earlier).level r) (observer i earlier) r)) facts.fate
   pub reason : reason_in facts.fate ≡ reason_at i (observer i earlier) r
+  pub epoch : facts.earlier.epoch ≡ (observer i earlier).epoch
+  pub follows : facts.earlier.follows ≡ follows_at i earlier r facts.last.now.finding

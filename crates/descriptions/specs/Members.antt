@@ -51,7 +51,7 @@ mutual
 
 -- the names of the members that are promised, of an object or of its finding
 abbrev pub promised : List (List ℕ)
-promised = codes "line" ∷ codes "packet" ∷ codes "side" ∷ codes "channel" ∷ codes "before" ∷ codes "after" ∷ codes "counted" ∷ codes "finding" ∷ codes "code" ∷ []
+promised = codes "line" ∷ codes "packet" ∷ codes "side" ∷ codes "channel" ∷ codes "before" ∷ codes "after" ∷ codes "counted" ∷ codes "epoch" ∷ codes "owed" ∷ codes "finding" ∷ codes "code" ∷ codes "follows" ∷ []
 
 -- members with other names
 abbrev pub IsFurther : List ℕ → Type 0

@@ -1,5 +1,5 @@
 -- The object of a row: its first members say what the definitions' walk does; others come after them.
-use Rattle.std.specs.Prelude.{◌≡◌, ℕ, Bool, true, false, List, [], ◌∷◌, ◌++◌, Option, None, Some, OnOk, Result, option_to_list, codes, decimal, flat_map, length}
+use Rattle.std.specs.Prelude.{◌≡◌, ℕ, Bool, true, false, List, [], ◌∷◌, ◌++◌, Option, None, Some, IfSome, OnOk, Result, option_to_list, codes, decimal, flat_map, length}
 use Rattle.json_lines.specs.Json.{json_text}
 use Rattle.line_model.specs.basics.Records.{Item, Report, Row}
 use Rattle.line_model.specs.channels.Gaps.{GapChannel}
@@ -34,7 +34,9 @@ use Rattle.annotated_trace.specs.Printed.{HasAppended}
 use Rattle.annotated_trace.specs.Rows.{is_chosen, row_written}
 use Rattle.annotated_trace.specs.declared.rows.Rows.{Rows}
 use Rattle.descriptions.specs.Closing.{AreClosingObjects}
+use Rattle.descriptions.specs.Follows.{KeepsOrigins, follows_at}
 use Rattle.descriptions.specs.Members.{IsFurther}
+use Rattle.descriptions.specs.declared.origins.Origins.{Origins}
 
 -- all words, one after the other
 abbrev pub joined : List (List ℕ) → List ℕ
@@ -86,10 +88,29 @@ abbrev pub counted_word : List ℕ → List ℕ
 counted_word [] = codes "null"
 counted_word (n ∷ ns) = joined (codes "{\"octets\":" ∷ decimal n ∷ codes ",\"segments\":" ∷ decimal (segments_of (n ∷ [])) ∷ codes "}" ∷ [])
 
--- the object of a finding, up to its code, or null
-abbrev pub finding_word : Option Finding → List ℕ
-finding_word None = codes "null"
-finding_word (Some f) = joined (codes "{\"code\":\"" ∷ code_word f.code ∷ codes "\"" ∷ [])
+-- true or false
+abbrev pub flag_word : Bool → List ℕ
+flag_word true = codes "true"
+flag_word false = codes "false"
+
+-- whether the DCE owes its indication on the logical channel that receives a row
+abbrev pub owed_at : (taker : Option ℕ) → Observer GapInterfaceState GapChannel → Bool
+owed_at None o = false
+owed_at (Some k) o = (o.states k).channel.owed
+
+-- whether it does after a row, by the machine that judged it
+abbrev pub owed_after : Judge → Bool
+owed_after (judge.Restart before after) = false
+owed_after (judge.Channel k before after accepted) = (view_in after).owed
+
+-- the object of a finding, up to the number of the one that it may follow from, or null
+abbrev pub finding_word : Option Finding → (follows : Option ℕ) → List ℕ
+finding_word None follows = codes "null"
+finding_word (Some f) follows = joined (codes "{\"code\":\"" ∷ code_word f.code ∷ codes "\",\"follows\":" ∷ number_word follows ∷ [])
+
+-- the members between what was counted and the finding
+abbrev pub place_members : (epoch : ℕ) → (owed : Bool) → List ℕ
+place_members epoch owed = joined (codes ",\"epoch\":" ∷ decimal epoch ∷ codes ",\"owed\":" ∷ flag_word owed ∷ codes ",\"finding\":" ∷ [])
 
 -- the members of a row up to its states
 abbrev pub state_members : (number : ℕ) → Side → (channel : Option ℕ) → (before after : List ℕ) → List ℕ
@@ -98,12 +119,13 @@ state_members number side channel before after =
     ∷ codes ",\"before\":\"" ∷ before ∷ codes "\",\"after\":\"" ∷ after ∷ codes "\",\"counted\":" ∷ [])
 
 -- the beginning of the object of a packet after others: its number, its side and logical channel, the state before and after it, what it
--- counted, and the code of what it found
+-- counted, its epoch, whether the DCE owes its indication after it, the code of what it found, and the finding that this may follow from
 abbrev pub packet_head : Interface → (earlier : List Item) → Item → Option Finding → List ℕ
 packet_head i earlier r found =
     let taker : Option ℕ = routed (x25 i) (observer i earlier).level r in
     state_members r.number r.side (named_channel r.packet) (state_at taker (observer i earlier)) (state_at taker (observer i (earlier ++ r ∷ [])))
-    ++ (counted_word (all_lengths (events_at i taker (observer i earlier) r)) ++ (codes ",\"finding\":" ++ finding_word found))
+    ++ (counted_word (all_lengths (events_at i taker (observer i earlier) r))
+    ++ (place_members (observer i earlier).epoch (owed_at taker (observer i (earlier ++ r ∷ []))) ++ finding_word found (follows_at i earlier r found)))
 
 -- that of a gap: its number, and its logical channel, null where packets of any may be missing
 abbrev pub gap_head : (number : ℕ) → (channel : Option ℕ) → List ℕ
@@ -149,9 +171,17 @@ IsLineObject rows before l bytes = IsObjectOf rows (head_of before) (rows_in bef
 abbrev pub OfLastRow : {A C : Type 0} → Machine C A → Live A C → (line : List ℕ) → (Interface → List Item → Item → Type 0) → Type 0
 OfLastRow m live line Fact = (i : Interface) (before : List Line) (l : Line) (r : Row) (text : List ℕ) → KeepsRowsOf m text live → ended_lines text ≡ before ++ l ∷ [] → head_of before ≡ Some i → row_written before l ≡ Some r → line ≡ l ++ 10 ∷ [] → Fact i (items_of i (rows_in before)) (item_of i r)
 
--- the object of that row was appended, if it is printed and memory was not refused
-abbrev pub AppendsObject : {A C T E : Type 0} → Machine C A → Live A C → (line : List ℕ) → (picked : Bool) → Result T E → (before after : List ℕ) → Type 0
-AppendsObject m live line picked result before after = OfLastRow m live line (λ i earlier r. OnOk result (HasAppended (IsObjectWhere picked i earlier r) before after))
+-- the object of that row was appended, if it is printed and memory was not refused, where this is kept of the rows before it
+abbrev pub AppendsObject : {A C T E : Type 0} → Machine C A → Live A C → (line : List ℕ) → (picked : Bool) → Origins A → Result T E → (before after : List ℕ) → Type 0
+AppendsObject m live line picked kept result before after = OfLastRow m live line (λ i earlier r. KeepsOrigins i earlier kept → OnOk result (HasAppended (IsObjectWhere picked i earlier r) before after))
+
+-- it is kept of that row too
+abbrev pub KeepsLast : {A C T E : Type 0} → Machine C A → Live A C → (line : List ℕ) → Result T E → (before after : Origins A) → Type 0
+KeepsLast m live line result before after = OfLastRow m live line (λ i earlier r. KeepsOrigins i earlier before → OnOk result (KeepsOrigins i (earlier ++ r ∷ []) after))
+
+-- this is kept of the rows of some lines
+abbrev pub KeepsPast : {A : Type 0} → List Line → Origins A → Type 0
+KeepsPast ls kept = (i : Interface) → IfSome (head_of ls) (λ j. j ≡ i) → KeepsOrigins i (items_of i (rows_in ls)) kept
 
 -- what comes after the last row: the objects of the report, those of what was not counted, and one for each of its calls, and no other line
 pub record IsClosing (report : Report) (bytes : List ℕ) : Type 0 where

@@ -1,12 +1,12 @@
 //! Which rows are printed.
 
-ghost use Rattle.std.specs.Prelude.{◌≡◌, ℕ, ◌++◌, ◌∷◌, [], List, None};
+ghost use Rattle.std.specs.Prelude.{◌≡◌, ℕ, ◌++◌, ◌∷◌, [], List, IfSome, IsTrue, None, is_some};
 ghost use Rattle.line_model.specs.declared.event.Event.{Event};
 ghost use Rattle.line_model.specs.declared.interface.Interface.{Interface};
 ghost use Rattle.line_model.specs.basics.Records.{Item};
 ghost use Rattle.line_model.specs.observer.Machine.{steps_all};
 ghost use Rattle.line_model.specs.observer.Observer.{x25};
-ghost use Rattle.line_model.specs.text.Text.{Line, ended_lines};
+ghost use Rattle.line_model.specs.text.Text.{Line, ended_lines, head_of};
 ghost use Rattle.restart_epochs.specs.Cutting.{observer};
 ghost use Rattle.live_report.specs.JudgedRows.{IsJudgedRow, taker};
 ghost use Rattle.live_report.specs.Lives.{KeepsRowsOf};
@@ -135,6 +135,10 @@ impl Chosen {
             → HasChosen before self.old → KeepsRowsOf C.Channel text trace.now
             → ended_lines text ≡ before ++ line ∷ []
             → result ≡ picked_by_line self.old before line }
+        ensures headed { (before : List Line) (line : Line) (text : List ℕ)
+            → HasChosen before self.old → KeepsRowsOf C.Channel text trace.now
+            → ended_lines text ≡ before ++ line ∷ []
+            → IfSome result (λ picked. IsTrue (is_some (head_of before))) }
         ensures chosen { (before : List Line) (line : Line) (text : List ℕ)
             → HasChosen before self.old → KeepsRowsOf C.Channel text trace.now
             → ended_lines text ≡ before ++ line ∷ []

@@ -1,12 +1,13 @@
 //! Fast path: the objects of data with Q 0 and of receive ready, in d1 and without a finding.
 
-ghost use Rattle.std.specs.Prelude.{◌≡◌, ℕ, ◌++◌, List, IfSome, None, Some, codes};
+ghost use Rattle.std.specs.Prelude.{◌≡◌, ℕ, ◌++◌, List, IfSome, None, Some, codes, false};
 ghost use Rattle.std.specs.Bool.{OnTrue};
 ghost use Rattle.line_model.specs.observer.Calls.{all_lengths};
 ghost use Rattle.line_model.specs.observer.Report.{side_word};
 ghost use Rattle.line_model.specs.declared.packet.Packet.TheVariants.{Channel as OfChannel};
 ghost use Rattle.line_model.specs.packets.Says.{gap_of};
 ghost use Rattle.descriptions.specs.Facts.{IsFateOf};
+ghost use Rattle.descriptions.specs.Follows.{is_renewing};
 ghost use Rattle.descriptions.specs.Lines.{Puts, PutsForm};
 ghost use Rattle.descriptions.specs.Members.{IsFurther, IsText, IsValue};
 ghost use Rattle.descriptions.specs.RowObjects.{counted_word, named_channel};
@@ -112,6 +113,7 @@ fn put_ready(line: &mut LineRoom, receive: u8, digits: &[u8])
 fn put_packet(line: &mut LineRoom, kind: &PacketKind, fate: Fate, digits: &[u8]) -> bool
     ensures members { OnTrue result (IsText digits.now → PutsForm IsFurther line.old line.new) }
     ensures packet { OnTrue result ((k : ℕ) → gap_of (OfChannel k kind.now) ≡ None) }
+    ensures renews { OnTrue result ((k : ℕ) → is_renewing (OfChannel k kind.now) ≡ false) }
 {
     match (kind, fate) {
         (PacketKind::Data(Some(header)), Fate::Counted { octets, .. }) if !header.qualified => {
@@ -137,14 +139,12 @@ fn put_call(line: &mut LineRoom, call: u32)
     line.number(u64::from(call));
 }
 
-/// Puts the epoch of a row, and its call.
-fn put_place(line: &mut LineRoom, epoch: u32, call: u32)
+/// Puts the member of a call.
+fn put_call_member(line: &mut LineRoom, call: u32)
     ensures { PutsForm IsFurther line.old line.new }
 {
     put_call(line, call);
-    line.put(b",\"owed\":false,\"call\":");
-    line.number(u64::from(epoch));
-    line.put(b",\"epoch\":");
+    line.put(b",\"call\":");
 }
 
 /// Puts octets that were counted, and their segments.
@@ -180,16 +180,19 @@ fn side_member(side: Side) -> &'static [u8]
 }
 
 /// Puts the beginning of the object of a row.
-fn put_head(line: &mut LineRoom, row: &JudgedRow, channel: u16, fate: Fate)
-    ensures { (lengths : List ℕ) → IsFateOf lengths fate → named_channel row.now.packet ≡ Some channel
-        → Puts (common_head row.now lengths) line.old line.new }
+fn put_head(line: &mut LineRoom, common: &CommonRow<'_>, channel: u16, fate: Fate)
+    ensures { (lengths : List ℕ) → IsFateOf lengths fate
+        → named_channel common.now.row.now.packet ≡ Some channel
+        → Puts (common_head common.now.row.now common.now.epoch lengths) line.old line.new }
 {
-    line.put(b",\"finding\":null");
+    line.put(b",\"owed\":false,\"finding\":null");
+    line.number(u64::from(common.epoch));
+    line.put(b",\"epoch\":");
     put_counted(line, fate);
     line.put(b",\"before\":\"d1\",\"after\":\"d1\",\"counted\":");
     line.number(u64::from(channel));
-    line.put(side_member(row.side));
-    line.number(u64::from(row.number));
+    line.put(side_member(common.row.side));
+    line.number(u64::from(common.row.number));
     line.put(b"{\"line\":\"row\",\"packet\":");
 }
 
@@ -208,7 +211,7 @@ fn common_fate(events: &[Event]) -> Fate
 #[inline(always)]
 pub fn common_object<'r>(room: &'r mut LineRoom, common: &CommonRow<'_>) -> Option<&'r [u8]>
     ensures { IfSome result (λ object. IsText common.now.digits.now
-        → IsCommonObject common.now.row.now common.now.events.now object.now) }
+        → IsCommonObject common.now.row.now common.now.epoch common.now.events.now object.now) }
 {
     let Packet::Channel { channel, kind } = &common.row.packet else {
         return None;
@@ -223,7 +226,7 @@ pub fn common_object<'r>(room: &'r mut LineRoom, common: &CommonRow<'_>) -> Opti
     if !is_common {
         return None;
     }
-    put_place(room, common.epoch, common.call);
-    put_head(room, common.row, *channel, fate);
+    put_call_member(room, common.call);
+    put_head(room, common, *channel, fate);
     room.line()
 }

@@ -4,14 +4,16 @@ ghost use Rattle.std.specs.Prelude.{◌≡◌, ◌<◌, [], ℕ, List, None, OnO
 ghost use Rattle.line_model.specs.basics.Records.{Item};
 ghost use Rattle.line_model.specs.declared.interface.Interface.{Interface as AnyInterface};
 ghost use Rattle.line_model.specs.observer.Calls.{all_lengths};
-ghost use Rattle.restart_epochs.specs.Cutting.{observer};
+ghost use Rattle.restart_epochs.specs.Cutting.{observer, observer as observer_of};
 ghost use Rattle.live_report.specs.JudgedRows.{IsJudgedRow, taker};
 ghost use Rattle.live_report.specs.Uncounted.{reason_at};
 ghost use Rattle.descriptions.specs.Facts.{AreFactsOf, IsFateOf, reason_in};
+ghost use Rattle.descriptions.specs.Follows.{follows_at};
 
 use crate::facts::{
     CallMove, EndedCall, Fate, RowFacts, counted_in, data_header, is_adrift, is_clear, user_data,
 };
+use crate::origins::Earlier;
 use channel_run::run::Channel;
 use channel_run::status_word::{state_in, view_in};
 use data_transfer::assembler::Assembler;
@@ -179,10 +181,8 @@ pub struct Course<A: Allocator> {
     had_gap: bool,
     /// The PAD message that the last row completed.
     message: Option<Vec<u8, A>>,
-    /// The epoch of the last row.
-    epoch: u32,
-    /// The epoch of the next row.
-    next_epoch: u32,
+    /// The last row ended an epoch and began the next one at once.
+    renews: bool,
     known_channels: ChannelTable<KnownChannel<A>, A>,
 }
 
@@ -198,22 +198,21 @@ impl<A: Allocator + Copy> Course<A> {
             moved: CallMove::none(),
             had_gap: false,
             message: None,
-            epoch: 1,
-            next_epoch: 1,
+            renews: false,
             known_channels: ChannelTable::new(alloc),
         }
     }
 
-    /// Applies the last row of an observer. Fails only when memory is refused.
+    /// Applies the last row of an observer, which is of this epoch. Fails only when memory is refused.
     pub fn take<C: Channel<A>>(
         &mut self,
         interface: &Interface,
         octets: &[u8],
         last: &JudgedRow,
         observer: &Observer<A, C>,
+        epoch: u32,
     ) -> Result<(), AllocError> {
-        self.epoch = self.next_epoch;
-        self.next_epoch = observer.epoch();
+        self.renews = epoch != observer.epoch() && is_in_r1(last);
         self.calls.ended.clear();
         self.moved = CallMove::none();
         self.had_gap = false;
@@ -235,17 +234,20 @@ impl<A: Allocator + Copy> Course<A> {
         }
     }
 
-    /// Returns the facts of the last row of an observer, which was applied.
+    /// Returns the facts of the last row of an observer, which was applied, with what it has of those before it.
     pub fn facts<'a, C: Channel<A>>(
         &'a self,
         interface: &'a Interface,
         row: &'a ReadRow<A>,
         last: &'a JudgedRow,
         observer: &'a Observer<A, C>,
+        earlier: Earlier,
     ) -> RowFacts<'a>
-        ensures facts { (i : AnyInterface) (earlier : List Item) (r : Item)
-            → IsJudgedRow i earlier r last.now observer.now.events.items
-            → AreFactsOf i earlier r result }
+        ensures facts { (i : AnyInterface) (rows : List Item) (r : Item)
+            → IsJudgedRow i rows r last.now observer.now.events.items
+            → earlier.epoch ≡ (observer_of i rows).epoch
+            → earlier.follows ≡ follows_at i rows r last.now.finding
+            → AreFactsOf i rows r result }
         ensures length { result.length ≡ row.now.length }
     {
         let events = events_of(last, observer);
@@ -254,12 +256,12 @@ impl<A: Allocator + Copy> Course<A> {
             length: row.length,
             octets: row.octets.as_slice(),
             last,
-            epoch: self.epoch,
+            earlier,
             events,
             calls: self.moved,
             fate: fate(last, events),
             message: self.message(),
-            renews: self.renews(last),
+            renews: self.renews,
             had_gap: self.had_gap,
         }
     }
@@ -285,17 +287,12 @@ impl<A: Allocator + Copy> Course<A> {
         }
     }
 
-    /// Whether the last row ended an epoch and began the next one at once.
-    fn renews(&self, last: &JudgedRow) -> bool {
-        self.epoch != self.next_epoch && is_in_r1(last)
-    }
-
     /// Applies a row that the restart machine judged. A confirmation that renews the epoch shows a restart that was
     /// missed.
     fn on_interface(&mut self, last: &JudgedRow) -> Result<(), AllocError> {
-        if self.renews(last) && last.packet == Packet::RestartConfirm {
+        if self.renews && last.packet == Packet::RestartConfirm {
             self.end_all(How::Gap)
-        } else if self.renews(last) || leaves_ready(last) {
+        } else if self.renews || leaves_ready(last) {
             self.end_all(How::Restart)
         } else {
             Ok(())

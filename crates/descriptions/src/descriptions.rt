@@ -4,6 +4,7 @@ use crate::chosen::Chosen;
 use crate::closing;
 use crate::course::Course;
 use crate::faults::{Before, fault};
+use crate::origins::Origins;
 use crate::prose::ProseWriter;
 use crate::row_words::row;
 use annotated_trace::describer::Describer;
@@ -21,6 +22,7 @@ use std::alloc::{AllocError, Allocator};
 /// What is kept of the rows before.
 #[derive(Drop)]
 struct Past<A: Allocator> {
+    origins: Origins<A>,
     course: Course<A>,
     /// What was known before the last row with a finding.
     before: Option<Before>,
@@ -31,6 +33,7 @@ impl<A: Allocator + Copy> Past<A> {
     /// Returns the value before the first row. Allocates no memory.
     fn new(alloc: A) -> Self {
         Past {
+            origins: Origins::new(alloc),
             course: Course::new(alloc),
             before: None,
             uncounted: Uncounted::none(),
@@ -50,9 +53,15 @@ impl<A: Allocator + Copy> Past<A> {
         let Some(last) = observer.last_row() else {
             return Ok(());
         };
-        self.course
-            .take(&interface, read.octets.as_slice(), last, observer)?;
-        let facts = self.course.facts(&interface, read, last, observer);
+        let earlier = self.origins.take(last, observer.epoch())?;
+        self.course.take(
+            &interface,
+            read.octets.as_slice(),
+            last,
+            observer,
+            earlier.epoch,
+        )?;
+        let facts = self.course.facts(&interface, read, last, observer, earlier);
         if facts.last.finding.is_some() {
             self.before = Some(Before::of_row(&facts));
         }

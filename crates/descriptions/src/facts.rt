@@ -8,6 +8,7 @@ ghost use Rattle.line_model.specs.packets.Says.{gap_of};
 ghost use Rattle.live_report.specs.Uncounted.{counts_data};
 ghost use Rattle.descriptions.specs.Facts.{IsFateOf, reason_in};
 
+use crate::origins::Earlier;
 use call_accounts::so_far::segments_in;
 use channel_run::run::View;
 use channel_run::status_word::{bit, view_in};
@@ -101,8 +102,8 @@ pub struct RowFacts<'a> {
     pub octets: &'a [u8],
     /// The row as the observer judged it.
     pub last: &'a JudgedRow,
-    /// Its epoch: the time between two restarts.
-    pub epoch: u32,
+    /// Its epoch, and the finding that its own may follow from.
+    pub earlier: Earlier,
     /// The events of the logical channel that it went to.
     pub events: &'a [Event],
     /// The calls of that channel.

@@ -1,6 +1,8 @@
 //! What is wrong with a row, in words.
 
 use crate::facts::{RowFacts, user_octets};
+use crate::names;
+use crate::packet_names::packet_name;
 use crate::prose::{Prose, count, say_number};
 use channel_run::run::View;
 use data_transfer::flow::SendWindow;
@@ -8,8 +10,17 @@ use explanations::explanation::Explanation;
 use explanations::lookup::code_row;
 use line_model::diagnostic::{
     CALL_ON_ONE_WAY_LOGICAL_CHANNEL, INCONSISTENT_Q_BIT_SETTING, INVALID_GENERAL_FORMAT_IDENTIFIER,
-    INVALID_P_R, INVALID_P_S, PACKET_ON_UNASSIGNED_LOGICAL_CHANNEL, PACKET_TOO_LONG,
-    PACKET_TOO_SHORT, UNIDENTIFIABLE_PACKET,
+    INVALID_P_R, INVALID_P_S, INVALID_PACKET_TYPE_ON_A_PERMANENT_VIRTUAL_CIRCUIT,
+    PACKET_ON_UNASSIGNED_LOGICAL_CHANNEL, PACKET_TOO_LONG, PACKET_TOO_SHORT,
+    PACKET_TYPE_INVALID_FOR_STATE_D1, PACKET_TYPE_INVALID_FOR_STATE_D2,
+    PACKET_TYPE_INVALID_FOR_STATE_D3, PACKET_TYPE_INVALID_FOR_STATE_P1,
+    PACKET_TYPE_INVALID_FOR_STATE_P2, PACKET_TYPE_INVALID_FOR_STATE_P3,
+    PACKET_TYPE_INVALID_FOR_STATE_P4, PACKET_TYPE_INVALID_FOR_STATE_P5,
+    PACKET_TYPE_INVALID_FOR_STATE_P6, PACKET_TYPE_INVALID_FOR_STATE_P7,
+    PACKET_TYPE_INVALID_FOR_STATE_R1, PACKET_TYPE_INVALID_FOR_STATE_R2,
+    PACKET_TYPE_INVALID_FOR_STATE_R3, REJECT_NOT_SUBSCRIBED_TO,
+    RESTART_PACKET_WITH_NON_ZERO_LOGICAL_CHANNEL_IDENTIFIER, UNAUTHORIZED_INTERRUPT,
+    UNAUTHORIZED_INTERRUPT_CONFIRMATION, UNIDENTIFIABLE_PACKET,
 };
 use line_model::finding::{Code, Finding};
 use line_model::interface::Interface;
@@ -30,6 +41,8 @@ pub struct Before {
     pub length: usize,
     /// The channel had a gap in its call: its numbers may be others than the view has.
     pub had_gap: bool,
+    /// The number of the finding that its own may follow from.
+    pub follows: Option<u32>,
 }
 
 impl Before {
@@ -41,12 +54,13 @@ impl Before {
             packet: facts.last.packet,
             length: facts.length,
             had_gap: facts.had_gap,
+            follows: facts.earlier.follows,
         }
     }
 }
 
-/// Writes a finding: the name of its code, what is wrong with the values of the row, what the DCE does next, and the
-/// clause.
+/// Writes a finding: the name of its code, what is wrong with the values of the row, what the DCE does next, the
+/// clause, and the finding that it may follow from.
 pub fn fault<P: Prose>(out: &mut P, before: &Before, octets: &[u8], finding: &Finding) {
     let Some(row) = code_row(finding.code) else {
         return;
@@ -59,6 +73,10 @@ pub fn fault<P: Prose>(out: &mut P, before: &Before, octets: &[u8], finding: &Fi
     out.say(". (");
     out.say(row.clause);
     out.say(")");
+    if let Some(number) = before.follows {
+        say_number(out, " May follow from F ", u64::from(number));
+        out.say(".");
+    }
 }
 
 /// Writes what is wrong with a row: with its values, where these show it.
@@ -102,18 +120,118 @@ fn reaction(state: StateName, code: u8) -> &'static str {
 
 /// Writes what is wrong with the values of a row, where its values show it.
 fn values<P: Prose>(out: &mut P, before: &Before, octets: &[u8], finding: &Finding) -> bool {
-    match finding.code {
-        Code::Number(INVALID_P_S | INVALID_P_R) if before.had_gap => false,
-        Code::Number(INVALID_P_S) => send_number(out, before, finding.side),
-        Code::Number(INVALID_P_R) => receive_number(out, before, finding.side),
-        Code::Number(CALL_ON_ONE_WAY_LOGICAL_CHANNEL) => direction(out, before, finding.side),
-        Code::Number(PACKET_ON_UNASSIGNED_LOGICAL_CHANNEL) => channel(out, before, octets),
-        Code::Number(PACKET_TOO_SHORT) => length(out, before.length, "which is too short"),
-        Code::Number(PACKET_TOO_LONG) => too_long(out, before, finding.side),
-        Code::Number(INVALID_GENERAL_FORMAT_IDENTIFIER) => format(out, before, octets),
-        Code::Number(UNIDENTIFIABLE_PACKET) => packet_type(out, octets),
-        Code::Number(INCONSISTENT_Q_BIT_SETTING) => qualifier(out, before),
-        _ => false,
+    let Code::Number(code) = finding.code else {
+        return false;
+    };
+    match code {
+        INVALID_P_S | INVALID_P_R if before.had_gap => false,
+        INVALID_P_S => send_number(out, before, finding.side),
+        INVALID_P_R => receive_number(out, before, finding.side),
+        CALL_ON_ONE_WAY_LOGICAL_CHANNEL => direction(out, before, finding.side),
+        PACKET_ON_UNASSIGNED_LOGICAL_CHANNEL => channel(out, before, octets, finding.side),
+        PACKET_TOO_SHORT | PACKET_TOO_LONG => length(out, before, finding),
+        INVALID_GENERAL_FORMAT_IDENTIFIER => format(out, before, octets),
+        UNIDENTIFIABLE_PACKET => packet_type(out, octets),
+        INCONSISTENT_Q_BIT_SETTING => qualifier(out, before),
+        _ => out_of_place(out, before, finding.side, code),
+    }
+}
+
+/// Writes who sent which packet.
+fn sent<P: Prose>(out: &mut P, before: &Before, side: Side) {
+    out.say("The ");
+    out.say(names::side(side));
+    out.say(" sent ");
+    out.say(article(&before.packet));
+    out.say(packet_name(side, &before.packet));
+}
+
+/// Returns what comes before the name of a packet in a sentence.
+fn article(packet: &Packet) -> &'static str {
+    match packet {
+        Packet::Channel { kind, .. } => match kind {
+            PacketKind::Data(_) | PacketKind::Rr(_) | PacketKind::Rnr(_) | PacketKind::Rej => "",
+            PacketKind::Interrupt | PacketKind::InterruptConfirm => "an ",
+            _ => "a ",
+        },
+        _ => "a ",
+    }
+}
+
+/// Writes that a packet came where it may not, and for what its side had to wait.
+fn out_of_place<P: Prose>(out: &mut P, before: &Before, side: Side, code: u8) -> bool {
+    let Some(place) = place(side, code) else {
+        return false;
+    };
+    sent(out, before, side);
+    out.say(place);
+    true
+}
+
+/// Returns where a packet of a side came that may not come there, by the code.
+fn place(side: Side, code: u8) -> Option<&'static str> {
+    match code {
+        INVALID_PACKET_TYPE_ON_A_PERMANENT_VIRTUAL_CIRCUIT => {
+            Some(" on a permanent circuit, which has no calls")
+        }
+        REJECT_NOT_SUBSCRIBED_TO => Some(", and the interface has no packet retransmission"),
+        RESTART_PACKET_WITH_NON_ZERO_LOGICAL_CHANNEL_IDENTIFIER => {
+            Some(", and restarts are on channel 0")
+        }
+        UNAUTHORIZED_INTERRUPT_CONFIRMATION => Some(match side {
+            Side::T => ", and no interrupt of the DCE waits for one",
+            Side::N => ", and no interrupt of the DTE waits for one",
+        }),
+        UNAUTHORIZED_INTERRUPT => Some(match side {
+            Side::T => " before the DCE confirmed its last one",
+            Side::N => " before the DTE confirmed its last one",
+        }),
+        _ => match side {
+            Side::T => place_of_dte(code),
+            Side::N => place_of_dce(code),
+        },
+    }
+}
+
+/// Returns in which state the DTE sent a packet that may not come there.
+fn place_of_dte(code: u8) -> Option<&'static str> {
+    match code {
+        PACKET_TYPE_INVALID_FOR_STATE_R1 => Some(" in r1, and no restart waits for one"),
+        PACKET_TYPE_INVALID_FOR_STATE_R2 => Some(" in r2, before the DCE confirmed its restart"),
+        PACKET_TYPE_INVALID_FOR_STATE_P1 => Some(" in p1, where the channel has no call"),
+        PACKET_TYPE_INVALID_FOR_STATE_P2 => {
+            Some(" in p2, before the DCE answered its call request")
+        }
+        PACKET_TYPE_INVALID_FOR_STATE_P3 => Some(" in p3, before it answered the incoming call"),
+        PACKET_TYPE_INVALID_FOR_STATE_P4 => Some(" in p4, where the call is up"),
+        PACKET_TYPE_INVALID_FOR_STATE_P5 => {
+            Some(" in p5, before the DCE answered its call request, which met an incoming call")
+        }
+        PACKET_TYPE_INVALID_FOR_STATE_P6 => Some(" in p6, before the DCE confirmed its clear"),
+        PACKET_TYPE_INVALID_FOR_STATE_D1 => Some(" in d1, and no reset waits for one"),
+        PACKET_TYPE_INVALID_FOR_STATE_D2 => Some(" in d2, before the DCE confirmed its reset"),
+        _ => None,
+    }
+}
+
+/// Returns in which state the DCE sent a packet that may not come there.
+fn place_of_dce(code: u8) -> Option<&'static str> {
+    match code {
+        PACKET_TYPE_INVALID_FOR_STATE_R1 => Some(" in r1, and no restart waits for one"),
+        PACKET_TYPE_INVALID_FOR_STATE_R3 => Some(" in r3, before the DTE confirmed its restart"),
+        PACKET_TYPE_INVALID_FOR_STATE_P1 => Some(" in p1, where the channel has no call"),
+        PACKET_TYPE_INVALID_FOR_STATE_P2 => Some(" in p2, before it answered the call request"),
+        PACKET_TYPE_INVALID_FOR_STATE_P3 => {
+            Some(" in p3, before the DTE answered its incoming call")
+        }
+        PACKET_TYPE_INVALID_FOR_STATE_P4 => Some(" in p4, where the call is up"),
+        PACKET_TYPE_INVALID_FOR_STATE_P5 => {
+            Some(" in p5, before it answered the call request, which met its incoming call")
+        }
+        PACKET_TYPE_INVALID_FOR_STATE_P7 => Some(" in p7, before the DTE confirmed its clear"),
+        PACKET_TYPE_INVALID_FOR_STATE_D1 => Some(" in d1, and no reset waits for one"),
+        PACKET_TYPE_INVALID_FOR_STATE_D3 => Some(" in d3, before the DTE confirmed its reset"),
+        _ => None,
     }
 }
 
@@ -224,31 +342,75 @@ fn channels<P: Prose>(out: &mut P, below: u16, last: u16, calls: &str) {
     out.say(" calls");
 }
 
-/// Writes that the interface does not have a channel.
-fn channel<P: Prose>(out: &mut P, before: &Before, octets: &[u8]) -> bool {
+/// Writes that the interface does not have a channel, or that channel 0 does not have a packet.
+fn channel<P: Prose>(out: &mut P, before: &Before, octets: &[u8], side: Side) -> bool {
     let channel = logical_channel(octets);
-    if octets.len() < 2 || channel <= before.interface.svc {
+    if channel > before.interface.svc {
+        say_number(out, "logical channel ", u64::from(channel));
+        say_number(out, " where ", u64::from(before.interface.svc));
+        out.say(" is the last");
+        return true;
+    }
+    if before.packet == Packet::Diagnostic {
+        sent(out, before, side);
+        out.say(", which only a DCE sends");
+        return true;
+    }
+    let [_, _, kind, ..] = octets else {
         return false;
-    }
-    say_number(out, "logical channel ", u64::from(channel));
-    say_number(out, " where ", u64::from(before.interface.svc));
-    out.say(" is the last");
+    };
+    out.say("octet 3 is ");
+    out.octets(&[*kind]);
+    out.say(", the type of no packet on logical channel 0");
     true
 }
 
-/// Writes how long a packet is.
-fn length<P: Prose>(out: &mut P, length: usize, why: &str) -> bool {
-    count(out, "", length as u64, " octet");
-    out.say(", ");
-    out.say(why);
+/// Writes how long a packet is whose length is wrong, and which lengths are allowed.
+fn length<P: Prose>(out: &mut P, before: &Before, finding: &Finding) -> bool {
+    if header(&before.packet).is_some() {
+        return data_length(out, before, finding.side);
+    }
+    count(out, "", before.length as u64, " octet");
+    out.say(" where ");
+    out.say(allowed(before, finding.code == Code::Number(PACKET_TOO_SHORT)));
     true
 }
 
-/// Writes how long a packet is that is too long, and how long data may be.
-fn too_long<P: Prose>(out: &mut P, before: &Before, side: Side) -> bool {
-    if header(&before.packet).is_none() {
-        return length(out, before.length, "which is too long");
+/// Returns the lengths that a packet may have, which is too short or too long.
+fn allowed(before: &Before, is_short: bool) -> &'static str {
+    let Packet::Channel { kind, .. } = &before.packet else {
+        return match before.packet {
+            Packet::Restart => "a restart has 4, or 5 with a diagnostic code",
+            Packet::RestartConfirm => "a restart confirmation has 3",
+            _ => "a packet has at least 3",
+        };
+    };
+    match kind {
+        PacketKind::Call if is_short =>
+            "a call needs at least 5 with its address lengths and facility length, and those that they count",
+        PacketKind::Accepted if is_short =>
+            "an acceptance is cut within its addresses or facilities",
+        PacketKind::Call => "call user data has at most 16, with fast select 128",
+        PacketKind::Accepted =>
+            "an acceptance has at most 128 of called user data, without fast select none",
+        PacketKind::Clear => "a clear has at least 4, with its cause",
+        PacketKind::Reset => "a reset has 4, or 5 with a diagnostic code",
+        PacketKind::ResetConfirm => "a reset confirmation has 3",
+        PacketKind::Interrupt => "an interrupt has 4 to 35, with 1 to 32 of user data",
+        PacketKind::InterruptConfirm => "an interrupt confirmation has 3",
+        _
+            if is_short
+                && !matches!(
+                    kind,
+                    PacketKind::Data(_) | PacketKind::Rr(_) | PacketKind::Rnr(_)
+                ) => "a packet has at least 3",
+        _ if before.interface.modulus == 8 => "modulo 8 has 3 for P(R)",
+        _ => "modulo 128 has 4 for P(R)",
     }
+}
+
+/// Writes how long data is that is too long, and how long it may be, by the call or by the header.
+fn data_length<P: Prose>(out: &mut P, before: &Before, side: Side) -> bool {
     let size = match before.view {
         Some(view) => match side {
             Side::T => view.size_t,
@@ -263,7 +425,11 @@ fn too_long<P: Prose>(out: &mut P, before: &Before, side: Side) -> bool {
         " octet",
     );
     say_number(out, " of user data where ", u64::from(size));
-    out.say(" are allowed");
+    out.say(if size == before.interface.size {
+        " are allowed by SIZE of the header"
+    } else {
+        " are allowed by the facilities of the call"
+    });
     true
 }
 

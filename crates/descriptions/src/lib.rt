@@ -21,6 +21,7 @@ mod json;
 mod line_room;
 mod messages;
 mod names;
+mod origins;
 mod packet_members;
 mod packet_names;
 mod packets;

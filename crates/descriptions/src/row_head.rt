@@ -6,10 +6,10 @@ ghost use Rattle.line_model.specs.basics.Records.{Item};
 ghost use Rattle.line_model.specs.declared.interface.Interface.{Interface};
 ghost use Rattle.line_model.specs.observer.Report.{code_word};
 ghost use Rattle.descriptions.specs.Facts.{AreFactsOf, IsFateOf};
-ghost use Rattle.descriptions.specs.RowObjects.{channel_word, counted_word, finding_word, gap_head, joined, known_word, named_channel, number_word, packet_head, row_head, state_members, word_after, word_before};
+ghost use Rattle.descriptions.specs.RowObjects.{channel_word, counted_word, finding_word, flag_word, gap_head, joined, known_word, named_channel, number_word, owed_after, packet_head, place_members, row_head, state_members, word_after, word_before};
 
 use crate::facts::{Fate, RowFacts, gap_of, is_adrift};
-use channel_run::status_word::state_in;
+use channel_run::status_word::{state_in, view_in};
 use data_transfer::packed::FlowWord;
 use itoa::Buffer;
 use line_model::finding::{Code, Finding};
@@ -133,21 +133,76 @@ pub fn code_digits<'a>(code: Code, buffer: &'a mut Buffer) -> &'a [u8]
     }
 }
 
-/// Appends the object of a finding up to its code, or null.
-fn append_finding<A: Allocator>(
-    finding: Option<Finding>,
+/// Whether the DCE owes its indication after a row.
+fn is_owed(judge: &Judge) -> bool
+    ensures { result ≡ owed_after judge.now }
+{
+    match judge {
+        Judge::Channel { after, .. } => view_in(after).owed,
+        Judge::Restart { .. } => false,
+    }
+}
+
+/// The word of a flag.
+fn flag_word(is_set: bool) -> &'static [u8]
+    ensures { result.now ≡ flag_word is_set }
+{
+    if is_set { b"true" } else { b"false" }
+}
+
+/// Appends the members between what was counted and the finding.
+fn append_place<A: Allocator>(
+    epoch: u32,
+    is_owed: bool,
     out: &mut Vec<u8, A>,
 ) -> Result<(), AllocError>
-    ensures { OnOk result (out.new.items ≡ out.old.items ++ finding_word finding) }
+    ensures { OnOk result (out.new.items ≡ out.old.items ++ place_members epoch is_owed) }
+{
+    let mut digits = Buffer::new();
+    append_words(
+        &[
+            b",\"epoch\":",
+            digits.format(epoch).as_bytes(),
+            b",\"owed\":",
+            flag_word(is_owed),
+            b",\"finding\":",
+        ],
+        out,
+    )
+}
+
+/// Appends the object of a finding up to the number of the one that it may follow from, or null.
+fn append_finding<A: Allocator>(
+    finding: Option<Finding>,
+    follows: Option<u32>,
+    out: &mut Vec<u8, A>,
+) -> Result<(), AllocError>
+    ensures { OnOk result (out.new.items ≡ out.old.items ++ finding_word finding follows) }
 {
     let Some(finding) = finding else {
         return out.extend_from_slice(b"null");
     };
     let mut code = Buffer::new();
+    let mut number = Buffer::new();
     append_words(
-        &[b"{\"code\":\"", code_digits(finding.code, &mut code), b"\""],
+        &[
+            b"{\"code\":\"",
+            code_digits(finding.code, &mut code),
+            b"\",\"follows\":",
+            number_digits(follows, &mut number),
+        ],
         out,
     )
+}
+
+/// A number, or null.
+fn number_digits<'a>(number: Option<u32>, buffer: &'a mut Buffer) -> &'a [u8]
+    ensures { result.now ≡ number_word number }
+{
+    match number {
+        Some(number) => buffer.format(number).as_bytes(),
+        None => b"null",
+    }
 }
 
 /// A logical channel, or null.
@@ -204,6 +259,6 @@ fn append_packet<A: Allocator>(facts: &RowFacts<'_>, out: &mut Vec<u8, A>) -> Re
 {
     append_states(facts, out)?;
     append_counted(facts.fate, out)?;
-    out.extend_from_slice(b",\"finding\":")?;
-    append_finding(facts.last.finding, out)
+    append_place(facts.earlier.epoch, is_owed(&facts.last.judge), out)?;
+    append_finding(facts.last.finding, facts.earlier.follows, out)
 }

@@ -14,17 +14,15 @@ use crate::packet_members::{packet_members, settings_member};
 use crate::packet_names::packet_type;
 use crate::sentence::Sentence;
 use crate::times::{BILLIONTHS, Recorded, Time};
-use channel_run::status_word::view_in;
 use explanations::explanation::Explanation;
 use explanations::lookup::code_row;
 use line_model::event::{Event, How, What};
 use line_model::finding::Finding;
 use line_model::state::StateName;
-use live_report::judged_row::Judge;
 use live_report::uncounted::Reason;
 use report_merge::words::state_word;
 
-/// Writes the members of a row's object after its finding's code, or of a gap's after its channel.
+/// Writes the members of a row's object after its finding's first members, or of a gap's after its channel.
 pub fn row_members<O: Out>(
     json: &mut Json<O>,
     facts: &RowFacts<'_>,
@@ -58,7 +56,7 @@ fn known_time_member<O: Out>(json: &mut Json<O>, recorded: Recorded)
     }
 }
 
-/// The members of a packet's object after its finding's code.
+/// The members of a packet's object after its finding's first members.
 fn members_of_packet<O: Out>(
     json: &mut Json<O>,
     facts: &RowFacts<'_>,
@@ -90,8 +88,6 @@ fn further_members<O: Out>(
     ensures { IfSome digits.entry (λ digits. IsText digits.now)
         → Adds O.has IsFurther json.old.out json.new.out }
 {
-    json.number_member(",\"epoch\":", u64::from(facts.epoch));
-    json.flag_member(",\"owed\":", is_owed(facts));
     call_members(json, facts);
     ends_member(json, ended);
     not_counted_member(json, facts);
@@ -106,7 +102,7 @@ fn further_members<O: Out>(
     settings_member(json, facts.events);
 }
 
-/// The rest of the object of a finding after its code.
+/// The rest of the object of a finding.
 fn finding_members<O: Out>(json: &mut Json<O>, facts: &RowFacts<'_>, finding: &Finding)
     ensures { Adds O.has IsFurther json.old.out json.new.out }
 {
@@ -188,14 +184,6 @@ fn state_member<O: Out>(json: &mut Json<O>, state: StateName)
     } else {
         json.member(",\"state\":");
         json.quoted(state_word(state));
-    }
-}
-
-/// Whether the DCE owes an indication on the channel after the row.
-fn is_owed(facts: &RowFacts<'_>) -> bool {
-    match &facts.last.judge {
-        Judge::Channel { after, .. } => view_in(after).owed,
-        Judge::Restart { .. } => false,
     }
 }
 

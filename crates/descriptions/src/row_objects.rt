@@ -9,7 +9,8 @@ ghost use Rattle.line_model.specs.text.Text.{Line};
 ghost use Rattle.annotated_trace.specs.Printed.{HasAppended};
 ghost use Rattle.descriptions.specs.Facts.{AreFactsOf};
 ghost use Rattle.descriptions.specs.Members.{IsText};
-ghost use Rattle.descriptions.specs.RowObjects.{AppendsObject, IsObjectWhere, IsRest, IsRowObject, OfLastRow};
+ghost use Rattle.descriptions.specs.Follows.{KeepsOrigins};
+ghost use Rattle.descriptions.specs.RowObjects.{AppendsObject, IsObjectWhere, IsRest, IsRowObject, KeepsLast, OfLastRow};
 ghost use Rattle.descriptions.specs.Writing.{Holds};
 
 use crate::call_memory::Calls;
@@ -20,6 +21,7 @@ use crate::course::Course;
 use crate::facts::{EndedCall, RowFacts};
 use crate::json::{Growing, Json, Out};
 use crate::line_room::LineRoom;
+use crate::origins::Origins;
 use crate::report_objects::write_report_objects;
 use crate::row_head::append_head;
 use crate::row_members::row_members;
@@ -53,6 +55,7 @@ fn append_object<A: Allocator>(
 /// What is remembered of the rows before, and of the comments before the next one.
 #[derive(Drop)]
 pub(crate) struct PastRows<A: Allocator> {
+    origins: Origins<A>,
     course: Course<A>,
     rest: Rest<A>,
     /// When and where the next row was recorded.
@@ -63,8 +66,11 @@ pub(crate) struct PastRows<A: Allocator> {
 
 impl<A: Allocator + Copy> PastRows<A> {
     /// Starts before the first row. Allocates no memory.
-    pub(crate) fn new(alloc: A) -> Self {
+    pub(crate) fn new(alloc: A) -> Self
+        ensures { (i : Interface) → KeepsOrigins i [] result.origins }
+    {
         PastRows {
+            origins: Origins::new(alloc),
             course: Course::new(alloc),
             rest: Rest {
                 calls: Calls::new(alloc),
@@ -91,6 +97,9 @@ impl<A: Allocator + Copy> PastRows<A> {
         ensures object { OfLastRow C.Channel trace.now line.now
             (λ i earlier r. IfSome result (λ object. IsObjectWhere is_picked i earlier r object.now)) }
         ensures unpicked { is_picked ≡ false → result ≡ None }
+        ensures kept { OfLastRow C.Channel trace.now line.now (λ i earlier r. IfSome result
+            (λ object. KeepsOrigins i earlier self.now.origins
+            → KeepsOrigins i (earlier ++ r ∷ []) self.now.origins)) }
     {
         if !is_picked {
             return None;
@@ -129,8 +138,9 @@ impl<A: Allocator + Copy> PastRows<A> {
         picked: bool,
         out: &mut Vec<u8, A>,
     ) -> Result<(), AllocError>
-        ensures object { AppendsObject C.Channel trace.now line.now picked result out.old.items out.new.items }
+        ensures object { AppendsObject C.Channel trace.now line.now picked self.old.origins result out.old.items out.new.items }
         ensures unpicked { picked ≡ false → out.new.items ≡ out.old.items }
+        ensures kept { KeepsLast C.Channel trace.now line.now result self.old.origins self.new.origins }
     {
         let recorded = self.recorded.take().unwrap_or(Recorded::UNKNOWN);
         let Some(observer) = trace.observer() else {
@@ -143,9 +153,15 @@ impl<A: Allocator + Copy> PastRows<A> {
         let Some(last) = observer.last_row() else {
             return Ok(());
         };
-        self.course
-            .take(&interface, row.octets.as_slice(), last, observer)?;
-        let facts = self.course.facts(&interface, row, last, observer);
+        let earlier = self.origins.take(last, observer.epoch())?;
+        self.course.take(
+            &interface,
+            row.octets.as_slice(),
+            last,
+            observer,
+            earlier.epoch,
+        )?;
+        let facts = self.course.facts(&interface, row, last, observer, earlier);
         self.rest
             .calls
             .take(&facts, self.course.ended(), recorded.time)?;
@@ -253,8 +269,9 @@ impl<A: Allocator + Copy> RowObjects<A> {
         picked: bool,
         out: &mut Vec<u8, A>,
     ) -> Result<(), AllocError>
-        ensures object { AppendsObject C.Channel trace.now line.now picked result out.old.items out.new.items }
+        ensures object { AppendsObject C.Channel trace.now line.now picked self.old.past.origins result out.old.items out.new.items }
         ensures unpicked { picked ≡ false → out.new.items ≡ out.old.items }
+        ensures kept { KeepsLast C.Channel trace.now line.now result self.old.past.origins self.new.past.origins }
         ensures chosen { self.new.chosen ≡ self.old.chosen }
     {
         match self.past.common_object(trace, line, picked, &mut self.room) {
@@ -266,9 +283,9 @@ impl<A: Allocator + Copy> RowObjects<A> {
 
 impl<A: Allocator + Copy, C: Channel<A>> Printer<A, Live<A, C>> for RowObjects<A> {
     ghost use Rattle.descriptions.specs.Choosing.{HasChosen};
-    ghost use Rattle.descriptions.specs.RowObjects.{IsClosing, IsLineObject};
+    ghost use Rattle.descriptions.specs.RowObjects.{IsClosing, IsLineObject, KeepsPast};
 
-    ghost printed = { λ p lines. HasChosen lines p.chosen };
+    ghost printed = { λ p lines. HasChosen lines p.chosen × KeepsPast lines p.past.origins };
 
     ghost rows = { λ p. p.chosen.rows };
 

@@ -2,6 +2,7 @@ use Rattle.std.proofs.Common.{◌∙◌, ap, sym}
 use Rattle.std.proofs.lemmas.Bool.{OnTrue_at}
 use Rattle.line_model.specs.observer.Calls.{all_lengths}
 use Rattle.line_model.specs.packets.Says.{gap_of}
+use Rattle.descriptions.specs.Follows.{is_renewing}
 use Rattle.descriptions.specs.Members.{IsText}
 use Rattle.descriptions.specs.RowObjects.{named_channel}
 use Rattle.descriptions.specs.CommonObjects.{IsCommonObject}
@@ -14,7 +15,8 @@ returns c =
     let row = c.args.common.now.row.now in
     let events = c.args.common.now.events.now in
     let packet = OnTrue_at c.if-not-is_common.false c.put_packet-is_common.ensures.members in
+    let other = ap is_renewing c.in-Channel.is ∙ OnTrue_at c.if-not-is_common.false c.put_packet-is_common.ensures.renews c.in-Channel.channel in
     let gap = ap gap_of c.in-Channel.is ∙ OnTrue_at c.if-not-is_common.false c.put_packet-is_common.ensures.packet c.in-Channel.channel in
     let head = c.put_head.ensures (all_lengths events) c.common_fate-fate.ensures (ap named_channel c.in-Channel.is) in
-    if_line (λ object. object.now) (λ bytes. IsText c.args.common.now.digits.now → IsCommonObject row events bytes) c.line.result _ c.line.ensures
-    (λ bytes is one. common_line row events _ _ _ _ bytes (sym c.is_quiet.ensures ∙ c.if-not-is_quiet.false) gap c.clear.ensures c.put.ensures (form_then _ _ _ more (packet one) c.put_place.ensures) head is)
+    if_line (λ object. object.now) (λ bytes. IsText c.args.common.now.digits.now → IsCommonObject row c.args.common.now.epoch events bytes) c.line.result _ c.line.ensures
+    (λ bytes is one. common_line row c.args.common.now.epoch events _ _ _ _ bytes (sym c.is_quiet.ensures ∙ c.if-not-is_quiet.false) gap other c.clear.ensures c.put.ensures (form_then _ _ _ more (packet one) c.put_call_member.ensures) head is)

@@ -8,7 +8,7 @@ use Rattle.live_report.proofs.LiveLemmas.{keeps_rows, nothing_seen, observing_of
 use Rattle.annotated_trace.specs.Rows.{asked_call, row_written}
 use Rattle.descriptions.specs.CallRows.{Follows}
 use Rattle.live_report.specs.Observing.{Represents}
-use Rattle.descriptions.proofs.ChoiceLemmas.{items_written, chosen_same, head_is, headed_row, no_rows_written, none_mapped, none_written, one_written, rows_written, same_head, picked_none, picked_some}
+use Rattle.descriptions.proofs.ChoiceLemmas.{items_written, chosen_same, head_is, headed_row, no_rows_written, none_mapped, none_written, one_written, rows_written, same_head, some_is, picked_none, picked_some}
 use Rattle.descriptions.proofs.chosen.Chosen.judge_line.Goals as goal
 
 pub returns-in_default-clause-picked : goal.returns-in_default-clause-picked
@@ -66,3 +66,13 @@ returns-clause-chosen g c before line text h s lines =
       number = c.judge-picked.ensures.number ∙ h.number ∙ ap asked_call (sym c.judge-picked.ensures.rows);
       call = λ j headed. subst (λ x. Follows x (items_of x (rows_in (before ++ line ∷ []))) c.judge-picked.new.self.call) (same_head (head_of (before ++ line ∷ [])) w.0 j last headed) (subst (λ items. Follows w.0 items c.judge-picked.new.self.call) (sym (items_written w.0 (rows_in (before ++ line ∷ [])) (rows_in before) one.0 all)) follows);
     }
+
+pub returns-clause-headed : goal.returns-clause-headed
+returns-clause-headed g c before line text h s lines =
+    let w = observing_of g.C.Channel.interface_of g.C.Channel.number_of g.C.Channel.represents c.args.trace.now text c.in-Some.observer.now s.0 (sym c.observer.ensures ∙ ap (option_map (λ o. o.now)) c.in-Some.is) in
+    let rows = rows-sound text s.0.reads.sound ∙ ap rows_in lines ∙ rows_written before line in
+    let other : length (rows_in before ++ option_to_list (row_written before line)) ≢ length (rows_in before) = λ same. c.if-packets-self.false (c.packets.ensures.walked w.0 (items_of w.0 (early_rows text)) w.1.observes ∙ said_count w.0 (early_rows text) ∙ ap (λ l. length l) rows ∙ same ∙ sym h.packets) in
+    let one = one_written (rows_in before) (row_written before line) other in
+    let row = rows ∙ ap (λ o. rows_in before ++ option_to_list o) one.1 in
+    let head = sym (headed_row before line one.0 one.1) ∙ ap head_of (sym lines) ∙ sym s.0.reads.interface ∙ w.1.header in
+    some_is (head_of before) w.0 head

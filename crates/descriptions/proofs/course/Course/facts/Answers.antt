@@ -10,7 +10,7 @@ use Rattle.descriptions.proofs.FactLemmas.{events_are}
 use Rattle.descriptions.proofs.course.Course.facts.Goals as goal
 
 pub returns-clause-facts : goal.returns-clause-facts
-returns-clause-facts g c i earlier r l =
+returns-clause-facts g c i earlier r l epoch follows =
     let o = observer i earlier in
     let to = routed (x25 i) o.level r in
     let by = taker_is i to o (observer i (earlier ++ r ∷ [])) c.args.last.now.judge l.judge in
@@ -27,4 +27,6 @@ returns-clause-facts g c i earlier r l =
       reason = c.fate.ensures.reason i earlier r
           (record { number = l.number; side = l.side; packet = l.packet; judge = l.judge; finding = l.finding; came = λ k is. events.taken k (by ∙ is) ∙ l.came k is })
           events.untaken;
+      epoch = epoch;
+      follows = follows;
     }
