@@ -1,11 +1,11 @@
 -- Each step of a pass keeps the rule of a queue of bundles.
 use Rattle.std.proofs.Common.{◌≡◌, ℕ, zero, suc, ◌+◌, ◌<◌, List, [], ◌∷◌, ◌++◌, length, set, Some, true, false, refl, sym, ap, ◌∙◌, subst, arith, append-nil}
 use Rattle.std.specs.Prelude.{All, MatchOption, Option, None}
-use Rattle.std.proofs.lemmas.List.{append_assoc}
+use Rattle.std.proofs.lemmas.List.{append_assoc, nil_from_length}
 use Rattle.std.proofs.lemmas.List.Elements.{All-push}
 use mathlib.Core.Option.{some, some-ne-none}
 use lib.ListN.{get_elem?}
-use Rattle.crossbeam_queue.specs.Fifo.{Pushes, Pops, Forks, Merges, Learns}
+use Rattle.crossbeam_queue.specs.Fifo.{Pushes, Pops, Forks, Merges, Learns, Held}
 use Rattle.crossbeam_queue.proofs.Lists.{set_again}
 use Rattle.line_model.specs.basics.Records.{Piece}
 use Rattle.line_model.specs.work.Book.{KnownPlan, IsPlanned}
@@ -14,9 +14,9 @@ use Rattle.line_model.specs.work.Work.WorkEntry.{job, finish}
 use Rattle.shared_work.specs.declared.queue.rule.Record.{Record}
 use Rattle.shared_work.specs.declared.queue.rule.QueueNotes.{QueueNotes}
 use Rattle.shared_work.specs.queue.Entries.{jobs, line_of, AreFilled, pieces_in}
-use Rattle.shared_work.specs.queue.Rule.{feeder, worker, nothing_done, after_split, after_join, ArePlanned, IsWorker, AreInQueue, IsAccounted, TookEntry}
-use Rattle.shared_work.specs.queue.Known.{notes, AreNoted, AreBundled, FedBundle, FedEnd, Took, TookAll, with_witness, IsConfirmed}
-use Rattle.shared_work.proofs.Noted.{All-none, noted_begins, noted_piece, noted_end, noted_take, noted_line, noted_split, noted_witness, noted_join, noted_learns, noted_accounts, noted_confirms}
+use Rattle.shared_work.specs.queue.Rule.{feeder, worker, nothing_done, after_split, after_join, ArePlanned, IsWorker, AreInQueue, IsAccounted, IsDrained, TookEntry}
+use Rattle.shared_work.specs.queue.Known.{notes, AreNoted, AreBundled, IsBetween, FedBundle, FedEnd, Took, TookAll, with_witness, IsConfirmed}
+use Rattle.shared_work.proofs.Noted.{All-none, noted_begins, noted_piece, noted_end, noted_take, noted_line, noted_split, noted_witness, noted_join, noted_learns, noted_accounts, noted_confirms, noted_none}
 
 -- the entries of a bundle
 length-jobs : (ps : List Piece) → length (jobs ps) ≡ length ps
@@ -252,3 +252,10 @@ one_planned plan n p is (suc k) q e = absurd (cc)
 pub pop_still : (plan : KnownPlan) (o : Option (List WorkEntry)) (v w : QueueNotes) (H : Type 0) → IsWorker v.record_of → MatchOption o ((w ≡ v) × H) (λ x. TookAll plan v x w) → IsWorker w.record_of
 pop_still plan None v w H is rule = subst (λ (n : QueueNotes). IsWorker n.record_of) (sym rule.0) is
 pop_still plan (Some x) v w H is rule = took_still plan x v w is rule
+
+-- where a call of `take` took nothing, the queue was empty at one moment, and each piece that had been fed was taken
+pub pop_empty : (plan : KnownPlan) (v : QueueNotes) → Held 0 (IsBetween plan v) → (fed : ℕ) × Held 0 (IsDrained plan v.record_of fed)
+pop_empty plan v held =
+    let no_items : held.0 ≡ [] = nil_from_length held.0 held.1 in
+    let drained = noted_none plan v held.2.0 (subst (λ l. AreNoted plan (line_of l) held.2.0) no_items held.2.2.0) held.2.1 held.2.3 in
+    (drained.0, ([], refl, drained.1))

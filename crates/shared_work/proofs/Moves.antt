@@ -157,6 +157,10 @@ drained plan v items views h port at all = record {
   line = subst (λ n. IsLine plan n h.0.fed h.0.waiting items) all h.1.line;
 }
 
+-- where the queue has no entry, each piece that was fed was taken
+pub at_no_entry : (plan : KnownPlan) (v : Record) (views : List Record) → IsKept plan [] views → (port : ℕ) → get_elem? views port ≡ some v → (fed : ℕ) × IsDrained plan v fed []
+at_no_entry plan v views h port at = (h.0.fed, drained plan v [] views h port at h.1.line.0)
+
 pub at_an_end : (plan : KnownPlan) (v w : Record) → TookEntry plan v finish w → (n : ℕ) × (0 < n) × Held n (IsDrained plan v w.fed)
 at_an_end plan v w took = let items = finish ∷ took.1.0 in (length items, omega arith, (items, refl, took.1.1))
 

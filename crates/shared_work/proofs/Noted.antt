@@ -13,10 +13,10 @@ use Rattle.line_model.specs.work.Work.{WorkEntry}
 use Rattle.line_model.specs.work.Work.WorkEntry.{job, finish}
 use Rattle.shared_work.specs.declared.queue.rule.Record.{Record}
 use Rattle.shared_work.specs.declared.queue.rule.QueueNotes.{QueueNotes}
-use Rattle.shared_work.specs.queue.Rule.{feeder, worker, nothing_done, after_split, after_join, Fed, IsKept, IsInQueue, IsAccounted, TookEntry}
+use Rattle.shared_work.specs.queue.Rule.{feeder, worker, nothing_done, after_split, after_join, Fed, IsKept, IsInQueue, IsDrained, IsAccounted, TookEntry}
 use Rattle.shared_work.specs.queue.Known.{notes, records_of, IsFed, IsFedEntry, Knows, IsNoted, AreNoted, FedEnd, Took, with_witness, IsConfirmed}
 use Rattle.shared_work.specs.queue.Entries.{pieces_in}
-use Rattle.shared_work.proofs.Moves.{begins, feeds_piece, feeds_end, learns_line, takes, splits, joins, accounts, adds_nothing}
+use Rattle.shared_work.proofs.Moves.{begins, feeds_piece, feeds_end, learns_line, takes, at_no_entry, splits, joins, accounts, adds_nothing}
 
 at_record : (views : List QueueNotes) (port : ℕ) (v : QueueNotes) → get_elem? views port ≡ some v → get_elem? (records_of views) port ≡ some v.record_of
 at_record [] port v at = absurd (some-ne-none v (sym at))
@@ -242,3 +242,7 @@ noted_confirms plan port v feeds items views h at =
     let mine = h.1.each port v at in
     let own = mine.own feeds in
     (subst (λ l. All (IsFed l) v.known) (sym own.0) mine.known, own.1)
+
+-- where the queue has no entry, each piece that was fed was taken
+pub noted_none : (plan : KnownPlan) (v : QueueNotes) (views : List QueueNotes) → AreNoted plan [] views → (port : ℕ) → get_elem? views port ≡ some v → (fed : ℕ) × IsDrained plan v.record_of fed []
+noted_none plan v views h port at = at_no_entry plan v.record_of (records_of views) h.1.kept port (at_record views port v at)

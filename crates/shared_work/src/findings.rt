@@ -13,5 +13,6 @@ mod witness;
 
 pub use book::{Book, LockedPosts};
 pub use ledgers::{Blanks, Ledgers};
+pub use posts::Posts;
 pub use share::Share;
 pub use witness::{AnyReport, Voucher};

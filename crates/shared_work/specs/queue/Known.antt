@@ -47,6 +47,10 @@ AreNoted plan items views = (fed : List Piece) × IsNoted plan items views fed
 abbrev pub AreBundled : KnownPlan → List (List WorkEntry) → List QueueNotes → Type 0
 AreBundled plan items views = AreNoted plan (line_of items) views × AreFilled items
 
+-- at one moment the rule held of these entries and of what all passes knew, this one among them
+abbrev pub IsBetween : KnownPlan → QueueNotes → List (List WorkEntry) → Type 0
+IsBetween plan v items = (views : List QueueNotes) × (port : ℕ) × AreBundled plan items views × (get_elem? views port ≡ some v)
+
 -- the feeder fed the pieces of an entry
 abbrev pub FedBundle : QueueNotes → List WorkEntry → QueueNotes → Type 0
 FedBundle v x w = (w.record_of ≡ feeder (v.record_of.fed + length x) v.record_of.ends v.record_of.pending v.record_of.done v.record_of.taken) × (w.fed ≡ v.fed ++ pieces_in x) × (w.known ≡ v.known)

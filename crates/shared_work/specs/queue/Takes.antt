@@ -21,6 +21,12 @@ WasDrained plan v Finish fed = (n : ℕ) × (0 < n) × Held n (IsDrained plan v 
 WasDrained plan v (Got ps) fed = Unit {0}
 WasDrained plan v Empty fed = Unit {0}
 
+-- where nothing was taken: at one moment of the call the queue had no entry, and each of the pieces that had been fed, some count, was taken
+abbrev pub WasEmpty : {A : Type 0} → KnownPlan → Record → Taken A → Type 0
+WasEmpty plan v Empty = (fed : ℕ) × Held 0 (IsDrained plan v fed)
+WasEmpty plan v (Got ps) = Unit {0}
+WasEmpty plan v Finish = Unit {0}
+
 -- the pieces that were taken come after those before them
 abbrev pub AddsTaken : {A : Type 0} → List Piece → Taken A → List Piece → Type 0
 AddsTaken before (Got ps) after = after ≡ before ++ ps

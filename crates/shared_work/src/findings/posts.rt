@@ -80,7 +80,7 @@ impl<P: Plan, L: Ledgers, A: Allocator, W: Voucher, T: Reports<A>> Posts<P, L, A
     }
 
     /// Ensures that no number of the share is above that of the posts.
-    pub fn audit(&mut self, share: &mut Share<L>)
+    pub(crate) fn audit(&mut self, share: &mut Share<L>)
         ensures same { (self.new ≡ self.old) × (share.new ≡ share.old) }
         ensures posts { AreOf P.pieces self.old }
         ensures within { IsWithin share.old (totals_of self.old) }
@@ -89,7 +89,7 @@ impl<P: Plan, L: Ledgers, A: Allocator, W: Voucher, T: Reports<A>> Posts<P, L, A
     }
 
     /// Returns the sums of the posts to the owner of a share. No number is below that of the share.
-    pub fn seen_by(&mut self, share: &mut Share<L>) -> Totals
+    pub(crate) fn seen_by(&mut self, share: &mut Share<L>) -> Totals
         ensures same { (self.new ≡ self.old) × (share.new ≡ share.old) }
         ensures posts { AreOf P.pieces self.old }
         ensures totals { result ≡ totals_of self.old }
@@ -101,7 +101,7 @@ impl<P: Plan, L: Ledgers, A: Allocator, W: Voucher, T: Reports<A>> Posts<P, L, A
 
     /// Returns the totals, the posts, and the witness that vouches for them, given the parts of all shares. Each total
     /// is the sum over the shares.
-    pub fn gathered(self, all: Returned<L>) -> (Totals, Vec<T, A>, W)
+    pub(crate) fn gathered(self, all: Returned<L>) -> (Totals, Vec<T, A>, W)
         requires all { all.parts ≡ 4096 }
         ensures shares { result.0 ≡ all.sums }
         ensures reports { flat_map T.reports result.1.items ≡ self }

@@ -146,7 +146,9 @@ impl<P: Plan, A: Allocator> Outcome<QueueEntry<A>, QueueNotes> for Takes<P> {
 }
 
 impl<P: Plan, A: Allocator> Lesson<QueueEntry<A>, QueueNotes> for Takes<P> {
-    ghost fact = { λ v items. Unit {0} };
+    ghost use Rattle.shared_work.specs.queue.Known.{IsBetween};
+
+    ghost fact = { IsBetween P.pieces };
 }
 
 /// What the feeder knows after it joined a pass: what that pass knew, and what all passes took.

@@ -87,7 +87,7 @@ pub enum Taken<A: Allocator = Global> {
 }
 
 impl<P: Plan, A: Allocator> Work<P, A> {
-    ghost use Rattle.shared_work.specs.queue.Takes.{AddsTaken, IsTaken, WasDrained};
+    ghost use Rattle.shared_work.specs.queue.Takes.{AddsTaken, IsTaken, WasDrained, WasEmpty};
 
     /// Returns an empty queue of `capacity` entries, and the feeder's pass. Fails only when memory is refused.
     pub fn new(alloc: A, capacity: usize) -> Result<(Work<P, A>, FeederPass<A>), Fault>
@@ -234,8 +234,8 @@ impl<P: Plan, A: Allocator> Work<P, A> {
 
     /// Removes a bundle, whose pieces are the plan's of their ids and go into the record of the pass, or an end, after
     /// which the pass removes no more. Returns `Finish` only if at one moment of the call each piece that had been fed
-    /// was taken, and only ends were in the queue; the record then has how many were fed. `Empty` leaves the record as
-    /// it was.
+    /// was taken, and only ends were in the queue; the record then has how many were fed. Returns `Empty` only if the
+    /// queue was empty at one moment of the call; the record is then as it was.
     pub fn take<R: Wait>(&self, rt: &R, pass: &mut WorkerPass<A>) -> Taken<A>
         requires queue { pass.old.queue ≡ self.now.queue }
         requires unfinished { pass.old.record_of.finished ≡ false }
@@ -243,6 +243,7 @@ impl<P: Plan, A: Allocator> Work<P, A> {
         ensures taken { IsTaken P.pieces pass.old.record_of result pass.new.record_of }
         ensures pieces { AddsTaken pass.old.pieces result pass.new.pieces }
         ensures drained { WasDrained P.pieces pass.old.record_of result pass.new.record_of.fed }
+        ensures empty { WasEmpty P.pieces pass.old.record_of result }
     {
         match self.queue.pop_as::<Takes<P>, R>(rt, &mut pass.pass) {
             Some(
