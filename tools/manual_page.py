@@ -1,10 +1,10 @@
 #!/usr/bin/env python3
 """manual_page.py [--check] [X25SCAN]: writes docs/x25scan.1, docs/x25trace.1 and docs/x25page.1.
 
-It makes the page of x25scan from the help that X25SCAN prints, by default crates/x25scan/out/x25scan, and the table of
-crates/explanations, and those of x25trace and x25page from their help. With --check it writes nothing. It says where a page
-differs, where the help has other options than are read or other exit statuses than the table, and where the version names
-another logic than `rt version`. The last line is 'N passed, M failed'.
+It makes the page of x25scan from the help that X25SCAN prints, by default the proved program, else the one that bin/x25try
+runs, and the table of crates/explanations, and those of x25trace and x25page from their help. With --check it writes nothing. It
+says where a page differs, where the help has other options than are read or other exit statuses than the table, and where the
+source of the version names another logic than `rt version`. The last line is 'N passed, M failed'.
 """
 from __future__ import annotations
 
@@ -17,14 +17,16 @@ from collections.abc import Iterable, Iterator
 from dataclasses import dataclass
 
 sys.dont_write_bytecode = True
-from build_program import PROGRAM  # noqa: E402
 from codes_document import rows  # noqa: E402
 from option_tables import ROOT, Option, options_of, printed, section  # noqa: E402
 from x25page_lib import words as page_words  # noqa: E402
+from x25tools_lib import scanner  # noqa: E402
 from x25trace_lib import words as trace_words  # noqa: E402
 
 WORDS = ROOT / "crates" / "command_line" / "src" / "options.rt"
+VERSION = WORDS.with_name("help.rt")
 NAME = re.compile(r'(?:flag\(alloc, |\.long\()"([\w-]+)"')
+LOGIC = re.compile(r"proved with Rattle, logic (\w+)")
 STATUS = re.compile(r"^  (\d+) +(.*)$", re.MULTILINE)
 DOCUMENTS = "/usr/share/doc/x25scan/"
 
@@ -160,8 +162,9 @@ def complaints(scan: Scan) -> Iterator[tuple[str, list[str]]]:
     read = set(NAME.findall(WORDS.read_text()))
     yield "options", [] if shown == read else [f"help has {sorted(shown)}, and {sorted(read)} are read"]
     kit = subprocess.run(["rt", "version"], capture_output=True, text=True, check=False).stdout.strip()
-    logic, named = kit.rpartition(" ")[2], scan.version[1]
-    yield "version", [] if named == f"proved with Rattle, logic {logic}" else [f"it says {named!r}, and this is {kit!r}"]
+    named = LOGIC.search(VERSION.read_text())
+    is_of_kit = named and kit.endswith(f" logic {named[1]}")
+    yield "version", [] if is_of_kit else [f"{VERSION.relative_to(ROOT)} names {named and named[1]}, and this is {kit!r}"]
 
 
 def check(scan: Scan) -> int:
@@ -178,9 +181,10 @@ def check(scan: Scan) -> int:
 def main(arguments: list[str]) -> int:
     words = argparse.ArgumentParser(description=__doc__.split("\n")[0], allow_abbrev=False)
     words.add_argument("--check", action="store_true", help="write nothing, and say what differs")
-    words.add_argument("program", metavar="X25SCAN", type=pathlib.Path, nargs="?", default=PROGRAM)
+    words.add_argument("program", metavar="X25SCAN", type=pathlib.Path, nargs="?")
     asked = words.parse_args(arguments)
-    scan = Scan(printed(asked.program, "--help"), printed(asked.program, "--version").split("\n"))
+    program = asked.program or pathlib.Path(scanner.found("manual_page.py"))
+    scan = Scan(printed(program, "--help"), printed(program, "--version").split("\n"))
     if asked.check:
         return check(scan)
     for name, page in PAGES.items():
