@@ -115,11 +115,11 @@ def make_libraries(*above: str) -> bool:
     kit()
     with alone(say):
         build = Build(Way.NOTHING, Store(say), Progress(say, slots()), *above)
+        build.shelf.folder.mkdir(parents=True, exist_ok=True)
         failed = build.make_libraries()
         if failed:
             report(failed)
             say(f"the libraries were not built, since this was not proved or not built: {', '.join(failed)}")
-        remove_left()
     return not failed
 
 
@@ -128,31 +128,31 @@ def make_program(way: Way, receipts: pathlib.Path | None = None) -> int:
     kit()
     store = Store(say)
     with alone(say):
-        archive = Receipts(receipts, Keys(PROGRAM_NAME).kit, say) if receipts else None
-        found = program_way()
-        if found in (way, Way.NOTHING):
-            say(f"the program is built of these sources{TRUST[way]}")
-            return 0
-        if archive:
-            say(f"the receipts are of commit {archive.commit}; whoever made them is trusted")
-            archive.write(OUT / "receipts" / "unpacked")
-        progress = Progress(say, slots())
-        failed = make_all(Build(way, store, progress, PROGRAM_NAME, receipts=archive))
-        remove_left()
-        if archive:
-            archive.remove()
+        archive = Receipts(receipts, OUT / "receipts" / "unpacked", Keys(PROGRAM_NAME).kit, say) if receipts else None
+        try:
+            if program_way() in (way, Way.NOTHING):
+                say(f"the program is built of these sources{TRUST[way]}")
+                return 0
+            if archive:
+                say(f"the receipts are of commit {archive.commit}; whoever made them is trusted")
+            return make_all(way, store, archive)
+        finally:
+            if archive:
+                archive.remove()
+
+
+def make_all(way: Way, store: Store, archive: Receipts | None) -> int:
+    """Makes the libraries and the program, and returns the exit status."""
+    progress = Progress(say, slots())
+    build = Build(way, store, progress, PROGRAM_NAME, receipts=archive)
+    build.shelf.folder.mkdir(parents=True, exist_ok=True)
+    failed = build.make_libraries(PROGRAM_NAME) or build.make_program()
     if failed:
         report(failed)
         say(f"the program was not built, since this was not proved or not built: {', '.join(failed)}")
         return NOT_BUILT
     say(f"built in {minutes(progress.seconds())} ({progress.summary()}){TRUST[way]}")
     return 0
-
-
-def make_all(build: Build) -> dict[str, str]:
-    """Makes the libraries and the program, and returns what failed."""
-    build.shelf.folder.mkdir(parents=True, exist_ok=True)
-    return build.make_libraries(PROGRAM_NAME) or build.make_program()
 
 
 def begin_in_background(arguments: Sequence[str]) -> int:
