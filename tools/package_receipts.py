@@ -6,7 +6,6 @@ in out/receipts/made until their sources change. Whoever builds by the archive t
 from __future__ import annotations
 
 import concurrent.futures
-import hashlib
 import io
 import json
 import lzma
@@ -23,6 +22,7 @@ from proofs_lib.command import alone, make_libraries
 from proofs_lib.keys import PROVED, Keys, Record, read_record, state_of_sources
 from proofs_lib.receipts import FORM, LIST, sum_of
 from proofs_lib.repository import OUT, PROGRAM_NAME, kit, slots, weights
+from proofs_lib.sums import sum_of_file
 
 MADE = OUT / "receipts" / "made"
 
@@ -86,34 +86,49 @@ def make_receipts(say: Callable[[object], None]) -> tuple[dict[str, str], str]:
     return found, keys.kit
 
 
-def list_of(source: Source, keys: Mapping[str, str], kit_sum: str, files: Mapping[str, bytes]) -> bytes:
+def list_of(source: Source, keys: Mapping[str, str], kit_sum: str, files: Mapping[str, pathlib.Path]) -> bytes:
     """The list of an archive: what the receipts are of, and the sum of each file."""
-    sums = {name: hashlib.sha256(content).hexdigest() for name, content in files.items()}
     about: dict[str, object] = {"form": FORM, "version": source.version, "commit": source.commit, "kit": kit_sum}
-    about |= {"kit_name": (kit() / "KIT-ID").read_text().strip(), "keys": dict(keys), "sums": sums}
+    about |= {"kit_name": (kit() / "KIT-ID").read_text().strip(), "keys": dict(keys)}
+    about |= {"sums": {name: sum_of_file(path) for name, path in files.items()}}
     return (json.dumps({**about, "sum": sum_of(about)}, indent=1) + "\n").encode()
 
 
-def packed(files: Mapping[str, bytes], seconds: int) -> tuple[str, bytes]:
-    """The ending of an archive's name, and its bytes: by zstd where that is installed, else by xz."""
-    held = io.BytesIO()
-    with tarfile.open(fileobj=held, mode="w", format=tarfile.USTAR_FORMAT) as tar:
-        for name, content in files.items():
-            entry = tarfile.TarInfo(name)
-            entry.size, entry.mtime, entry.mode = len(content), seconds, 0o644
-            tar.addfile(entry, io.BytesIO(content))
+def write_tar(path: pathlib.Path, about: bytes, files: Mapping[str, pathlib.Path], seconds: int) -> None:
+    """Writes a tar archive of a list and of the files of the list, whose entries are of the commit's date."""
+    def entry(name: str, size: int) -> tarfile.TarInfo:
+        made = tarfile.TarInfo(name)
+        made.size, made.mtime, made.mode = size, seconds, 0o644
+        return made
+
+    with tarfile.open(path, mode="w", format=tarfile.USTAR_FORMAT) as tar:
+        tar.addfile(entry(LIST, len(about)), io.BytesIO(about))
+        for name, place in files.items():
+            with open(place, "rb") as file:
+                tar.addfile(entry(name, place.stat().st_size), file)
+
+
+def pack(tar: pathlib.Path, path: pathlib.Path) -> pathlib.Path:
+    """Packs an archive by zstd where that is installed, else by xz. Returns the path, which has the ending."""
     if shutil.which("zstd"):
-        done = subprocess.run(["zstd", "-q", "-10", "-c"], input=held.getbuffer(), stdout=subprocess.PIPE, check=False)
-        if done.returncode == 0:
-            return "zst", done.stdout
-    return "xz", lzma.compress(held.getbuffer(), preset=1)
+        packed = path.with_name(f"{path.name}.zst")
+        done = subprocess.run(["zstd", "-q", "-f", "-10", tar, "-o", packed], capture_output=True, text=True, check=False)
+        if done.returncode:
+            raise Refusal(f"zstd wrote no {packed}: {done.stderr.strip()}")
+        return packed
+    packed = path.with_name(f"{path.name}.xz")
+    with open(tar, "rb") as source, lzma.open(packed, "wb", preset=1) as target:
+        shutil.copyfileobj(source, target, 1 << 20)
+    return packed
 
 
 def write_receipts(source: Source, folder: pathlib.Path, say: Callable[[object], None]) -> pathlib.Path:
     """Writes the archive of the receipts of all crates, and returns its path."""
     keys, kit_sum = make_receipts(say)
-    files = {str(it.relative_to(MADE)): it.read_bytes() for name in keys for it in sorted((MADE / name).rglob("*")) if it.is_file()}
-    ending, content = packed({LIST: list_of(source, keys, kit_sum, files), **files}, source.seconds)
-    path = folder / f"x25scan-{source.version}-receipts.tar.{ending}"
-    path.write_bytes(content)
-    return path
+    files = {str(it.relative_to(MADE)): it for name in sorted(keys) for it in sorted((MADE / name).rglob("*")) if it.is_file()}
+    tar = MADE.with_suffix(".tar")
+    try:
+        write_tar(tar, list_of(source, keys, kit_sum, files), files, source.seconds)
+        return pack(tar, folder / f"x25scan-{source.version}-receipts.tar")
+    finally:
+        tar.unlink(missing_ok=True)

@@ -22,22 +22,33 @@ from .repository import FRESH, OUT, PROGRAM, PROGRAM_NAME, Refusal, kit, slots
 from .schedule import Build, remove_left, report
 from .store import Store
 
-ABOUT = """Proves and builds x25scan and its libraries, unless they are built of these sources. bin/x25scan runs what it builds.
+ABOUT = """\
+Proves and builds x25scan and its libraries, unless they are built of these
+sources. bin/x25scan runs what it builds.
 
-Without an option each crate is proved from nothing, or taken from the store, where a proof of the same sources over the
-same libraries was kept: of another clone, another branch, or an earlier commit. Standard error says which crate is
-proved, how many are left, and for about how long. A second run waits for the first.
+Without an option each crate is proved from nothing, or taken from the store,
+where a proof of the same sources over the same libraries was kept: of another
+clone, another branch, or an earlier commit. Standard error says which crate is
+proved, how many of how many, the minutes so far, and about how many are left.
+A second run waits for the first.
 """
-ENDING = """The store is the folder $X25SCAN_STORE, else $XDG_CACHE_HOME/x25scan, else ~/.cache/x25scan. It holds at most
-$X25SCAN_STORE_LIMIT (4G if that is not set; write bytes, or a number with K, M or G), and loses first what was not used for longest.
+ENDING = """\
+The store is the folder $X25SCAN_STORE, else $XDG_CACHE_HOME/x25scan, else
+~/.cache/x25scan. It holds at most $X25SCAN_STORE_LIMIT (4G if that is not set;
+a number of bytes, or one with K, M or G), and loses first what was not used for
+longest.
 
 The exit status is one of these:
   0    the program is built, or what was asked of the store is done
-  3    a crate was not proved or not built, as standard error says; or rt is not on the path
+  3    a crate was not proved or not built, as standard error says; or rt is not
+       on the path; or the store can't be used
   64   the words of the command line or X25SCAN_STORE_LIMIT are wrong
   65   the receipts can't be used: damaged, of another kit, or no receipts
-  130  it was interrupted (143: by SIGTERM); what was proved until then is kept
+  130  it was interrupted (129: by SIGHUP, 143: by SIGTERM); what was proved
+       until then is kept
 """
+KEPT_HELP = "for developers: go on with the work that was kept of each crate (out/kept), which is trusted"
+RECEIPTS_HELP = "build by the receipts of an archive (tools/package --receipts), whose maker is trusted"
 NOT_BUILT, USAGE = 3, 64
 LOG = OUT / "prove.log"
 TRUST = {
@@ -73,8 +84,8 @@ def words_of(arguments: Sequence[str]) -> argparse.Namespace:
     words.add_argument("--help", "-h", action="help", help="print this help")
     words.add_argument("--background", action="store_true", help="prove in the background, with a log in out/prove.log")
     one = words.add_mutually_exclusive_group()
-    one.add_argument("--incremental", action="store_true", help="for developers: go on with the work that was kept of each crate (out/kept), which is trusted")
-    one.add_argument("--receipts", metavar="FILE", type=pathlib.Path, help="build by the receipts of an archive (tools/package --receipts), whose maker is trusted")
+    one.add_argument("--incremental", action="store_true", help=KEPT_HELP)
+    one.add_argument("--receipts", metavar="FILE", type=pathlib.Path, help=RECEIPTS_HELP)
     one.add_argument("--store", action="store_true", help="list what the store holds")
     one.add_argument("--empty-store", action="store_true", help="remove all that the store holds")
     return words.parse_args(arguments)
@@ -115,11 +126,11 @@ def make_libraries(*above: str) -> bool:
     kit()
     with alone(say):
         build = Build(Way.NOTHING, Store(say), Progress(say, slots()), *above)
+        build.shelf.folder.mkdir(parents=True, exist_ok=True)
         failed = build.make_libraries()
         if failed:
             report(failed)
             say(f"the libraries were not built, since this was not proved or not built: {', '.join(failed)}")
-        remove_left()
     return not failed
 
 
@@ -128,31 +139,31 @@ def make_program(way: Way, receipts: pathlib.Path | None = None) -> int:
     kit()
     store = Store(say)
     with alone(say):
-        archive = Receipts(receipts, Keys(PROGRAM_NAME).kit, say) if receipts else None
-        found = program_way()
-        if found in (way, Way.NOTHING):
-            say(f"the program is built of these sources{TRUST[way]}")
-            return 0
-        if archive:
-            say(f"the receipts are of commit {archive.commit}; whoever made them is trusted")
-            archive.write(OUT / "receipts" / "unpacked")
-        progress = Progress(say, slots())
-        failed = make_all(Build(way, store, progress, PROGRAM_NAME, receipts=archive))
-        remove_left()
-        if archive:
-            archive.remove()
+        archive = Receipts(receipts, OUT / "receipts" / "unpacked", Keys(PROGRAM_NAME).kit, say) if receipts else None
+        try:
+            if program_way() in (way, Way.NOTHING):
+                say(f"the program is built of these sources{TRUST[way]}")
+                return 0
+            if archive:
+                say(f"the receipts are of commit {archive.commit}; whoever made them is trusted")
+            return make_all(way, store, archive)
+        finally:
+            if archive:
+                archive.remove()
+
+
+def make_all(way: Way, store: Store, archive: Receipts | None) -> int:
+    """Makes the libraries and the program, and returns the exit status."""
+    progress = Progress(say, slots())
+    build = Build(way, store, progress, PROGRAM_NAME, receipts=archive)
+    build.shelf.folder.mkdir(parents=True, exist_ok=True)
+    failed = build.make_libraries(PROGRAM_NAME) or build.make_program()
     if failed:
         report(failed)
         say(f"the program was not built, since this was not proved or not built: {', '.join(failed)}")
         return NOT_BUILT
     say(f"built in {minutes(progress.seconds())} ({progress.summary()}){TRUST[way]}")
     return 0
-
-
-def make_all(build: Build) -> dict[str, str]:
-    """Makes the libraries and the program, and returns what failed."""
-    build.shelf.folder.mkdir(parents=True, exist_ok=True)
-    return build.make_libraries(PROGRAM_NAME) or build.make_program()
 
 
 def begin_in_background(arguments: Sequence[str]) -> int:

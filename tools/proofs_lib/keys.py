@@ -20,7 +20,7 @@ from dataclasses import asdict, dataclass, field
 from .repository import CRATES, LIBRARIES, OUT, PROGRAM, PROGRAM_NAME, kit, libraries, lines, source_entries
 from .sums import Sums, signature, sum_of_file, sum_of_text, write_whole
 
-# Changes with what a key is made of.
+# Changes with what a key is made of, and with the words of the prover that WORDS does not have.
 FORM = 1
 
 

@@ -29,7 +29,7 @@ class Progress:
         self.say, self.slots = say, slots
         self.began, self.used = time.monotonic(), processor_seconds()
         self.left: dict[str, int] = {}
-        self.count, self.proved_weight = 0, 0
+        self.count, self.begun, self.proved_weight = 0, 0, 0
         self.how: dict[str, int] = {}
 
     def begin(self, weights: Mapping[str, int]) -> None:
@@ -51,14 +51,16 @@ class Progress:
 
     def proving(self, name: str) -> None:
         """Says which crate is being proved."""
-        self.say(f"proving {name}, {self.count - len(self.left) + 1} of {self.count}, about {minutes(self.seconds_left())} left in all")
+        self.begun += 1
+        self.say(f"proving {name}, {self.begun} of {self.count}, about {minutes(self.seconds_left())} left in all")
 
     def end(self, name: str, how: str) -> None:
         """Says that a crate is done, and how."""
         weight = self.left.pop(name, 0)
         self.how[how] = self.how.get(how, 0) + 1
+        self.begun += 1 if how != PROVED else 0
         self.proved_weight += weight if how == PROVED else 0
-        left = f", about {minutes(self.seconds_left())} left" if self.left else ""
+        left = f", about {minutes(self.seconds_left())} left" if self.left and how == PROVED else ""
         self.say(f"{self.count - len(self.left)} of {self.count}: {name} {how}, {minutes(self.seconds())} so far{left}")
 
     def summary(self) -> str:

@@ -6,7 +6,6 @@ trusts whoever made the archive.
 from __future__ import annotations
 
 import hashlib
-import io
 import json
 import lzma
 import pathlib
@@ -14,8 +13,10 @@ import shutil
 import subprocess
 import tarfile
 from collections.abc import Callable
+from typing import Any
 
 from .repository import Refusal
+from .sums import sum_of_file
 
 FORM = "x25scan receipts 1"
 LIST = "RECEIPTS"
@@ -24,67 +25,89 @@ UNFIT = 65
 ADVICE = "get it again, or run bin/x25prove without it"
 
 
-def unpacked(path: pathlib.Path) -> bytes:
-    """The tar archive in a file that zstd or xz packed."""
-    try:
-        content = path.read_bytes()
-    except OSError as fault:
-        raise Refusal(f"the receipts {path} can't be read: {fault.strerror}", UNFIT) from fault
-    if content.startswith(ZSTD):
+class Damaged(Exception):
+    """An archive whose bytes are not those that were written."""
+
+
+def unpack(path: pathlib.Path, to: pathlib.Path) -> None:
+    """Writes the tar archive in a file that zstd or xz packed."""
+    with open(path, "rb") as file:
+        start = file.read(len(XZ))
+    if start.startswith(ZSTD):
         if not shutil.which("zstd"):
             raise Refusal(f"the receipts {path} are packed by zstd, which is not on the path: install zstd", UNFIT)
-        done = subprocess.run(["zstd", "-q", "-d", "-c"], input=content, capture_output=True, check=False)
-        if done.returncode == 0:
-            return done.stdout
-    elif content.startswith(XZ):
+        if subprocess.run(["zstd", "-q", "-d", "-f", path, "-o", to], capture_output=True, check=False).returncode:
+            raise Damaged
+    elif start.startswith(XZ):
         try:
-            return lzma.decompress(content)
-        except lzma.LZMAError:
-            pass
+            with lzma.open(path) as source, open(to, "wb") as target:
+                shutil.copyfileobj(source, target, 1 << 20)
+        except (lzma.LZMAError, EOFError) as fault:
+            raise Damaged from fault
     else:
         raise Refusal(f"{path} is no archive of receipts: tools/package --receipts makes one", UNFIT)
-    raise Refusal(f"the receipts {path} are damaged: {ADVICE}", UNFIT)
 
 
-def members(path: pathlib.Path) -> dict[str, bytes]:
-    """The files of an archive by name."""
+def write_files(archive: pathlib.Path, folder: pathlib.Path) -> None:
+    """Writes the files of a tar archive below a folder."""
     try:
-        with tarfile.open(fileobj=io.BytesIO(unpacked(path))) as tar:
-            return {it.name: file.read() for it in tar if (file := tar.extractfile(it))}
-    except (tarfile.TarError, KeyError) as fault:
-        raise Refusal(f"the receipts {path} are damaged: {ADVICE}", UNFIT) from fault
+        with tarfile.open(archive) as tar:
+            for member in tar:
+                source = tar.extractfile(member) if member.isfile() else None
+                if source is None or member.name.startswith("/") or ".." in member.name.split("/"):
+                    raise Damaged
+                place = folder / member.name
+                place.parent.mkdir(parents=True, exist_ok=True)
+                with open(place, "wb") as target:
+                    shutil.copyfileobj(source, target, 1 << 20)
+    except tarfile.TarError as fault:
+        raise Damaged from fault
+
+
+def list_in(folder: pathlib.Path) -> dict[str, Any]:
+    """The list of an archive whose files are those of the list."""
+    try:
+        about: dict[str, Any] = json.loads((folder / LIST).read_text())
+        sums, own = about["sums"], about.pop("sum")
+        is_whole = about["form"] == FORM and own == sum_of(about) and isinstance(about["keys"], dict)
+    except (OSError, ValueError, KeyError, TypeError, AttributeError) as fault:
+        raise Damaged from fault
+    files = (it for it in folder.rglob("*") if it.is_file() and it != folder / LIST)
+    if not is_whole or sums != {str(it.relative_to(folder)): sum_of_file(it) for it in files}:
+        raise Damaged
+    return about
 
 
 class Receipts:
-    """The receipts of an archive whose sums are right and which are of this kit, written to a folder."""
+    """The receipts of an archive, whose sums are right and which are of this kit, in a folder where the kit reads them."""
 
-    def __init__(self, path: pathlib.Path, kit: str, say: Callable[[object], None]) -> None:
-        found = members(path)
-        self.path, self.say = path, say
+    def __init__(self, path: pathlib.Path, folder: pathlib.Path, kit: str, say: Callable[[object], None]) -> None:
+        self.folder, self.say = folder, say
         try:
-            about = json.loads(found.pop(LIST))
-            sums, self.keys = about["sums"], about["keys"]
-            self.commit, its_kit, form, own = str(about["commit"]), about["kit"], about["form"], about.pop("sum")
-            is_whole = own == sum_of(about) and sums == {it: hashlib.sha256(content).hexdigest() for it, content in found.items()}
-        except (ValueError, KeyError, TypeError, AttributeError) as fault:
-            raise Refusal(f"the receipts {path} have no list of their files, or a damaged one: {ADVICE}", UNFIT) from fault
-        if form != FORM or not is_whole or any(".." in it.split("/") or it.startswith("/") for it in found):
-            raise Refusal(f"the receipts {path} are damaged: {ADVICE}", UNFIT)
-        if its_kit != kit:
-            name = about.get("kit_name", "another")
-            raise Refusal(f"the receipts {path} are of another kit, {name}: use that kit, or run bin/x25prove without them", UNFIT)
-        self.found = found
-        self.folder = pathlib.Path()
+            about = self.read(path, kit)
+        except BaseException:
+            self.remove()
+            raise
+        self.commit, self.keys = str(about["commit"]), about["keys"]
 
-    def write(self, folder: pathlib.Path) -> None:
-        """Writes the receipts below a folder, where the kit reads them."""
-        shutil.rmtree(folder, ignore_errors=True)
-        for name, content in self.found.items():
-            place = folder / name
-            place.parent.mkdir(parents=True, exist_ok=True)
-            place.write_bytes(content)
-        self.folder = folder
-        self.found = {}
+    def read(self, path: pathlib.Path, kit: str) -> dict[str, Any]:
+        """Writes the receipts, and returns their list."""
+        self.remove()
+        self.folder.mkdir(parents=True)
+        archive = self.folder.with_suffix(".tar")
+        try:
+            unpack(path, archive)
+            write_files(archive, self.folder)
+            about = list_in(self.folder)
+        except Damaged as fault:
+            raise Refusal(f"the receipts {path} are damaged: {ADVICE}", UNFIT) from fault
+        except OSError as fault:
+            raise Refusal(f"the receipts {path} can't be read: {fault.strerror}", UNFIT) from fault
+        finally:
+            archive.unlink(missing_ok=True)
+        if about["kit"] != kit:
+            raise Refusal(f"the receipts {path} are of another kit, {about.get('kit_name')}: use that kit, or run bin/x25prove without them", UNFIT)
+        return about
 
     def remove(self) -> None:
         """Removes what was written."""
@@ -98,6 +121,6 @@ class Receipts:
         return None
 
 
-def sum_of(about: dict[str, object]) -> str:
+def sum_of(about: dict[str, Any]) -> str:
     """The sum of the list of an archive."""
     return hashlib.sha256(json.dumps(about, sort_keys=True).encode()).hexdigest()

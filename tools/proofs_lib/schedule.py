@@ -33,9 +33,16 @@ class Failed(Exception):
     """What the prover said of a crate that it didn't prove or build."""
 
 
+def link_or_copy(source: str, to: str) -> None:
+    try:
+        os.link(source, to)
+    except OSError:
+        shutil.copy2(source, to)
+
+
 def copy_linked(source: pathlib.Path, to: pathlib.Path) -> None:
     """Copies a built library, whose files no one writes again, by links."""
-    shutil.copytree(source, to, copy_function=os.link)
+    shutil.copytree(source, to, copy_function=link_or_copy)
 
 
 @dataclass(frozen=True)
@@ -69,8 +76,7 @@ class Maker:
     def program(self, job: Job, below: dict[str, list[str]]) -> str:
         """Puts the program in its place, with its record. Returns how it was made."""
         fresh = prover.fresh_place(PROGRAM_NAME)
-        is_taken = self.shelf.way is Way.NOTHING and self.store.take(PROGRAM_NAME, job.key, fresh, sum_of_file)
-        how = FROM_STORE if is_taken else self.proved(job, fresh)
+        how = FROM_STORE if self.store.take(PROGRAM_NAME, job.proved_key, fresh, sum_of_file) else self.proved(job, fresh)
         record = Record(job.key, sum_of_file(fresh), self.shelf.way.value, self.kit, below)
         program_record_path().unlink(missing_ok=True)
         os.replace(fresh, PROGRAM)
@@ -201,7 +207,7 @@ class Build:
     def make_program(self) -> dict[str, str]:
         """Makes the program over its libraries, and returns the output where that failed."""
         sources = state_of_sources(PROGRAM_NAME)
-        key = self.keys.of_program(self.shelf.way, self.sum)
+        key, proved_key = (self.keys.of_program(way, self.sum) for way in (self.shelf.way, Way.NOTHING))
         below = {name: [self.key[name], self.sum[name]] for name in self.below}
         record = read_record(program_record_path())
         try:
@@ -209,7 +215,7 @@ class Build:
                 Record(key, record.sum, record.way, self.keys.kit, below).write(program_record_path())
                 how = UNCHANGED
             else:
-                how = self.maker.program(Job(PROGRAM_NAME, key, key, sources, self.slots), below)
+                how = self.maker.program(Job(PROGRAM_NAME, key, proved_key, sources, self.slots), below)
         except (Failed, OSError) as fault:
             return {PROGRAM_NAME: str(fault)}
         except BaseException:
