@@ -130,6 +130,7 @@ def cooked_1(frame: Frame) -> Found:
 
 
 def cooked_2(frame: Frame) -> Found:
+    frame.device = int.from_bytes(frame.octets[4:8], "big")
     return cooked(frame, 10, 0, 20)
 
 
