@@ -85,7 +85,7 @@ class Spool:
         return self.number <= self.last_number
 
     def replay(
-        self, circuits: Sequence[xot.Circuit], line_key: int = 0, first: int = 0, last_channel: int = LAST_CHANNEL,
+        self, circuits: Sequence[xot.Circuit], first: int = 0, last_channel: int = LAST_CHANNEL, line_key: int = 0,
     ) -> Iterator[str]:
         """The text of the trace after its header, in parts; one part ends with the last of the first rows.
 

@@ -185,7 +185,7 @@ class Trace:
         """Writes the trace; returns what it has besides rows."""
         line, size = self.line(), 0
         header = self.header(line)
-        rows = self.spool.replay(self.reading.xot.circuits, -line.number, MOST_ROWS, header.outgoing)
+        rows = self.spool.replay(self.reading.xot.circuits, MOST_ROWS, header.outgoing, -line.number)
         with tempfile.TemporaryFile("w+", encoding="ascii", newline="\n") as beginning:
             head = self.head(name, line, header, self.evidence(line, header, rows, beginning))
             for part in self.parts(head, chain(iter(partial(beginning.read, CHUNK), ""), rows)):
