@@ -64,6 +64,7 @@ class Topic(enum.Enum):
     UNKNOWN_LINK = "link types that are not known"
     LINK_FRAME = "frames that set up or end a LAPB link"
     DIRECTION = "contradictions of direction and address"
+    SAME = "links that were recorded twice"
     BEGINNING = "a recording that begins inside of a restart"
     CONNECTION = "connections that end with their call"
     CHANNEL = "logical channels that change inside of a connection"

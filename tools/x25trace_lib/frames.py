@@ -54,6 +54,8 @@ class Frame:
     time: int | None = None
     # The number of tunnels around it.
     depth: int = 0
+    # The number of the Linux device that had it, where the capture has that.
+    device: int | None = None
     # The source address of its link header, where that is read.
     source: bytes = b""
 

@@ -311,6 +311,8 @@ class Lapb:
             # The held frames were refused, or accepted, or a whole modulus of frames has passed since them.
             packets = (*packets, self.gap(packet.frame, packet.time))
             way.is_doubtful = True
+            # A held one with this number and another packet is no longer waited for.
+            self.ledger.left_out(Reason.UNTAKEN_FRAME, int(way.held.pop(send, None) is not None))
         way.next = (send + 1) % self.circle
         return [*packets, *self.given_out(packet)] if packets else self.given_out(packet)
 

@@ -130,6 +130,7 @@ def cooked_1(frame: Frame) -> Found:
 
 
 def cooked_2(frame: Frame) -> Found:
+    frame.device = int.from_bytes(frame.octets[4:8], "big")
     return cooked(frame, 10, 0, 20)
 
 
@@ -209,7 +210,7 @@ LINKS: dict[int | str | None, Opener] = {
 USER_LINKS = range(147, 163)
 
 # Where the source address is in a link header: of Ethernet, and after its length in a cooked header.
-COOKED_SOURCES = {cooked_1: (5, 6), cooked_2: (11, 12)}
+COOKED_SOURCES: dict[Opener, tuple[int, int]] = {cooked_1: (5, 6), cooked_2: (11, 12)}
 
 
 def source_of(opener: Opener, octets: bytes) -> bytes:

@@ -8,13 +8,12 @@ from x25tools_lib.choices import Carrier
 from x25tools_lib.header import Wishes
 from x25tools_lib.ledger import Ledger, Reason, Topic
 from x25tools_lib.notes import comment, time_text
-from x25tools_lib.sides import Side
 
-from .beginning import Beginning
 from .channels import Channels
 from .estimate import Estimator, header_of
 from .halves import halves_of
 from .frames import Dropped, Frame
+from .lines import Line
 from .packets import Missing, Packet, Type, channel_of
 from .reading import Reading
 from .spool import LAST_NUMBER, Rows, gap_words, on_channel
@@ -31,11 +30,9 @@ class Live:
         self.header = header_of(wishes, Estimator(), 0, 0, False, True)
         self.channels = Channels(self.header)
         self.rows = Rows(True, has_comments)
-        self.beginning = Beginning()
-        self.carrier: Carrier | None = None
+        self.line: Line | None = None
         self.out: TextIO | None = None
-        self.waiting: list[str | tuple[Carrier | None, Missing]] = []
-        self.sides: set[Side] = set()
+        self.waiting: list[str | tuple[Line | None, Missing]] = []
         self.size = 0
         reading.xot.on_end = self.release
         ledger.keep = self.note
@@ -43,49 +40,51 @@ class Live:
     def write(self, frames: Iterable[Frame | Dropped], name: str, out: TextIO) -> None:
         """Writes the whole trace as its frames are read."""
         start = comment(f"from {name} by x25trace, as its frames come; a row has the number of its frame")
-        for carrier, packet in self.reading.packets(frames):
+        for line, packet in self.reading.packets(frames):
             if isinstance(packet, Missing):
-                self.miss(carrier, packet)
+                self.miss(line, packet)
                 continue
-            if self.carrier is None:
-                self.begin(carrier, packet, out, start)
-            if carrier is not self.carrier:
+            assert line
+            if self.line is None:
+                self.begin(line, packet, out, start)
+            if line is not self.line:
                 self.ledger.left_out(Reason.SECOND_CARRIER)
             else:
-                if packet.circuit is None and self.beginning.is_open:
-                    self.see_beginning(carrier, packet)
+                line.sides.add(packet.side)
+                if packet.circuit is None and line.beginning.is_open:
+                    self.see_beginning(line, packet)
                 self.write_row(packet)
-        if self.carrier is None:
+        if self.line is None:
             raise self.reading.no_packet()
-        self.ledger.lack(halves_of(self.reading, self.carrier, self.sides))
+        self.ledger.lack(halves_of(self.reading, self.line, self.line.sides))
         for half in self.ledger.halves:
             self.put(comment(half.text))
         for words in self.ledger.lines():
             self.put(comment(words))
 
-    def see_beginning(self, carrier: Carrier | None, packet: Packet) -> None:
+    def see_beginning(self, line: Line, packet: Packet) -> None:
         """Reads one of the first packets of a line: a gap row is before one that shows that a restart was not whole."""
-        words = self.beginning.see(packet)
+        words = line.beginning.see(packet)
         if words and self.wishes.join is None:
             self.ledger.report(Topic.BEGINNING, words)
-            self.write_gap(carrier, Missing(packet.frame, packet.time))
+            self.write_gap(line, Missing(packet.frame, packet.time))
 
-    def begin(self, carrier: Carrier | None, packet: Packet, out: TextIO, start: str) -> None:
+    def begin(self, line: Line, packet: Packet, out: TextIO, start: str) -> None:
         """Writes the header, after a comment. On a line a restart shows the beginning, with XOT each connection does."""
-        self.carrier, self.out = carrier, out
+        self.line, self.out = line, out
         if self.wishes.join is None:
             octets = packet.octets
             restarts = len(octets) >= 3 and octets[2] == Type.RESTART and not channel_of(octets)
-            self.header.join = carrier is not Carrier.XOT and not restarts
+            self.header.join = line.carrier is not Carrier.XOT and not restarts
         else:
             self.header.join = self.wishes.join
         self.put(start)
         self.put(self.header.line() + "\n")
-        for line in self.waiting:
-            if isinstance(line, str):
-                self.put(line)
+        for waiting in self.waiting:
+            if isinstance(waiting, str):
+                self.put(waiting)
             else:
-                self.write_gap(*line)
+                self.write_gap(*waiting)
 
     def put(self, line: str) -> None:
         """Writes a line."""
@@ -103,21 +102,22 @@ class Live:
         else:
             self.put(comment(words))
 
-    def miss(self, carrier: Carrier | None, missing: Missing) -> None:
+    def miss(self, line: Line | None, missing: Missing) -> None:
         """Writes a gap row, or keeps it until there is a packet; options decide about a gap before the beginning."""
         if missing.is_beginning and self.wishes.join is not None:
             return
         if missing.circuit is missing.channel is None:
-            self.beginning.miss()
+            for one in (line,) if line else self.reading.lines.all:
+                one.beginning.miss()
         if self.out is None:
-            self.waiting.append((carrier, missing))
+            self.waiting.append((line, missing))
         else:
-            self.write_gap(carrier, missing)
+            self.write_gap(line, missing)
 
-    def write_gap(self, carrier: Carrier | None, missing: Missing) -> None:
+    def write_gap(self, line: Line | None, missing: Missing) -> None:
         """Writes a gap row; for a circuit without a row, after the comment on the circuit."""
         circuit, channel = missing.circuit, missing.channel
-        if carrier not in (None, self.carrier):
+        if line not in (None, self.line):
             return
         if circuit is not None:
             self.begin_circuit(circuit)
@@ -138,8 +138,7 @@ class Live:
 
     def write_row(self, packet: Packet) -> None:
         """Writes the row of a packet."""
-        circuit, side = packet.circuit, packet.side
-        self.sides.add(side)
+        circuit = packet.circuit
         words = f"{packet.side.letter} {packet.octets.hex().upper() or '-'}\n"
         if circuit is not None:
             self.begin_circuit(circuit)

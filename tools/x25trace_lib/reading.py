@@ -12,6 +12,7 @@ from .frames import Direction, Dropped, Frame
 from .internet import Internet
 from .lapb import Lapb, kind_of, unframe
 from .link_ends import Ends
+from .lines import Line, Lines
 from .links import LINKS, OPENERS, USER_LINKS, Carried, Found, Opener, source_of
 from .packets import LONGEST, Item, Missing, Packet, left_out, without
 from .xot import Xot
@@ -32,7 +33,9 @@ class Reading:
         self.ledger, self.choices = ledger, choices
         self.internet = Internet(ledger, choices.ports)
         self.xot = Xot(ledger, choices.ports, choices.dte, choices.swapped)
-        self.lapb = Lapb(ledger, choices.link_modulus, Ends(ledger, choices.side_by, choices.swapped, choices.stations))
+        # The links, by what carries their packets and by the devices that had them.
+        self.lines = Lines()
+        self.line_of: dict[tuple[Carrier, int | None], Line] = {}
         self.frames = 0
         # Whether frames may be missing before the next one; only sequence numbers in them would show it.
         self.is_damaged = False
@@ -43,8 +46,21 @@ class Reading:
         # The kinds found by first frames for link types that --as does not name.
         self.tried: set[str] = set()
 
-    def packets(self, frames: Iterable[Frame | Dropped]) -> Iterator[tuple[Carrier | None, Item]]:
-        """Pairs of a carrier and a packet or a gap; a gap of dropped frames has no carrier."""
+    def line(self, carrier: Carrier, frame: Frame) -> Line:
+        """The link that had a frame."""
+        key = carrier, None if carrier is Carrier.XOT else frame.device
+        line = self.line_of.get(key)
+        if line is None:
+            line = self.line_of[key] = Line(*key)
+            if carrier is Carrier.LAPB:
+                choices = self.choices
+                ends = Ends(self.ledger, choices.side_by, choices.swapped, choices.stations)
+                line.lapb = Lapb(self.ledger, choices.link_modulus, ends)
+            self.lines.add(line)
+        return line
+
+    def packets(self, frames: Iterable[Frame | Dropped]) -> Iterator[tuple[Line | None, Item]]:
+        """Pairs of a link and a packet or a gap; a gap of dropped frames has no link."""
         wanted, only, openers = self.choices.interfaces, self.choices.only, self.openers
         segment_of, take = self.internet.segment, self.xot.take
         for frame in frames:
@@ -54,11 +70,11 @@ class Reading:
                     yield None, self.dropped(frame)
                 continue
             self.frames += 1
-            if wanted and frame.interface not in wanted:
-                self.ledger.left_out(Reason.OTHER_INTERFACE)
-                continue
             opener = openers.get(frame.link, self.other) or self.unknown
             carried, at = opener(frame)
+            if wanted and (frame.interface if frame.device is None else frame.device) not in wanted:
+                self.ledger.left_out(Reason.OTHER_INTERFACE)
+                continue
             carrier = CARRIERS.get(carried)
             if carrier is None:
                 self.not_carried(frame, carried)
@@ -66,21 +82,24 @@ class Reading:
             if only is not None and carrier is not only:
                 self.ledger.left_out(Reason.OTHER_CARRIER)
                 continue
+            line = self.line(carrier, frame)
             if carrier is Carrier.XOT:
                 segment = segment_of(frame, at)
                 packets = take(segment) if segment else ()
             elif carrier is Carrier.LAPB:
                 frame.source = source_of(opener, frame.octets)
-                packets = self.from_link(frame, carried, at)
+                packets = self.from_link(line, frame, carried, at)
             else:
                 packets = self.from_packet(frame, carried, at)
             for packet in self.short_enough(packets):
-                yield carrier, packet
+                yield line, packet
         self.internet.end()
         for packets in self.xot.end():
             for packet in self.short_enough(packets):
-                yield Carrier.XOT, packet
-        self.lapb.end()
+                yield self.line_of[Carrier.XOT, None], packet
+        for line in self.lines.all:
+            if line.lapb:
+                line.lapb.end()
 
     def short_enough(self, packets: Iterable[Item]) -> list[Item]:
         """What a frame gives, once it has reported all; a packet that is too long becomes a gap."""
@@ -136,7 +155,7 @@ class Reading:
         else:
             self.ledger.left_out(Reason.UNKNOWN_LINK if carried is Carried.UNKNOWN else Reason.OTHER_PROTOCOL)
 
-    def from_link(self, frame: Frame, carried: Carried, at: int) -> Sequence[Item]:
+    def from_link(self, line: Line, frame: Frame, carried: Carried, at: int) -> Sequence[Item]:
         octets, cut = frame.octets[at:], len(frame.octets) < frame.length
         if carried is Carried.HDLC:
             unframed = None if cut else unframe(octets)
@@ -144,7 +163,8 @@ class Reading:
                 self.ledger.damaged(Reason.BAD_FCS, f"frame {frame.number}: its frame check sequence is wrong")
                 return ()
             octets = unframed
-        return self.lapb.take(frame, octets, cut)
+        assert line.lapb
+        return line.lapb.take(frame, octets, cut)
 
     def from_packet(self, frame: Frame, carried: Carried, at: int) -> Sequence[Item]:
         """A packet without a link header, or its gap; before one of a Linux device an octet says what it is."""

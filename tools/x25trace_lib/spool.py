@@ -13,6 +13,8 @@ from .packets import Missing, Packet
 LAST_NUMBER = 999_999_999
 # The word of a gap row in place of a side.
 GAP = "?"
+# The key of what concerns all links.
+ALL = "*"
 
 
 class Rows:
@@ -42,6 +44,7 @@ class Spool:
         self.file = tempfile.TemporaryFile("w+", encoding="ascii", newline="\n", buffering=1 << 16)
         self.lines: list[str] = []
         self.rows = self.gaps = 0
+        self.has_common_gaps = False
         self.has_comments, self.last_number = has_comments, last_number
         self.number = 0
         # The number of rows replayed, and their first circuits.
@@ -53,7 +56,7 @@ class Spool:
         self.lines.append(comment(words))
 
     def add(self, packet: Packet, circuit: int) -> None:
-        """Keeps a row: its circuit, 0 on a line, its time, its frame, and the text after its number."""
+        """Keeps a row: its circuit, or on a line a number that is not above 0, its time, its frame, and the text after its number."""
         self.rows += 1
         frame, lines = packet.frame, self.lines
         self.number = frame if frame > self.number else self.number + 1
@@ -62,12 +65,13 @@ class Spool:
         if len(lines) > self.MOST_LINES:
             self.write()
 
-    def add_gap(self, missing: Missing) -> None:
-        """Keeps a gap row in the same way."""
+    def add_gap(self, missing: Missing, line: int | str = 0) -> None:
+        """Keeps a gap row in the same way, of a circuit, of a line, or of all."""
         self.rows += 1
         self.gaps += 1
         self.number = max(missing.frame - 1, self.number + 1)
-        circuit = missing.circuit.number if missing.circuit else 0
+        circuit = missing.circuit.number if missing.circuit else line
+        self.has_common_gaps |= circuit == ALL
         time = time_text(missing.time) if self.has_comments else "-"
         self.lines.append(f"{circuit} {time} {missing.frame} {gap_words(missing.channel)}")
 
@@ -81,28 +85,33 @@ class Spool:
         return self.number <= self.last_number
 
     def replay(
-        self, circuits: Sequence[xot.Circuit], first: int = 0, last_channel: int = LAST_CHANNEL,
+        self, circuits: Sequence[xot.Circuit], first: int = 0, last_channel: int = LAST_CHANNEL, line_key: int = 0,
     ) -> Iterator[str]:
         """The text of the trace after its header, in parts; one part ends with the last of the first rows.
 
+        The rows are those of circuits, and of one line. The others are left out.
         A gap of a channel beyond the last one is written as a gap of all channels.
         """
         self.write()
         self.file.seek(0)
         rows, lines = Rows(self.by_frames, self.has_comments), list[str]()
-        row, channels = rows.row, dict[str, int | None]({"0": None})
+        own = frozenset((str(line_key), ALL))
+        row, channels = rows.row, dict[str, int | None](dict.fromkeys(own))
         for line in self.file:
             if line[0] == "#":
                 lines.append(line)
                 continue
             which, time, frame, words = line.split(" ", 3)
             circuit = None
+            if which not in own and which[0] in "0-":
+                self.gaps -= words[0] == GAP
+                continue
             if which not in channels:
                 circuit = circuits[int(which) - 1]
                 channels[which] = circuit.channel
                 if circuit.channel is not None:
                     lines.append(comment(circuit.shown_words()))
-            if which != "0":
+            if which not in own:
                 channel = channels[which]
                 if channel is None:
                     self.gaps -= words[0] == GAP

@@ -2,8 +2,7 @@
 from __future__ import annotations
 
 import tempfile
-from collections import Counter
-from collections.abc import Iterable, Iterator
+from collections.abc import Iterable, Iterator, Sequence
 from functools import partial
 from itertools import chain
 from typing import IO
@@ -14,21 +13,30 @@ from x25tools_lib.header import LAST_CHANNEL, Header, Wishes
 from x25tools_lib.ledger import Ledger, Reason, Topic
 from x25tools_lib.notes import Head, comment
 from x25tools_lib.refusals import Refusal, Why
-from x25tools_lib.sides import Side
 from x25tools_lib.streams import CHUNK
 
-from .beginning import Beginning
 from .channels import assign
-from .estimate import Estimator, estimates, header_of, seen_of
+from .estimate import estimates, header_of, seen_of
 from .evidence import Evidence, largest, ranked_first
 from .frames import Dropped, Frame
 from .halves import halves_of
+from .lines import Line, preferred
 from .packets import Missing, Packet, channel_of
 from .ranking import MOST_ROWS, NO_SCANNER, Ranker
 from .reading import Reading
-from .spool import Spool
+from .spool import ALL, Spool
+from .xot import Circuit
 
 LARGEST_TEXT = 1 << 30
+
+
+def several_words(lines: Sequence[Line]) -> str:
+    """The refusal of a capture with several links, with the options for each."""
+    if all(line.device is None for line in lines):
+        words = " and ".join(line.words for line in lines)
+        return f"{words}; a trace is of one interface: --only says which"
+    each = "; ".join(f"{line.words}: {line.options}" for line in lines)
+    return f"the capture has {len(lines)} links, and a trace is of one interface: {each}"
 
 
 class Trace:
@@ -39,71 +47,88 @@ class Trace:
     ) -> None:
         self.ledger, self.reading, self.wishes, self.ranker = ledger, reading, wishes, ranker
         self.spool = Spool(has_comments)
-        self.estimator, self.beginning = Estimator(), Beginning()
-        reading.xot.on_end = self.estimator.forget
-        self.carriers: Counter[Carrier] = Counter()
-        self.sides: set[Side] = set()
+        self.lines = reading.lines
+        reading.xot.on_end = self.forget
         ledger.keep = self.spool.note
 
     def gather(self, frames: Iterable[Frame | Dropped]) -> None:
         """Reads all packets of the frames, and the gaps between them."""
-        see, add, carriers, sides, beginning = self.estimator.see, self.spool.add, self.carriers, self.sides, self.beginning
-        for carrier, packet in self.reading.packets(frames):
+        add, lines = self.spool.add, self.lines
+        for line, packet in self.reading.packets(frames):
             if isinstance(packet, Missing):
-                self.miss(packet)
+                self.miss(line, packet)
                 continue
+            assert line
             octets, circuit = packet.octets, packet.circuit
-            if carrier is not None:
-                carriers[carrier] += 1
+            line.packets += 1
             if circuit is None:
-                if beginning.is_open:
-                    self.begin(packet)
-                sides.add(packet.side)
+                if line.beginning.is_open:
+                    self.begin(line, packet)
+                line.sides.add(packet.side)
                 key = channel_of(octets) if len(octets) >= 2 else 0
-                see(key, False, packet.side, octets, True)
-                add(packet, 0)
+                line.estimator.see(key, False, packet.side, octets, True)
+                if lines.pairs:
+                    lines.see(line, octets)
+                add(packet, -line.number)
                 continue
-            see(circuit.number, circuit.from_opening, packet.side, octets, False)
+            line.estimator.see(circuit.number, circuit.from_opening, packet.side, octets, False)
             add(packet, circuit.number)
             circuit.rows += 1
             circuit.last_row = self.spool.rows
             if circuit.rows == 1:
                 circuit.first_row = circuit.last_row
 
-    def begin(self, packet: Packet) -> None:
+    def forget(self, circuit: Circuit) -> None:
+        """Removes a circuit: it has no more packets."""
+        for line in self.lines.all:
+            line.estimator.forget(circuit)
+
+    def begin(self, line: Line, packet: Packet) -> None:
         """Reads one of the first packets of a line."""
-        words = self.beginning.see(packet)
+        words = line.beginning.see(packet)
         if words and self.wishes.join is None:
             self.ledger.report(Topic.BEGINNING, words)
 
-    def miss(self, missing: Missing) -> None:
-        """Adds a gap; options decide about a gap before the beginning."""
-        if missing.circuit is missing.channel is None:
-            self.beginning.miss()
-        if not missing.is_beginning or self.wishes.join is None:
-            self.estimator.miss(missing)
-            self.spool.add_gap(missing)
+    def miss(self, line: Line | None, missing: Missing) -> None:
+        """Adds a gap, of one link or of all; options decide about a gap before the beginning."""
+        if missing.is_beginning and self.wishes.join is not None:
+            return
+        for one in (line,) if line else self.lines.all:
+            if missing.circuit is missing.channel is None:
+                one.beginning.miss()
+            one.estimator.miss(missing)
+            one.gaps += 1
+        self.spool.add_gap(missing, -line.number if line else ALL)
 
-    def header(self) -> Header:
-        """The header; XOT circuits get their channels by it."""
-        if not self.carriers:
+    def line(self) -> Line:
+        """The link whose packets are the rows."""
+        lines = self.lines.used()
+        if not lines:
             raise self.reading.no_packet()
-        if len(self.carriers) > 1:
-            words = " and ".join(f"{many} packets in {carrier.value}" for carrier, many in self.carriers.items())
-            raise Refusal(Why.MIXED, f"{words}; a trace is of one interface: --only says which")
-        has_gaps = self.spool.gaps > 0
-        if Carrier.XOT not in self.carriers:
-            estimator, join = self.estimator, self.beginning.is_joined
+        if len(lines) == 1:
+            return lines[0]
+        if self.lines.are_same(lines):
+            line = preferred(lines)
+            others = ", ".join(f"{other.place} ({other.options})" for other in lines if other is not line)
+            self.ledger.report(Topic.SAME, f"{line.words} are read; the same ones were recorded in {others}")
+            return line
+        raise Refusal(Why.MIXED, several_words(lines))
+
+    def header(self, line: Line) -> Header:
+        """The header of the rows of a link; XOT circuits get their channels by it."""
+        has_gaps, estimator = line.gaps > 0 or self.spool.has_common_gaps, line.estimator
+        if line.carrier is not Carrier.XOT:
+            join = line.beginning.is_joined
             return header_of(self.wishes, estimator, estimator.permanent, estimator.highest, join, has_gaps)
         used = [circuit for circuit in self.reading.xot.circuits if circuit.rows]
         permanent = sum(circuit.permanent for circuit in used)
         first = permanent if self.wishes.permanent is None else self.wishes.permanent
         highest = min(first + len(used) - permanent, LAST_CHANNEL)
-        header = header_of(self.wishes, self.estimator, permanent, highest, False, has_gaps)
+        header = header_of(self.wishes, estimator, permanent, highest, False, has_gaps)
         assign(used, header, self.ledger)
         return header
 
-    def head(self, name: str, header: Header, evidence: Evidence) -> Head:
+    def head(self, name: str, line: Line, header: Header, evidence: Evidence) -> Head:
         """What the trace says before its rows."""
         header.window = evidence.values.get("WIN", header.window)
         header.size = evidence.values.get("SIZE", header.size)
@@ -114,19 +139,18 @@ class Trace:
         for words in evidence.sentences():
             self.ledger.say(words)
             head.comments.append(words)
-        head.comments += self.doubts(header)
-        carrier, = self.carriers
-        head.halves = halves_of(self.reading, carrier, self.sides)
+        head.comments += self.doubts(line, header)
+        head.halves = halves_of(self.reading, line, line.sides)
         head.comments += [it.text for it in head.halves]
         self.ledger.lack(head.halves)
         return head
 
-    def evidence(self, header: Header, rows: Iterator[str], beginning: IO[str]) -> Evidence:
+    def evidence(self, line: Line, header: Header, rows: Iterator[str], beginning: IO[str]) -> Evidence:
         """The basis of the window and the packet size, where data shows them and no option gives them.
 
         The text of the rows that are tried is written to a file, which is then at its beginning.
         """
-        seen = seen_of(self.wishes, header, self.estimator)
+        seen = seen_of(self.wishes, header, line.estimator)
         if not seen or self.ranker.program is None:
             return largest(seen, self.ranker.why)
         place = beginning.write(header.line() + "\n")
@@ -140,9 +164,9 @@ class Trace:
             return largest(seen, NO_SCANNER)
         return ranked_first(ranking, header, seen, self.spool.rows <= MOST_ROWS)
 
-    def doubts(self, header: Header) -> Iterator[str]:
+    def doubts(self, line: Line, header: Header) -> Iterator[str]:
         """Sentences on doubts about the header."""
-        moduli = self.estimator.moduli
+        moduli = line.estimator.moduli
         strange = sum(moduli.values()) - moduli[header.modulus]
         if strange:
             yield f"{strange} packets are not of modulo {header.modulus}"
@@ -159,10 +183,11 @@ class Trace:
 
     def write(self, name: str, out: IO[str]) -> Head:
         """Writes the trace; returns what it has besides rows."""
-        header, size = self.header(), 0
-        rows = self.spool.replay(self.reading.xot.circuits, MOST_ROWS, header.outgoing)
+        line, size = self.line(), 0
+        header = self.header(line)
+        rows = self.spool.replay(self.reading.xot.circuits, MOST_ROWS, header.outgoing, -line.number)
         with tempfile.TemporaryFile("w+", encoding="ascii", newline="\n") as beginning:
-            head = self.head(name, header, self.evidence(header, rows, beginning))
+            head = self.head(name, line, header, self.evidence(line, header, rows, beginning))
             for part in self.parts(head, chain(iter(partial(beginning.read, CHUNK), ""), rows)):
                 size += len(part)
                 out.write(part)
