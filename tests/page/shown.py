@@ -4,6 +4,7 @@ import subprocess
 import sys
 import time
 
+import asked
 import printed
 import reached
 from pages import ROOT, Page, run
@@ -19,6 +20,7 @@ TABLES = [SEVEN, *(ROOT / "examples" / f"{name}.trace" for name in ("overlapping
 # How long the page may need to show something.
 SECONDS = 5
 TAG = '"><script>hacked=1</script><img src=x onerror=hacked=1>\''
+HOST = '"><script>hacked=1</script>'
 HOSTILE_NAME = "<img src=x onerror=hacked=1>'\"&amp;.trace"
 
 
@@ -28,7 +30,9 @@ def hostile_trace():
     rows = ["1 T 10010B544500123450003C7363726970743E", "2 N 10010F", f"3 T 100100{data}"]
     rows += ["4 T 100102AA", "5 T 100104AA"]
     head = [f"# {TAG}", f"# estimated from what was seen: WIN 2 ({TAG})", "X25 1 MOD 8 WIN 2 SIZE 128 PVC 0 SVC 4"]
-    lines = [*head, f"# connection 1 is channel 1: {TAG}", *(f"{row}\n# {TAG}" for row in rows)]
+    # A host and a connection, as far as their form allows.
+    ends = f"# connection 1 is channel 1: {HOST} port 1 (T) and {'h' * 64} port 2 (N), {TAG}"
+    lines = [*head, f"# connection 1 is channel 1: {TAG}", ends, *(f"{row}\n# {TAG}" for row in rows)]
     return "\n".join(lines) + "\n"
 
 
@@ -39,8 +43,8 @@ class Shown:
         self.browser, self.said = browser, []
 
     def is_so(self, expression, wanted=True):
-        """Looks until it is so: what a click does comes later."""
-        got = self.browser.wait_for(expression, wanted)
+        """Looks until it is so: what a click does comes later, and until then an element may not be there."""
+        got = self.browser.wait_for(f"(() => {{ try {{ return ({expression}); }} catch (fault) {{ return String(fault); }} }})()", wanted)
         if got != wanted:
             self.said.append(f"{expression} is {got!r}, expected {wanted!r}")
 
@@ -87,7 +91,7 @@ def clicks(shown):
     shown.is_so("location.hash", "#call-2")
     browser.click("#finding-table tbody tr td:nth-child(4)")
     shown.is_so("location.hash", "#call-7/47")
-    shown.is_so("document.querySelector('#ladder-room .row.faulty')?.id", "row-47")
+    shown.is_so("document.querySelector('#ladder-room .row.faulty').id", "row-47")
     shown.is_so("document.querySelector('#detail .fault-card').textContent.startsWith('Code 1: Invalid P(S)')")
     browser.value("document.querySelector('#detail details').open = true")
     shown.is_so("document.querySelector('#detail pre').textContent.startsWith('0000  10 01 24 21')")
@@ -150,6 +154,11 @@ def hostile(shown, folder, scanner):
     shown.is_so("document.querySelector('#name').textContent", HOSTILE_NAME)
     shown.is_so(f"document.querySelector('#about').textContent.includes({TAG!r})")
     shown.is_so(f"document.querySelector('#ladder').textContent.includes({TAG!r})")
+    for part in ("overview", "findings", "ladder"):
+        shown.is_so(f"place('{part}').textContent.includes({HOST!r})")
+    shown.browser.resize(printed.NARROW, 800)
+    shown.is_so("document.documentElement.scrollWidth", printed.NARROW)
+    shown.browser.resize(shown.browser.width, shown.browser.height)
     shown.is_so("document.querySelectorAll('#ladder-room .row').length", 5)
 
 
@@ -235,5 +244,6 @@ def outcomes(scanner, folder):
         yield "the key of a gap in a ladder", shown.faults()
         doubtful(shown, pathlib.Path(folder), scanner)
         yield "a header that may be wrong", shown.faults()
+        yield from asked.outcomes(shown, scanner, folder)
         yield from reached.outcomes(shown, scanner, folder)
         yield from printed.outcomes(shown, scanner, folder)

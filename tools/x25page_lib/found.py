@@ -41,7 +41,7 @@ class OfHost:
 
 def follows_of(row: Row) -> int | None:
     """The packet of the first finding from which that of a row may follow; None where none is named."""
-    follows = (row.finding or {}).get("follows", row.members.get("follows"))
+    follows = (row.finding or {}).get("follows")
     return follows if isinstance(follows, int) else None
 
 
