@@ -244,6 +244,7 @@ def outcomes(scanner, folder):
         yield "the key of a gap in a ladder", shown.faults()
         doubtful(shown, pathlib.Path(folder), scanner)
         yield "a header that may be wrong", shown.faults()
-        yield from asked.outcomes(shown, scanner, folder)
         yield from reached.outcomes(shown, scanner, folder)
         yield from printed.outcomes(shown, scanner, folder)
+        # A browser keeps fifty steps of its history, and the ways back above need theirs.
+        yield from asked.outcomes(shown, scanner, folder)

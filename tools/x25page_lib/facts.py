@@ -274,7 +274,7 @@ class Facts:
         """Reads what a row requests, answers and reports, where both sides were recorded."""
         self.use.see(row, key)
         debt = self.reactions.open.get(row.channel) if row.channel is not None else None
-        self.unjudged.see(row, key, debt and debt.packet)
+        self.unjudged.see(row, key, None if debt is None else debt.packet)
         if self.reactions.concerns(row):
             self.reactions.see(row, key)
 

@@ -159,4 +159,5 @@ class Reactions:
 
     def packets(self) -> Iterator[int]:
         """The numbers of the packets that are named."""
-        yield from (it.packet for it in (*self.ignored.values(), *self.reports.values()))
+        yield from (it.packet for it in self.ignored.values())
+        yield from (it.packet for it in self.reports.values())

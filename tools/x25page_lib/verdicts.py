@@ -56,7 +56,7 @@ class Blame:
 
     def rest(self) -> str:
         """What may follow from it, after a semicolon."""
-        parts = []
+        parts: list[str] = []
         for name, many in zip(NAMES, self.following):
             if many:
                 noun = "" if parts else " finding" if many == 1 else " findings"
