@@ -23,9 +23,10 @@ def pattern(text):
     return re.compile(text, re.DOTALL)
 
 
-def refused(line, kind, sentence):
-    """The two lines that refuse a trace."""
-    return f"x25scan: line {line}: kind {kind}\n  {sentence}\n".encode()
+def refused(line, kind, sentence, name=None):
+    """The two lines that refuse a trace. The second begins with the name of the trace and the line where it has a name."""
+    place = f"{name}:{line}: " if name else "  "
+    return f"x25scan: line {line}: kind {kind}\n{place}{sentence}\n".encode()
 
 
 def file_cases():
@@ -40,8 +41,8 @@ def file_cases():
     yield RunCase("a name begins with a dash, after two dashes", ("--", "-day.trace"), b"", 1, FOUND_REPORT, files={"-day.trace": FOUND})
     faulty = {"day.trace": HEADER + b"1 t -\n"}
     for words in ((), ("--alone",), ("--follow",), ("--json",)):
-        yield RunCase(f"a named trace is refused by its name {words}", (*words, "day.trace"), b"", 2, b"", refused(2, 26, "day.trace: The side t is written T."), files=faulty)
-    yield RunCase("a named trace is refused as it is annotated", ("--annotate", "day.trace"), b"", 2, HEADER, refused(2, 26, "day.trace: The side t is written T."), files=faulty)
+        yield RunCase(f"a named trace is refused by its name {words}", (*words, "day.trace"), b"", 2, b"", refused(2, 26, "The side t is written T.", "day.trace"), files=faulty)
+    yield RunCase("a named trace is refused as it is annotated", ("--annotate", "day.trace"), b"", 2, HEADER, refused(2, 26, "The side t is written T.", "day.trace"), files=faulty)
     missing = b"x25scan: cannot open night.trace: no such file\n  No such file or directory (os error 2)\n"
     yield RunCase("a file that is not there", ("night.trace",), FOUND, 3, b"", missing)
     yield RunCase("a file that is not there is not followed", ("--follow", "night.trace"), FOUND, 3, b"", missing)

@@ -6,6 +6,8 @@ use Rattle.line_model.specs.basics.Written.{HasFront}
 use Rattle.line_model.specs.declared.fault.Kind.{Kind}
 use Rattle.line_model.specs.declared.fault.Fault.{Fault}
 use Rattle.line_model.specs.declared.fault.Fault.TheVariants.{Memory, Trace, Read, Write, Start, Double, UnknownPiece, Missing}
+use Rattle.streams.specs.declared.input.OpenFault.{OpenFault}
+use Rattle.streams.specs.declared.input.OpenFault.TheVariants.{Missing as NoFile, Denied, Directory, Refused}
 use Rattle.trace_text.specs.Sources.{IsRefusedBy}
 use Rattle.trace_text.specs.Refusals.{IsRefusal}
 
@@ -24,6 +26,17 @@ fault_words (Missing piece) = codes "piece " ++ decimal piece ++ codes " missing
 abbrev pub fault_line : Fault → List ℕ
 fault_line fault = codes "x25scan: " ++ fault_words fault ++ 10 ∷ []
 
+-- why a trace could not be opened, in words (profile)
+abbrev pub open_words : OpenFault → List ℕ
+open_words NoFile = codes "no such file"
+open_words Denied = codes "permission denied"
+open_words Directory = codes "it is a directory"
+open_words Refused = codes "the system refuses it"
+
+-- the line that says so
+abbrev pub open_line : (name : List ℕ) → OpenFault → List ℕ
+open_line name fault = (((codes "x25scan: cannot open " ++ name) ++ codes ": ") ++ open_words fault) ++ 10 ∷ []
+
 -- a sink accepted more bytes
 abbrev pub Grows : (before after : Option (List ℕ)) → Type 0
 Grows before after = (more : List ℕ) × (after ≡ with_more before more)
@@ -36,6 +49,13 @@ BeginsWith line before after = (more : List ℕ) × (after ≡ with_more before 
 pub record IsSaid (line : List ℕ) (before after : Option (List ℕ)) (well : Type 0) : Type 0 where
   pub part : HasFront before after line ⊎ BeginsWith line before after
   pub whole : well → BeginsWith line before after
+
+-- a trace could not be opened by its name, and a line that says so was printed first
+pub record IsUnopened (name : Option (List ℕ)) (before after : Option (List ℕ)) (heard : Type 0) : Type 0 where
+  pub named : List ℕ
+  pub is : name ≡ Some named
+  pub fault : OpenFault
+  pub said : IsSaid (open_line named fault) before after heard
 
 -- the line of the fault by which a trace was refused was printed first; where the source shows its bytes, it is that of their first faulty
 -- line

@@ -2,12 +2,13 @@
 
 ghost use Rattle.std.specs.Prelude.{◌≡◌, ◌<◌, ◌≤◌, ◌++◌, OnErr, OnOk, codes, decimal};
 ghost use Rattle.line_model.specs.basics.Written.{PutsTo, TakesAll, TakesFront};
-ghost use Rattle.command_line.specs.Faults.{fault_line, fault_words};
+ghost use Rattle.command_line.specs.Faults.{fault_line, fault_words, open_line, open_words};
 
 use itoa::Buffer;
 use line_model::device::Sink;
 use line_model::fault::Fault;
 use line_model::write_buffer::WriteBuffer;
+use streams::input::OpenFault;
 
 /// Puts a number.
 fn put_number<E: Sink>(out: &mut WriteBuffer, errors: &mut E, number: u32)
@@ -52,6 +53,45 @@ fn put_words<E: Sink>(out: &mut WriteBuffer, errors: &mut E, fault: Fault)
         Fault::UnknownPiece(piece) => put_piece(out, errors, piece, b" unknown"),
         Fault::Missing(piece) => put_piece(out, errors, piece, b" missing"),
     }
+}
+
+/// Puts the name of a trace.
+fn put_name<E: Sink>(out: &mut WriteBuffer, errors: &mut E, name: &str)
+    ensures { PutsTo E.Sink errors.old errors.new out.old out.new name.now }
+{
+    out.put(errors, name.as_bytes());
+}
+
+/// Puts the words of why a trace could not be opened.
+fn put_open_words<E: Sink>(out: &mut WriteBuffer, errors: &mut E, fault: OpenFault)
+    ensures { PutsTo E.Sink errors.old errors.new out.old out.new (open_words fault) }
+{
+    match fault {
+        OpenFault::Missing => out.put(errors, b"no such file"),
+        OpenFault::Denied => out.put(errors, b"permission denied"),
+        OpenFault::Directory => out.put(errors, b"it is a directory"),
+        OpenFault::Refused => out.put(errors, b"the system refuses it"),
+    }
+}
+
+/// Prints the line of a trace that could not be opened. Fails where the errors fail, which accepted a first part of it.
+pub(crate) fn print_unopened<E: Sink>(
+    errors: &mut E,
+    name: &str,
+    fault: OpenFault,
+) -> Result<(), Fault>
+    ensures ok { OnOk result (TakesAll E.Sink errors.old errors.new (open_line name.now fault)) }
+    ensures part { OnErr result (TakesFront E.Sink errors.old errors.new (open_line name.now fault)) }
+    ensures rising { E.failures errors.old ≤ E.failures errors.new }
+    ensures cause { OnErr result (E.failures errors.old < E.failures errors.new) }
+{
+    let mut out = WriteBuffer::new();
+    out.put(errors, b"x25scan: cannot open ");
+    put_name(&mut out, errors, name);
+    out.put(errors, b": ");
+    put_open_words(&mut out, errors, fault);
+    out.put(errors, b"\n");
+    out.end(errors)
 }
 
 /// Prints the line of a fault. Fails where the errors fail, which accepted a first part of it.

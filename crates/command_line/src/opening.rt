@@ -1,6 +1,7 @@
 //! The trace that the words name.
 
 ghost use Rattle.std.specs.Prelude.{◌≡◌, IfErr, OnErr, OnOk, option_map};
+ghost use Rattle.command_line.specs.Faults.{IsUnopened};
 ghost use Rattle.command_line.specs.Program.{trace_of};
 
 use crate::refusing::refuse_trace;
@@ -21,7 +22,10 @@ pub fn open_trace<S: Input, E: Sink>(
     ensures refused { OnErr result (source.new ≡ source.old) }
     ensures status { IfErr result (λ status. status ≡ 3) }
     ensures calls { S.calls source.new ≡ S.calls source.old }
+    ensures failures { S.failures source.new ≡ S.failures source.old }
     ensures silent { OnOk result (errors.new ≡ errors.old) }
+    ensures said { OnErr result (IsUnopened (option_map (λ name. name.now) name.entry)
+        (E.taken errors.old) (E.taken errors.new) (E.failures errors.new ≡ E.failures errors.old)) }
 {
     let Some(name) = name else {
         return Ok(());

@@ -2,11 +2,11 @@
 //! wrong with a faulty line of the trace, or what the system says of a read or a write that failed. A message that standard
 //! error does not accept is lost.
 
-ghost use Rattle.std.specs.Prelude.{◌≡◌, ◌≢◌, ◌≤◌};
-ghost use Rattle.command_line.specs.Faults.{Grows, IsSaid, fault_line};
+ghost use Rattle.std.specs.Prelude.{◌≡◌, ◌≢◌, ◌≤◌, ◌⊎◌};
+ghost use Rattle.command_line.specs.Faults.{Grows, IsSaid, fault_line, open_line};
 ghost use Rattle.command_line.specs.Program.{fault_status};
 
-use crate::faults::print_fault;
+use crate::faults::{print_fault, print_unopened};
 use crate::program::{OTHER_FAULT, USAGE, fault_status};
 use explanations::advice::advice;
 use line_model::device::Sink;
@@ -60,8 +60,24 @@ fn print_reason<E: Sink>(
     }
 }
 
-/// Prints what is wrong with a faulty line of the trace.
-fn print_advice<S: Input, E: Sink>(alloc: Global, source: &S, errors: &mut E, kind: Kind)
+/// Prints what is wrong with a line of the trace: after the name of the trace and the line, as editors read them, where
+/// the trace was named.
+fn print_at<E: Sink>(alloc: Global, errors: &mut E, name: Option<&str>, line: u32, sentence: &str)
+    ensures more { Grows (E.taken errors.old) (E.taken errors.new) }
+    ensures rising { E.failures errors.old ≤ E.failures errors.new }
+{
+    let text = match name {
+        Some(name) => format!(in alloc; "{name}:{line}: {sentence}\n"),
+        None => format!(in alloc; "  {sentence}\n"),
+    };
+    match text {
+        Ok(text) => print_text(errors, text.as_bytes()),
+        Err(_) => {}
+    }
+}
+
+/// Prints what is wrong with the faulty line of the trace.
+fn print_advice<S: Input, E: Sink>(alloc: Global, source: &S, errors: &mut E, line: u32, kind: Kind)
     ensures more { Grows (E.taken errors.old) (E.taken errors.new) }
     ensures rising { E.failures errors.old ≤ E.failures errors.new }
 {
@@ -69,7 +85,7 @@ fn print_advice<S: Input, E: Sink>(alloc: Global, source: &S, errors: &mut E, ki
         return;
     };
     match advice(alloc, kind, last.text.as_slice(), last.beginning) {
-        Ok(sentence) => print_more(alloc, errors, source.name(), &sentence),
+        Ok(sentence) => print_at(alloc, errors, source.name(), line, &sentence),
         Err(_) => {}
     }
 }
@@ -93,7 +109,10 @@ fn lost_its_reader<K: Output>(sink: &K) -> bool {
 }
 
 /// Prints that the sink failed, and what the system says of it. Prints nothing where its reader went away.
-fn print_write<K: Output, E: Sink>(alloc: Global, sink: &K, errors: &mut E) {
+fn print_write<K: Output, E: Sink>(alloc: Global, sink: &K, errors: &mut E)
+    ensures { IsSaid (fault_line Fault.Write) (E.taken errors.old) (E.taken errors.new)
+        (E.failures errors.new ≡ E.failures errors.old) ⊎ (errors.new ≡ errors.old) }
+{
     if lost_its_reader(sink) {
         return;
     }
@@ -105,7 +124,9 @@ fn print_write<K: Output, E: Sink>(alloc: Global, sink: &K, errors: &mut E) {
 
 /// Prints why a text was not written whole, and returns the exit status.
 pub fn refuse_write<K: Output, E: Sink>(alloc: Global, sink: &K, errors: &mut E) -> u8
-    ensures { result ≡ 3 }
+    ensures status { result ≡ 3 }
+    ensures said { IsSaid (fault_line Fault.Write) (E.taken errors.old) (E.taken errors.new)
+        (E.failures errors.new ≡ E.failures errors.old) ⊎ (errors.new ≡ errors.old) }
 {
     print_write(alloc, sink, errors);
     OTHER_FAULT
@@ -117,7 +138,7 @@ fn print_second<S: Input, E: Sink>(alloc: Global, source: &S, errors: &mut E, fa
     ensures rising { E.failures errors.old ≤ E.failures errors.new }
 {
     match fault {
-        Fault::Trace(_, kind) => print_advice(alloc, source, errors, kind),
+        Fault::Trace(line, kind) => print_advice(alloc, source, errors, line, kind),
         Fault::Read => print_reason(alloc, errors, source.name(), source.failure()),
         _ => {}
     }
@@ -158,20 +179,23 @@ pub fn refuse_scan<S: Input, K: Output, E: Sink>(
 
 /// Prints why a trace could not be opened, and returns the exit status.
 pub fn refuse_trace<E: Sink>(alloc: Global, errors: &mut E, name: &str, refusal: OpenRefusal) -> u8
-    ensures { result ≡ 3 }
+    ensures status { result ≡ 3 }
+    ensures said { IsSaid (open_line name.now refusal.fault) (E.taken errors.old) (E.taken errors.new)
+        (E.failures errors.new ≡ E.failures errors.old) }
 {
-    let fault = refusal.fault;
-    if let Ok(text) = format!(in alloc; "x25scan: cannot open {name}: {fault}\n") {
-        let _ = write_all(errors, text.as_bytes());
+    match print_unopened(errors, name, refusal.fault) {
+        Ok(()) => print_reason(alloc, errors, None, Some(refusal.reason)),
+        Err(_) => {}
     }
-    print_reason(alloc, errors, None, Some(refusal.reason));
     OTHER_FAULT
 }
 
 /// Prints what can't be asked for together, and returns the exit status.
-pub fn refuse_usage<E: Sink>(errors: &mut E, text: &[u8]) -> u8
-    ensures { result ≡ 64 }
+pub fn refuse_usage<E: Sink>(errors: &mut E, usage: &[u8]) -> u8
+    ensures status { result ≡ 64 }
+    ensures said { IsSaid usage.now (E.taken errors.old) (E.taken errors.new)
+        (E.failures errors.new ≡ E.failures errors.old) }
 {
-    print_text(errors, text);
+    let _ = write_all(errors, usage);
     USAGE
 }

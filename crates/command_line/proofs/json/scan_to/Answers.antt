@@ -55,7 +55,7 @@ returns-in-Err-2-clause-shown g c text shown =
       failures = failures;
       plain = c.scan-scanned.result;
       scanned = scanned_afresh (lag_by c.args.options.alone) c.args.options.follow text _ _ _ _ _ failures c.scan-scanned.result c.new-json.ensures.taken c.new-json.ensures.failures (c.scan-scanned.ensures.status text shown);
-      objects = inr (c.refuse_write-status.ensures, (λ well. omega (arith, failed.1, well)), record { front = part.0; rest = part.1; whole = part.2; taken = part.3 });
+      objects = inr (c.refuse_write-status.ensures.status, (λ well. omega (arith, failed.1, well)), record { front = part.0; rest = part.1; whole = part.2; taken = part.3 });
     })
 
 pub returns-in-Ok-clause-reported : goal.returns-in-Ok-clause-reported
@@ -69,7 +69,7 @@ pub returns-in-Err-clause-reported : goal.returns-in-Err-clause-reported
 returns-in-Err-clause-reported g c = other_any true g.B.Origin.before.0 (g.K.Sink.taken c.give_back-in-Err.result.now) c.scan-scanned.result c.if-scanned-eq-OTHER_FAULT.true
 
 pub returns-in-Err-2-clause-reported : goal.returns-in-Err-2-clause-reported
-returns-in-Err-2-clause-reported g c = other_any true g.B.Origin.before.0 (g.K.Sink.taken c.give_back-in-Err-2.result.now) c.refuse_write-status.result c.refuse_write-status.ensures
+returns-in-Err-2-clause-reported g c = other_any true g.B.Origin.before.0 (g.K.Sink.taken c.give_back-in-Err-2.result.now) c.refuse_write-status.result c.refuse_write-status.ensures.status
 
 pub returns-in-Ok-clause-said : goal.returns-in-Ok-clause-said
 returns-in-Ok-clause-said g c two = c.scan-scanned.ensures.said two
@@ -78,4 +78,4 @@ pub returns-in-Err-clause-said : goal.returns-in-Err-clause-said
 returns-in-Err-clause-said g c two = absurd (omega (arith, two, c.if-scanned-eq-OTHER_FAULT.true))
 
 pub returns-in-Err-2-clause-said : goal.returns-in-Err-2-clause-said
-returns-in-Err-2-clause-said g c two = absurd (omega (arith, two, c.refuse_write-status.ensures))
+returns-in-Err-2-clause-said g c two = absurd (omega (arith, two, c.refuse_write-status.ensures.status))
