@@ -74,8 +74,9 @@ codes name the same edit. Three codes are of the DCE alone: `table_n` returns th
 The scans keep the windows and interrupts of a channel in one word, `FlowWord` of
 [packed.rt](../crates/data_transfer/src/packed.rt). Its functions judge P(S) and P(R) by a comparison of the numbers of one
 direction (`is_send_valid` and `count_acknowledged` in the definition); the proof and the edit of codes 1 and 2 are those of
-the comparison. `Flow` has the same contracts and calls the same comparisons. It judges for `PlainChannel`, which only tests
-and users of the library run.
+the comparison. `Flow` has the same contracts and calls the same comparisons. It judges for a settled channel of a recording with
+gaps, of which [numbering.rt](../crates/channel_machine/src/gaps/numbering.rt) also compares the window where a number is in
+doubt, and for `PlainChannel`, which only tests and users of the library run.
 
 | code | rule | definition | function | proof | edit | trace |
 |---|---|---|---|---|---|---|
