@@ -111,7 +111,7 @@ def object_cases():
 
 def annotation_cases():
     """The trace once more, in words."""
-    noted = b"# DTE: cut packet\n# stays r1\n#! F 1 T - 38: Packet too short: 0 octets, which is too short. Nothing changes. (X.25 5; the code by Annex E)\n"
+    noted = b"# DTE: cut packet\n# stays r1\n#! F 1 T - 38: Packet too short: 0 octets where a packet has at least 3. Nothing changes. (X.25 5; the code by Annex E)\n"
     closing = b"# Report: 1 packet, 1 finding, 0 calls; counted: 0 octets in 0 segments\n# Peak: 0 calls in data transfer at once\n"
     for words in (("--annotate",), ("--annotate", "--alone"), ("--follow", "--annotate"), ("--workers", "64", "--annotate", "-")):
         yield RunCase(f"an annotated trace {words}", words, FOUND, 1, FOUND + noted + closing)

@@ -127,18 +127,20 @@ data_columns form c further = joined (
     ∷ column form (codes "octets_n") (decimal c.oct_n)
     ∷ column form (codes "segments_n") (decimal (c.segments - further.segments_t)) ∷ [])
 
--- who pays, and what was found
+-- who pays, what was found, and where it was recorded
 abbrev pub last_columns : TableForm → CallRecord → Further → List ℕ
 last_columns form c further = joined (
     column form (codes "pays") (word_text form (payer_word c.reverse))
     ∷ column form (codes "payer") (address_text form (payer c))
     ∷ column form (codes "findings") (decimal further.findings)
-    ∷ column form (codes "gaps") (maybe_number form further.gaps) ∷ [])
+    ∷ column form (codes "gaps") (maybe_number form further.gaps)
+    ∷ column form (codes "opened_frame") (maybe_number form further.opened_frame)
+    ∷ column form (codes "ended_frame") (maybe_number form further.ended_frame) ∷ [])
 
 -- ---- the table
 
 abbrev pub heading : TableForm → List ℕ
-heading Csv = codes "call,channel,direction,called,calling,opened,ended,start,seconds,how,cause,cause_name,diagnostic,diagnostic_name,data_t,octets_t,segments_t,data_n,octets_n,segments_n,pays,payer,findings,gaps\n"
+heading Csv = codes "call,channel,direction,called,calling,opened,ended,start,seconds,how,cause,cause_name,diagnostic,diagnostic_name,data_t,octets_t,segments_t,data_n,octets_n,segments_n,pays,payer,findings,gaps,opened_frame,ended_frame\n"
 heading Objects = []
 
 -- what comes before a call's number, and after its last column

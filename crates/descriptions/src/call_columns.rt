@@ -69,6 +69,10 @@ pub struct Further<'a> {
     pub findings: u64,
     /// The gap rows in it, where gaps are rows.
     pub gaps: Option<u32>,
+    /// The frame of the packet that opened it.
+    pub opened_frame: Option<u64>,
+    /// The frame of the packet that ended it.
+    pub ended_frame: Option<u64>,
 }
 
 /// A number that may be absent.
@@ -77,6 +81,16 @@ fn maybe_number<'a>(number: Option<u32>) -> Cell<'a>
 {
     match number {
         Some(number) => Cell::Number(u64::from(number)),
+        None => Cell::Absent,
+    }
+}
+
+/// The number of a frame, which may be absent.
+fn maybe_frame<'a>(frame: Option<u64>) -> Cell<'a>
+    ensures { (form : AnyForm) → cell_text form result ≡ maybe_number form frame }
+{
+    match frame {
+        Some(frame) => Cell::Number(frame),
         None => Cell::Absent,
     }
 }
@@ -255,11 +269,11 @@ pub fn data_columns<'a, A: Allocator>(
     ]
 }
 
-/// Returns who pays, and what was found.
+/// Returns who pays, what was found, and where it was recorded.
 pub fn last_columns<'a, A: Allocator>(
     call: &'a CallRecord<A>,
     further: &Further<'_>,
-) -> [Column<'a>; 4]
+) -> [Column<'a>; 6]
     ensures { (form : AnyForm) → flat_map (column_text form) result ≡ last_columns form call.now further.now }
 {
     [
@@ -278,6 +292,14 @@ pub fn last_columns<'a, A: Allocator>(
         Column {
             name: b"gaps",
             cell: maybe_number(further.gaps),
+        },
+        Column {
+            name: b"opened_frame",
+            cell: maybe_frame(further.opened_frame),
+        },
+        Column {
+            name: b"ended_frame",
+            cell: maybe_frame(further.ended_frame),
         },
     ]
 }

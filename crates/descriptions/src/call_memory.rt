@@ -2,7 +2,7 @@
 
 use crate::causes::Causes;
 use crate::facts::{EndedCall, RowFacts, gap_of};
-use crate::times::Time;
+use crate::times::Recorded;
 use line_model::event::{Event, What};
 use line_model::finding::Code;
 use std::alloc::{AllocError, Allocator};
@@ -27,28 +27,28 @@ pub struct CallMemory<A: Allocator> {
     gaps: u32,
     /// While it is open, the gap rows of all channels before it.
     gaps_before: Option<u32>,
-    /// When it was opened.
-    pub start: Option<Time>,
-    /// When it ended.
-    pub end: Option<Time>,
+    /// When and where it was opened.
+    pub start: Recorded,
+    /// When and where it ended.
+    pub end: Recorded,
 }
 
 impl<A: Allocator> CallMemory<A> {
     /// Returns a call that a row opened, after `gaps_of_all` gap rows of all channels.
-    fn new(alloc: A, start: Option<Time>, gaps_of_all: u32) -> Self {
+    fn new(alloc: A, start: Recorded, gaps_of_all: u32) -> Self {
         CallMemory {
             causes: Causes::none(),
             codes: Vec::new(alloc),
             gaps: 0,
             gaps_before: Some(gaps_of_all),
             start,
-            end: None,
+            end: Recorded::UNKNOWN,
         }
     }
 
     /// Ends the call, after `gaps_of_all` gap rows of all channels.
-    fn end(&mut self, time: Option<Time>, gaps_of_all: u32) {
-        self.end = time;
+    fn end(&mut self, recorded: Recorded, gaps_of_all: u32) {
+        self.end = recorded;
         self.gaps = self.gaps_with(gaps_of_all);
         self.gaps_before = None;
     }
@@ -122,11 +122,11 @@ impl<A: Allocator + Copy> Calls<A> {
     }
 
     /// Adds the calls that a row opened. Fails only when memory is refused.
-    fn open(&mut self, events: &[Event], time: Option<Time>) -> Result<(), AllocError> {
+    fn open(&mut self, events: &[Event], recorded: Recorded) -> Result<(), AllocError> {
         for event in events {
             if let What::Open { .. } = event.what {
                 self.calls
-                    .push(CallMemory::new(self.alloc, time, self.gaps_of_all))?;
+                    .push(CallMemory::new(self.alloc, recorded, self.gaps_of_all))?;
             }
         }
         Ok(())
@@ -144,26 +144,26 @@ impl<A: Allocator + Copy> Calls<A> {
     }
 
     /// Ends the calls that a row ended.
-    fn end(&mut self, ended: &[EndedCall], time: Option<Time>) {
+    fn end(&mut self, ended: &[EndedCall], recorded: Recorded) {
         let gaps_of_all = self.gaps_of_all;
         for ended in ended {
             if let Some(call) = self.get_mut(ended.call) {
-                call.end(time, gaps_of_all);
+                call.end(recorded, gaps_of_all);
             }
         }
     }
 
-    /// Records a row with the calls that it ended and its time. Fails only when memory is refused.
+    /// Records a row with the calls that it ended, and when and where it was recorded. Fails only when memory is refused.
     pub fn take(
         &mut self,
         facts: &RowFacts<'_>,
         ended: &[EndedCall],
-        time: Option<Time>,
+        recorded: Recorded,
     ) -> Result<(), AllocError> {
         self.take_gap(facts);
-        self.open(facts.events, time)?;
+        self.open(facts.events, recorded)?;
         self.count_finding(facts)?;
-        self.end(ended, time);
+        self.end(ended, recorded);
         if let Some(call) = self.get_mut(facts.calls.cleared) {
             call.causes = Causes::of(facts.octets);
         }

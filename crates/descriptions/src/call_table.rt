@@ -190,7 +190,7 @@ fn remembered<A: Allocator + Copy>(
     ensures { result.segments_t ≡ segments_t }
 {
     Further {
-        start: call.start,
+        start: call.start.time,
         seconds: call_length(call),
         cause: named_cause(&call.causes),
         diagnostic: named_diagnostic(&call.causes),
@@ -201,6 +201,8 @@ fn remembered<A: Allocator + Copy>(
         } else {
             None
         },
+        opened_frame: call.start.frame,
+        ended_frame: call.end.frame,
     }
 }
 
@@ -224,6 +226,8 @@ fn further<A: Allocator + Copy>(
             segments_t,
             findings: 0,
             gaps: None,
+            opened_frame: None,
+            ended_frame: None,
         },
     }
 }

@@ -188,14 +188,14 @@ fn memory_members<O: Out, A: Allocator>(json: &mut Json<O>, call: &CallMemory<A>
 {
     cause_members(json, &call.causes, CauseTable::Clearing);
     codes_member(json, &call.codes);
-    time_member(json, ",\"start\":", call.start);
+    time_member(json, ",\"start\":", call.start.time);
     time_member(json, ",\"seconds\":", call_length(call));
 }
 
 /// Returns how long a call lasted, where both its rows have times.
 pub fn call_length<A: Allocator>(call: &CallMemory<A>) -> Option<Time> {
-    let end = call.end?;
-    let start = call.start?;
+    let end = call.end.time?;
+    let start = call.start.time?;
     end.since(&start)
 }
 

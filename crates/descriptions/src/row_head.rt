@@ -199,10 +199,10 @@ fn append_finding<A: Allocator>(
 fn number_digits<'a>(number: Option<u32>, buffer: &'a mut Buffer) -> &'a [u8]
     ensures { result.now ≡ number_word number }
 {
-    match number {
-        Some(number) => buffer.format(number).as_bytes(),
-        None => b"null",
-    }
+    let Some(number) = number else {
+        return b"null";
+    };
+    buffer.format(number).as_bytes()
 }
 
 /// A logical channel, or null.

@@ -162,9 +162,7 @@ impl<A: Allocator + Copy> PastRows<A> {
             earlier.epoch,
         )?;
         let facts = self.course.facts(&interface, row, last, observer, earlier);
-        self.rest
-            .calls
-            .take(&facts, self.course.ended(), recorded.time)?;
+        self.rest.calls.take(&facts, self.course.ended(), recorded)?;
         self.rest.uncounted = observer.uncounted();
         self.rest.has_gaps = interface.gaps;
         if !picked {

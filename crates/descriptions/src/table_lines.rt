@@ -17,7 +17,7 @@ use std::alloc::Allocator;
 
 /// The heading of the table as CSV.
 const HEADING: &[u8] =
-    b"call,channel,direction,called,calling,opened,ended,start,seconds,how,cause,cause_name,diagnostic,diagnostic_name,data_t,octets_t,segments_t,data_n,octets_n,segments_n,pays,payer,findings,gaps\n";
+    b"call,channel,direction,called,calling,opened,ended,start,seconds,how,cause,cause_name,diagnostic,diagnostic_name,data_t,octets_t,segments_t,data_n,octets_n,segments_n,pays,payer,findings,gaps,opened_frame,ended_frame\n";
 
 /// Puts a number.
 fn put_number<W: Sink>(number: u64, out: &mut WriteBuffer, sink: &mut W)
