@@ -34,7 +34,7 @@ class Ends:
         self.by_source = self.side_by in (SideBy.DIRECTION, SideBy.LINK_ADDRESS)
         # Whether the sides of a trace are those of the ends exchanged. Options say the ends that they name.
         self.swapped = swapped and self.side_by is not SideBy.DIRECTION and not stations
-        self.sides: dict[Source, Side] = {**stations}
+        self.sides: dict[Source, Side] = {source: side for source, side in stations.items()}
         if self.side_by is SideBy.DIRECTION:
             host = Side.N if swapped else Side.T
             self.sides = {Direction.SENT: host, Direction.RECEIVED: host.other}
