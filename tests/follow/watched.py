@@ -192,7 +192,7 @@ def refused_problems(words: Words, status: int, said: bytes) -> list[str]:
 
 def alone_problems(form: str) -> list[str]:
     """A form of the report without the report is refused."""
-    said = re.compile(f"(?s).*x25trace: {form} is a form of the report, which --follow prints\n".encode())
+    said = re.compile(f"(?s)x25trace: {form} is a form of the report, which --follow prints\nusage: .*".encode())
     return runner.differences(runner.run([TRACER, form, CAPTURE]), (64, b"", said))
 
 
