@@ -1,5 +1,8 @@
 //! The numbers that the exports return, and their words.
 
+ghost use Rattle.std.specs.Prelude.{◌≡◌, ◌≢◌};
+ghost use Rattle.x25scan_c.specs.Sound.{number_of};
+
 use line_model::fault::Fault;
 
 /// The call succeeded.
@@ -28,7 +31,10 @@ pub const ROWS: u32 = 11;
 pub const LINE: u32 = 12;
 
 /// Returns the number of a fault.
-pub(crate) fn number_of(fault: Fault) -> u32 {
+pub(crate) fn number_of(fault: Fault) -> u32
+    ensures number { result ≡ number_of fault }
+    ensures some { result ≢ 0 }
+{
     match fault {
         Fault::Trace(_, _) => TRACE,
         _ => MEMORY,

@@ -1,5 +1,8 @@
 //! A finding as numbers.
 
+ghost use Rattle.std.specs.Prelude.{◌≡◌};
+ghost use Rattle.x25scan_c.specs.Found.{code_number, numbers_of, state_letter, state_number};
+
 use line_model::finding::{Code, Finding, Xcode};
 use line_model::state::{Side, StateName};
 
@@ -20,7 +23,9 @@ pub struct FindingNumbers {
 }
 
 /// The letter and the number of a state.
-fn state_numbers(state: StateName) -> (u8, u8) {
+fn state_numbers(state: StateName) -> (u8, u8)
+    ensures { result ≡ (state_letter state, state_number state) }
+{
     match state {
         StateName::Dash => (b'-', 0),
         StateName::R1 => (b'r', 1),
@@ -40,7 +45,9 @@ fn state_numbers(state: StateName) -> (u8, u8) {
 }
 
 /// The number of a code.
-fn code_number(code: Code) -> u32 {
+fn code_number(code: Code) -> u32
+    ensures { result ≡ code_number code }
+{
     match code {
         Code::Number(number) => u32::from(number),
         Code::Pad(Xcode::X1) => 257,
@@ -53,7 +60,9 @@ fn code_number(code: Code) -> u32 {
 
 impl FindingNumbers {
     /// Returns the numbers of a finding.
-    pub(crate) fn of(finding: &Finding) -> FindingNumbers {
+    pub(crate) fn of(finding: &Finding) -> FindingNumbers
+        ensures { result ≡ numbers_of finding.now }
+    {
         let (state, number) = state_numbers(finding.state);
         FindingNumbers {
             packet: finding.packet,

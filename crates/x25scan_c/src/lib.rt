@@ -3,9 +3,17 @@
 //! An export starts no thread and waits for none. A `Scan` is used by one call at a time.
 #![tactic(auto)]
 
-ghost use Rattle.std.specs.Prelude.{◌≡◌, ◌≢◌, IfErr, IfOk, OnErr, OnOk, length};
+ghost use Rattle.std.specs.Prelude.{◌≡◌, ◌≢◌, ◌++◌, ◌∷◌, ◌==◌, if◌then◌else◌, ℕ, List, [], None, Some, true, false, IfErr, IfOk, OnErr, OnOk, IfSome, drop, length, length as size, take as first};
+ghost use Rattle.line_model.specs.basics.Faults.{kind_number};
+ghost use Rattle.line_model.specs.declared.finding.Finding.{Finding as AnyFinding};
+ghost use Rattle.line_model.specs.declared.state.Side.{Side as AnySide};
+ghost use Rattle.line_model.specs.text.Text.{early, fault};
+ghost use Rattle.live_report.specs.Found.{found as findings_of};
+ghost use Rattle.trace_text.specs.EndedPart.{ended_part as ended};
+ghost use Rattle.trace_text.specs.RowTexts.{row_text, side_letter};
 ghost use Rattle.x25scan_c.specs.Owning.{Holds};
-ghost use Rattle.x25scan_c.specs.Sound.{IsSound, IsSoundScan};
+ghost use Rattle.x25scan_c.specs.Found.{numbers_of};
+ghost use Rattle.x25scan_c.specs.Sound.{AddsFound, HasReport, IsSoundScan, IsSoundScanning, KeepsFault, OfScans, WasScanned, has_ended, reports, scan_reports, scan_ended, waiting_findings, waiting_text};
 
 pub mod errors;
 pub mod found;
@@ -44,9 +52,11 @@ pub struct Scan {
 fn take(alloc: Global, scan: &mut Scan) -> Result<Box<Scanning>, u32>
     requires { IsSoundScan ⟦<PackedChannel<Global> as Channel<Global>>⟧ scan.old.observer.value }
     ensures taken { OnOk result (scan.old.mark ≡ 1) }
-    ensures sound { IfOk result (λ b. IsSound ⟦<PackedChannel<Global> as Channel<Global>>⟧ b.value.reading) }
+    ensures sound { IfOk result (λ b. IsSoundScanning ⟦<PackedChannel<Global> as Channel<Global>>⟧ b.value) }
+    ensures held { IfOk result (λ b. scan.old.observer.value ≡ Some b.value) }
     ensures refused { OnErr result (scan.new ≡ scan.old) }
-    ensures number { IfErr result (λ error. error ≢ 0) }
+    ensures number { IfErr result (λ error. error ≡ (if scan.old.mark == 2 then 3 else 8)) }
+    ensures open { OnErr result (scan.old.mark ≢ 1) }
 {
     match scan.mark {
         IS_OPEN => {
@@ -64,8 +74,9 @@ fn take(alloc: Global, scan: &mut Scan) -> Result<Box<Scanning>, u32>
 
 /// Puts back what an open scan holds.
 fn put(scan: &mut Scan, held: Box<Scanning>)
-    requires { IsSound ⟦<PackedChannel<Global> as Channel<Global>>⟧ held.value.reading }
+    requires { IsSoundScanning ⟦<PackedChannel<Global> as Channel<Global>>⟧ held.value }
     ensures mark { scan.new.mark ≡ 1 }
+    ensures held { scan.new.observer.value ≡ Some held.value }
     ensures sound { IsSoundScan ⟦<PackedChannel<Global> as Channel<Global>>⟧ scan.new.observer.value }
 {
     *scan = Scan {
@@ -76,16 +87,16 @@ fn put(scan: &mut Scan, held: Box<Scanning>)
 
 /// Copies bytes into a buffer, and sets `needed` to their number. A buffer that is too short is not changed.
 fn copy_words(words: &[u8], buffer: &mut [u8], needed: &mut usize) -> u32
-    ensures { needed.new ≡ length words.now }
+    ensures needed { needed.new ≡ length words.now }
+    ensures copied { result ≡ 0 → first (length words.now) buffer.new ≡ words.now }
+    ensures short { result ≢ 0 → (result ≡ 6) × (buffer.new ≡ buffer.old) }
 {
     *needed = words.len();
-    match buffer.get_mut(..words.len()) {
-        Some(front) => {
-            front.copy_from_slice(words);
-            OK
-        }
-        None => SHORT,
+    if words.len() > buffer.len() {
+        return SHORT;
     }
+    buffer[..words.len()].copy_from_slice(words);
+    OK
 }
 
 /// Opens a scan of which nothing was fed, in a form: 0 for reports and findings, 2 for rows.
@@ -94,6 +105,11 @@ pub extern "C" fn x25scan_open_form(alloc: Global, scan: &mut Scan, form: u32) -
     requires { IsSoundScan ⟦<PackedChannel<Global> as Channel<Global>>⟧ scan.old.observer.value }
     ensures mark { result ≡ 0 → scan.new.mark ≡ 1 }
     ensures sound { IsSoundScan ⟦<PackedChannel<Global> as Channel<Global>>⟧ scan.new.observer.value }
+    // Nothing was fed, and nothing waits.
+    ensures fed { result ≡ 0 → WasScanned ⟦<PackedChannel<Global> as Channel<Global>>⟧ [] scan.new.observer.value }
+    ensures empty { result ≡ 0 → IfSome scan.new.observer.value (λ s. (waiting_findings s ≡ []) × (waiting_text s ≡ [])) }
+    ensures form { result ≡ 0 → scan_reports scan.new.observer.value ≡ (if form == 2 then false else true) }
+    ensures refused { result ≢ 0 → scan.new ≡ scan.old }
 {
     if scan.mark == IS_OPEN {
         return OPEN;
@@ -116,6 +132,17 @@ pub extern "C" fn x25scan_feed_text(alloc: Global, scan: &mut Scan, text: &[u8])
     requires { IsSoundScan ⟦<PackedChannel<Global> as Channel<Global>>⟧ scan.old.observer.value }
     ensures mark { scan.new.mark ≡ scan.old.mark }
     ensures sound { IsSoundScan ⟦<PackedChannel<Global> as Channel<Global>>⟧ scan.new.observer.value }
+    // The observer was fed the text, and what its rows found waits.
+    ensures fed { (before : List ℕ) → WasScanned ⟦<PackedChannel<Global> as Channel<Global>>⟧ before scan.old.observer.value → result ≡ 0
+        → WasScanned ⟦<PackedChannel<Global> as Channel<Global>>⟧ (before ++ text.now) scan.new.observer.value }
+    ensures found { (before : List ℕ) → WasScanned ⟦<PackedChannel<Global> as Channel<Global>>⟧ before scan.old.observer.value → result ≡ 0
+        → OfScans (λ s t. AddsFound (reports s.reading) (waiting_findings s) (waiting_findings t)
+        (findings_of before) (findings_of (before ++ text.now))) scan.old.observer.value scan.new.observer.value }
+    // The trace is refused by its first faulty line, which is kept.
+    ensures refused { (before : List ℕ) → WasScanned ⟦<PackedChannel<Global> as Channel<Global>>⟧ before scan.old.observer.value → result ≡ 2
+        → IfSome scan.new.observer.value (KeepsFault (early (before ++ text.now))) }
+    ensures ended { scan_ended scan.old.observer.value ≡ true → result ≢ 0 }
+    ensures closed { scan.old.mark ≢ 1 → (result ≡ (if scan.old.mark == 2 then 3 else 8)) × (scan.new ≡ scan.old) }
 {
     match take(alloc, scan) {
         Ok(mut held) => {
@@ -139,6 +166,15 @@ pub extern "C" fn x25scan_feed_packet(
     requires { IsSoundScan ⟦<PackedChannel<Global> as Channel<Global>>⟧ scan.old.observer.value }
     ensures mark { scan.new.mark ≡ scan.old.mark }
     ensures sound { IsSoundScan ⟦<PackedChannel<Global> as Channel<Global>>⟧ scan.new.observer.value }
+    // The observer was fed the line that writes the packet, and what it found waits.
+    ensures fed { (before : List ℕ) (s : AnySide) → side ≡ side_letter s
+        → WasScanned ⟦<PackedChannel<Global> as Channel<Global>>⟧ before scan.old.observer.value → result ≡ 0 → WasScanned ⟦<PackedChannel<Global> as Channel<Global>>⟧
+        (before ++ row_text (record { number = number; side = s; octets = octets.now; gap = None })) scan.new.observer.value }
+    ensures found { (before : List ℕ) (s : AnySide) → side ≡ side_letter s
+        → WasScanned ⟦<PackedChannel<Global> as Channel<Global>>⟧ before scan.old.observer.value → result ≡ 0
+        → OfScans (λ o t. AddsFound (reports o.reading) (waiting_findings o) (waiting_findings t) (findings_of before)
+        (findings_of (before ++ row_text (record { number = number; side = s; octets = octets.now; gap = None })))) scan.old.observer.value scan.new.observer.value }
+    ensures closed { scan.old.mark ≢ 1 → (result ≡ (if scan.old.mark == 2 then 3 else 8)) × (scan.new ≡ scan.old) }
 {
     match take(alloc, scan) {
         Ok(mut held) => {
@@ -160,6 +196,14 @@ pub extern "C" fn x25scan_take_finding(
     requires { IsSoundScan ⟦<PackedChannel<Global> as Channel<Global>>⟧ scan.old.observer.value }
     ensures mark { scan.new.mark ≡ scan.old.mark }
     ensures sound { IsSoundScan ⟦<PackedChannel<Global> as Channel<Global>>⟧ scan.new.observer.value }
+    // The finding is the first that waits, and waits no more.
+    ensures next { result ≡ 0 → OfScans (λ s t. (f : AnyFinding) × (waiting_findings s ≡ f ∷ waiting_findings t)
+        × (finding.new ≡ numbers_of f)) scan.old.observer.value scan.new.observer.value }
+    ensures none { scan.old.mark ≡ 1 → result ≢ 0
+        → IfSome scan.old.observer.value (λ s. waiting_findings s ≡ []) }
+    ensures fed { (text : List ℕ) → WasScanned ⟦<PackedChannel<Global> as Channel<Global>>⟧ text scan.old.observer.value
+        → WasScanned ⟦<PackedChannel<Global> as Channel<Global>>⟧ text scan.new.observer.value }
+    ensures closed { scan.old.mark ≢ 1 → (result ≡ (if scan.old.mark == 2 then 3 else 8)) × (scan.new ≡ scan.old) }
 {
     match take(alloc, scan) {
         Ok(mut held) => {
@@ -184,6 +228,18 @@ pub extern "C" fn x25scan_make_report(alloc: Global, scan: &mut Scan, form: u32)
     requires { IsSoundScan ⟦<PackedChannel<Global> as Channel<Global>>⟧ scan.old.observer.value }
     ensures mark { scan.new.mark ≡ scan.old.mark }
     ensures sound { IsSoundScan ⟦<PackedChannel<Global> as Channel<Global>>⟧ scan.new.observer.value }
+    // The report of the lines that have ended waits, in the form that is asked for; the trace goes on.
+    ensures reported { (text : List ℕ) → WasScanned ⟦<PackedChannel<Global> as Channel<Global>>⟧ text scan.old.observer.value
+        → scan_reports scan.old.observer.value ≡ true → result ≡ 0
+        → IfSome scan.new.observer.value (HasReport form (ended text)) }
+    // The trace is refused by its first faulty line, which is kept.
+    ensures refused { (text : List ℕ) → WasScanned ⟦<PackedChannel<Global> as Channel<Global>>⟧ text scan.old.observer.value
+        → scan_reports scan.old.observer.value ≡ true → result ≡ 2
+        → IfSome scan.new.observer.value (KeepsFault (fault (ended text))) }
+    ensures once { scan_ended scan.old.observer.value ≡ true → (result ≢ 0) × (result ≢ 2) }
+    ensures fed { (text : List ℕ) → WasScanned ⟦<PackedChannel<Global> as Channel<Global>>⟧ text scan.old.observer.value
+        → WasScanned ⟦<PackedChannel<Global> as Channel<Global>>⟧ text scan.new.observer.value }
+    ensures closed { scan.old.mark ≢ 1 → (result ≡ (if scan.old.mark == 2 then 3 else 8)) × (scan.new ≡ scan.old) }
 {
     match take(alloc, scan) {
         Ok(mut held) => {
@@ -201,6 +257,17 @@ pub extern "C" fn x25scan_end_trace(alloc: Global, scan: &mut Scan, form: u32) -
     requires { IsSoundScan ⟦<PackedChannel<Global> as Channel<Global>>⟧ scan.old.observer.value }
     ensures mark { scan.new.mark ≡ scan.old.mark }
     ensures sound { IsSoundScan ⟦<PackedChannel<Global> as Channel<Global>>⟧ scan.new.observer.value }
+    // The report of the text waits, in the form that is asked for, and the trace has ended.
+    ensures reported { (text : List ℕ) → WasScanned ⟦<PackedChannel<Global> as Channel<Global>>⟧ text scan.old.observer.value
+        → scan_reports scan.old.observer.value ≡ true → result ≡ 0
+        → IfSome scan.new.observer.value (HasReport form text) }
+    // The trace is refused by its first faulty line, which is kept.
+    ensures refused { (text : List ℕ) → WasScanned ⟦<PackedChannel<Global> as Channel<Global>>⟧ text scan.old.observer.value
+        → scan_reports scan.old.observer.value ≡ true → result ≡ 2
+        → IfSome scan.new.observer.value (KeepsFault (fault text)) }
+    ensures once { scan_ended scan.old.observer.value ≡ true → (result ≢ 0) × (result ≢ 2) }
+    ensures ended { result ≡ 0 → scan_ended scan.new.observer.value ≡ true }
+    ensures closed { scan.old.mark ≢ 1 → (result ≡ (if scan.old.mark == 2 then 3 else 8)) × (scan.new ≡ scan.old) }
 {
     match take(alloc, scan) {
         Ok(mut held) => {
@@ -224,6 +291,14 @@ pub extern "C" fn x25scan_take_text(
     requires { IsSoundScan ⟦<PackedChannel<Global> as Channel<Global>>⟧ scan.old.observer.value }
     ensures mark { scan.new.mark ≡ scan.old.mark }
     ensures sound { IsSoundScan ⟦<PackedChannel<Global> as Channel<Global>>⟧ scan.new.observer.value }
+    // The first bytes that wait are copied, as many as the buffer holds, and wait no more.
+    ensures taken { result ≡ 0 → OfScans (λ s t. (first length.new buffer.new ++ waiting_text t ≡ waiting_text s)
+        × (left.new ≡ size (waiting_text t))) scan.old.observer.value scan.new.observer.value }
+    ensures full { result ≡ 0 → left.new ≢ 0 → length.new ≡ size buffer.old }
+    ensures open { scan.old.mark ≡ 1 → result ≡ 0 }
+    ensures fed { (text : List ℕ) → WasScanned ⟦<PackedChannel<Global> as Channel<Global>>⟧ text scan.old.observer.value
+        → WasScanned ⟦<PackedChannel<Global> as Channel<Global>>⟧ text scan.new.observer.value }
+    ensures closed { scan.old.mark ≢ 1 → (result ≡ (if scan.old.mark == 2 then 3 else 8)) × (scan.new ≡ scan.old) }
 {
     match take(alloc, scan) {
         Ok(mut held) => {
@@ -253,6 +328,12 @@ pub extern "C" fn x25scan_take_fault(
     requires { IsSoundScan ⟦<PackedChannel<Global> as Channel<Global>>⟧ scan.old.observer.value }
     ensures mark { scan.new.mark ≡ scan.old.mark }
     ensures sound { IsSoundScan ⟦<PackedChannel<Global> as Channel<Global>>⟧ scan.new.observer.value }
+    // The line and the kind are those of the refusal that is kept.
+    ensures fault { result ≡ 0 → IfSome scan.old.observer.value (λ s. IfSome s.refused (λ at.
+        (line.new ≡ at.0) × (kind.new ≡ kind_number at.1))) }
+    ensures none { result ≡ 5 → IfSome scan.old.observer.value (λ s. s.refused ≡ None) }
+    ensures same { scan.old.mark ≡ 1 → scan.new.observer.value ≡ scan.old.observer.value }
+    ensures closed { scan.old.mark ≢ 1 → (result ≡ (if scan.old.mark == 2 then 3 else 8)) × (scan.new ≡ scan.old) }
 {
     match take(alloc, scan) {
         Ok(held) => {
@@ -277,6 +358,7 @@ pub extern "C" fn x25scan_close_scan(alloc: Global, scan: &mut Scan) -> u32
     requires { IsSoundScan ⟦<PackedChannel<Global> as Channel<Global>>⟧ scan.old.observer.value }
     ensures mark { result ≡ 0 → scan.new.mark ≡ 2 }
     ensures sound { IsSoundScan ⟦<PackedChannel<Global> as Channel<Global>>⟧ scan.new.observer.value }
+    ensures closed { scan.old.mark ≢ 1 → (result ≡ (if scan.old.mark == 2 then 3 else 8)) × (scan.new ≡ scan.old) }
 {
     match take(alloc, scan) {
         Ok(_held) => {

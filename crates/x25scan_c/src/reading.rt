@@ -1,9 +1,16 @@
 //! A trace that grows, as a handle reads it.
 
-ghost use Rattle.std.specs.Prelude.{◌≡◌, [], IfErr};
-ghost use Rattle.line_model.specs.text.Text.{early};
-ghost use Rattle.live_report.specs.Lives.{IsFedOn, RefusesEarly};
-ghost use Rattle.x25scan_c.specs.Sound.{IsSound};
+ghost use Rattle.std.specs.Prelude.{◌≡◌, ◌++◌, ◌≤◌, ℕ, List, [], None, not, true, false, Ok, IfErr, IfOk, OnOk, length};
+ghost use Rattle.line_model.specs.basics.Device.{with_more};
+ghost use Rattle.line_model.specs.text.Text.{early, fault};
+ghost use Rattle.line_model.specs.traces.Traces.{trace_report};
+ghost use Rattle.live_report.specs.Found.{HasFound, found as findings_of};
+ghost use Rattle.live_report.specs.Lives.{WasFed};
+ghost use Rattle.live_report.specs.Reports.{IsRefusal};
+ghost use Rattle.trace_text.specs.EndedPart.{ended_part as ended};
+ghost use Rattle.trace_text.specs.Represents.{IsFaultOf};
+ghost use Rattle.trace_text.specs.RowTexts.{row_text};
+ghost use Rattle.x25scan_c.specs.Sound.{AddsFound, IsSound, WasRead, has_ended, prints_rows, reports};
 
 use annotated_trace::printing::print_trace;
 use annotated_trace::rows::Rows;
@@ -65,7 +72,14 @@ fn feed_live<A: Allocator + Copy, C: Channel<A>>(
     found: &mut Vec<Finding, A>,
 ) -> Result<(), Fault>
     requires { IsSound C.Channel (Reading.Report live.old) }
-    ensures { IsSound C.Channel (Reading.Report live.new) }
+    ensures sound { IsSound C.Channel (Reading.Report live.new) }
+    ensures fed { (text : List ℕ) → WasFed C.Channel text live.old
+        → OnOk result (WasFed C.Channel (text ++ chunk.now) live.new) }
+    ensures found { (text : List ℕ) → WasFed C.Channel text live.old → OnOk result
+        (HasFound found.old.items found.new.items (findings_of text) (findings_of (text ++ chunk.now))) }
+    ensures refused { (text : List ℕ) → WasFed C.Channel text live.old
+        → IfErr result (IsFaultOf (early (text ++ chunk.now))) }
+    ensures more { length found.old.items ≤ length found.new.items }
 {
     live.feed(chunk)?;
     found.extend_from_slice(live.found())?;
@@ -82,19 +96,32 @@ fn live_packet<A: Allocator + Copy, C: Channel<A>>(
     found: &mut Vec<Finding, A>,
 ) -> Result<bool, Fault>
     requires { IsSound C.Channel (Reading.Report live.old) }
-    ensures { IsSound C.Channel (Reading.Report live.new) }
+    ensures sound { IsSound C.Channel (Reading.Report live.new) }
+    ensures taken { (text : List ℕ) → WasFed C.Channel text live.old → result ≡ Ok true → WasFed C.Channel
+        (text ++ row_text (record { number = number; side = side; octets = octets.now; gap = None })) live.new }
+    ensures passed { (text : List ℕ) → WasFed C.Channel text live.old → result ≡ Ok false
+        → WasFed C.Channel text live.new }
+    ensures found { (text : List ℕ) → WasFed C.Channel text live.old → result ≡ Ok true
+        → HasFound found.old.items found.new.items (findings_of text)
+        (findings_of (text ++ row_text (record { number = number; side = side; octets = octets.now; gap = None }))) }
+    ensures unfound { result ≡ Ok false → found.new ≡ found.old }
+    ensures more { length found.old.items ≤ length found.new.items }
 {
-    let is_read = live.packet(number, side, octets)?;
+    if !live.packet(number, side, octets)? {
+        return Ok(false);
+    }
     if !live.found().is_empty() {
         found.extend_from_slice(live.found())?;
     }
-    Ok(is_read)
+    Ok(true)
 }
 
 impl<A: Allocator + Copy, C: Channel<A>> Reading<A, C> {
     /// Returns a trace of which nothing was fed. Allocates nothing.
     pub fn new(alloc: A, prints_rows: bool) -> Self
-        ensures { IsSound C.Channel result }
+        ensures sound { IsSound C.Channel result }
+        ensures fed { WasRead C.Channel [] result }
+        ensures form { reports result ≡ not prints_rows }
     {
         if prints_rows {
             Reading::Rows(Vec::new(alloc))
@@ -104,19 +131,32 @@ impl<A: Allocator + Copy, C: Channel<A>> Reading<A, C> {
     }
 
     /// Returns whether rows are printed.
-    pub fn prints_rows(&self) -> bool {
+    pub fn prints_rows(&self) -> bool
+        ensures { result ≡ prints_rows self.now }
+    {
         matches!(self, Reading::Rows(_))
     }
 
     /// Returns whether the trace has ended.
-    pub fn has_ended(&self) -> bool {
+    pub fn has_ended(&self) -> bool
+        ensures { result ≡ has_ended self.now }
+    {
         matches!(self, Reading::Ended)
     }
 
     /// Reads the next bytes of the text, and appends what their rows found.
     pub fn feed(&mut self, chunk: &[u8], found: &mut Vec<Finding, A>) -> Result<(), Fault>
         requires { IsSound C.Channel self.old }
-        ensures { IsSound C.Channel self.new }
+        ensures sound { IsSound C.Channel self.new }
+        ensures fed { (text : List ℕ) → WasRead C.Channel text self.old
+            → OnOk result (WasRead C.Channel (text ++ chunk.now) self.new) }
+        ensures found { (text : List ℕ) → WasRead C.Channel text self.old
+            → OnOk result (AddsFound (reports self.old) found.old.items found.new.items
+            (findings_of text) (findings_of (text ++ chunk.now))) }
+        ensures refused { (text : List ℕ) → WasRead C.Channel text self.old
+            → IfErr result (IsFaultOf (early (text ++ chunk.now))) }
+        ensures form { reports self.new ≡ reports self.old }
+        ensures more { length found.old.items ≤ length found.new.items }
     {
         match self {
             Reading::Report(live) => feed_live(live, chunk, found),
@@ -138,7 +178,17 @@ impl<A: Allocator + Copy, C: Channel<A>> Reading<A, C> {
         found: &mut Vec<Finding, A>,
     ) -> Result<bool, Fault>
         requires { IsSound C.Channel self.old }
-        ensures { IsSound C.Channel self.new }
+        ensures sound { IsSound C.Channel self.new }
+        ensures taken { (text : List ℕ) → WasRead C.Channel text self.old → result ≡ Ok true → WasRead C.Channel
+            (text ++ row_text (record { number = number; side = side; octets = octets.now; gap = None })) self.new }
+        ensures passed { (text : List ℕ) → WasRead C.Channel text self.old → result ≡ Ok false
+            → WasRead C.Channel text self.new }
+        ensures found { (text : List ℕ) → WasRead C.Channel text self.old → result ≡ Ok true
+            → AddsFound (reports self.old) found.old.items found.new.items (findings_of text)
+            (findings_of (text ++ row_text (record { number = number; side = side; octets = octets.now; gap = None }))) }
+        ensures unfound { result ≡ Ok false → found.new ≡ found.old }
+        ensures form { reports self.new ≡ reports self.old }
+        ensures more { length found.old.items ≤ length found.new.items }
     {
         match self {
             Reading::Report(live) => live_packet(live, number, side, octets, found),
@@ -149,6 +199,11 @@ impl<A: Allocator + Copy, C: Channel<A>> Reading<A, C> {
     /// Writes the report of the lines that have ended, as `Live::report`, or their rows and their report.
     pub fn report<K: Sink>(&self, alloc: A, sink: &mut K) -> Result<(), Fault>
         requires { IsSound C.Channel self.now }
+        ensures reported { (text : List ℕ) → WasRead C.Channel text self.now → reports self.now ≡ true
+            → OnOk result ((fault (ended text) ≡ None)
+            × (K.taken sink.new ≡ with_more (K.taken sink.old) (trace_report (ended text)))) }
+        ensures refused { (text : List ℕ) → WasRead C.Channel text self.now → reports self.now ≡ true
+            → IfErr result (IsRefusal (ended text)) }
     {
         match self {
             Reading::Report(live) => {
@@ -163,7 +218,12 @@ impl<A: Allocator + Copy, C: Channel<A>> Reading<A, C> {
     /// Writes the report of the text, which has ended, as `Live::end`, or its rows and its report, as `print_trace`.
     pub fn end<K: Sink>(&mut self, alloc: A, sink: &mut K) -> Result<(), Fault>
         requires { IsSound C.Channel self.old }
-        ensures { self.new ≡ Reading.Ended }
+        ensures ended { self.new ≡ Reading.Ended }
+        ensures reported { (text : List ℕ) → WasRead C.Channel text self.old → reports self.old ≡ true
+            → OnOk result ((fault text ≡ None)
+            × (K.taken sink.new ≡ with_more (K.taken sink.old) (trace_report text))) }
+        ensures refused { (text : List ℕ) → WasRead C.Channel text self.old → reports self.old ≡ true
+            → IfErr result (IsRefusal text) }
     {
         match replace(self, Reading::Ended) {
             Reading::Report(live) => {

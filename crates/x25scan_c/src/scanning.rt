@@ -1,7 +1,16 @@
 //! What a handle holds: a trace that is read, its findings, and the text that the caller has not received.
 
-ghost use Rattle.std.specs.Prelude.{◌≡◌};
-ghost use Rattle.x25scan_c.specs.Sound.{IsSound};
+ghost use Rattle.std.specs.Prelude.{◌≡◌, ◌≢◌, ◌++◌, ◌∷◌, ◌≤◌, ◌==◌, if◌then◌else◌, ℕ, List, [], None, Some, true, false, IfSome, OnOk, IfErr, drop, length};
+ghost use Rattle.json_lines.specs.Json.{json_text};
+ghost use Rattle.line_model.specs.declared.fault.Fault.TheVariants.{Trace};
+ghost use Rattle.line_model.specs.declared.fault.Kind.{Kind as AnyKind};
+ghost use Rattle.line_model.specs.declared.state.Side.{Side as AnySide};
+ghost use Rattle.line_model.specs.text.Text.{early, fault};
+ghost use Rattle.line_model.specs.traces.Traces.{trace_report};
+ghost use Rattle.live_report.specs.Found.{found as findings_of};
+ghost use Rattle.trace_text.specs.EndedPart.{ended_part as ended};
+ghost use Rattle.trace_text.specs.RowTexts.{row_text, side_letter};
+ghost use Rattle.x25scan_c.specs.Sound.{AddsFound, HasReport, IsSoundScanning, KeepsFault, WasRead, has_ended, number_of, prints_rows, reports, waiting_findings, waiting_text};
 
 use crate::errors::{ARGUMENT, ENDED, LINE, MEMORY, OK, ROWS, number_of};
 use crate::reading::Reading;
@@ -49,10 +58,25 @@ pub struct Scanning {
     advice: Option<String>,
 }
 
+/// The side of a letter.
+fn side_of(letter: u8) -> Option<Side>
+    ensures { (s : AnySide) → letter ≡ side_letter s → result ≡ Some s }
+{
+    match letter {
+        b'T' => Some(Side::T),
+        b'N' => Some(Side::N),
+        _ => None,
+    }
+}
+
 impl Scanning {
     /// Returns a value of which nothing was fed. Allocates nothing.
     pub(crate) fn new(alloc: Global, form: u32) -> Scanning
-        ensures { IsSound ⟦<PackedChannel<Global> as Channel<Global>>⟧ result.reading }
+        ensures sound { IsSoundScanning ⟦<PackedChannel<Global> as Channel<Global>>⟧ result }
+        ensures fed { WasRead ⟦<PackedChannel<Global> as Channel<Global>>⟧ [] result.reading }
+        ensures form { reports result.reading ≡ (if form == 2 then false else true) }
+        ensures findings { waiting_findings result ≡ [] }
+        ensures text { waiting_text result ≡ [] }
     {
         Scanning {
             reading: Reading::new(alloc, form == ROW_OBJECTS),
@@ -71,7 +95,8 @@ impl Scanning {
 
     /// Keeps the last bytes that are fed.
     fn remember(&mut self, chunk: &[u8])
-        ensures { self.new.reading ≡ self.old.reading }
+        ensures reading { self.new.reading ≡ self.old.reading }
+        ensures findings { (self.new.found ≡ self.old.found) × (self.new.found_taken ≡ self.old.found_taken) }
     {
         if self.recent.len().saturating_add(chunk.len()) > MOST_RECENT && !self.recent.is_empty() {
             self.recent.clear();
@@ -84,7 +109,12 @@ impl Scanning {
 
     /// Keeps the fault of a refusal, and returns its number.
     fn refuse(&mut self, alloc: Global, fault: Fault) -> u32
-        ensures { self.new.reading ≡ self.old.reading }
+        ensures reading { self.new.reading ≡ self.old.reading }
+        ensures findings { (self.new.found ≡ self.old.found) × (self.new.found_taken ≡ self.old.found_taken) }
+        ensures number { result ≡ number_of fault }
+        ensures some { result ≢ 0 }
+        ensures kept { (line : ℕ) (kind : AnyKind) → fault ≡ Trace line kind
+            → self.new.refused ≡ Some (line, kind) }
     {
         if let Fault::Trace(line, kind) = fault {
             let known = self.refused;
@@ -101,20 +131,42 @@ impl Scanning {
         number_of(fault)
     }
 
+    /// Reads the next bytes of a text that has not ended.
+    fn feed_on(&mut self, alloc: Global, chunk: &[u8]) -> u32
+        requires { IsSoundScanning ⟦<PackedChannel<Global> as Channel<Global>>⟧ self.old }
+        ensures sound { IsSoundScanning ⟦<PackedChannel<Global> as Channel<Global>>⟧ self.new }
+        ensures fed { (text : List ℕ) → WasRead ⟦<PackedChannel<Global> as Channel<Global>>⟧ text self.old.reading → result ≡ 0
+            → WasRead ⟦<PackedChannel<Global> as Channel<Global>>⟧ (text ++ chunk.now) self.new.reading }
+        ensures found { (text : List ℕ) → WasRead ⟦<PackedChannel<Global> as Channel<Global>>⟧ text self.old.reading → result ≡ 0
+            → AddsFound (reports self.old.reading) (waiting_findings self.old) (waiting_findings self.new)
+            (findings_of text) (findings_of (text ++ chunk.now)) }
+        ensures refused { (text : List ℕ) → WasRead ⟦<PackedChannel<Global> as Channel<Global>>⟧ text self.old.reading → result ≡ 2
+            → KeepsFault (early (text ++ chunk.now)) self.new }
+    {
+        match self.reading.feed(chunk, &mut self.found) {
+            Ok(()) => OK,
+            Err(fault) => self.refuse(alloc, fault),
+        }
+    }
+
     /// Reads the next bytes of the text.
     pub(crate) fn feed(&mut self, alloc: Global, chunk: &[u8]) -> u32
-        requires { IsSound ⟦<PackedChannel<Global> as Channel<Global>>⟧ self.old.reading }
-        ensures { IsSound ⟦<PackedChannel<Global> as Channel<Global>>⟧ self.new.reading }
+        requires { IsSoundScanning ⟦<PackedChannel<Global> as Channel<Global>>⟧ self.old }
+        ensures sound { IsSoundScanning ⟦<PackedChannel<Global> as Channel<Global>>⟧ self.new }
+        ensures fed { (text : List ℕ) → WasRead ⟦<PackedChannel<Global> as Channel<Global>>⟧ text self.old.reading → result ≡ 0
+            → WasRead ⟦<PackedChannel<Global> as Channel<Global>>⟧ (text ++ chunk.now) self.new.reading }
+        ensures found { (text : List ℕ) → WasRead ⟦<PackedChannel<Global> as Channel<Global>>⟧ text self.old.reading → result ≡ 0
+            → AddsFound (reports self.old.reading) (waiting_findings self.old) (waiting_findings self.new)
+            (findings_of text) (findings_of (text ++ chunk.now)) }
+        ensures refused { (text : List ℕ) → WasRead ⟦<PackedChannel<Global> as Channel<Global>>⟧ text self.old.reading → result ≡ 2
+            → KeepsFault (early (text ++ chunk.now)) self.new }
+        ensures ended { has_ended self.old.reading ≡ true → (result ≡ 4) × (self.new ≡ self.old) }
     {
         if self.reading.has_ended() {
             return ENDED;
         }
         self.remember(chunk);
-        let fed = self.reading.feed(chunk, &mut self.found);
-        let answer = match fed {
-            Ok(()) => OK,
-            Err(fault) => self.refuse(alloc, fault),
-        };
+        let answer = self.feed_on(alloc, chunk);
         if let [.., last] = chunk {
             self.has_begun = *last != b'\n';
         }
@@ -123,13 +175,17 @@ impl Scanning {
 
     /// Reads a packet, as the line that writes it.
     pub(crate) fn packet(&mut self, alloc: Global, number: u32, side: u8, octets: &[u8]) -> u32
-        requires { IsSound ⟦<PackedChannel<Global> as Channel<Global>>⟧ self.old.reading }
-        ensures { IsSound ⟦<PackedChannel<Global> as Channel<Global>>⟧ self.new.reading }
+        requires { IsSoundScanning ⟦<PackedChannel<Global> as Channel<Global>>⟧ self.old }
+        ensures sound { IsSoundScanning ⟦<PackedChannel<Global> as Channel<Global>>⟧ self.new }
+        ensures fed { (text : List ℕ) (s : AnySide) → side ≡ side_letter s → WasRead ⟦<PackedChannel<Global> as Channel<Global>>⟧ text self.old.reading
+            → result ≡ 0 → WasRead ⟦<PackedChannel<Global> as Channel<Global>>⟧
+            (text ++ row_text (record { number = number; side = s; octets = octets.now; gap = None })) self.new.reading }
+        ensures found { (text : List ℕ) (s : AnySide) → side ≡ side_letter s → WasRead ⟦<PackedChannel<Global> as Channel<Global>>⟧ text self.old.reading
+            → result ≡ 0 → AddsFound (reports self.old.reading) (waiting_findings self.old) (waiting_findings self.new)
+            (findings_of text) (findings_of (text ++ row_text (record { number = number; side = s; octets = octets.now; gap = None }))) }
     {
-        let sender = match side {
-            b'T' => Side::T,
-            b'N' => Side::N,
-            _ => return ARGUMENT,
+        let Some(sender) = side_of(side) else {
+            return ARGUMENT;
         };
         if octets.len() > MOST_OCTETS {
             return ARGUMENT;
@@ -151,21 +207,37 @@ impl Scanning {
     /// Reads the line that writes a packet.
     #[inline(never)]
     fn feed_row(&mut self, alloc: Global, number: u32, side: Side, octets: &[u8]) -> u32
-        requires { IsSound ⟦<PackedChannel<Global> as Channel<Global>>⟧ self.old.reading }
-        ensures { IsSound ⟦<PackedChannel<Global> as Channel<Global>>⟧ self.new.reading }
+        requires { IsSoundScanning ⟦<PackedChannel<Global> as Channel<Global>>⟧ self.old }
+        ensures sound { IsSoundScanning ⟦<PackedChannel<Global> as Channel<Global>>⟧ self.new }
+        ensures fed { (text : List ℕ) → WasRead ⟦<PackedChannel<Global> as Channel<Global>>⟧ text self.old.reading
+            → result ≡ 0 → WasRead ⟦<PackedChannel<Global> as Channel<Global>>⟧
+            (text ++ row_text (record { number = number; side = side; octets = octets.now; gap = None })) self.new.reading }
+        ensures found { (text : List ℕ) → WasRead ⟦<PackedChannel<Global> as Channel<Global>>⟧ text self.old.reading
+            → result ≡ 0 → AddsFound (reports self.old.reading) (waiting_findings self.old) (waiting_findings self.new)
+            (findings_of text) (findings_of (text ++ row_text (record { number = number; side = side; octets = octets.now; gap = None }))) }
     {
         let mut line = replace(&mut self.line, Vec::new(alloc));
-        let answer = match put_row(&mut line, number, side, octets) {
-            Ok(()) => self.feed(alloc, line.as_slice()),
-            Err(_) => MEMORY,
-        };
-        self.line = line;
-        answer
+        match put_row(&mut line, number, side, octets) {
+            Ok(()) => {
+                let answer = self.feed(alloc, line.as_slice());
+                self.line = line;
+                answer
+            }
+            Err(_) => {
+                self.line = line;
+                MEMORY
+            }
+        }
     }
 
     /// Returns the next finding that was not returned before.
     pub(crate) fn next_finding(&mut self) -> Option<Finding>
-        ensures { self.new.reading ≡ self.old.reading }
+        requires { self.old.found_taken ≤ length self.old.found.items }
+        ensures reading { self.new.reading ≡ self.old.reading }
+        ensures few { self.new.found_taken ≤ length self.new.found.items }
+        ensures next { IfSome result (λ f. waiting_findings self.old ≡ f ∷ waiting_findings self.new) }
+        ensures none { result ≡ None → (waiting_findings self.old ≡ []) × (waiting_findings self.new ≡ []) }
+        ensures text { waiting_text self.new ≡ waiting_text self.old }
     {
         if let Some(finding) = self.found.as_slice().get(self.found_taken) {
             let finding = *finding;
@@ -180,13 +252,19 @@ impl Scanning {
     }
 
     /// Returns whether it prints rows.
-    pub(crate) fn prints_rows(&self) -> bool {
+    pub(crate) fn prints_rows(&self) -> bool
+        ensures { result ≡ prints_rows self.now.reading }
+    {
         self.reading.prints_rows()
     }
 
     /// Replaces the text that was not returned by lines of a report.
     fn put_report(&mut self, alloc: Global, form: u32, lines: VecSink<Global>) -> u32
-        ensures { self.new.reading ≡ self.old.reading }
+        ensures reading { self.new.reading ≡ self.old.reading }
+        ensures findings { (self.new.found ≡ self.old.found) × (self.new.found_taken ≡ self.old.found_taken) }
+        ensures text { result ≡ 0 → waiting_text self.new
+            ≡ (if form == 1 then json_text lines.bytes.items else lines.bytes.items) }
+        ensures number { result ≢ 2 }
     {
         let mut text = lines;
         if form == JSON {
@@ -204,8 +282,14 @@ impl Scanning {
     /// Replaces the text that was not returned by the report of the lines that have ended, or by their rows. When it
     /// fails, that text is as it was.
     pub(crate) fn report(&mut self, alloc: Global, form: u32) -> u32
-        requires { IsSound ⟦<PackedChannel<Global> as Channel<Global>>⟧ self.old.reading }
-        ensures { self.new.reading ≡ self.old.reading }
+        requires { IsSoundScanning ⟦<PackedChannel<Global> as Channel<Global>>⟧ self.old }
+        ensures reading { self.new.reading ≡ self.old.reading }
+        ensures findings { (self.new.found ≡ self.old.found) × (self.new.found_taken ≡ self.old.found_taken) }
+        ensures reported { (text : List ℕ) → WasRead ⟦<PackedChannel<Global> as Channel<Global>>⟧ text self.old.reading → reports self.old.reading ≡ true
+            → result ≡ 0 → HasReport form (ended text) self.new }
+        ensures refused { (text : List ℕ) → WasRead ⟦<PackedChannel<Global> as Channel<Global>>⟧ text self.old.reading → reports self.old.reading ≡ true
+            → result ≡ 2 → KeepsFault (fault (ended text)) self.new }
+        ensures once { has_ended self.old.reading ≡ true → (result ≢ 0) × (result ≢ 2) }
     {
         if form > ROW_OBJECTS {
             return ARGUMENT;
@@ -228,8 +312,15 @@ impl Scanning {
     /// Replaces the text that was not returned by the report of the text, which has ended, or by its rows and their
     /// report. The trace has ended then, also when it fails, except where the form is another than the scan's.
     pub(crate) fn end(&mut self, alloc: Global, form: u32) -> u32
-        requires { IsSound ⟦<PackedChannel<Global> as Channel<Global>>⟧ self.old.reading }
-        ensures { IsSound ⟦<PackedChannel<Global> as Channel<Global>>⟧ self.new.reading }
+        requires { IsSoundScanning ⟦<PackedChannel<Global> as Channel<Global>>⟧ self.old }
+        ensures sound { IsSoundScanning ⟦<PackedChannel<Global> as Channel<Global>>⟧ self.new }
+        ensures findings { waiting_findings self.new ≡ waiting_findings self.old }
+        ensures reported { (text : List ℕ) → WasRead ⟦<PackedChannel<Global> as Channel<Global>>⟧ text self.old.reading → reports self.old.reading ≡ true
+            → result ≡ 0 → HasReport form text self.new }
+        ensures refused { (text : List ℕ) → WasRead ⟦<PackedChannel<Global> as Channel<Global>>⟧ text self.old.reading → reports self.old.reading ≡ true
+            → result ≡ 2 → KeepsFault (fault text) self.new }
+        ensures once { has_ended self.old.reading ≡ true → (result ≢ 0) × (result ≢ 2) }
+        ensures ended { result ≡ 0 → has_ended self.new.reading ≡ true }
     {
         if self.reading.has_ended() {
             return ENDED;
@@ -245,7 +336,9 @@ impl Scanning {
     }
 
     /// Returns the text that was not returned before.
-    pub(crate) fn waiting(&self) -> &[u8] {
+    pub(crate) fn waiting(&self) -> &[u8]
+        ensures { result.now ≡ waiting_text self.now }
+    {
         match self.text.as_slice().get(self.text_taken..) {
             Some(rest) => rest,
             None => b"",
@@ -254,7 +347,10 @@ impl Scanning {
 
     /// Counts `taken` more bytes of the text as returned.
     pub(crate) fn take_text(&mut self, alloc: Global, taken: usize)
-        ensures { self.new.reading ≡ self.old.reading }
+        requires { taken ≤ length (waiting_text self.old) }
+        ensures reading { self.new.reading ≡ self.old.reading }
+        ensures findings { (self.new.found ≡ self.old.found) × (self.new.found_taken ≡ self.old.found_taken) }
+        ensures taken { waiting_text self.new ≡ drop taken (waiting_text self.old) }
     {
         self.text_taken = self.text_taken.saturating_add(taken);
         if self.waiting().is_empty() {
@@ -264,7 +360,9 @@ impl Scanning {
     }
 
     /// Returns the faulty line, by its number and its kind.
-    pub(crate) fn refused(&self) -> Option<(u32, Kind)> {
+    pub(crate) fn refused(&self) -> Option<(u32, Kind)>
+        ensures { result ≡ self.now.refused }
+    {
         self.refused
     }
 
