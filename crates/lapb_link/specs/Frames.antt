@@ -4,16 +4,28 @@ use Rattle.std.specs.List.{list_any}
 use Rattle.std.specs.Str.{bytes_eq}
 use Rattle.lapb_link.specs.Numbers.{after, ahead}
 use Rattle.lapb_link.specs.declared.modulus.Modulus.{Modulus}
+use Rattle.lapb_link.specs.declared.frames.Reading.{Reading}
+use Rattle.lapb_link.specs.declared.frames.Place.{Place}
 use Rattle.lapb_link.specs.declared.frames.Information.{Information}
 use Rattle.lapb_link.specs.declared.frames.HeldFrame.{HeldFrame}
 use Rattle.lapb_link.specs.declared.frames.RecentFrame.{RecentFrame}
 
--- an I frame as it is held, and as the last one with its number
-abbrev pub held_of : Information → (last_gap : ℕ) → HeldFrame
-held_of f last_gap = record { send = f.send; place = f.place; octets = f.octets.now; is_cut = f.is_cut; last_gap = last_gap }
+-- an I frame
+pub record IFrame : Type 0 where
+  pub send : ℕ
+  pub place : Place
+  pub octets : List ℕ
+  pub is_cut : Bool
 
-abbrev pub recent_of : Information → RecentFrame
-recent_of f = record { is_there = true; is_cut = f.is_cut; octets = f.octets.now }
+abbrev pub i_frame : Information → IFrame
+i_frame f = record { send = f.send; place = f.place; octets = f.octets.now; is_cut = f.is_cut }
+
+-- an I frame as it is held, and as the last one with its number
+abbrev pub held_of : Reading → IFrame → HeldFrame
+held_of g f = record { side = g.side; send = f.send; place = f.place; octets = f.octets; is_cut = f.is_cut; last_gap = g.last_gap }
+
+abbrev pub recent_of : IFrame → RecentFrame
+recent_of f = record { is_there = true; is_cut = f.is_cut; octets = f.octets }
 
 abbrev pub no_frame : RecentFrame
 no_frame = record { is_there = false; is_cut = false; octets = [] }
@@ -41,8 +53,8 @@ is_same true xs ys = bytes_eq (take (min (length xs) (length ys)) xs) (take (min
 is_same false xs ys = bytes_eq xs ys
 
 -- whether a frame has the packet of the last one with its number
-abbrev pub is_repeat_of : (set_up : Bool) → Information → RecentFrame → Bool
-is_repeat_of set_up f r = if r.is_there then is_same (r.is_cut || f.is_cut) r.octets f.octets.now else not set_up
+abbrev pub is_repeat_of : (set_up : Bool) → IFrame → RecentFrame → Bool
+is_repeat_of set_up f r = if r.is_there then is_same (r.is_cut || f.is_cut) r.octets f.octets else not set_up
 
-abbrev pub is_repeated : (set_up : Bool) → Information → List RecentFrame → Bool
+abbrev pub is_repeated : (set_up : Bool) → IFrame → List RecentFrame → Bool
 is_repeated set_up f rs = is_repeat_of set_up f (slice_index_or rs f.send no_frame)

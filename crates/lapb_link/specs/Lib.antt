@@ -1,3 +1,7 @@
 pub mod Numbers
+pub mod Controls
+pub mod Checks
+pub mod Looks
 pub mod Frames
 pub mod Receiving
+pub mod Links

@@ -1,18 +1,21 @@
 -- The receiver of one direction (X.25 clause 2.4), as far as the recorded frames show it.
 use Rattle.std.specs.Prelude.{ℕ, ◌+◌, ◌-◌, ◌/◌, ◌==◌, ◌&&◌, ◌||◌, nat_lt, nat_le, Bool, true, false, not, List, [], ◌∷◌, ◌++◌, length, drop, slice_set, Option, Some, None, is_some, if◌then◌else◌}
+use Rattle.line_model.specs.declared.state.Side.{Side}
 use Rattle.lapb_link.specs.Numbers.{after, ahead, before, size}
-use Rattle.lapb_link.specs.Frames.{held_of, is_held, is_repeated, no_frames, placed, recent_of, run_from}
+use Rattle.lapb_link.specs.Frames.{IFrame, held_of, is_held, is_repeated, no_frames, placed, recent_of, run_from}
 use Rattle.lapb_link.specs.declared.modulus.Modulus.{Modulus}
 use Rattle.lapb_link.specs.declared.frames.Place.{Place}
-use Rattle.lapb_link.specs.declared.frames.Information.{Information}
 use Rattle.lapb_link.specs.declared.frames.HeldFrame.{HeldFrame}
+use Rattle.lapb_link.specs.declared.control.Supervisory.{Supervisory}
+use Rattle.lapb_link.specs.declared.control.Supervisory.TheVariants as supervisory
+use Rattle.lapb_link.specs.declared.control.SupervisoryField.{SupervisoryField}
 use Rattle.lapb_link.specs.declared.receiver.Shown.{Shown}
 use Rattle.lapb_link.specs.declared.receiver.Shown.TheVariants as shown
 use Rattle.lapb_link.specs.declared.receiver.Fate.{Fate}
 use Rattle.lapb_link.specs.declared.receiver.Fate.TheVariants as fate
 use Rattle.lapb_link.specs.declared.receiver.Recall.{Recall}
 use Rattle.lapb_link.specs.declared.receiver.Recall.TheVariants as recall
-use Rattle.lapb_link.specs.declared.receiver.Reading.{Reading}
+use Rattle.lapb_link.specs.declared.frames.Reading.{Reading}
 use Rattle.lapb_link.specs.declared.receiver.Receiver.{Receiver}
 use Rattle.lapb_link.specs.declared.receiver.Way.{Way}
 use Rattle.lapb_link.specs.declared.receiver.Progress.{Progress}
@@ -61,8 +64,8 @@ passed_over m w [] = []
 passed_over m w (h ∷ hs) = if is_passed m w h then passed_over m w hs else h ∷ hs
 
 -- frames before a number were accepted; those that are not held were not recorded
-abbrev pub lost_if : ℕ → ℕ → List Shown
-lost_if count to = if nat_lt 0 count then shown.Lost count to ∷ [] else []
+abbrev pub lost_if : Side → (count to : ℕ) → List Shown
+lost_if side count to = if nat_lt 0 count then shown.Lost side count to ∷ [] else []
 
 abbrev pub way_of : (from to : ℕ) → Receiver → Way
 way_of from to r = record { from = from; to = to; doubtful = r.doubtful }
@@ -75,7 +78,7 @@ caught_up g from to r =
   let rest = passed_over g.modulus (way_of from to r) r.held in
   record {
     after = record r { next = Some to; acknowledged = Some to; since = g.place.frame; doubtful = r.doubtful && nat_lt 0 (length rest); held = rest };
-    shown = given g (way_of from to r) (progress_of g from r) r.held ++ lost_if (ahead g.modulus from to - (length r.held - length rest)) to;
+    shown = given g (way_of from to r) (progress_of g from r) r.held ++ lost_if g.side (ahead g.modulus from to - (length r.held - length rest)) to;
   }
 
 -- an N(R): inside the frames that were recorded, or beyond them
@@ -90,7 +93,7 @@ is_beyond m receive r = is_some r.acknowledged || is_held (before m receive) r.h
 
 abbrev pub first_shown : Reading → ℕ → ℕ → Option ℕ → List Shown
 first_shown g receive since None = []
-first_shown g receive since (Some a) = if a == receive then [] else shown.Gap (record { since = since; place = g.place }) ∷ shown.Lost (ahead g.modulus a receive) receive ∷ []
+first_shown g receive since (Some a) = if a == receive then [] else shown.Gap (record { since = since; place = g.place }) ∷ shown.Lost g.side (ahead g.modulus a receive) receive ∷ []
 
 abbrev pub first_acknowledged : Reading → ℕ → Receiver → Step
 first_acknowledged g receive r = record { after = record r { acknowledged = Some receive; since = g.place.frame }; shown = first_shown g receive r.since r.acknowledged }
@@ -106,7 +109,7 @@ acknowledged g proves receive r = elim r.next [
 ]
 
 -- a frame is accepted; what is held then may be of numbers that all have passed
-abbrev pub accepted : Reading → Information → Receiver → Read
+abbrev pub accepted : Reading → IFrame → Receiver → Read
 accepted g f r =
   let is_gap = nat_lt 0 (length r.held) && (not r.doubtful && not r.selective) in
   record {
@@ -122,12 +125,12 @@ is_repeated_number m next send r = elim r.acknowledged [
   | None ↦ not (is_held (before m send) r.held) && nat_le (ahead m send next) (size m / 2)
 ]
 
-abbrev pub recall_of : Modulus → (next : ℕ) → Information → Receiver → Recall
+abbrev pub recall_of : Modulus → (next : ℕ) → IFrame → Receiver → Recall
 recall_of m next f r = if not (is_held f.send r.held) && (f.send == next || not (is_repeated_number m next f.send r)) then recall.New
   else if is_repeated r.set_up f r.recent then recall.Same else recall.Other
 
 -- a frame that repeats another: a held one with the next number goes where its number comes again
-abbrev pub repeated : Reading → (next : ℕ) → Information → Receiver → Read
+abbrev pub repeated : Reading → (next : ℕ) → IFrame → Receiver → Read
 repeated g next f r = if f.send == next then behind (shown.Refused 1 ∷ []) (accepted g f (record r { held = drop 1 r.held }))
   else record { after = r; shown = []; fate = if is_held f.send r.held then fate.HeldBefore else fate.Repeated }
 
@@ -146,26 +149,26 @@ widened m next send r = record r { acknowledged = elim r.acknowledged [
 ] }
 
 -- the frame with the next number is accepted, and another is held
-abbrev pub expected : Reading → (next : ℕ) → Information → Receiver → Read
+abbrev pub expected : Reading → (next : ℕ) → IFrame → Receiver → Read
 expected g next f r = if f.send == next then accepted g f r
-  else record { after = record r { held = placed g.modulus next (held_of f g.last_gap) r.held; recent = slice_set r.recent f.send (recent_of f) }; shown = []; fate = fate.Held }
+  else record { after = record r { held = placed g.modulus next (held_of g f) r.held; recent = slice_set r.recent f.send (recent_of f) }; shown = []; fate = fate.Held }
 
 -- no window reaches all numbers, so the frame before the next one shows that the next one was accepted
-abbrev pub reached : Reading → (next : ℕ) → Information → Receiver → Read
+abbrev pub reached : Reading → (next : ℕ) → IFrame → Receiver → Read
 reached g next f r =
   let to = run_from g.modulus (after g.modulus next 1) r.held in
   let s = caught_up g next to r in behind s.shown (expected g to f s.after)
 
-abbrev pub new_frame : Reading → (next : ℕ) → Information → Receiver → Read
+abbrev pub new_frame : Reading → (next : ℕ) → IFrame → Receiver → Read
 new_frame g next f r = if after g.modulus f.send 1 == next then reached g next f r else expected g next f (widened g.modulus next f.send r)
 
 -- an I frame
-abbrev pub known_informed : Reading → (next : ℕ) → Information → Receiver → Recall → Read
+abbrev pub known_informed : Reading → (next : ℕ) → IFrame → Receiver → Recall → Read
 known_informed g next f r recall.New = new_frame g next f r
 known_informed g next f r recall.Same = repeated g next f r
 known_informed g next f r recall.Other = let s = all_passed g next f.send r in behind s.shown (accepted g f s.after)
 
-abbrev pub informed : Reading → Information → Receiver → Read
+abbrev pub informed : Reading → IFrame → Receiver → Read
 informed g f r = elim r.next [
   | None ↦ accepted g f r
   | Some next ↦ known_informed g next f r (recall_of g.modulus next f r)
@@ -192,9 +195,24 @@ rejected g proves receive r = elim r.acknowledged [
 abbrev pub selected : Reading → Bool → ℕ → Receiver → Step
 selected g proves receive r = acknowledged g proves receive (record r { selective = true })
 
+abbrev pub is_holding : Receiver → Bool
+is_holding r = nat_lt 0 (length r.held)
+
+abbrev pub held_shown : Receiver → List Shown
+held_shown r = if is_holding r then shown.Refused (length r.held) ∷ [] else []
+
 -- a SABM, SABME or UA: the numbers begin anew
 abbrev pub set_up_again : Reading → Receiver → Step
 set_up_again g r = record {
   after = record r { next = Some 0; acknowledged = Some 0; set_up = true; doubtful = false; selective = false; since = g.place.frame; held = []; recent = no_frames };
-  shown = if nat_lt 0 (length r.held) then shown.Refused (length r.held) ∷ shown.Gap (record { since = r.since; place = g.place }) ∷ [] else [];
+  shown = held_shown r;
 }
+
+-- a supervisory frame, or the N(R) of an I frame
+abbrev pub supervised_by : Supervisory → Reading → Bool → ℕ → Receiver → Step
+supervised_by supervisory.Rej = rejected
+supervised_by supervisory.Srej = selected
+supervised_by k = acknowledged
+
+abbrev pub supervised : Reading → SupervisoryField → Bool → Receiver → Step
+supervised g c proves r = supervised_by c.kind g proves c.receive r

@@ -2,7 +2,11 @@
 
 ghost use Rattle.std.specs.Prelude.{◌≡◌, ◌<◌, ◌≤◌, ◌++◌, [], ◌∷◌, IfOk, OnOk, drop, length, slice_set, take};
 
+ghost use Rattle.lapb_link.specs.Frames.{i_frame};
+
 use crate::modulus::Modulus;
+use capture_model::time::Nanos;
+use line_model::state::Side;
 use std::alloc::{AllocError, Global};
 use std::marker::Model;
 
@@ -11,8 +15,21 @@ use std::marker::Model;
 pub struct Place {
     /// The number of the frame.
     pub frame: u64,
-    /// Its time in nanoseconds since 1970, where the capture has one.
-    pub time: Option<u64>,
+    /// When it was recorded, where the capture says.
+    pub time: Option<Nanos>,
+}
+
+/// The frame that is read, for a receiver.
+#[derive(Clone, Copy)]
+pub struct Reading {
+    /// The side whose I frames the receiver accepts.
+    pub side: Side,
+    /// The modulus of the link.
+    pub modulus: Modulus,
+    /// The place of the frame.
+    pub place: Place,
+    /// The frame of the last gap of the link before it.
+    pub last_gap: u64,
 }
 
 /// An I frame, with its packet in the octets of the capture.
@@ -71,6 +88,8 @@ impl Octets {
 /// An I frame that is held until its receiver shows whether it accepted it.
 #[derive(Drop)]
 pub struct HeldFrame {
+    /// The side that sent it.
+    pub side: Side,
     /// N(S).
     pub send: u8,
     /// Its place.
@@ -196,22 +215,23 @@ impl HeldFrames {
     /// Holds a frame, in the order of the numbers from `next` on.
     pub(crate) fn hold(
         &mut self,
-        modulus: Modulus,
+        reading: &Reading,
         next: u8,
         frame: &Information<'_>,
-        last_gap: u64,
     ) -> Result<(), AllocError>
-        ensures { OnOk result (self.new ≡ placed modulus next (held_of frame.now last_gap) self.old) }
+        ensures { OnOk result (self.new
+            ≡ placed reading.now.modulus next (held_of reading.now (i_frame frame.now)) self.old) }
     {
         let alloc = *self.items.allocator();
         let held = HeldFrame {
+            side: reading.side,
             send: frame.send,
             place: frame.place,
             octets: Octets::copied(alloc, frame.octets)?,
             is_cut: frame.is_cut,
-            last_gap,
+            last_gap: reading.last_gap,
         };
-        let at = self.place(modulus, next, frame.send);
+        let at = self.place(reading.modulus, next, frame.send);
         self.items.insert(at, held)?;
         Ok(())
     }
@@ -241,7 +261,7 @@ impl RecentFrames {
     /// set up were recorded.
     pub(crate) fn is_repeated(&self, frame: &Information<'_>, set_up: bool) -> bool
         requires { frame.now.send < 128 }
-        ensures { result ≡ is_repeated set_up frame.now self.now }
+        ensures { result ≡ is_repeated set_up (i_frame frame.now) self.now }
     {
         let recent = &self.items[usize::from(frame.send)];
         if !recent.is_there {
@@ -258,7 +278,7 @@ impl RecentFrames {
     /// Keeps a frame as the last one with its number.
     pub(crate) fn keep(&mut self, frame: &Information<'_>) -> Result<(), AllocError>
         requires { frame.now.send < 128 }
-        ensures { OnOk result (self.new ≡ slice_set self.old frame.now.send (recent_of frame.now)) }
+        ensures { OnOk result (self.new ≡ slice_set self.old frame.now.send (recent_of (i_frame frame.now))) }
     {
         let recent = &mut self.items[usize::from(frame.send)];
         recent.octets.replace(frame.octets)?;

@@ -2,10 +2,13 @@
 
 ghost use Rattle.std.specs.Prelude.{◌≡◌, ◌++◌, ◌<◌, IfOk, OnOk, true};
 
+ghost use Rattle.lapb_link.specs.Frames.{i_frame};
 ghost use Rattle.lapb_link.specs.Receiving.{given, passed_over};
 
-use crate::frames::{HeldFrame, HeldFrames, Information, Place, RecentFrames};
+use crate::control::{Supervisory, SupervisoryField};
+use crate::frames::{HeldFrame, HeldFrames, Information, Place, Reading, RecentFrames};
 use crate::modulus::Modulus;
+use line_model::state::Side;
 use std::alloc::{AllocError, Global};
 
 /// Frames of a link that were not recorded: packets of any channel may be missing.
@@ -24,8 +27,8 @@ pub enum Shown {
     Gap(Gap),
     /// A held frame was accepted.
     Accepted(HeldFrame),
-    /// So many I frames before the number were accepted and not recorded.
-    Lost(usize, u8),
+    /// I frames of the side were accepted and not recorded: how many, and the number after them.
+    Lost(Side, usize, u8),
     /// So many held frames were refused.
     Refused(usize),
 }
@@ -41,17 +44,6 @@ pub enum Fate {
     Repeated,
     /// It repeats a frame that is held.
     HeldBefore,
-}
-
-/// Where a frame was read.
-#[derive(Clone, Copy)]
-pub struct Reading {
-    /// The modulus of the link.
-    pub modulus: Modulus,
-    /// The place of the frame.
-    pub place: Place,
-    /// The frame of the last gap of the link before it.
-    pub last_gap: u64,
 }
 
 /// The receiver of one direction.
@@ -181,7 +173,7 @@ impl Progress {
 }
 
 impl Receiver {
-    ghost use Rattle.lapb_link.specs.Receiving.{accepted, acknowledged, all_passed, caught_up, expected, first_acknowledged, informed, is_beyond, is_inside, is_repeated_number, new_frame, recall_of, refused, rejected, repeated, selected, set_up_again, unknown, widened};
+    ghost use Rattle.lapb_link.specs.Receiving.{accepted, acknowledged, all_passed, caught_up, expected, first_acknowledged, held_shown, informed, is_beyond, is_holding, is_inside, is_repeated_number, new_frame, recall_of, refused, rejected, repeated, selected, set_up_again, supervised, unknown, widened};
 
     /// Returns the receiver of a link of which nothing was read.
     pub fn new(alloc: Global) -> Result<Self, AllocError>
@@ -213,20 +205,62 @@ impl Receiver {
         self.set_up = true;
         self.doubtful = false;
         self.selective = false;
-        let since = self.since;
         self.since = reading.place.frame;
         if held > 0 {
             out.push(Shown::Refused(held))?;
-            out.push(Shown::Gap(Gap {
-                since,
-                place: reading.place,
-            }))?;
         }
         Ok(())
     }
 
+    /// Returns whether frames are held.
+    pub fn is_holding(&self) -> bool
+        ensures { result ≡ is_holding self.now }
+    {
+        self.held.len() > 0
+    }
+
+    /// Returns the last frame up to which nothing is missing.
+    pub fn since(&self) -> u64
+        ensures { result ≡ self.now.since }
+    {
+        self.since
+    }
+
+    /// Drops the held frames, as at the end of a recording.
+    pub fn finish(&mut self, out: &mut Vec<Shown>) -> Result<(), AllocError>
+        ensures shown { OnOk result (out.new.items ≡ out.old.items ++ held_shown self.old) }
+    {
+        let held = self.held.len();
+        self.held.clear();
+        if held > 0 {
+            out.push(Shown::Refused(held))?;
+        }
+        Ok(())
+    }
+
+    /// Reads a supervisory frame, or the N(R) of an I frame. `proves`: it is surely of the receiver.
+    pub fn supervise(
+        &mut self,
+        reading: &Reading,
+        field: SupervisoryField,
+        proves: bool,
+        out: &mut Vec<Shown>,
+    ) -> Result<(), AllocError>
+        ensures after { OnOk result (self.new ≡ (supervised reading.now field proves self.old).after) }
+        ensures shown { OnOk result (out.new.items
+            ≡ out.old.items ++ (supervised reading.now field proves self.old).shown) }
+    {
+        match field.kind {
+            Supervisory::Rej => self.reject(reading, field.receive, proves, out),
+            Supervisory::Srej => self.reject_one(reading, field.receive, proves, out),
+            Supervisory::Rr | Supervisory::Rnr => {
+                self.acknowledge(reading, field.receive, proves, out)
+            }
+        }
+    }
+
     /// Reads a REJ: the receiver refused the frames that are held.
-    pub fn reject(&mut self, reading: &Reading, receive: u8, proves: bool, out: &mut Vec<Shown>) -> Result<(), AllocError>
+    fn reject(&mut self, reading: &Reading, receive: u8, proves: bool, out: &mut Vec<Shown>) -> Result<(), AllocError>
         ensures after { OnOk result (self.new ≡ (rejected reading.now proves receive self.old).after) }
         ensures shown { OnOk result (out.new.items
             ≡ out.old.items ++ (rejected reading.now proves receive self.old).shown) }
@@ -255,7 +289,7 @@ impl Receiver {
     }
 
     /// Reads an SREJ: the receiver keeps frames out of sequence.
-    pub fn reject_one(&mut self, reading: &Reading, receive: u8, proves: bool, out: &mut Vec<Shown>) -> Result<(), AllocError>
+    fn reject_one(&mut self, reading: &Reading, receive: u8, proves: bool, out: &mut Vec<Shown>) -> Result<(), AllocError>
         ensures after { OnOk result (self.new ≡ (selected reading.now proves receive self.old).after) }
         ensures shown { OnOk result (out.new.items
             ≡ out.old.items ++ (selected reading.now proves receive self.old).shown) }
@@ -264,8 +298,8 @@ impl Receiver {
         self.acknowledge(reading, receive, proves, out)
     }
 
-    /// Reads an N(R), of an I frame, an RR or an RNR. `proves`: it is surely of the receiver.
-    pub fn acknowledge(&mut self, reading: &Reading, receive: u8, proves: bool, out: &mut Vec<Shown>) -> Result<(), AllocError>
+    /// Reads an N(R), of an I frame, an RR or an RNR.
+    fn acknowledge(&mut self, reading: &Reading, receive: u8, proves: bool, out: &mut Vec<Shown>) -> Result<(), AllocError>
         ensures after { OnOk result (self.new ≡ (acknowledged reading.now proves receive self.old).after) }
         ensures shown { OnOk result (out.new.items
             ≡ out.old.items ++ (acknowledged reading.now proves receive self.old).shown) }
@@ -297,7 +331,11 @@ impl Receiver {
                 if before != receive {
                     let lost = reading.modulus.ahead(before, receive);
                     out.push(Shown::Gap(Gap { since, place: reading.place }))?;
-                    out.push(Shown::Lost(usize::from(lost), receive))?;
+                    out.push(Shown::Lost(
+                        reading.side,
+                        usize::from(lost),
+                        receive,
+                    ))?;
                 }
             }
             None => {}
@@ -344,7 +382,7 @@ impl Receiver {
         self.doubtful = self.doubtful && self.held.len() > 0;
         let lost = usize::from(reading.modulus.ahead(from, to)).saturating_sub(given);
         if lost > 0 {
-            out.push(Shown::Lost(lost, to))?;
+            out.push(Shown::Lost(reading.side, lost, to))?;
         }
         Ok(())
     }
@@ -352,10 +390,10 @@ impl Receiver {
     /// Reads an I frame.
     pub fn information(&mut self, reading: &Reading, frame: &Information<'_>, out: &mut Vec<Shown>) -> Result<Fate, AllocError>
         requires { frame.now.send < 128 }
-        ensures after { OnOk result (self.new ≡ (informed reading.now frame.now self.old).after) }
+        ensures after { OnOk result (self.new ≡ (informed reading.now (i_frame frame.now) self.old).after) }
         ensures shown { OnOk result (out.new.items
-            ≡ out.old.items ++ (informed reading.now frame.now self.old).shown) }
-        ensures fate { IfOk result (λ fate. fate ≡ (informed reading.now frame.now self.old).fate) }
+            ≡ out.old.items ++ (informed reading.now (i_frame frame.now) self.old).shown) }
+        ensures fate { IfOk result (λ fate. fate ≡ (informed reading.now (i_frame frame.now) self.old).fate) }
     {
         let Some(next) = self.next else {
             return self.accept(reading, frame, out);
@@ -373,7 +411,7 @@ impl Receiver {
     /// Returns what is known of the number of a frame.
     fn recall(&self, modulus: Modulus, next: u8, frame: &Information<'_>) -> Recall
         requires { frame.now.send < 128 }
-        ensures { result ≡ recall_of modulus next frame.now self.now }
+        ensures { result ≡ recall_of modulus next (i_frame frame.now) self.now }
     {
         let send = frame.send;
         if !self.held.has(send) && (send == next || !self.is_repeated_number(modulus, next, send)) {
@@ -419,10 +457,10 @@ impl Receiver {
     /// Reads a frame that repeats another.
     fn take_repeated(&mut self, reading: &Reading, next: u8, frame: &Information<'_>, out: &mut Vec<Shown>) -> Result<Fate, AllocError>
         requires { frame.now.send < 128 }
-        ensures after { OnOk result (self.new ≡ (repeated reading.now next frame.now self.old).after) }
+        ensures after { OnOk result (self.new ≡ (repeated reading.now next (i_frame frame.now) self.old).after) }
         ensures shown { OnOk result (out.new.items
-            ≡ out.old.items ++ (repeated reading.now next frame.now self.old).shown) }
-        ensures fate { IfOk result (λ fate. fate ≡ (repeated reading.now next frame.now self.old).fate) }
+            ≡ out.old.items ++ (repeated reading.now next (i_frame frame.now) self.old).shown) }
+        ensures fate { IfOk result (λ fate. fate ≡ (repeated reading.now next (i_frame frame.now) self.old).fate) }
     {
         if frame.send == next {
             self.held.remove_first();
@@ -438,10 +476,10 @@ impl Receiver {
     /// Reads a frame with a new number.
     fn take_new(&mut self, reading: &Reading, next: u8, frame: &Information<'_>, out: &mut Vec<Shown>) -> Result<Fate, AllocError>
         requires { frame.now.send < 128 }
-        ensures after { OnOk result (self.new ≡ (new_frame reading.now next frame.now self.old).after) }
+        ensures after { OnOk result (self.new ≡ (new_frame reading.now next (i_frame frame.now) self.old).after) }
         ensures shown { OnOk result (out.new.items
-            ≡ out.old.items ++ (new_frame reading.now next frame.now self.old).shown) }
-        ensures fate { IfOk result (λ fate. fate ≡ (new_frame reading.now next frame.now self.old).fate) }
+            ≡ out.old.items ++ (new_frame reading.now next (i_frame frame.now) self.old).shown) }
+        ensures fate { IfOk result (λ fate. fate ≡ (new_frame reading.now next (i_frame frame.now) self.old).fate) }
     {
         if reading.modulus.after(frame.send, 1) == next {
             let to = self
@@ -480,15 +518,15 @@ impl Receiver {
         out: &mut Vec<Shown>,
     ) -> Result<Fate, AllocError>
         requires { frame.now.send < 128 }
-        ensures after { OnOk result (self.new ≡ (expected reading.now next frame.now self.old).after) }
+        ensures after { OnOk result (self.new ≡ (expected reading.now next (i_frame frame.now) self.old).after) }
         ensures shown { OnOk result (out.new.items
-            ≡ out.old.items ++ (expected reading.now next frame.now self.old).shown) }
-        ensures fate { IfOk result (λ fate. fate ≡ (expected reading.now next frame.now self.old).fate) }
+            ≡ out.old.items ++ (expected reading.now next (i_frame frame.now) self.old).shown) }
+        ensures fate { IfOk result (λ fate. fate ≡ (expected reading.now next (i_frame frame.now) self.old).fate) }
     {
         if frame.send == next {
             return self.accept(reading, frame, out);
         }
-        self.held.hold(reading.modulus, next, frame, reading.last_gap)?;
+        self.held.hold(reading, next, frame)?;
         self.recent.keep(frame)?;
         Ok(Fate::Held)
     }
@@ -496,10 +534,10 @@ impl Receiver {
     /// Accepts a frame.
     fn accept(&mut self, reading: &Reading, frame: &Information<'_>, out: &mut Vec<Shown>) -> Result<Fate, AllocError>
         requires { frame.now.send < 128 }
-        ensures after { OnOk result (self.new ≡ (accepted reading.now frame.now self.old).after) }
+        ensures after { OnOk result (self.new ≡ (accepted reading.now (i_frame frame.now) self.old).after) }
         ensures shown { OnOk result (out.new.items
-            ≡ out.old.items ++ (accepted reading.now frame.now self.old).shown) }
-        ensures fate { IfOk result (λ fate. fate ≡ (accepted reading.now frame.now self.old).fate) }
+            ≡ out.old.items ++ (accepted reading.now (i_frame frame.now) self.old).shown) }
+        ensures fate { IfOk result (λ fate. fate ≡ (accepted reading.now (i_frame frame.now) self.old).fate) }
     {
         if self.held.len() > 0 && !self.doubtful && !self.selective {
             self.doubtful = true;

@@ -1,0 +1,438 @@
+//! A link: the frames of both directions.
+
+ghost use Rattle.std.specs.Prelude.{◌≡◌, ◌<◌, ◌≤◌, ◌++◌, IfOk, OnOk, drop, vec_len};
+ghost use Rattle.std.specs.List.{list_any};
+ghost use Rattle.lapb_link.specs.Links.{host_by, is_gap, is_other, no_packet, supervisor, taken_view, what_of, what_view};
+
+use crate::control::{
+    Control, Supervisory, SupervisoryField, Unnumbered, command_side, read_control,
+};
+use crate::frames::{Information, Place, Reading};
+use crate::modulus::Modulus;
+use crate::receiver::{Fate, Gap, Receiver, Shown};
+use capture_model::frame::Direction;
+use capture_model::reason::Reason;
+use line_model::state::Side;
+use std::alloc::{AllocError, Global};
+
+/// A frame of a link, from its address on, without a frame check sequence.
+#[derive(Clone, Copy)]
+pub struct LinkFrame<'a> {
+    /// Its place.
+    pub place: Place,
+    /// Which end sent it, where the capture says.
+    pub direction: Direction,
+    /// Its octets, as far as the recorder kept them.
+    pub octets: &'a [u8],
+    /// Whether the recorder cut it.
+    pub is_cut: bool,
+}
+
+/// What shows which side sent an I frame or an unnumbered frame.
+#[derive(Clone, Copy)]
+pub enum SideBy {
+    /// The address.
+    Address,
+    /// The direction of the capture, where it says one. The recording host is this side.
+    Direction(Side),
+}
+
+/// What a frame of a link is.
+#[derive(Clone, Copy)]
+pub enum What<'a> {
+    /// An I frame that was accepted, with its packet.
+    Packet(&'a [u8]),
+    /// An I frame that is held.
+    Held,
+    /// A frame that sets up, ends or rejects the link.
+    Unnumbered(Unnumbered),
+    /// No packet comes of it.
+    LeftOut(Reason),
+}
+
+/// What a frame of a link is, and who sent it.
+#[derive(Clone, Copy)]
+pub struct Taken<'a> {
+    /// The side that sent it, where that is known.
+    pub side: Option<Side>,
+    /// Whether its direction and its address contradict each other.
+    pub is_contradiction: bool,
+    /// What it is.
+    pub what: What<'a>,
+}
+
+/// The frames of a link that were read.
+#[derive(Drop)]
+pub struct Link {
+    modulus: Modulus,
+    /// Whether SABM and SABME set the modulus.
+    learns: bool,
+    by_direction: bool,
+    /// Which side the recording host is, where that is known.
+    host: Option<Side>,
+    /// The frame of the last gap.
+    last_gap: u64,
+    of_t: Receiver,
+    of_n: Receiver,
+}
+
+/// The sender of a frame.
+#[derive(Clone, Copy)]
+struct Sender {
+    side: Side,
+    is_contradiction: bool,
+    host: Option<Side>,
+}
+
+impl Link {
+    ghost use Rattle.lapb_link.specs.Receiving.{held_shown};
+    ghost use Rattle.lapb_link.specs.Frames.{i_frame};
+    ghost use Rattle.lapb_link.specs.Links.{directed, information_read, informed_on, link_set_up, linked, marked, new_link, read, reading_of, sender_of, set_up_shown, supervised_on, supervisory_read, told, unnumbered_read};
+
+    /// Returns a link of which nothing was read. `modulus`: `None` where SABM and SABME show it.
+    pub fn new(alloc: Global, modulus: Option<Modulus>, side_by: SideBy) -> Result<Link, AllocError>
+        ensures { IfOk result (λ l. l ≡ new_link modulus side_by) }
+    {
+        let (by_direction, host) = match side_by {
+            SideBy::Address => (false, None),
+            SideBy::Direction(host) => (true, Some(host)),
+        };
+        let (modulus, learns) = match modulus {
+            Some(modulus) => (modulus, false),
+            None => (Modulus::Basic, true),
+        };
+        Ok(Link {
+            modulus,
+            learns,
+            by_direction,
+            host,
+            last_gap: 0,
+            of_t: Receiver::new(alloc)?,
+            of_n: Receiver::new(alloc)?,
+        })
+    }
+
+    /// Reads the next frame. What it shows of frames before it is appended to `out`; its own packet comes after that.
+    pub fn read<'a>(&mut self, alloc: Global, frame: &LinkFrame<'a>, out: &mut Vec<Shown>) -> Result<Taken<'a>, AllocError>
+        ensures taken { IfOk result (λ taken. taken_view taken ≡ (read frame.now self.old).taken) }
+        ensures after { OnOk result (self.new ≡ (read frame.now self.old).after) }
+        ensures shown { OnOk result (out.new.items ≡ out.old.items ++ (read frame.now self.old).shown) }
+    {
+        let Some((control, rest)) = read_control(self.modulus, frame.octets) else {
+            return Ok(left_out(None, Reason::BadHeader));
+        };
+        let address = frame.octets[0];
+        let Some(commander) = command_side(address) else {
+            return Ok(left_out(None, Reason::OtherAddress(address)));
+        };
+        match control {
+            Control::Information(send, receive) => {
+                let information = Information {
+                    send,
+                    place: frame.place,
+                    octets: rest,
+                    is_cut: frame.is_cut,
+                };
+                self.read_information(frame, commander, &information, receive, out)
+            }
+            Control::Supervisory(field) => self.read_supervisory(frame, commander, field, out),
+            Control::Unnumbered(Some(kind)) => {
+                self.read_unnumbered(alloc, frame, commander, kind, out)
+            }
+            Control::Unnumbered(None) => Ok(left_out(None, Reason::LinkFrame)),
+        }
+    }
+
+    /// Reads the end of the recording: what is held was not accepted.
+    pub fn finish(&mut self, out: &mut Vec<Shown>) -> Result<(), AllocError>
+        ensures { OnOk result (out.new.items
+            ≡ out.old.items ++ (held_shown self.old.of_t ++ held_shown self.old.of_n)) }
+    {
+        self.of_t.finish(out)?;
+        self.of_n.finish(out)
+    }
+
+    /// Reads an I frame.
+    fn read_information<'a>(
+        &mut self,
+        frame: &LinkFrame<'a>,
+        commander: Side,
+        information: &Information<'a>,
+        receive: u8,
+        out: &mut Vec<Shown>,
+    ) -> Result<Taken<'a>, AllocError>
+        requires { information.now.send < 128 }
+        ensures taken { IfOk result (λ taken. taken_view taken
+            ≡ (information_read frame.now commander (i_frame information.now) receive self.old).taken) }
+        ensures after { OnOk result (self.new
+            ≡ (information_read frame.now commander (i_frame information.now) receive self.old).after) }
+        ensures shown { OnOk result (out.new.items ≡ out.old.items
+            ++ (information_read frame.now commander (i_frame information.now) receive self.old).shown) }
+    {
+        let sender = self.sender(commander, frame.direction);
+        self.host = sender.host;
+        let field = SupervisoryField {
+            kind: Supervisory::Rr,
+            receive,
+            last: false,
+        };
+        self.supervise(sender.side.other(), frame.place, field, true, out)?;
+        let fate = self.inform(sender.side, frame.place, information, out)?;
+        Ok(Taken {
+            side: Some(sender.side),
+            is_contradiction: sender.is_contradiction,
+            what: what_of(fate, information.octets),
+        })
+    }
+
+    /// Reads a supervisory frame. Where it may be a command or a response, it proves no loss.
+    fn read_supervisory<'a>(
+        &mut self,
+        frame: &LinkFrame<'a>,
+        commander: Side,
+        field: SupervisoryField,
+        out: &mut Vec<Shown>,
+    ) -> Result<Taken<'a>, AllocError>
+        ensures taken { IfOk result (λ taken. taken_view taken
+            ≡ (supervisory_read frame.now commander field self.old).taken) }
+        ensures after { OnOk result (self.new
+            ≡ (supervisory_read frame.now commander field self.old).after) }
+        ensures shown { OnOk result (out.new.items ≡ out.old.items
+            ++ (supervisory_read frame.now commander field self.old).shown) }
+    {
+        let directed = self.directed(frame.direction);
+        let Some(side) = supervisor(field.last, commander, directed) else {
+            return Ok(left_out(None, Reason::LinkFrame));
+        };
+        self.supervise(side.other(), frame.place, field, directed.is_some(), out)?;
+        Ok(left_out(Some(side), Reason::LinkFrame))
+    }
+
+    /// Reads an unnumbered frame.
+    fn read_unnumbered<'a>(
+        &mut self,
+        alloc: Global,
+        frame: &LinkFrame<'a>,
+        commander: Side,
+        kind: Unnumbered,
+        out: &mut Vec<Shown>,
+    ) -> Result<Taken<'a>, AllocError>
+        ensures taken { IfOk result (λ taken. taken_view taken
+            ≡ (unnumbered_read frame.now commander kind self.old).taken) }
+        ensures after { OnOk result (self.new
+            ≡ (unnumbered_read frame.now commander kind self.old).after) }
+        ensures shown { OnOk result (out.new.items ≡ out.old.items
+            ++ (unnumbered_read frame.now commander kind self.old).shown) }
+    {
+        let by_address = if kind.is_command() {
+            commander
+        } else {
+            commander.other()
+        };
+        let sender = self.sender(by_address, frame.direction);
+        self.host = sender.host;
+        if self.learns {
+            self.modulus = kind.modulus_after(self.modulus);
+        }
+        if kind.is_set_up() {
+            self.set_up(alloc, frame.place, out)?;
+        }
+        Ok(Taken {
+            side: Some(sender.side),
+            is_contradiction: sender.is_contradiction,
+            what: What::Unnumbered(kind),
+        })
+    }
+
+    /// Begins the numbers of both directions anew. Held frames may have been accepted, with those before them.
+    fn set_up(&mut self, alloc: Global, place: Place, out: &mut Vec<Shown>) -> Result<(), AllocError>
+        ensures after { OnOk result (self.new ≡ link_set_up place self.old) }
+        ensures shown { OnOk result (out.new.items ≡ out.old.items ++ set_up_shown place self.old) }
+    {
+        let is_gap = self.of_t.is_holding() || self.of_n.is_holding();
+        let since = self.of_t.since().min(self.of_n.since());
+        let (reading_t, reading_n) = (self.reading(Side::T, place), self.reading(Side::N, place));
+        self.of_t.set_up(alloc, &reading_t, out)?;
+        self.of_n.set_up(alloc, &reading_n, out)?;
+        if is_gap {
+            out.push(Shown::Gap(Gap { since, place }))?;
+            self.last_gap = place.frame;
+        }
+        Ok(())
+    }
+
+    /// Reads the N(R) of a supervisory frame or an I frame, for the frames of a side.
+    fn supervise(
+        &mut self,
+        side: Side,
+        place: Place,
+        field: SupervisoryField,
+        proves: bool,
+        out: &mut Vec<Shown>,
+    ) -> Result<(), AllocError>
+        ensures after { OnOk result (self.new
+            ≡ linked side place (supervised_on side place field proves self.old) self.old) }
+        ensures shown { OnOk result (out.new.items ≡ out.old.items
+            ++ (supervised_on side place field proves self.old).shown) }
+    {
+        let reading = self.reading(side, place);
+        let before = out.len();
+        match side {
+            Side::T => self.of_t.supervise(&reading, field, proves, out)?,
+            Side::N => self.of_n.supervise(&reading, field, proves, out)?,
+        }
+        self.mark(place.frame, out, before);
+        Ok(())
+    }
+
+    /// Reads an I frame of a side.
+    fn inform(
+        &mut self,
+        side: Side,
+        place: Place,
+        information: &Information<'_>,
+        out: &mut Vec<Shown>,
+    ) -> Result<Fate, AllocError>
+        requires { information.now.send < 128 }
+        ensures fate { IfOk result (λ fate. fate ≡ (informed_on side place (i_frame information.now) self.old).fate) }
+        ensures after { OnOk result (self.new ≡ told side place (i_frame information.now) self.old) }
+        ensures shown { OnOk result (out.new.items ≡ out.old.items
+            ++ (informed_on side place (i_frame information.now) self.old).shown) }
+    {
+        let reading = self.reading(side, place);
+        let before = out.len();
+        let fate = match side {
+            Side::T => self.of_t.information(&reading, information, out)?,
+            Side::N => self.of_n.information(&reading, information, out)?,
+        };
+        self.mark(place.frame, out, before);
+        if information.is_cut && matches!(fate, Fate::Accepted) {
+            self.last_gap = place.frame;
+        }
+        Ok(fate)
+    }
+
+    /// Keeps the frame as that of the last gap, if a gap or a cut packet was shown from an index on.
+    fn mark(&mut self, frame: u64, out: &Vec<Shown>, before: usize)
+        requires { before ≤ vec_len out.now }
+        ensures { self.new ≡ marked frame (drop before out.now.items) self.old }
+    {
+        if out.len() > before && shows_gap(&out[before..]) {
+            self.last_gap = frame;
+        }
+    }
+
+    /// Returns what the receiver of a side has to know of a frame.
+    fn reading(&self, side: Side, place: Place) -> Reading
+        ensures { result ≡ reading_of side place self.now }
+    {
+        Reading {
+            side,
+            modulus: self.modulus,
+            place,
+            last_gap: self.last_gap,
+        }
+    }
+
+    /// Returns the side that sent a frame of a direction, where the direction and the host's side are known.
+    fn directed(&self, direction: Direction) -> Option<Side>
+        ensures { result ≡ directed direction self.now }
+    {
+        match (direction, self.host) {
+            (Direction::Sent, Some(host)) => Some(host),
+            (Direction::Received, Some(host)) => Some(host.other()),
+            _ => None,
+        }
+    }
+
+    /// Returns the sender of a frame that is surely a command or a response.
+    fn sender(&self, by_address: Side, direction: Direction) -> Sender
+        ensures { result ≡ sender_of by_address direction self.now }
+    {
+        let directed = self.directed(direction);
+        Sender {
+            side: if self.by_direction {
+                directed.unwrap_or(by_address)
+            } else {
+                by_address
+            },
+            is_contradiction: is_other(directed.unwrap_or(by_address), by_address),
+            host: if self.by_direction {
+                self.host
+            } else {
+                host_by(by_address, direction, self.host)
+            },
+        }
+    }
+}
+
+/// Returns whether sides differ.
+fn is_other(one: Side, other: Side) -> bool
+    ensures { result ≡ is_other one other }
+{
+    match one {
+        Side::T => matches!(other, Side::N),
+        Side::N => matches!(other, Side::T),
+    }
+}
+
+/// Returns the side of the recording host, by the sender of a frame.
+fn host_by(sender: Side, direction: Direction, before: Option<Side>) -> Option<Side>
+    ensures { result ≡ host_by sender direction before }
+{
+    match direction {
+        Direction::Unknown => before,
+        Direction::Sent => Some(sender),
+        Direction::Received => Some(sender.other()),
+    }
+}
+
+/// Returns the side that sent a supervisory frame, by its direction, else as a response.
+fn supervisor(last: bool, commander: Side, directed: Option<Side>) -> Option<Side>
+    ensures { result ≡ supervisor last commander directed }
+{
+    match directed {
+        Some(side) => Some(side),
+        None => {
+            if last {
+                None
+            } else {
+                Some(commander.other())
+            }
+        }
+    }
+}
+
+/// Returns whether a gap or a cut packet is shown.
+fn shows_gap(shown: &[Shown]) -> bool
+    ensures { result ≡ list_any is_gap shown.now }
+{
+    shown.iter().any(|one| match one {
+        Shown::Gap(_) => true,
+        Shown::Accepted(held) => held.is_cut,
+        _ => false,
+    })
+}
+
+/// Returns a frame of which no packet comes.
+fn left_out<'a>(side: Option<Side>, reason: Reason) -> Taken<'a>
+    ensures { taken_view result ≡ no_packet side reason }
+{
+    Taken {
+        side,
+        is_contradiction: false,
+        what: What::LeftOut(reason),
+    }
+}
+
+/// Returns what an I frame is.
+fn what_of<'a>(fate: Fate, packet: &'a [u8]) -> What<'a>
+    ensures { what_view result ≡ what_of fate packet.now }
+{
+    match fate {
+        Fate::Accepted => What::Packet(packet),
+        Fate::Held => What::Held,
+        Fate::Repeated => What::LeftOut(Reason::RepeatedFrame),
+        Fate::HeldBefore => What::LeftOut(Reason::UntakenFrame),
+    }
+}
