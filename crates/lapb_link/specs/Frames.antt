@@ -1,5 +1,5 @@
 -- I frames of one direction: those that are held, and the last one of each number.
-use Rattle.std.specs.Prelude.{ℕ, ◌==◌, ◌+◌, ◌||◌, nat_le, min, Bool, true, false, not, List, [], ◌∷◌, length, take, replicate, slice_index_or, if◌then◌else◌}
+use Rattle.std.specs.Prelude.{ℕ, ◌==◌, ◌+◌, ◌&&◌, ◌||◌, nat_le, min, Bool, true, false, not, List, [], ◌∷◌, length, take, replicate, slice_index_or, if◌then◌else◌}
 use Rattle.std.specs.List.{list_any}
 use Rattle.std.specs.Str.{bytes_eq}
 use Rattle.lapb_link.specs.Numbers.{after, ahead}
@@ -21,8 +21,8 @@ abbrev pub i_frame : Information → IFrame
 i_frame f = record { send = f.send; place = f.place; octets = f.octets.now; is_cut = f.is_cut }
 
 -- an I frame as it is held, and as the last one with its number
-abbrev pub held_of : Reading → IFrame → HeldFrame
-held_of g f = record { side = g.side; send = f.send; place = f.place; octets = f.octets; is_cut = f.is_cut; last_gap = g.last_gap }
+abbrev pub held_of : Reading → (after_reject : Bool) → IFrame → HeldFrame
+held_of g after_reject f = record { side = g.side; send = f.send; place = f.place; octets = f.octets; is_cut = f.is_cut; last_gap = g.last_gap; after_reject = after_reject }
 
 abbrev pub recent_of : IFrame → RecentFrame
 recent_of f = record { is_there = true; is_cut = f.is_cut; octets = f.octets }
@@ -36,6 +36,10 @@ no_frames = replicate 128 no_frame
 -- whether a number is held
 abbrev pub is_held : ℕ → List HeldFrame → Bool
 is_held n hs = list_any (λ h. h.send == n) hs
+
+-- a held frame was refused where its number comes again with its packet, and where it came after a reject of the frame that comes
+abbrev pub is_kept : (send : ℕ) → (again rejected : Bool) → HeldFrame → Bool
+is_kept send again rejected h = not ((again && h.send == send) || (rejected && h.after_reject))
 
 -- the first number from one on that is not held
 abbrev pub run_from : Modulus → ℕ → List HeldFrame → ℕ

@@ -3,5 +3,6 @@ pub mod Controls
 pub mod Checks
 pub mod Looks
 pub mod Frames
+pub mod Ends
 pub mod Receiving
 pub mod Links

@@ -1,17 +1,16 @@
 -- A link: the frames of both directions.
-use Rattle.std.specs.Prelude.{ℕ, ◌&&◌, ◌||◌, Bool, true, false, not, min, List, [], ◌∷◌, ◌++◌, Option, Some, None, is_some, unwrap_or, slice_index, if◌then◌else◌}
+use Rattle.std.specs.Prelude.{ℕ, ◌&&◌, ◌||◌, Bool, true, false, not, min, List, [], ◌∷◌, ◌++◌, Option, Some, None, is_some, slice_index, if◌then◌else◌}
 use Rattle.std.specs.List.{list_any}
 use Rattle.line_model.specs.channels.Channels.{other}
 use Rattle.line_model.specs.declared.state.Side.{Side}
 use Rattle.line_model.specs.declared.state.Side.TheVariants.{T, N}
-use Rattle.capture_model.specs.declared.frame.Direction.{Direction}
-use Rattle.capture_model.specs.declared.frame.Direction.TheVariants as direction
 use Rattle.capture_model.specs.declared.reason.Reason.{Reason}
 use Rattle.capture_model.specs.declared.reason.Reason.TheVariants as reason
 use Rattle.lapb_link.specs.Controls.{command_side, control_of, is_command, is_set_up, modulus_after}
+use Rattle.lapb_link.specs.Ends.{known, sender_from}
 use Rattle.lapb_link.specs.Frames.{IFrame}
 use Rattle.lapb_link.specs.Receiving as receiving
-use Rattle.lapb_link.specs.Receiving.{Step, gap_if, held_shown, informed, is_holding, set_up_again, supervised, unknown}
+use Rattle.lapb_link.specs.Receiving.{Step, forgotten, gap_if, held_shown, informed, is_holding, set_up_again, supervised, unknown}
 use Rattle.lapb_link.specs.declared.modulus.Modulus.{Modulus}
 use Rattle.lapb_link.specs.declared.modulus.Modulus.TheVariants.{Basic, Extended}
 use Rattle.lapb_link.specs.declared.control.Control.{Control}
@@ -28,9 +27,8 @@ use Rattle.lapb_link.specs.declared.receiver.Shown.{Shown}
 use Rattle.lapb_link.specs.declared.receiver.Shown.TheVariants as shown
 use Rattle.lapb_link.specs.declared.link.Link.{Link}
 use Rattle.lapb_link.specs.declared.link.LinkFrame.{LinkFrame}
-use Rattle.lapb_link.specs.declared.link.Sender.{Sender}
-use Rattle.lapb_link.specs.declared.link.SideBy.{SideBy}
-use Rattle.lapb_link.specs.declared.link.SideBy.TheVariants as side_by
+use Rattle.lapb_link.specs.declared.ends.Ends.{Ends}
+use Rattle.lapb_link.specs.declared.ends.Sender.{Sender}
 use Rattle.lapb_link.specs.declared.link.Taken as declared
 use Rattle.lapb_link.specs.declared.link.What as declared_what
 
@@ -42,8 +40,7 @@ pub data What : Type 0 where
   LeftOut : Reason → What
 
 pub record Taken : Type 0 where
-  pub side : Option Side
-  pub is_contradiction : Bool
+  pub sender : Option Sender
   pub what : What
 
 abbrev pub what_view : declared_what.What → What
@@ -53,7 +50,7 @@ what_view (declared_what.TheVariants.Unnumbered k) = OfLink k
 what_view (declared_what.TheVariants.LeftOut r) = LeftOut r
 
 abbrev pub taken_view : declared.Taken → Taken
-taken_view t = record { side = t.side; is_contradiction = t.is_contradiction; what = what_view t.what }
+taken_view t = record { sender = t.sender; what = what_view t.what }
 
 -- what a frame does to a link: the link after it, what it shows of frames before it, and what it is
 pub record Read : Type 0 where
@@ -61,54 +58,23 @@ pub record Read : Type 0 where
   pub shown : List Shown
   pub taken : Taken
 
-abbrev pub no_packet : Option Side → Reason → Taken
-no_packet side r = record { side = side; is_contradiction = false; what = LeftOut r }
+abbrev pub surely : Side → Sender
+surely s = record { side = s; is_news = false; is_contradiction = false }
 
-abbrev pub leaves_out : Option Side → Reason → Link → Read
-leaves_out side r l = record { after = l; shown = []; taken = no_packet side r }
+abbrev pub no_packet : Option Sender → Reason → Taken
+no_packet sender r = record { sender = sender; what = LeftOut r }
+
+abbrev pub leaves_out : Reason → Link → Read
+leaves_out r l = record { after = l; shown = []; taken = no_packet None r }
 
 abbrev pub first_modulus : Option Modulus → Modulus
 first_modulus None = Basic
 first_modulus (Some m) = m
 
-abbrev pub is_by_direction : SideBy → Bool
-is_by_direction side_by.Address = false
-is_by_direction (side_by.Direction s) = true
+abbrev pub new_link : Option Modulus → Ends → Link
+new_link m ends = record { modulus = first_modulus m; learns = not (is_some m); ends = ends; last_gap = 0; of_t = unknown; of_n = unknown }
 
-abbrev pub first_host : SideBy → Option Side
-first_host side_by.Address = None
-first_host (side_by.Direction s) = Some s
-
-abbrev pub new_link : Option Modulus → SideBy → Link
-new_link m by = record { modulus = first_modulus m; learns = not (is_some m); by_direction = is_by_direction by; host = first_host by; last_gap = 0; of_t = unknown; of_n = unknown }
-
--- the side that sent a frame: by its direction, where the side of the recording host is known, and by its address
-abbrev pub directed_by : Direction → Option Side → Option Side
-directed_by direction.Sent (Some s) = Some s
-directed_by direction.Received (Some s) = Some (other s)
-directed_by d h = None
-
-abbrev pub directed : Direction → Link → Option Side
-directed d l = directed_by d l.host
-
-abbrev pub is_other : Side → Side → Bool
-is_other T N = true
-is_other N T = true
-is_other a b = false
-
-abbrev pub host_by : Side → Direction → Option Side → Option Side
-host_by s direction.Unknown h = h
-host_by s direction.Sent h = Some s
-host_by s direction.Received h = Some (other s)
-
-abbrev pub sender_of : Side → Direction → Link → Sender
-sender_of s d l = record {
-  side = if l.by_direction then unwrap_or (directed d l) s else s;
-  is_contradiction = is_other (unwrap_or (directed d l) s) s;
-  host = if l.by_direction then l.host else host_by s d l.host;
-}
-
--- a supervisory frame whose direction is unknown is a response, where its P/F bit is 0
+-- a supervisory frame of an unknown station is a response, where its P/F bit is 0
 abbrev pub supervisor : Bool → Side → Option Side → Option Side
 supervisor last s (Some d) = Some d
 supervisor last s None = if last then None else Some (other s)
@@ -124,6 +90,17 @@ with_receiver N r l = record l { of_n = r }
 
 abbrev pub reading_of : Side → Place → Link → Reading
 reading_of s p l = record { side = s; modulus = l.modulus; place = p; last_gap = l.last_gap }
+
+-- who sent a frame; an RR of its end may have been read as one of the other end, where it shows that both have one address
+pub record Identified : Type 0 where
+  pub sender : Sender
+  pub after : Link
+
+abbrev pub with_news : Sender → Link → Link
+with_news s l = if s.is_news then with_receiver s.side (forgotten (receiver_of s.side l)) l else l
+
+abbrev pub identified : Option ℕ → Side → Link → Identified
+identified source a l = let s = sender_from source a l.ends in record { sender = s.sender; after = with_news s.sender (record l { ends = s.after }) }
 
 -- after a gap, or a packet that was cut
 abbrev pub is_gap : Shown → Bool
@@ -146,7 +123,6 @@ abbrev pub what_of : Fate → List ℕ → What
 what_of fate.Accepted packet = Packet packet
 what_of fate.Held packet = Held
 what_of fate.Repeated packet = LeftOut reason.RepeatedFrame
-what_of fate.HeldBefore packet = LeftOut reason.UntakenFrame
 
 abbrev pub cut_marked : Bool → ℕ → Link → Link
 cut_marked cut frame l = if cut then record l { last_gap = frame } else l
@@ -161,25 +137,22 @@ abbrev pub supervised_on : Side → Place → SupervisoryField → Bool → Link
 supervised_on s p c proves l = supervised (reading_of s p l) c proves (receiver_of s l)
 
 -- an I frame: its N(R), and then its N(S)
-abbrev pub information_by : Sender → Place → (receive : ℕ) → IFrame → Link → Read
-information_by s p receive i l =
+abbrev pub information_read : Sender → (receive : ℕ) → IFrame → Link → Read
+information_read s receive i l =
   let field : SupervisoryField = record { kind = Rr; receive = receive; last = false } in
-  let a = supervised_on (other s.side) p field true l in
-  let m = linked (other s.side) p a l in
-  let b = informed_on s.side p i m in
-  record { after = told s.side p i m; shown = a.shown ++ b.shown; taken = record { side = Some s.side; is_contradiction = s.is_contradiction; what = what_of b.fate i.octets } }
-
-abbrev pub information_read : LinkFrame → Side → IFrame → (receive : ℕ) → Link → Read
-information_read f s i receive l = let sender = sender_of s f.direction l in information_by sender f.place receive i (record l { host = sender.host })
+  let a = supervised_on (other s.side) i.place field true l in
+  let m = linked (other s.side) i.place a l in
+  let b = informed_on s.side i.place i m in
+  record { after = told s.side i.place i m; shown = a.shown ++ b.shown; taken = record { sender = Some s; what = what_of b.fate i.octets } }
 
 -- a supervisory frame; where it may be a command or a response, it proves no loss
 abbrev pub supervisory_by : LinkFrame → SupervisoryField → Option Side → Link → Read
-supervisory_by f c None l = leaves_out None reason.LinkFrame l
-supervisory_by f c (Some s) l = let a = supervised_on (other s) f.place c (is_some (directed f.direction l)) l in
-  record { after = linked (other s) f.place a l; shown = a.shown; taken = no_packet (Some s) reason.LinkFrame }
+supervisory_by f c None l = leaves_out reason.LinkFrame l
+supervisory_by f c (Some s) l = let a = supervised_on (other s) f.place c (is_some (known f.source l.ends)) l in
+  record { after = linked (other s) f.place a l; shown = a.shown; taken = no_packet (Some (surely s)) reason.LinkFrame }
 
 abbrev pub supervisory_read : LinkFrame → Side → SupervisoryField → Link → Read
-supervisory_read f s c l = supervisory_by f c (supervisor c.last s (directed f.direction l)) l
+supervisory_read f s c l = supervisory_by f c (supervisor c.last s (known f.source l.ends)) l
 
 -- a frame that sets the link up: held frames may have been accepted, with those before them
 abbrev pub is_link_holding : Link → Bool
@@ -200,27 +173,29 @@ abbrev pub unnumbered_by : Sender → Place → Unnumbered → Link → Read
 unnumbered_by s p k l = record {
   after = if is_set_up k then link_set_up p l else l;
   shown = if is_set_up k then set_up_shown p l else [];
-  taken = record { side = Some s.side; is_contradiction = s.is_contradiction; what = OfLink k };
+  taken = record { sender = Some s; what = OfLink k };
 }
 
 abbrev pub unnumbered_read : LinkFrame → Side → Unnumbered → Link → Read
 unnumbered_read f s k l =
-  let sender = sender_of (if is_command k then s else other s) f.direction l in
-  unnumbered_by sender f.place k (record l { host = sender.host; modulus = if l.learns then modulus_after k l.modulus else l.modulus })
+  let i = identified f.source (if is_command k then s else other s) l in
+  let m = i.after in
+  unnumbered_by i.sender f.place k (record m { modulus = if m.learns then modulus_after k m.modulus else m.modulus })
 
 -- a frame
 abbrev pub by_control : LinkFrame → Side → (packet : List ℕ) → Link → Control → Read
-by_control f s packet l (control.Information send receive) = information_read f s (record { send = send; place = f.place; octets = packet; is_cut = f.is_cut }) receive l
+by_control f s packet l (control.Information send receive) =
+  let i = identified f.source s l in information_read i.sender receive (record { send = send; place = f.place; octets = packet; is_cut = f.is_cut }) i.after
 by_control f s packet l (control.Supervisory c) = supervisory_read f s c l
-by_control f s packet l (control.Unnumbered None) = leaves_out None reason.LinkFrame l
+by_control f s packet l (control.Unnumbered None) = leaves_out reason.LinkFrame l
 by_control f s packet l (control.Unnumbered (Some k)) = unnumbered_read f s k l
 
 abbrev pub addressed : LinkFrame → Control × List ℕ → (address : ℕ) → Option Side → Link → Read
-addressed f c a None l = leaves_out None (reason.OtherAddress a) l
+addressed f c a None l = leaves_out (reason.OtherAddress a) l
 addressed f c a (Some s) l = by_control f s c.1 l c.0
 
 abbrev pub controlled : LinkFrame → Option (Control × List ℕ) → Link → Read
-controlled f None l = leaves_out None reason.BadHeader l
+controlled f None l = leaves_out reason.BadHeader l
 controlled f (Some c) l = let a = slice_index f.octets.now 0 in addressed f c a (command_side a) l
 
 abbrev pub read : LinkFrame → Link → Read

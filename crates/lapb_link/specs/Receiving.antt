@@ -1,8 +1,8 @@
 -- The receiver of one direction (X.25 clause 2.4), as far as the recorded frames show it.
-use Rattle.std.specs.Prelude.{ℕ, ◌+◌, ◌-◌, ◌/◌, ◌==◌, ◌&&◌, ◌||◌, nat_lt, nat_le, Bool, true, false, not, List, [], ◌∷◌, ◌++◌, length, drop, slice_set, Option, Some, None, is_some, if◌then◌else◌}
+use Rattle.std.specs.Prelude.{ℕ, ◌+◌, ◌-◌, ◌/◌, ◌==◌, ◌&&◌, ◌||◌, nat_lt, nat_le, Bool, true, false, not, List, [], ◌∷◌, ◌++◌, filter, length, slice_set, Option, Some, None, is_some, if◌then◌else◌}
 use Rattle.line_model.specs.declared.state.Side.{Side}
 use Rattle.lapb_link.specs.Numbers.{after, ahead, before, size}
-use Rattle.lapb_link.specs.Frames.{IFrame, held_of, is_held, is_repeated, no_frames, placed, recent_of, run_from}
+use Rattle.lapb_link.specs.Frames.{IFrame, held_of, is_held, is_kept, is_repeated, no_frames, placed, recent_of, run_from}
 use Rattle.lapb_link.specs.declared.modulus.Modulus.{Modulus}
 use Rattle.lapb_link.specs.declared.frames.Place.{Place}
 use Rattle.lapb_link.specs.declared.frames.HeldFrame.{HeldFrame}
@@ -35,7 +35,7 @@ abbrev pub behind : List Shown → Read → Read
 behind xs r = record r { shown = xs ++ r.shown }
 
 abbrev pub unknown : Receiver
-unknown = record { next = None; acknowledged = None; set_up = false; doubtful = false; selective = false; since = 0; held = []; recent = no_frames }
+unknown = record { next = None; acknowledged = None; set_up = false; doubtful = false; selective = false; rejects = false; since = 0; held = []; recent = no_frames }
 
 abbrev pub gap_if : Bool → (since : ℕ) → Place → List Shown
 gap_if b since place = if b then shown.Gap (record { since = since; place = place }) ∷ [] else []
@@ -111,7 +111,7 @@ acknowledged g proves receive r = elim r.next [
 -- a frame is accepted; what is held then may be of numbers that all have passed
 abbrev pub accepted : Reading → IFrame → Receiver → Read
 accepted g f r =
-  let is_gap = nat_lt 0 (length r.held) && (not r.doubtful && not r.selective) in
+  let is_gap = nat_lt 0 (length r.held) && not r.selective in
   record {
     after = record r { next = Some (after g.modulus f.send 1); doubtful = r.doubtful || is_gap; since = f.place.frame; recent = slice_set r.recent f.send (recent_of f) };
     shown = gap_if is_gap r.since f.place;
@@ -128,11 +128,6 @@ is_repeated_number m next send r = elim r.acknowledged [
 abbrev pub recall_of : Modulus → (next : ℕ) → IFrame → Receiver → Recall
 recall_of m next f r = if not (is_held f.send r.held) && (f.send == next || not (is_repeated_number m next f.send r)) then recall.New
   else if is_repeated r.set_up f r.recent then recall.Same else recall.Other
-
--- a frame that repeats another: a held one with the next number goes where its number comes again
-abbrev pub repeated : Reading → (next : ℕ) → IFrame → Receiver → Read
-repeated g next f r = if f.send == next then behind (shown.Refused 1 ∷ []) (accepted g f (record r { held = drop 1 r.held }))
-  else record { after = r; shown = []; fate = if is_held f.send r.held then fate.HeldBefore else fate.Repeated }
 
 -- all numbers have passed
 abbrev pub all_passed : Reading → (next send : ℕ) → Receiver → Step
@@ -151,7 +146,7 @@ widened m next send r = record r { acknowledged = elim r.acknowledged [
 -- the frame with the next number is accepted, and another is held
 abbrev pub expected : Reading → (next : ℕ) → IFrame → Receiver → Read
 expected g next f r = if f.send == next then accepted g f r
-  else record { after = record r { held = placed g.modulus next (held_of g f) r.held; recent = slice_set r.recent f.send (recent_of f) }; shown = []; fate = fate.Held }
+  else record { after = record r { held = placed g.modulus next (held_of g r.rejects f) r.held; recent = slice_set r.recent f.send (recent_of f) }; shown = []; fate = fate.Held }
 
 -- no window reaches all numbers, so the frame before the next one shows that the next one was accepted
 abbrev pub reached : Reading → (next : ℕ) → IFrame → Receiver → Read
@@ -162,28 +157,44 @@ reached g next f r =
 abbrev pub new_frame : Reading → (next : ℕ) → IFrame → Receiver → Read
 new_frame g next f r = if after g.modulus f.send 1 == next then reached g next f r else expected g next f (widened g.modulus next f.send r)
 
+-- held frames that were refused, as a frame shows that comes
+abbrev pub count_shown : ℕ → List Shown
+count_shown n = if nat_lt 0 n then shown.Refused n ∷ [] else []
+
+abbrev pub freed : (next : ℕ) → IFrame → Receiver → Step
+freed next f r =
+  let comes = f.send == next in
+  let kept = filter (is_kept f.send (is_held f.send r.held && is_repeated r.set_up f r.recent) (r.rejects && comes)) r.held in
+  record {
+    after = record r { held = kept; rejects = r.rejects && not comes; doubtful = r.doubtful && nat_lt 0 (length kept) };
+    shown = count_shown (length r.held - length kept);
+  }
+
 -- an I frame
 abbrev pub known_informed : Reading → (next : ℕ) → IFrame → Receiver → Recall → Read
 known_informed g next f r recall.New = new_frame g next f r
-known_informed g next f r recall.Same = repeated g next f r
+known_informed g next f r recall.Same = record { after = r; shown = []; fate = fate.Repeated }
 known_informed g next f r recall.Other = let s = all_passed g next f.send r in behind s.shown (accepted g f s.after)
 
 abbrev pub informed : Reading → IFrame → Receiver → Read
 informed g f r = elim r.next [
   | None ↦ accepted g f r
-  | Some next ↦ known_informed g next f r (recall_of g.modulus next f r)
+  | Some next ↦ let s = freed next f r in behind s.shown (known_informed g next f s.after (recall_of g.modulus next f s.after))
 ]
+
+abbrev pub is_holding : Receiver → Bool
+is_holding r = nat_lt 0 (length r.held)
+
+abbrev pub held_shown : Receiver → List Shown
+held_shown r = count_shown (length r.held)
 
 -- a REJ: the held frames were refused; after an SREJ they are kept
 abbrev pub is_number : Option ℕ → ℕ → Bool
 is_number None n = false
 is_number (Some k) n = k == n
 
-abbrev pub is_refused : ℕ → Receiver → Bool
-is_refused receive r = nat_lt 0 (length r.held) && is_number r.next receive
-
 abbrev pub refused : ℕ → Receiver → Step
-refused receive r = if is_refused receive r then record { after = record r { held = []; doubtful = false; selective = false }; shown = shown.Refused (length r.held) ∷ [] }
+refused receive r = if is_number r.next receive then record { after = record r { held = []; doubtful = false; selective = false; rejects = true }; shown = held_shown r }
   else record { after = r; shown = [] }
 
 abbrev pub rejected : Reading → Bool → ℕ → Receiver → Step
@@ -195,16 +206,10 @@ rejected g proves receive r = elim r.acknowledged [
 abbrev pub selected : Reading → Bool → ℕ → Receiver → Step
 selected g proves receive r = acknowledged g proves receive (record r { selective = true })
 
-abbrev pub is_holding : Receiver → Bool
-is_holding r = nat_lt 0 (length r.held)
-
-abbrev pub held_shown : Receiver → List Shown
-held_shown r = if is_holding r then shown.Refused (length r.held) ∷ [] else []
-
 -- a SABM, SABME or UA: the numbers begin anew
 abbrev pub set_up_again : Reading → Receiver → Step
 set_up_again g r = record {
-  after = record r { next = Some 0; acknowledged = Some 0; set_up = true; doubtful = false; selective = false; since = g.place.frame; held = []; recent = no_frames };
+  after = record r { next = Some 0; acknowledged = Some 0; set_up = true; doubtful = false; selective = false; rejects = false; since = g.place.frame; held = []; recent = no_frames };
   shown = held_shown r;
 }
 
@@ -216,3 +221,10 @@ supervised_by k = acknowledged
 
 abbrev pub supervised : Reading → SupervisoryField → Bool → Receiver → Step
 supervised g c proves r = supervised_by c.kind g proves c.receive r
+
+-- frames that were read may have been of the other direction
+abbrev pub first_number : Bool → Option ℕ
+first_number set_up = if set_up then Some 0 else None
+
+abbrev pub forgotten : Receiver → Receiver
+forgotten r = record unknown { next = first_number r.set_up; acknowledged = first_number r.set_up; set_up = r.set_up; since = r.since }

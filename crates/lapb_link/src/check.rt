@@ -12,7 +12,7 @@ const RIGHT: u16 = 0xF0B8;
 
 /// Returns the rest of the division by x^16 + x^12 + x^5 + 1 after four bits more, low bit first. The multiple of 1081h
 /// is what four steps of the division make of four bits.
-#[tactic(auto, using(crate::proofs::Steps::four_is))]
+#[tactic(auto, using(crate::proofs::Steps::divided_is))]
 fn divided(rest: u16, bits: u8) -> u16
     ensures { result ≡ divided rest bits }
 {
@@ -23,10 +23,11 @@ fn divided(rest: u16, bits: u8) -> u16
 fn unflagged(octets: &[u8]) -> &[u8]
     ensures { result.now ≡ unflagged octets.now }
 {
-    match octets {
-        [FLAG, rest @ ..] => unflagged(rest),
-        _ => octets,
+    let mut rest = octets;
+    while let [FLAG, after @ ..] = rest {
+        rest = after;
     }
+    rest
 }
 
 /// Returns the end of the longest frame at the front that has its right check sequence and only flags after it.

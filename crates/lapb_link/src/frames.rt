@@ -1,6 +1,6 @@
 //! I frames of one direction: those that are held, and the last one of each number.
 
-ghost use Rattle.std.specs.Prelude.{◌≡◌, ◌<◌, ◌≤◌, ◌++◌, [], ◌∷◌, IfOk, OnOk, drop, length, slice_set, take};
+ghost use Rattle.std.specs.Prelude.{◌≡◌, ◌<◌, ◌≤◌, ◌++◌, [], ◌∷◌, IfOk, OnOk, drop, filter, length, slice_set, take};
 
 ghost use Rattle.lapb_link.specs.Frames.{i_frame};
 
@@ -100,6 +100,19 @@ pub struct HeldFrame {
     pub is_cut: bool,
     /// The frame of the last gap before it.
     pub last_gap: u64,
+    /// Whether its receiver had asked for another frame before (REJ).
+    pub after_reject: bool,
+}
+
+impl HeldFrame {
+    ghost use Rattle.lapb_link.specs.Frames.{is_kept};
+
+    /// Returns whether it was not refused.
+    fn is_kept(&self, send: u8, again: bool, rejected: bool) -> bool
+        ensures { result ≡ is_kept send again rejected self.now }
+    {
+        !(again && self.send == send || rejected && self.after_reject)
+    }
 }
 
 /// The last frame with a number.
@@ -144,7 +157,7 @@ impl Model for RecentFrames {
 
 impl HeldFrames {
     ghost use Rattle.lapb_link.specs.declared.frames.HeldFrame.{HeldFrame as AnyHeld};
-    ghost use Rattle.lapb_link.specs.Frames.{held_of, is_held, placed, run_from};
+    ghost use Rattle.lapb_link.specs.Frames.{held_of, is_held, is_kept, placed, run_from};
 
     /// Returns no frames.
     pub(crate) fn new(alloc: Global) -> Self
@@ -189,13 +202,20 @@ impl HeldFrames {
         self.items.clear();
     }
 
-    /// Removes the first one.
-    pub(crate) fn remove_first(&mut self)
-        ensures { self.new ≡ drop 1 self.old }
+    /// Removes the frames that were refused: with `again` those that have a number, with `rejected` those that came after
+    /// a reject.
+    pub(crate) fn drop_refused(&mut self, send: u8, again: bool, rejected: bool) -> Result<(), AllocError>
+        ensures { OnOk result (self.new ≡ filter (is_kept send again rejected) self.old) }
     {
-        if !self.items.is_empty() {
-            self.items.remove(0);
+        let mut kept = Vec::new(*self.items.allocator());
+        while !self.items.is_empty() {
+            let held = self.items.remove(0);
+            if held.is_kept(send, again, rejected) {
+                kept.push(held)?;
+            }
         }
+        self.items = kept;
+        Ok(())
     }
 
     /// Returns how many frames come before one with a number, in the order of the numbers from `next` on.
@@ -218,9 +238,10 @@ impl HeldFrames {
         reading: &Reading,
         next: u8,
         frame: &Information<'_>,
+        after_reject: bool,
     ) -> Result<(), AllocError>
-        ensures { OnOk result (self.new
-            ≡ placed reading.now.modulus next (held_of reading.now (i_frame frame.now)) self.old) }
+        ensures { OnOk result (self.new ≡ placed reading.now.modulus next
+            (held_of reading.now after_reject (i_frame frame.now)) self.old) }
     {
         let alloc = *self.items.allocator();
         let held = HeldFrame {
@@ -230,6 +251,7 @@ impl HeldFrames {
             octets: Octets::copied(alloc, frame.octets)?,
             is_cut: frame.is_cut,
             last_gap: reading.last_gap,
+            after_reject,
         };
         let at = self.place(reading.modulus, next, frame.send);
         self.items.insert(at, held)?;

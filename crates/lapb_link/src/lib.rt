@@ -3,6 +3,7 @@
 
 pub mod check;
 pub mod control;
+pub mod ends;
 pub mod frames;
 pub mod link;
 pub mod looks;

@@ -2,15 +2,15 @@
 
 ghost use Rattle.std.specs.Prelude.{◌≡◌, ◌<◌, ◌≤◌, ◌++◌, IfOk, OnOk, drop, vec_len};
 ghost use Rattle.std.specs.List.{list_any};
-ghost use Rattle.lapb_link.specs.Links.{host_by, is_gap, is_other, no_packet, supervisor, taken_view, what_of, what_view};
+ghost use Rattle.lapb_link.specs.Links.{is_gap, no_packet, supervisor, surely, taken_view, what_of, what_view};
 
 use crate::control::{
     Control, Supervisory, SupervisoryField, Unnumbered, command_side, read_control,
 };
+use crate::ends::{Ends, Sender};
 use crate::frames::{Information, Place, Reading};
 use crate::modulus::Modulus;
 use crate::receiver::{Fate, Gap, Receiver, Shown};
-use capture_model::frame::Direction;
 use capture_model::reason::Reason;
 use line_model::state::Side;
 use std::alloc::{AllocError, Global};
@@ -20,21 +20,12 @@ use std::alloc::{AllocError, Global};
 pub struct LinkFrame<'a> {
     /// Its place.
     pub place: Place,
-    /// Which end sent it, where the capture says.
-    pub direction: Direction,
+    /// The number of the station that sent it, where the capture shows it: by its direction or its link address.
+    pub source: Option<u64>,
     /// Its octets, as far as the recorder kept them.
     pub octets: &'a [u8],
     /// Whether the recorder cut it.
     pub is_cut: bool,
-}
-
-/// What shows which side sent an I frame or an unnumbered frame.
-#[derive(Clone, Copy)]
-pub enum SideBy {
-    /// The address.
-    Address,
-    /// The direction of the capture, where it says one. The recording host is this side.
-    Direction(Side),
 }
 
 /// What a frame of a link is.
@@ -53,10 +44,8 @@ pub enum What<'a> {
 /// What a frame of a link is, and who sent it.
 #[derive(Clone, Copy)]
 pub struct Taken<'a> {
-    /// The side that sent it, where that is known.
-    pub side: Option<Side>,
-    /// Whether its direction and its address contradict each other.
-    pub is_contradiction: bool,
+    /// Who sent it, where that is known.
+    pub sender: Option<Sender>,
     /// What it is.
     pub what: What<'a>,
 }
@@ -67,36 +56,22 @@ pub struct Link {
     modulus: Modulus,
     /// Whether SABM and SABME set the modulus.
     learns: bool,
-    by_direction: bool,
-    /// Which side the recording host is, where that is known.
-    host: Option<Side>,
+    ends: Ends,
     /// The frame of the last gap.
     last_gap: u64,
     of_t: Receiver,
     of_n: Receiver,
 }
 
-/// The sender of a frame.
-#[derive(Clone, Copy)]
-struct Sender {
-    side: Side,
-    is_contradiction: bool,
-    host: Option<Side>,
-}
-
 impl Link {
     ghost use Rattle.lapb_link.specs.Receiving.{held_shown};
     ghost use Rattle.lapb_link.specs.Frames.{i_frame};
-    ghost use Rattle.lapb_link.specs.Links.{directed, information_read, informed_on, link_set_up, linked, marked, new_link, read, reading_of, sender_of, set_up_shown, supervised_on, supervisory_read, told, unnumbered_read};
+    ghost use Rattle.lapb_link.specs.Links.{identified, information_read, informed_on, link_set_up, linked, marked, new_link, read, reading_of, set_up_shown, supervised_on, supervisory_read, told, unnumbered_read};
 
     /// Returns a link of which nothing was read. `modulus`: `None` where SABM and SABME show it.
-    pub fn new(alloc: Global, modulus: Option<Modulus>, side_by: SideBy) -> Result<Link, AllocError>
-        ensures { IfOk result (λ l. l ≡ new_link modulus side_by) }
+    pub fn new(alloc: Global, modulus: Option<Modulus>, ends: Ends) -> Result<Link, AllocError>
+        ensures { IfOk result (λ l. l ≡ new_link modulus ends) }
     {
-        let (by_direction, host) = match side_by {
-            SideBy::Address => (false, None),
-            SideBy::Direction(host) => (true, Some(host)),
-        };
         let (modulus, learns) = match modulus {
             Some(modulus) => (modulus, false),
             None => (Modulus::Basic, true),
@@ -104,8 +79,7 @@ impl Link {
         Ok(Link {
             modulus,
             learns,
-            by_direction,
-            host,
+            ends,
             last_gap: 0,
             of_t: Receiver::new(alloc)?,
             of_n: Receiver::new(alloc)?,
@@ -133,7 +107,8 @@ impl Link {
                     octets: rest,
                     is_cut: frame.is_cut,
                 };
-                self.read_information(frame, commander, &information, receive, out)
+                let sender = self.sender(alloc, frame.source, commander)?;
+                self.read_information(sender, &information, receive, out)
             }
             Control::Supervisory(field) => self.read_supervisory(frame, commander, field, out),
             Control::Unnumbered(Some(kind)) => {
@@ -155,32 +130,29 @@ impl Link {
     /// Reads an I frame.
     fn read_information<'a>(
         &mut self,
-        frame: &LinkFrame<'a>,
-        commander: Side,
+        sender: Sender,
         information: &Information<'a>,
         receive: u8,
         out: &mut Vec<Shown>,
     ) -> Result<Taken<'a>, AllocError>
         requires { information.now.send < 128 }
         ensures taken { IfOk result (λ taken. taken_view taken
-            ≡ (information_read frame.now commander (i_frame information.now) receive self.old).taken) }
+            ≡ (information_read sender receive (i_frame information.now) self.old).taken) }
         ensures after { OnOk result (self.new
-            ≡ (information_read frame.now commander (i_frame information.now) receive self.old).after) }
+            ≡ (information_read sender receive (i_frame information.now) self.old).after) }
         ensures shown { OnOk result (out.new.items ≡ out.old.items
-            ++ (information_read frame.now commander (i_frame information.now) receive self.old).shown) }
+            ++ (information_read sender receive (i_frame information.now) self.old).shown) }
     {
-        let sender = self.sender(commander, frame.direction);
-        self.host = sender.host;
         let field = SupervisoryField {
             kind: Supervisory::Rr,
             receive,
             last: false,
         };
-        self.supervise(sender.side.other(), frame.place, field, true, out)?;
-        let fate = self.inform(sender.side, frame.place, information, out)?;
+        let place = information.place;
+        self.supervise(sender.side.other(), place, field, true, out)?;
+        let fate = self.inform(sender.side, place, information, out)?;
         Ok(Taken {
-            side: Some(sender.side),
-            is_contradiction: sender.is_contradiction,
+            sender: Some(sender),
             what: what_of(fate, information.octets),
         })
     }
@@ -200,12 +172,12 @@ impl Link {
         ensures shown { OnOk result (out.new.items ≡ out.old.items
             ++ (supervisory_read frame.now commander field self.old).shown) }
     {
-        let directed = self.directed(frame.direction);
-        let Some(side) = supervisor(field.last, commander, directed) else {
+        let known = self.ends.known(frame.source);
+        let Some(side) = supervisor(field.last, commander, known) else {
             return Ok(left_out(None, Reason::LinkFrame));
         };
-        self.supervise(side.other(), frame.place, field, directed.is_some(), out)?;
-        Ok(left_out(Some(side), Reason::LinkFrame))
+        self.supervise(side.other(), frame.place, field, known.is_some(), out)?;
+        Ok(left_out(Some(surely(side)), Reason::LinkFrame))
     }
 
     /// Reads an unnumbered frame.
@@ -229,8 +201,7 @@ impl Link {
         } else {
             commander.other()
         };
-        let sender = self.sender(by_address, frame.direction);
-        self.host = sender.host;
+        let sender = self.sender(alloc, frame.source, by_address)?;
         if self.learns {
             self.modulus = kind.modulus_after(self.modulus);
         }
@@ -238,8 +209,7 @@ impl Link {
             self.set_up(alloc, frame.place, out)?;
         }
         Ok(Taken {
-            side: Some(sender.side),
-            is_contradiction: sender.is_contradiction,
+            sender: Some(sender),
             what: What::Unnumbered(kind),
         })
     }
@@ -334,64 +304,44 @@ impl Link {
         }
     }
 
-    /// Returns the side that sent a frame of a direction, where the direction and the host's side are known.
-    fn directed(&self, direction: Direction) -> Option<Side>
-        ensures { result ≡ directed direction self.now }
+    /// Returns who sent a frame that is surely a command or a response. Where it shows that both ends have one address, an
+    /// RR of its end that was recorded before may have been read as one of the other end.
+    fn sender(
+        &mut self,
+        alloc: Global,
+        source: Option<u64>,
+        by_address: Side,
+    ) -> Result<Sender, AllocError>
+        ensures sender { IfOk result (λ s. s ≡ (identified source by_address self.old).sender) }
+        ensures after { OnOk result (self.new ≡ (identified source by_address self.old).after) }
     {
-        match (direction, self.host) {
-            (Direction::Sent, Some(host)) => Some(host),
-            (Direction::Received, Some(host)) => Some(host.other()),
-            _ => None,
+        let sender = self.ends.sender(source, by_address);
+        if sender.is_news {
+            match sender.side {
+                Side::T => self.of_t.forget(alloc)?,
+                Side::N => self.of_n.forget(alloc)?,
+            }
         }
-    }
-
-    /// Returns the sender of a frame that is surely a command or a response.
-    fn sender(&self, by_address: Side, direction: Direction) -> Sender
-        ensures { result ≡ sender_of by_address direction self.now }
-    {
-        let directed = self.directed(direction);
-        Sender {
-            side: if self.by_direction {
-                directed.unwrap_or(by_address)
-            } else {
-                by_address
-            },
-            is_contradiction: is_other(directed.unwrap_or(by_address), by_address),
-            host: if self.by_direction {
-                self.host
-            } else {
-                host_by(by_address, direction, self.host)
-            },
-        }
+        Ok(sender)
     }
 }
 
-/// Returns whether sides differ.
-fn is_other(one: Side, other: Side) -> bool
-    ensures { result ≡ is_other one other }
+/// Returns a sender whose side no address and no station contradicts.
+fn surely(side: Side) -> Sender
+    ensures { result ≡ surely side }
 {
-    match one {
-        Side::T => matches!(other, Side::N),
-        Side::N => matches!(other, Side::T),
+    Sender {
+        side,
+        is_news: false,
+        is_contradiction: false,
     }
 }
 
-/// Returns the side of the recording host, by the sender of a frame.
-fn host_by(sender: Side, direction: Direction, before: Option<Side>) -> Option<Side>
-    ensures { result ≡ host_by sender direction before }
+/// Returns the side that sent a supervisory frame, by its station, else as a response.
+fn supervisor(last: bool, commander: Side, known: Option<Side>) -> Option<Side>
+    ensures { result ≡ supervisor last commander known }
 {
-    match direction {
-        Direction::Unknown => before,
-        Direction::Sent => Some(sender),
-        Direction::Received => Some(sender.other()),
-    }
-}
-
-/// Returns the side that sent a supervisory frame, by its direction, else as a response.
-fn supervisor(last: bool, commander: Side, directed: Option<Side>) -> Option<Side>
-    ensures { result ≡ supervisor last commander directed }
-{
-    match directed {
+    match known {
         Some(side) => Some(side),
         None => {
             if last {
@@ -415,12 +365,11 @@ fn shows_gap(shown: &[Shown]) -> bool
 }
 
 /// Returns a frame of which no packet comes.
-fn left_out<'a>(side: Option<Side>, reason: Reason) -> Taken<'a>
-    ensures { taken_view result ≡ no_packet side reason }
+fn left_out<'a>(sender: Option<Sender>, reason: Reason) -> Taken<'a>
+    ensures { taken_view result ≡ no_packet sender reason }
 {
     Taken {
-        side,
-        is_contradiction: false,
+        sender,
         what: What::LeftOut(reason),
     }
 }
@@ -433,6 +382,5 @@ fn what_of<'a>(fate: Fate, packet: &'a [u8]) -> What<'a>
         Fate::Accepted => What::Packet(packet),
         Fate::Held => What::Held,
         Fate::Repeated => What::LeftOut(Reason::RepeatedFrame),
-        Fate::HeldBefore => What::LeftOut(Reason::UntakenFrame),
     }
 }

@@ -42,8 +42,6 @@ pub enum Fate {
     Held,
     /// It repeats a frame that was accepted.
     Repeated,
-    /// It repeats a frame that is held.
-    HeldBefore,
 }
 
 /// The receiver of one direction.
@@ -65,6 +63,8 @@ pub struct Receiver {
     doubtful: bool,
     /// Whether it keeps frames out of sequence (SREJ).
     selective: bool,
+    /// Whether it rejected the frames from the next one on, which has not come since.
+    rejects: bool,
     /// The last frame up to which nothing is missing.
     since: u64,
     held: HeldFrames,
@@ -173,7 +173,7 @@ impl Progress {
 }
 
 impl Receiver {
-    ghost use Rattle.lapb_link.specs.Receiving.{accepted, acknowledged, all_passed, caught_up, expected, first_acknowledged, held_shown, informed, is_beyond, is_holding, is_inside, is_repeated_number, new_frame, recall_of, refused, rejected, repeated, selected, set_up_again, supervised, unknown, widened};
+    ghost use Rattle.lapb_link.specs.Receiving.{accepted, acknowledged, all_passed, caught_up, expected, first_acknowledged, forgotten, freed, held_shown, informed, is_beyond, is_holding, is_inside, is_repeated_number, new_frame, recall_of, refused, rejected, selected, set_up_again, supervised, unknown, widened};
 
     /// Returns the receiver of a link of which nothing was read.
     pub fn new(alloc: Global) -> Result<Self, AllocError>
@@ -185,6 +185,7 @@ impl Receiver {
             set_up: false,
             doubtful: false,
             selective: false,
+            rejects: false,
             since: 0,
             held: HeldFrames::new(alloc),
             recent: RecentFrames::new(alloc)?,
@@ -205,10 +206,26 @@ impl Receiver {
         self.set_up = true;
         self.doubtful = false;
         self.selective = false;
+        self.rejects = false;
         self.since = reading.place.frame;
         if held > 0 {
             out.push(Shown::Refused(held))?;
         }
+        Ok(())
+    }
+
+    /// Forgets the frames that were read: they may have been of the other direction.
+    pub fn forget(&mut self, alloc: Global) -> Result<(), AllocError>
+        ensures { OnOk result (self.new ≡ forgotten self.old) }
+    {
+        let first = if self.set_up { Some(0) } else { None };
+        *self = Receiver {
+            next: first,
+            acknowledged: first,
+            set_up: self.set_up,
+            since: self.since,
+            ..Receiver::new(alloc)?
+        };
         Ok(())
     }
 
@@ -278,11 +295,15 @@ impl Receiver {
         ensures after { OnOk result (self.new ≡ (refused receive self.old).after) }
         ensures shown { OnOk result (out.new.items ≡ out.old.items ++ (refused receive self.old).shown) }
     {
+        if self.next != Some(receive) {
+            return Ok(());
+        }
         let held = self.held.len();
-        if held > 0 && self.next == Some(receive) {
-            self.held.clear();
-            self.doubtful = false;
-            self.selective = false;
+        self.held.clear();
+        self.doubtful = false;
+        self.selective = false;
+        self.rejects = true;
+        if held > 0 {
             out.push(Shown::Refused(held))?;
         }
         Ok(())
@@ -398,14 +419,41 @@ impl Receiver {
         let Some(next) = self.next else {
             return self.accept(reading, frame, out);
         };
+        self.drop_refused(next, frame, out)?;
         match self.recall(reading.modulus, next, frame) {
             Recall::New => self.take_new(reading, next, frame, out),
-            Recall::Same => self.take_repeated(reading, next, frame, out),
+            Recall::Same => Ok(Fate::Repeated),
             Recall::Other => {
                 self.pass_all(reading, next, frame.send, out)?;
                 self.accept(reading, frame, out)
             }
         }
+    }
+
+    /// Removes the held frames that were refused, as a frame shows that comes.
+    fn drop_refused(
+        &mut self,
+        next: u8,
+        frame: &Information<'_>,
+        out: &mut Vec<Shown>,
+    ) -> Result<(), AllocError>
+        requires { frame.now.send < 128 }
+        ensures after { OnOk result (self.new ≡ (freed next (i_frame frame.now) self.old).after) }
+        ensures shown { OnOk result (out.new.items
+            ≡ out.old.items ++ (freed next (i_frame frame.now) self.old).shown) }
+    {
+        let comes = frame.send == next;
+        let again = self.held.has(frame.send) && self.recent.is_repeated(frame, self.set_up);
+        let before = self.held.len();
+        self.held
+            .drop_refused(frame.send, again, self.rejects && comes)?;
+        self.rejects = self.rejects && !comes;
+        self.doubtful = self.doubtful && self.held.len() > 0;
+        let refused = before.saturating_sub(self.held.len());
+        if refused > 0 {
+            out.push(Shown::Refused(refused))?;
+        }
+        Ok(())
     }
 
     /// Returns what is known of the number of a frame.
@@ -452,25 +500,6 @@ impl Receiver {
         let following = reading.modulus.after(send, 1);
         self.catch_up(reading, next, following, out)?;
         self.catch_up(reading, following, send, out)
-    }
-
-    /// Reads a frame that repeats another.
-    fn take_repeated(&mut self, reading: &Reading, next: u8, frame: &Information<'_>, out: &mut Vec<Shown>) -> Result<Fate, AllocError>
-        requires { frame.now.send < 128 }
-        ensures after { OnOk result (self.new ≡ (repeated reading.now next (i_frame frame.now) self.old).after) }
-        ensures shown { OnOk result (out.new.items
-            ≡ out.old.items ++ (repeated reading.now next (i_frame frame.now) self.old).shown) }
-        ensures fate { IfOk result (λ fate. fate ≡ (repeated reading.now next (i_frame frame.now) self.old).fate) }
-    {
-        if frame.send == next {
-            self.held.remove_first();
-            out.push(Shown::Refused(1))?;
-            return self.accept(reading, frame, out);
-        }
-        if self.held.has(frame.send) {
-            return Ok(Fate::HeldBefore);
-        }
-        Ok(Fate::Repeated)
     }
 
     /// Reads a frame with a new number.
@@ -526,7 +555,7 @@ impl Receiver {
         if frame.send == next {
             return self.accept(reading, frame, out);
         }
-        self.held.hold(reading, next, frame)?;
+        self.held.hold(reading, next, frame, self.rejects)?;
         self.recent.keep(frame)?;
         Ok(Fate::Held)
     }
@@ -539,7 +568,7 @@ impl Receiver {
             ≡ out.old.items ++ (accepted reading.now (i_frame frame.now) self.old).shown) }
         ensures fate { IfOk result (λ fate. fate ≡ (accepted reading.now (i_frame frame.now) self.old).fate) }
     {
-        if self.held.len() > 0 && !self.doubtful && !self.selective {
+        if self.held.len() > 0 && !self.selective {
             self.doubtful = true;
             out.push(Shown::Gap(Gap { since: self.since, place: frame.place }))?;
         }
