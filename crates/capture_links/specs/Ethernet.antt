@@ -1,5 +1,5 @@
 -- What an Ethernet type carries.
-use Rattle.std.specs.Prelude.{ℕ, ◌+◌, ◌-◌, ◌*◌, ◌==◌, ◌||◌, nat_lt, Bool, List, [], ◌∷◌, drop, take, if◌then◌else◌}
+use Rattle.std.specs.Prelude.{ℕ, ◌+◌, ◌-◌, ◌*◌, ◌==◌, ◌&&◌, ◌||◌, nat_le, nat_lt, Bool, List, [], ◌∷◌, drop, length, slice_index, take, if◌then◌else◌}
 use Rattle.capture_links.specs.Views.{Payload, Carried, Internet, Lapb, Device, Other, Cut}
 
 abbrev pub two_octets : (high low : ℕ) → ℕ
@@ -12,6 +12,10 @@ after n p = record { octets = drop n p.octets; length = p.length - n }
 -- the protocols of VLAN tags (IEEE 802.1Q)
 abbrev pub is_tag : ℕ → Bool
 is_tag n = n == 0x8100 || (n == 0x88A8 || n == 0x9100)
+
+-- octets begin with a whole tag: its type and its control information
+abbrev pub is_tagged : List ℕ → Bool
+is_tagged xs = nat_le 4 (length xs) && is_tag (two_octets (slice_index xs 0) (slice_index xs 1))
 
 -- what comes after tags of four octets
 abbrev pub untagged : List ℕ → (length : ℕ) → Payload
@@ -31,11 +35,11 @@ lapb_over_ethernet p = lapb_of p.octets p.length
 
 abbrev pub by_protocol : ℕ → Payload → Carried
 by_protocol n p = if n == 0x0800 || n == 0x86DD then Internet p
-  else if n == 0x0805 then Device p
-  else if n == 0x0019 then Lapb p
-  else if n == 0x6000 then lapb_over_ethernet p
-  else if is_tag n then Cut
-  else Other
+    else if n == 0x0805 then Device p
+    else if n == 0x0019 then Lapb p
+    else if n == 0x6000 then lapb_over_ethernet p
+    else if is_tag n then Cut
+    else Other
 
 -- an Ethernet type, perhaps after tags
 abbrev pub by_type_of : List ℕ → (length : ℕ) → Carried

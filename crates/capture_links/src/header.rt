@@ -3,7 +3,7 @@
 ghost use Rattle.std.specs.Prelude.{◌≡◌};
 ghost use Rattle.capture_model.specs.Frames.{frame_view};
 ghost use Rattle.capture_links.specs.HeaderViews.{header_view};
-ghost use Rattle.capture_links.specs.LinkHeaders.{by_ppp, cisco, cooked_1, cooked_2, directed, direction_of, ethernet, header_of, plain, ppp};
+ghost use Rattle.capture_links.specs.LinkHeaders.{by_ppp, cisco, cooked_1, cooked_2, directed, direction_of, ethernet, has_control, has_lapb_address, header_of, plain, ppp};
 ghost use Rattle.capture_links.specs.Views.{carried_view, payload_view};
 
 use crate::ethernet::{after, by_cooked, by_type, two_octets};
@@ -50,7 +50,7 @@ pub fn read_header<'a>(kind: LinkKind, frame: &Frame<'a>) -> LinkHeader<'a>
 
 /// Returns what a frame carries whose header has no direction and no address.
 fn plain<'a>(direction: Direction, carried: Carried<'a>) -> LinkHeader<'a>
-    ensures { header_view result ≡ plain direction (carried_view carried) }
+    ensures { header_view result ≡ plain direction (carried_view carried.entry) }
 {
     LinkHeader {
         carried,
@@ -62,7 +62,7 @@ fn plain<'a>(direction: Direction, carried: Carried<'a>) -> LinkHeader<'a>
 
 /// Reads two addresses of six octets, then an Ethernet type.
 fn ethernet<'a>(direction: Direction, payload: Payload<'a>) -> LinkHeader<'a>
-    ensures { header_view result ≡ ethernet direction (payload_view payload) }
+    ensures { header_view result ≡ ethernet direction (payload_view payload.entry) }
 {
     if payload.octets.len() < 12 {
         return plain(direction, Carried::Cut);
@@ -77,7 +77,7 @@ fn ethernet<'a>(direction: Direction, payload: Payload<'a>) -> LinkHeader<'a>
 
 /// Reads a cooked header of version 1: packet type, hardware type, length of the address, address, protocol.
 fn cooked_1<'a>(payload: Payload<'a>) -> LinkHeader<'a>
-    ensures { header_view result ≡ cooked_1 (payload_view payload) }
+    ensures { header_view result ≡ cooked_1 (payload_view payload.entry) }
 {
     let octets = payload.octets;
     if octets.len() < 16 {
@@ -94,7 +94,7 @@ fn cooked_1<'a>(payload: Payload<'a>) -> LinkHeader<'a>
 /// Reads a cooked header of version 2: protocol, index of the interface, hardware type, packet type, length of the
 /// address, address.
 fn cooked_2<'a>(payload: Payload<'a>) -> LinkHeader<'a>
-    ensures { header_view result ≡ cooked_2 (payload_view payload) }
+    ensures { header_view result ≡ cooked_2 (payload_view payload.entry) }
 {
     let octets = payload.octets;
     if octets.len() < 20 {
@@ -122,7 +122,7 @@ fn direction_of(kind: u8) -> Direction
 
 /// Reads an octet of the direction, which is 0 for a frame that the recording host received.
 fn directed<'a>(payload: Payload<'a>, carried: Carried<'a>) -> LinkHeader<'a>
-    ensures { header_view result ≡ directed (payload_view payload) (carried_view carried) }
+    ensures { header_view result ≡ directed (payload_view payload.entry) (carried_view carried.entry) }
 {
     match payload.octets {
         [] => plain(Direction::Unknown, Carried::Cut),
@@ -133,18 +133,34 @@ fn directed<'a>(payload: Payload<'a>, carried: Carried<'a>) -> LinkHeader<'a>
 
 /// Reads PPP: its address and control octets, which may be left out, then a protocol.
 fn ppp<'a>(payload: Payload<'a>) -> Carried<'a>
-    ensures { carried_view result ≡ ppp (payload_view payload) }
+    ensures { carried_view result ≡ ppp (payload_view payload.entry) }
 {
-    match payload.octets {
-        [1 | 3, ..] => Carried::Lapb(payload),
-        [0xFF, 3, ..] => by_ppp(after(payload, 2)),
-        _ => by_ppp(payload),
+    if has_lapb_address(payload.octets) {
+        return Carried::Lapb(payload);
     }
+    if has_control(payload.octets) {
+        return by_ppp(after(payload, 2));
+    }
+    by_ppp(payload)
+}
+
+/// Returns whether the address is that of a LAPB frame.
+fn has_lapb_address(octets: &[u8]) -> bool
+    ensures { result ≡ has_lapb_address octets.now }
+{
+    matches!(octets, [1 | 3, ..])
+}
+
+/// Returns whether the address and control octets of PPP are there.
+fn has_control(octets: &[u8]) -> bool
+    ensures { result ≡ has_control octets.now }
+{
+    matches!(octets, [0xFF, 3, ..])
 }
 
 /// Returns what a protocol of PPP carries.
 fn by_ppp<'a>(payload: Payload<'a>) -> Carried<'a>
-    ensures { carried_view result ≡ by_ppp (payload_view payload) }
+    ensures { carried_view result ≡ by_ppp (payload_view payload.entry) }
 {
     match payload.octets {
         [0, 0x21 | 0x57, ..] => Carried::Internet(after(payload, 2)),
@@ -155,13 +171,14 @@ fn by_ppp<'a>(payload: Payload<'a>) -> Carried<'a>
 
 /// Reads Cisco HDLC: address 0F or 8F, an octet, and an Ethernet type. Other addresses mean LAPB.
 fn cisco<'a>(payload: Payload<'a>) -> Carried<'a>
-    ensures { carried_view result ≡ cisco (payload_view payload) }
+    ensures { carried_view result ≡ cisco (payload_view payload.entry) }
 {
-    match payload.octets {
-        [] | [_] => Carried::Cut,
-        [0x0F | 0x8F, _, high, low, ..] => {
-            by_cooked(two_octets(*high, *low), after(payload, 4))
-        }
-        _ => Carried::Lapb(payload),
+    let octets = payload.octets;
+    if octets.len() < 2 {
+        return Carried::Cut;
     }
+    if octets.len() >= 4 && matches!(octets[0], 0x0F | 0x8F) {
+        return by_cooked(two_octets(octets[2], octets[3]), after(payload, 4));
+    }
+    Carried::Lapb(payload)
 }

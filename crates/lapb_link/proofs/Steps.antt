@@ -26,5 +26,5 @@ four_is : (n : ℕ) → steps 4 (n % 16) ≡ n % 16 * 4225
 four_is n = under_16 (n % 16) (omega arith)
 
 pub divided_is : (rest bits : ℕ) → bit_xor (rest / 16) (bit_xor rest bits % 16 * 4225) ≡ divided rest bits
-  unfolding divided
+unfolding divided
 divided_is rest bits = ap (λ x. bit_xor (rest / 16) x) (sym (four_is (bit_xor rest bits)))

@@ -14,7 +14,7 @@ command_side a = if a == 1 then Some T else if a == 3 then Some N else None
 
 abbrev pub supervisory_of : ℕ → supervisory.Supervisory
 supervisory_of c = if c / 4 % 4 == 0 then supervisory.TheVariants.Rr else if c / 4 % 4 == 1 then supervisory.TheVariants.Rnr
-  else if c / 4 % 4 == 2 then supervisory.TheVariants.Rej else supervisory.TheVariants.Srej
+    else if c / 4 % 4 == 2 then supervisory.TheVariants.Rej else supervisory.TheVariants.Srej
 
 -- a control field without its P/F bit
 abbrev pub without_last : ℕ → ℕ
@@ -22,14 +22,14 @@ without_last c = c % 16 + c / 32 * 32
 
 abbrev pub unnumbered_of : ℕ → Option unnumbered.Unnumbered
 unnumbered_of c = if without_last c == 0x2F then Some unnumbered.TheVariants.Sabm else if without_last c == 0x6F then Some unnumbered.TheVariants.Sabme
-  else if without_last c == 0x43 then Some unnumbered.TheVariants.Disc else if without_last c == 0x63 then Some unnumbered.TheVariants.Ua
-  else if without_last c == 0x0F then Some unnumbered.TheVariants.Dm else if without_last c == 0x87 then Some unnumbered.TheVariants.Frmr else None
+    else if without_last c == 0x43 then Some unnumbered.TheVariants.Disc else if without_last c == 0x63 then Some unnumbered.TheVariants.Ua
+    else if without_last c == 0x0F then Some unnumbered.TheVariants.Dm else if without_last c == 0x87 then Some unnumbered.TheVariants.Frmr else None
 
 -- modulo 8: 0 N(S) P N(R), 1 0 S P/F N(R), 1 1 M P/F M, from the low bit on
 abbrev pub basic_control : ℕ → control.Control
 basic_control c = if c % 2 == 0 then control.TheVariants.Information (c / 2 % 8) (c / 32)
-  else if c % 4 == 1 then control.TheVariants.Supervisory (record { kind = supervisory_of c; receive = c / 32; last = c / 16 % 2 == 1 })
-  else control.TheVariants.Unnumbered (unnumbered_of c)
+    else if c % 4 == 1 then control.TheVariants.Supervisory (record { kind = supervisory_of c; receive = c / 32; last = c / 16 % 2 == 1 })
+    else control.TheVariants.Unnumbered (unnumbered_of c)
 
 -- modulo 128: 0 N(S), P N(R); 1 0 S, P/F N(R)
 abbrev pub extended_control : (first second : ℕ) → control.Control
@@ -38,6 +38,11 @@ extended_control c d = if c % 2 == 0 then control.TheVariants.Information (c / 2
 abbrev pub second_octet : ℕ → List ℕ → Option (control.Control × List ℕ)
 second_octet c [] = None
 second_octet c (d ∷ rest) = Some (extended_control c d, rest)
+
+-- N(S) of an I frame
+abbrev pub send_of : control.Control → ℕ
+send_of (control.TheVariants.Information send receive) = send
+send_of c = 0
 
 -- the control field of a frame, and the octets after it
 abbrev pub control_of : Modulus → List ℕ → Option (control.Control × List ℕ)

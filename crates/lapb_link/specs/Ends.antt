@@ -35,8 +35,8 @@ known (Some n) e = known_of n e.first e.second
 
 abbrev pub with_station : ℕ → Side → Ends → Ends
 with_station n s e = if is_none e.first || is_station n e.first then record e { first = Some (record { source = n; side = s }) }
-  else if is_none e.second || is_station n e.second then record e { second = Some (record { source = n; side = s }) }
-  else e
+    else if is_none e.second || is_station n e.second then record e { second = Some (record { source = n; side = s }) }
+    else e
 
 -- who sent a frame, and the ends after it
 pub record Sent : Type 0 where
@@ -59,8 +59,8 @@ by_addresses n s a e = sent a false (is_other s a) (with_station n a (record e {
 
 abbrev pub sender_as : ℕ → (side address : Side) → Ends → Sent
 sender_as n s a e = if e.by_station then by_stations n s a e
-  else if separates n s a e then sent s true false (with_station n s (record e { by_station = true }))
-  else by_addresses n s a e
+    else if separates n s a e then sent s true false (with_station n s (record e { by_station = true }))
+    else by_addresses n s a e
 
 abbrev pub sender_by : ℕ → Side → Ends → Sent
 sender_by n a e = sender_as n (unwrap_or (known (Some n) e) a) a e

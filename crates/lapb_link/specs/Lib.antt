@@ -6,3 +6,4 @@ pub mod Frames
 pub mod Ends
 pub mod Receiving
 pub mod Links
+pub mod WithoutLosses

@@ -99,7 +99,7 @@ pub record Identified : Type 0 where
 abbrev pub with_news : Sender → Link → Link
 with_news s l = if s.is_news then with_receiver s.side (forgotten (receiver_of s.side l)) l else l
 
-abbrev pub identified : Option ℕ → Side → Link → Identified
+unfoldable pub identified : Option ℕ → Side → Link → Identified
 identified source a l = let s = sender_from source a l.ends in record { sender = s.sender; after = with_news s.sender (record l { ends = s.after }) }
 
 -- after a gap, or a packet that was cut
@@ -137,21 +137,21 @@ abbrev pub supervised_on : Side → Place → SupervisoryField → Bool → Link
 supervised_on s p c proves l = supervised (reading_of s p l) c proves (receiver_of s l)
 
 -- an I frame: its N(R), and then its N(S)
-abbrev pub information_read : Sender → (receive : ℕ) → IFrame → Link → Read
+unfoldable pub information_read : Sender → (receive : ℕ) → IFrame → Link → Read
 information_read s receive i l =
-  let field : SupervisoryField = record { kind = Rr; receive = receive; last = false } in
-  let a = supervised_on (other s.side) i.place field true l in
-  let m = linked (other s.side) i.place a l in
-  let b = informed_on s.side i.place i m in
-  record { after = told s.side i.place i m; shown = a.shown ++ b.shown; taken = record { sender = Some s; what = what_of b.fate i.octets } }
+    let field : SupervisoryField = record { kind = Rr; receive = receive; last = false } in
+    let a = supervised_on (other s.side) i.place field true l in
+    let m = linked (other s.side) i.place a l in
+    let b = informed_on s.side i.place i m in
+    record { after = told s.side i.place i m; shown = a.shown ++ b.shown; taken = record { sender = Some s; what = what_of b.fate i.octets } }
 
 -- a supervisory frame; where it may be a command or a response, it proves no loss
 abbrev pub supervisory_by : LinkFrame → SupervisoryField → Option Side → Link → Read
 supervisory_by f c None l = leaves_out reason.LinkFrame l
 supervisory_by f c (Some s) l = let a = supervised_on (other s) f.place c (is_some (known f.source l.ends)) l in
-  record { after = linked (other s) f.place a l; shown = a.shown; taken = no_packet (Some (surely s)) reason.LinkFrame }
+    record { after = linked (other s) f.place a l; shown = a.shown; taken = no_packet (Some (surely s)) reason.LinkFrame }
 
-abbrev pub supervisory_read : LinkFrame → Side → SupervisoryField → Link → Read
+unfoldable pub supervisory_read : LinkFrame → Side → SupervisoryField → Link → Read
 supervisory_read f s c l = supervisory_by f c (supervisor c.last s (known f.source l.ends)) l
 
 -- a frame that sets the link up: held frames may have been accepted, with those before them
@@ -176,16 +176,16 @@ unnumbered_by s p k l = record {
   taken = record { sender = Some s; what = OfLink k };
 }
 
-abbrev pub unnumbered_read : LinkFrame → Side → Unnumbered → Link → Read
+unfoldable pub unnumbered_read : LinkFrame → Side → Unnumbered → Link → Read
 unnumbered_read f s k l =
-  let i = identified f.source (if is_command k then s else other s) l in
-  let m = i.after in
-  unnumbered_by i.sender f.place k (record m { modulus = if m.learns then modulus_after k m.modulus else m.modulus })
+    let i = identified f.source (if is_command k then s else other s) l in
+    let m = i.after in
+    unnumbered_by i.sender f.place k (record m { modulus = if m.learns then modulus_after k m.modulus else m.modulus })
 
 -- a frame
 abbrev pub by_control : LinkFrame → Side → (packet : List ℕ) → Link → Control → Read
 by_control f s packet l (control.Information send receive) =
-  let i = identified f.source s l in information_read i.sender receive (record { send = send; place = f.place; octets = packet; is_cut = f.is_cut }) i.after
+    let i = identified f.source s l in information_read i.sender receive (record { send = send; place = f.place; octets = packet; is_cut = f.is_cut }) i.after
 by_control f s packet l (control.Supervisory c) = supervisory_read f s c l
 by_control f s packet l (control.Unnumbered None) = leaves_out reason.LinkFrame l
 by_control f s packet l (control.Unnumbered (Some k)) = unnumbered_read f s k l

@@ -25,8 +25,8 @@ is_unnumbered (Some k) n = n == 2
 
 abbrev pub has_control : List ℕ → (control : ℕ) → Bool
 has_control xs c = if c % 2 == 0 then has_format xs 2 || has_format xs 3
-  else if c % 4 == 1 then is_supervisory c (length xs)
-  else is_unnumbered (unnumbered_of c) (length xs)
+    else if c % 4 == 1 then is_supervisory c (length xs)
+    else is_unnumbered (unnumbered_of c) (length xs)
 
 abbrev pub looks_like_frame : List ℕ → Bool
 looks_like_frame (a ∷ c ∷ xs) = (a == 1 || a == 3) && has_control (a ∷ c ∷ xs) c

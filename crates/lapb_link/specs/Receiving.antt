@@ -57,7 +57,7 @@ past m h = record { since = h.place.frame; next = after m h.send 1; doubtful = f
 abbrev pub given : Reading → Way → Progress → List HeldFrame → List Shown
 given g w p [] = gap_if (w.doubtful || not (p.next == w.to)) p.since g.place
 given g w p (h ∷ hs) = if is_passed g.modulus w h then gap_if (is_gap_before p h) p.since h.place ++ shown.Accepted h ∷ given g w (past g.modulus h) hs
-  else gap_if (w.doubtful || not (p.next == w.to)) p.since g.place
+    else gap_if (w.doubtful || not (p.next == w.to)) p.since g.place
 
 abbrev pub passed_over : Modulus → Way → List HeldFrame → List HeldFrame
 passed_over m w [] = []
@@ -75,11 +75,11 @@ progress_of g from r = record { since = r.since; next = from; doubtful = r.doubt
 
 abbrev pub caught_up : Reading → (from to : ℕ) → Receiver → Step
 caught_up g from to r =
-  let rest = passed_over g.modulus (way_of from to r) r.held in
-  record {
-    after = record r { next = Some to; acknowledged = Some to; since = g.place.frame; doubtful = r.doubtful && nat_lt 0 (length rest); held = rest };
-    shown = given g (way_of from to r) (progress_of g from r) r.held ++ lost_if g.side (ahead g.modulus from to - (length r.held - length rest)) to;
-  }
+    let rest = passed_over g.modulus (way_of from to r) r.held in
+    record {
+      after = record r { next = Some to; acknowledged = Some to; since = g.place.frame; doubtful = r.doubtful && nat_lt 0 (length rest); held = rest };
+      shown = given g (way_of from to r) (progress_of g from r) r.held ++ lost_if g.side (ahead g.modulus from to - (length r.held - length rest)) to;
+    }
 
 -- an N(R): inside the frames that were recorded, or beyond them
 abbrev pub is_inside : Modulus → (receive next : ℕ) → Receiver → Bool
@@ -100,7 +100,7 @@ first_acknowledged g receive r = record { after = record r { acknowledged = Some
 
 abbrev pub known_acknowledged : Reading → Bool → (receive next : ℕ) → Receiver → Step
 known_acknowledged g proves receive next r = if is_inside g.modulus receive next r then record { after = record r { acknowledged = Some receive }; shown = [] }
-  else if proves && is_beyond g.modulus receive r then caught_up g next receive r else record { after = r; shown = [] }
+    else if proves && is_beyond g.modulus receive r then caught_up g next receive r else record { after = r; shown = [] }
 
 abbrev pub acknowledged : Reading → Bool → ℕ → Receiver → Step
 acknowledged g proves receive r = elim r.next [
@@ -111,12 +111,12 @@ acknowledged g proves receive r = elim r.next [
 -- a frame is accepted; what is held then may be of numbers that all have passed
 abbrev pub accepted : Reading → IFrame → Receiver → Read
 accepted g f r =
-  let is_gap = nat_lt 0 (length r.held) && not r.selective in
-  record {
-    after = record r { next = Some (after g.modulus f.send 1); doubtful = r.doubtful || is_gap; since = f.place.frame; recent = slice_set r.recent f.send (recent_of f) };
-    shown = gap_if is_gap r.since f.place;
-    fate = fate.Accepted;
-  }
+    let is_gap = nat_lt 0 (length r.held) && not r.selective in
+    record {
+      after = record r { next = Some (after g.modulus f.send 1); doubtful = r.doubtful || is_gap; since = f.place.frame; recent = slice_set r.recent f.send (recent_of f) };
+      shown = gap_if is_gap r.since f.place;
+      fate = fate.Accepted;
+    }
 
 -- a number that was accepted: it is not acknowledged, or just before those, where no window reaches
 abbrev pub is_repeated_number : Modulus → (next send : ℕ) → Receiver → Bool
@@ -127,32 +127,34 @@ is_repeated_number m next send r = elim r.acknowledged [
 
 abbrev pub recall_of : Modulus → (next : ℕ) → IFrame → Receiver → Recall
 recall_of m next f r = if not (is_held f.send r.held) && (f.send == next || not (is_repeated_number m next f.send r)) then recall.New
-  else if is_repeated r.set_up f r.recent then recall.Same else recall.Other
+    else if is_repeated r.set_up f r.recent then recall.Same else recall.Other
 
 -- all numbers have passed
 abbrev pub all_passed : Reading → (next send : ℕ) → Receiver → Step
 all_passed g next send r = if not (is_held send r.held) then caught_up g next send r
-  else let s = caught_up g next (after g.modulus send 1) r in
+    else let s = caught_up g next (after g.modulus send 1) r in
     let t = caught_up g (after g.modulus send 1) send s.after in
     record { after = t.after; shown = s.shown ++ t.shown }
 
 -- the sender had an N(R) that lets a window reach the number
 abbrev pub widened : Modulus → (next send : ℕ) → Receiver → Receiver
-widened m next send r = record r { acknowledged = elim r.acknowledged [
-  | Some a ↦ if nat_lt (size m) (ahead m next send + 2 + ahead m a next) then Some (after m send 2) else Some a
-  | None ↦ None
-] }
+widened m next send r = record r {
+  acknowledged = elim r.acknowledged [
+    | Some a ↦ if nat_lt (size m) (ahead m next send + 2 + ahead m a next) then Some (after m send 2) else Some a
+    | None ↦ None
+  ];
+}
 
 -- the frame with the next number is accepted, and another is held
 abbrev pub expected : Reading → (next : ℕ) → IFrame → Receiver → Read
 expected g next f r = if f.send == next then accepted g f r
-  else record { after = record r { held = placed g.modulus next (held_of g r.rejects f) r.held; recent = slice_set r.recent f.send (recent_of f) }; shown = []; fate = fate.Held }
+    else record { after = record r { held = placed g.modulus next (held_of g r.rejects f) r.held; recent = slice_set r.recent f.send (recent_of f) }; shown = []; fate = fate.Held }
 
 -- no window reaches all numbers, so the frame before the next one shows that the next one was accepted
 abbrev pub reached : Reading → (next : ℕ) → IFrame → Receiver → Read
 reached g next f r =
-  let to = run_from g.modulus (after g.modulus next 1) r.held in
-  let s = caught_up g next to r in behind s.shown (expected g to f s.after)
+    let to = run_from g.modulus (after g.modulus next 1) r.held in
+    let s = caught_up g next to r in behind s.shown (expected g to f s.after)
 
 abbrev pub new_frame : Reading → (next : ℕ) → IFrame → Receiver → Read
 new_frame g next f r = if after g.modulus f.send 1 == next then reached g next f r else expected g next f (widened g.modulus next f.send r)
@@ -163,12 +165,12 @@ count_shown n = if nat_lt 0 n then shown.Refused n ∷ [] else []
 
 abbrev pub freed : (next : ℕ) → IFrame → Receiver → Step
 freed next f r =
-  let comes = f.send == next in
-  let kept = filter (is_kept f.send (is_held f.send r.held && is_repeated r.set_up f r.recent) (r.rejects && comes)) r.held in
-  record {
-    after = record r { held = kept; rejects = r.rejects && not comes; doubtful = r.doubtful && nat_lt 0 (length kept) };
-    shown = count_shown (length r.held - length kept);
-  }
+    let comes = f.send == next in
+    let kept = filter (is_kept f.send (is_held f.send r.held && is_repeated r.set_up f r.recent) (r.rejects && comes)) r.held in
+    record {
+      after = record r { held = kept; rejects = r.rejects && not comes; doubtful = r.doubtful && nat_lt 0 (length kept) };
+      shown = count_shown (length r.held - length kept);
+    }
 
 -- an I frame
 abbrev pub known_informed : Reading → (next : ℕ) → IFrame → Receiver → Recall → Read
@@ -195,7 +197,7 @@ is_number (Some k) n = k == n
 
 abbrev pub refused : ℕ → Receiver → Step
 refused receive r = if is_number r.next receive then record { after = record r { held = []; doubtful = false; selective = false; rejects = true }; shown = held_shown r }
-  else record { after = r; shown = [] }
+    else record { after = r; shown = [] }
 
 abbrev pub rejected : Reading → Bool → ℕ → Receiver → Step
 rejected g proves receive r = elim r.acknowledged [

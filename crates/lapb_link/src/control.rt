@@ -1,9 +1,8 @@
 //! The address and the control field of a frame.
 
-ghost use Rattle.std.specs.Prelude.{◌≡◌};
+ghost use Rattle.std.specs.Prelude.{◌≡◌, ◌<◌, IfSome};
 ghost use Rattle.std.specs.Option.{option_map};
-
-ghost use Rattle.lapb_link.specs.Controls.{basic_control, command_side, control_of, extended_control, supervisory_of, unnumbered_of};
+ghost use Rattle.lapb_link.specs.Controls.{basic_control, command_side, control_of, extended_control, send_of, supervisory_of, unnumbered_of};
 
 use crate::modulus::Modulus;
 use line_model::state::Side;
@@ -132,7 +131,8 @@ pub fn unnumbered_of(control: u8) -> Option<Unnumbered>
 
 /// Reads a control field of one octet.
 fn basic_control(control: u8) -> Control
-    ensures { result ≡ basic_control control }
+    ensures control { result ≡ basic_control control }
+    ensures below { send_of result < 128 }
 {
     if control % 2 == 0 {
         return Control::Information(control / 2 % 8, control / 32);
@@ -149,7 +149,8 @@ fn basic_control(control: u8) -> Control
 
 /// Reads a control field of two octets, modulo 128.
 fn extended_control(first: u8, second: u8) -> Control
-    ensures { result ≡ extended_control first second }
+    ensures control { result ≡ extended_control first second }
+    ensures below { send_of result < 128 }
 {
     if first % 2 == 0 {
         return Control::Information(first / 2, second / 2);
@@ -163,7 +164,8 @@ fn extended_control(first: u8, second: u8) -> Control
 
 /// Reads the control field of a frame, and returns the octets after it; `None` where the frame ends before.
 pub fn read_control(modulus: Modulus, octets: &[u8]) -> Option<(Control, &[u8])>
-    ensures { option_map (λ r. (r.0, r.1.now)) result ≡ control_of modulus octets.now }
+    ensures control { option_map (λ r. (r.0, r.1.now)) result ≡ control_of modulus octets.now }
+    ensures below { IfSome result (λ r. send_of r.0 < 128) }
 {
     match (modulus, octets) {
         (Modulus::Basic, [_, control, rest @ ..]) => Some((basic_control(*control), rest)),

@@ -1,7 +1,6 @@
 //! I frames of one direction: those that are held, and the last one of each number.
 
 ghost use Rattle.std.specs.Prelude.{◌≡◌, ◌<◌, ◌≤◌, ◌++◌, [], ◌∷◌, IfOk, OnOk, drop, filter, length, slice_set, take};
-
 ghost use Rattle.lapb_link.specs.Frames.{i_frame};
 
 use crate::modulus::Modulus;
@@ -204,7 +203,12 @@ impl HeldFrames {
 
     /// Removes the frames that were refused: with `again` those that have a number, with `rejected` those that came after
     /// a reject.
-    pub(crate) fn drop_refused(&mut self, send: u8, again: bool, rejected: bool) -> Result<(), AllocError>
+    pub(crate) fn drop_refused(
+        &mut self,
+        send: u8,
+        again: bool,
+        rejected: bool,
+    ) -> Result<(), AllocError>
         ensures { OnOk result (self.new ≡ filter (is_kept send again rejected) self.old) }
     {
         let mut kept = Vec::new(*self.items.allocator());

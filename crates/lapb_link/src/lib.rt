@@ -5,6 +5,7 @@ pub mod check;
 pub mod control;
 pub mod ends;
 pub mod frames;
+pub mod laws;
 pub mod link;
 pub mod looks;
 pub mod modulus;

@@ -87,7 +87,12 @@ impl Link {
     }
 
     /// Reads the next frame. What it shows of frames before it is appended to `out`; its own packet comes after that.
-    pub fn read<'a>(&mut self, alloc: Global, frame: &LinkFrame<'a>, out: &mut Vec<Shown>) -> Result<Taken<'a>, AllocError>
+    pub fn read<'a>(
+        &mut self,
+        alloc: Global,
+        frame: &LinkFrame<'a>,
+        out: &mut Vec<Shown>,
+    ) -> Result<Taken<'a>, AllocError>
         ensures taken { IfOk result (λ taken. taken_view taken ≡ (read frame.now self.old).taken) }
         ensures after { OnOk result (self.new ≡ (read frame.now self.old).after) }
         ensures shown { OnOk result (out.new.items ≡ out.old.items ++ (read frame.now self.old).shown) }
@@ -128,6 +133,7 @@ impl Link {
     }
 
     /// Reads an I frame.
+    #[tactic(auto, unfolding(crate::specs::Links::information_read))]
     fn read_information<'a>(
         &mut self,
         sender: Sender,
@@ -158,6 +164,7 @@ impl Link {
     }
 
     /// Reads a supervisory frame. Where it may be a command or a response, it proves no loss.
+    #[tactic(auto, unfolding(crate::specs::Links::supervisory_read))]
     fn read_supervisory<'a>(
         &mut self,
         frame: &LinkFrame<'a>,
@@ -181,6 +188,7 @@ impl Link {
     }
 
     /// Reads an unnumbered frame.
+    #[tactic(auto, unfolding(crate::specs::Links::unnumbered_read))]
     fn read_unnumbered<'a>(
         &mut self,
         alloc: Global,
@@ -215,7 +223,12 @@ impl Link {
     }
 
     /// Begins the numbers of both directions anew. Held frames may have been accepted, with those before them.
-    fn set_up(&mut self, alloc: Global, place: Place, out: &mut Vec<Shown>) -> Result<(), AllocError>
+    fn set_up(
+        &mut self,
+        alloc: Global,
+        place: Place,
+        out: &mut Vec<Shown>,
+    ) -> Result<(), AllocError>
         ensures after { OnOk result (self.new ≡ link_set_up place self.old) }
         ensures shown { OnOk result (out.new.items ≡ out.old.items ++ set_up_shown place self.old) }
     {
@@ -306,6 +319,7 @@ impl Link {
 
     /// Returns who sent a frame that is surely a command or a response. Where it shows that both ends have one address, an
     /// RR of its end that was recorded before may have been read as one of the other end.
+    #[tactic(auto, unfolding(crate::specs::Links::identified))]
     fn sender(
         &mut self,
         alloc: Global,
@@ -343,13 +357,7 @@ fn supervisor(last: bool, commander: Side, known: Option<Side>) -> Option<Side>
 {
     match known {
         Some(side) => Some(side),
-        None => {
-            if last {
-                None
-            } else {
-                Some(commander.other())
-            }
-        }
+        None => { if last { None } else { Some(commander.other()) } }
     }
 }
 

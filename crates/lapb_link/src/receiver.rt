@@ -1,7 +1,6 @@
 //! The receiver of one direction: which of its I frames it accepted.
 
 ghost use Rattle.std.specs.Prelude.{◌≡◌, ◌++◌, ◌<◌, IfOk, OnOk, true};
-
 ghost use Rattle.lapb_link.specs.Frames.{i_frame};
 ghost use Rattle.lapb_link.specs.Receiving.{given, passed_over};
 
@@ -193,7 +192,12 @@ impl Receiver {
     }
 
     /// Reads a SABM, SABME or UA: the numbers begin anew.
-    pub fn set_up(&mut self, alloc: Global, reading: &Reading, out: &mut Vec<Shown>) -> Result<(), AllocError>
+    pub fn set_up(
+        &mut self,
+        alloc: Global,
+        reading: &Reading,
+        out: &mut Vec<Shown>,
+    ) -> Result<(), AllocError>
         ensures after { OnOk result (self.new ≡ (set_up_again reading.now self.old).after) }
         ensures shown { OnOk result (out.new.items
             ≡ out.old.items ++ (set_up_again reading.now self.old).shown) }
@@ -277,7 +281,13 @@ impl Receiver {
     }
 
     /// Reads a REJ: the receiver refused the frames that are held.
-    fn reject(&mut self, reading: &Reading, receive: u8, proves: bool, out: &mut Vec<Shown>) -> Result<(), AllocError>
+    fn reject(
+        &mut self,
+        reading: &Reading,
+        receive: u8,
+        proves: bool,
+        out: &mut Vec<Shown>,
+    ) -> Result<(), AllocError>
         ensures after { OnOk result (self.new ≡ (rejected reading.now proves receive self.old).after) }
         ensures shown { OnOk result (out.new.items
             ≡ out.old.items ++ (rejected reading.now proves receive self.old).shown) }
@@ -310,7 +320,13 @@ impl Receiver {
     }
 
     /// Reads an SREJ: the receiver keeps frames out of sequence.
-    fn reject_one(&mut self, reading: &Reading, receive: u8, proves: bool, out: &mut Vec<Shown>) -> Result<(), AllocError>
+    fn reject_one(
+        &mut self,
+        reading: &Reading,
+        receive: u8,
+        proves: bool,
+        out: &mut Vec<Shown>,
+    ) -> Result<(), AllocError>
         ensures after { OnOk result (self.new ≡ (selected reading.now proves receive self.old).after) }
         ensures shown { OnOk result (out.new.items
             ≡ out.old.items ++ (selected reading.now proves receive self.old).shown) }
@@ -320,7 +336,13 @@ impl Receiver {
     }
 
     /// Reads an N(R), of an I frame, an RR or an RNR.
-    fn acknowledge(&mut self, reading: &Reading, receive: u8, proves: bool, out: &mut Vec<Shown>) -> Result<(), AllocError>
+    fn acknowledge(
+        &mut self,
+        reading: &Reading,
+        receive: u8,
+        proves: bool,
+        out: &mut Vec<Shown>,
+    ) -> Result<(), AllocError>
         ensures after { OnOk result (self.new ≡ (acknowledged reading.now proves receive self.old).after) }
         ensures shown { OnOk result (out.new.items
             ≡ out.old.items ++ (acknowledged reading.now proves receive self.old).shown) }
@@ -339,7 +361,12 @@ impl Receiver {
     }
 
     /// Reads an N(R) before the first I frame.
-    fn acknowledge_first(&mut self, reading: &Reading, receive: u8, out: &mut Vec<Shown>) -> Result<(), AllocError>
+    fn acknowledge_first(
+        &mut self,
+        reading: &Reading,
+        receive: u8,
+        out: &mut Vec<Shown>,
+    ) -> Result<(), AllocError>
         ensures after { OnOk result (self.new ≡ (first_acknowledged reading.now receive self.old).after) }
         ensures shown { OnOk result (out.new.items
             ≡ out.old.items ++ (first_acknowledged reading.now receive self.old).shown) }
@@ -351,12 +378,11 @@ impl Receiver {
             Some(before) => {
                 if before != receive {
                     let lost = reading.modulus.ahead(before, receive);
-                    out.push(Shown::Gap(Gap { since, place: reading.place }))?;
-                    out.push(Shown::Lost(
-                        reading.side,
-                        usize::from(lost),
-                        receive,
-                    ))?;
+                    out.push(Shown::Gap(Gap {
+                        since,
+                        place: reading.place,
+                    }))?;
+                    out.push(Shown::Lost(reading.side, usize::from(lost), receive))?;
                 }
             }
             None => {}
@@ -387,13 +413,28 @@ impl Receiver {
     }
 
     /// Goes on to a number: frames before it were accepted.
-    fn catch_up(&mut self, reading: &Reading, from: u8, to: u8, out: &mut Vec<Shown>) -> Result<(), AllocError>
+    fn catch_up(
+        &mut self,
+        reading: &Reading,
+        from: u8,
+        to: u8,
+        out: &mut Vec<Shown>,
+    ) -> Result<(), AllocError>
         ensures after { OnOk result (self.new ≡ (caught_up reading.now from to self.old).after) }
         ensures shown { OnOk result (out.new.items
             ≡ out.old.items ++ (caught_up reading.now from to self.old).shown) }
     {
-        let way = Way { from, to, doubtful: self.doubtful };
-        let progress = Progress { since: self.since, next: from, doubtful: self.doubtful, last_gap: reading.last_gap };
+        let way = Way {
+            from,
+            to,
+            doubtful: self.doubtful,
+        };
+        let progress = Progress {
+            since: self.since,
+            next: from,
+            doubtful: self.doubtful,
+            last_gap: reading.last_gap,
+        };
         let before = self.held.len();
         give_out(reading, way, progress, &mut self.held, out)?;
         let given = before.saturating_sub(self.held.len());
@@ -409,7 +450,12 @@ impl Receiver {
     }
 
     /// Reads an I frame.
-    pub fn information(&mut self, reading: &Reading, frame: &Information<'_>, out: &mut Vec<Shown>) -> Result<Fate, AllocError>
+    pub fn information(
+        &mut self,
+        reading: &Reading,
+        frame: &Information<'_>,
+        out: &mut Vec<Shown>,
+    ) -> Result<Fate, AllocError>
         requires { frame.now.send < 128 }
         ensures after { OnOk result (self.new ≡ (informed reading.now (i_frame frame.now) self.old).after) }
         ensures shown { OnOk result (out.new.items
@@ -489,7 +535,13 @@ impl Receiver {
     }
 
     /// Goes on by all numbers, to one.
-    fn pass_all(&mut self, reading: &Reading, next: u8, send: u8, out: &mut Vec<Shown>) -> Result<(), AllocError>
+    fn pass_all(
+        &mut self,
+        reading: &Reading,
+        next: u8,
+        send: u8,
+        out: &mut Vec<Shown>,
+    ) -> Result<(), AllocError>
         ensures after { OnOk result (self.new ≡ (all_passed reading.now next send self.old).after) }
         ensures shown { OnOk result (out.new.items
             ≡ out.old.items ++ (all_passed reading.now next send self.old).shown) }
@@ -503,7 +555,13 @@ impl Receiver {
     }
 
     /// Reads a frame with a new number.
-    fn take_new(&mut self, reading: &Reading, next: u8, frame: &Information<'_>, out: &mut Vec<Shown>) -> Result<Fate, AllocError>
+    fn take_new(
+        &mut self,
+        reading: &Reading,
+        next: u8,
+        frame: &Information<'_>,
+        out: &mut Vec<Shown>,
+    ) -> Result<Fate, AllocError>
         requires { frame.now.send < 128 }
         ensures after { OnOk result (self.new ≡ (new_frame reading.now next (i_frame frame.now) self.old).after) }
         ensures shown { OnOk result (out.new.items
@@ -561,7 +619,12 @@ impl Receiver {
     }
 
     /// Accepts a frame.
-    fn accept(&mut self, reading: &Reading, frame: &Information<'_>, out: &mut Vec<Shown>) -> Result<Fate, AllocError>
+    fn accept(
+        &mut self,
+        reading: &Reading,
+        frame: &Information<'_>,
+        out: &mut Vec<Shown>,
+    ) -> Result<Fate, AllocError>
         requires { frame.now.send < 128 }
         ensures after { OnOk result (self.new ≡ (accepted reading.now (i_frame frame.now) self.old).after) }
         ensures shown { OnOk result (out.new.items
@@ -570,7 +633,10 @@ impl Receiver {
     {
         if self.held.len() > 0 && !self.selective {
             self.doubtful = true;
-            out.push(Shown::Gap(Gap { since: self.since, place: frame.place }))?;
+            out.push(Shown::Gap(Gap {
+                since: self.since,
+                place: frame.place,
+            }))?;
         }
         self.recent.keep(frame)?;
         self.next = Some(reading.modulus.after(frame.send, 1));

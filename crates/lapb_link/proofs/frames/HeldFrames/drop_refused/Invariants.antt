@@ -4,7 +4,7 @@ use Rattle.lapb_link.specs.Frames.{is_kept}
 use Rattle.lapb_link.proofs.frames.HeldFrames.drop_refused.Given as goal
 
 abbrev pub invariant-loop-self : goal.invariant-loop-self
-invariant-loop-self l = l.kept.items ++ filter (is_kept l.send l.again l.rejected) l.self ≡ filter (is_kept l.send l.again l.rejected) l.fn.self
+invariant-loop-self l = l.kept.items ++ filter (is_kept l.send l.again l.rejected) l.self-inside.items.items ≡ filter (is_kept l.send l.again l.rejected) l.fn.self
 
 abbrev pub decreases-loop-self : goal.decreases-loop-self
-decreases-loop-self l = length l.self
+decreases-loop-self l = length l.self-inside.items.items
