@@ -1,0 +1,6 @@
+pub mod Kinds
+pub mod Views
+pub mod Ethernet
+pub mod Devices
+pub mod HeaderViews
+pub mod LinkHeaders
