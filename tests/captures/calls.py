@@ -157,7 +157,29 @@ class Called(unittest.TestCase):
     def test_kind_that_is_none(self):
         done = run("--as", "147=x26", "a")
         words = b"argument --as: 'x26' is no kind: it is ethernet, sll, sll2, ip, lapb, lapb-dir, hdlc, x25 or x25-dir\n"
-        self.assertTrue(done.stderr.startswith(b"x25trace: " + words + b"usage: "), done.stderr)
+        self.assertTrue(done.stderr.startswith(b"x25trace: " + words + b"usage: x25trace "), done.stderr)
+
+    def test_version(self):
+        """It needs no file."""
+        done = run("--version")
+        self.assertEqual(done.returncode, 0)
+        self.assertRegex(done.stdout, rb"\Ax25trace \d+\.\d+\.\d+\S*\n\Z")
+
+    def test_quiet(self):
+        """Only why there is no trace is said; the trace has the messages."""
+        whole = run("tcp-gap-and-next-connection.pcap", cwd=FILES)
+        done = run("--quiet", "tcp-gap-and-next-connection.pcap", cwd=FILES)
+        self.assertEqual((done.returncode, done.stdout, done.stderr), (1, whole.stdout, b""))
+        done = run("--quiet", "absent")
+        self.assertEqual((done.returncode, done.stderr), (2, b"x25trace: Absent: there is no file absent\n"))
+
+    def test_host_that_is_not_there(self):
+        done = run("--dte", "192.0.2.9", "ethernet.pcap", cwd=FILES)
+        self.assertEqual(done.returncode, 2)
+        self.assertIn(b"NoPacket: no connection of XOT has the host of --dte; the hosts are 192.0.2.1, 192.0.2.2\n", done.stderr)
+        done = run("--dte", "52:54:00:00:00:09", "lapb-over-ethernet.pcap", cwd=FILES)
+        self.assertEqual(done.returncode, 2)
+        self.assertIn(b"NoPacket: no frame is from 52:54:00:00:00:09: the link addresses are ", done.stderr)
 
     def test_only_one_carrier(self):
         frames = [cooked_1(one, 4) for one in conversation()] + [cooked_1(one, 4, 0x0805) for _, one in packets_of()]
@@ -301,7 +323,7 @@ class Rotated(unittest.TestCase):
                            ("day.pcap2", pcap(1, [])), ("day.pcapng", blocks))
         whole = run("ethernet.pcap", cwd=FILES)
         self.assertEqual((done.returncode, self.rows_of(done)), (0, self.rows_of(whole)))
-        self.assertEqual(done.stderr, whole.stderr)
+        self.assertEqual(done.stderr, whole.stderr.replace(b": left out", b": 4 captures: left out"))
         self.assertIn(b"# from 4 captures by x25trace, 12 frames;", done.stdout)
         for number, name in ((1, "day.pcap0"), (4, "day.pcap1"), (6, "day.pcap2"), (6, "day.pcapng")):
             self.assertIn(f"\n# frames from {number} on are of {name}\n".encode(), done.stdout)

@@ -124,6 +124,35 @@ def from_damaged_files():
 TOPICS = (from_damaged_files, from_pcap, from_pcap_with_lengths, from_modified_pcap, from_snoop, from_pcapng)
 
 
+def marked(octets):
+    """A file whose first section has the comment by which --comments knows it."""
+    order = "<" if octets[8:12] == b"\x4d\x3c\x2b\x1a" else ">"
+    length, = struct.unpack_from(order + "I", octets, 4)
+    body = octets[8:length - 4] + comment("written by x25trace --comments", order) + option(0, b"", order)
+    return block(0x0A0D0D0A, body, order) + octets[length:]
+
+
+def kept_complaints(scanner):
+    """What is wrong where a file is there: one that --comments did not write stays, unless --force is given."""
+    with tempfile.TemporaryDirectory() as word:
+        folder = pathlib.Path(word)
+        name, out = folder / "capture", folder / "out.pcapng"
+        name.write_bytes(pcap(1, frames()))
+        words, said = [PROGRAM, *GIVEN, "--scanner", scanner, name, "--comments", out], []
+        for content, forced, status in (
+            (None, [], 0), (..., [], 0), (b"notes", [], 2), (section() + interface(1), [], 2), (b"notes", ["--force"], 0), (..., [], 0),
+        ):
+            if isinstance(content, bytes):
+                out.write_bytes(content)
+            done = subprocess.run([*words, *forced], capture_output=True, timeout=TIMEOUT)
+            if done.returncode != status:
+                said.append(f"{content!r} {forced}: status {done.returncode}, expected {status}: {done.stderr.decode()}")
+            if status and (out.read_bytes() != content or b"Output: " not in done.stderr or b"--force" not in done.stderr):
+                said.append(f"{content!r}: it was changed, or the refusal is another: {done.stderr.decode()}")
+        left = sorted(path.name for path in folder.iterdir())
+        return said + ([] if left == ["capture", "out.pcapng"] else [f"files are left: {left}"])
+
+
 def complaints(scanner, capture, wanted, status=0):
     """What is wrong with the capture that is written for one."""
     with tempfile.TemporaryDirectory() as folder:
@@ -133,7 +162,7 @@ def complaints(scanner, capture, wanted, status=0):
         done = subprocess.run(words, capture_output=True, timeout=TIMEOUT)
         if (done.returncode, done.stdout) != (status, b"") or b"2 comments, in 2 frames of " not in done.stderr:
             return [f"status {done.returncode}: {done.stdout} {done.stderr.decode()}"]
-        octets = out.read_bytes()
+        octets, wanted = out.read_bytes(), marked(wanted)
         said = [] if octets == wanted else [f"got {octets.hex(' ', 4)}", f"expected {wanted.hex(' ', 4)}"]
         return said + (tshark_complaints(out) if TSHARK else [])
 
@@ -150,6 +179,7 @@ def tshark_complaints(out):
 
 def outcomes(scanner):
     """Names of tests, and what is wrong with each."""
+    yield "comments over a file", kept_complaints(scanner)
     for topic in TOPICS:
         for name, *files in topic():
             yield f"comments in {name}", complaints(scanner, *files)

@@ -93,6 +93,8 @@ class Ledger:
         self.reported: Counter[Topic | Reason] = Counter()
         self.say = say
         self.keep: Say = ignore
+        # The file that is read, where there are several.
+        self.file = ""
         # What was recorded in one direction only.
         self.halves: list[Half] = []
 
@@ -116,7 +118,8 @@ class Ledger:
         self.keep(words)
         self.reported[topic] += 1
         if self.reported[topic] <= self.MOST_SAID:
-            self.say(words)
+            is_named = not self.file or self.file in words.partition(": ")[0]
+            self.say(words if is_named else f"{self.file}: {words}")
         elif self.reported[topic] == self.MOST_SAID + 1:
             self.say("more messages like the last one are not shown; a trace has them as comments")
 

@@ -11,6 +11,7 @@ from typing import NoReturn
 from .choices import KINDS, KINDS_TEXT, XOT_PORT, Carrier, Choices, SideBy
 from .header import LARGEST_SIZE, LAST_CHANNEL, SMALLEST_SIZE, Wishes
 from .sides import Side
+from .version import version
 
 # A link address as people write it, and how many octets it has.
 LINK_ADDRESS = re.compile(r"[0-9A-Fa-f]{2}(?:([:-])[0-9A-Fa-f]{2})(?:\1[0-9A-Fa-f]{2}){4}")
@@ -33,6 +34,19 @@ class Words(argparse.ArgumentParser):
 
     def error(self, message: str) -> NoReturn:
         self.exit(Status.WORDS, f"{self.prog}: {message}\n{self.format_usage()}")
+
+
+class Version(argparse.Action):
+    """Prints the version, and ends the program."""
+
+    def __call__(self, parser: argparse.ArgumentParser, *_: object) -> NoReturn:
+        print(f"{parser.prog} {version()}")
+        parser.exit(Status.WHOLE)
+
+
+def version_word(words: argparse.ArgumentParser) -> None:
+    """The option --version, which needs no file."""
+    words.add_argument("--version", action=Version, nargs=0, help="print the version, and end")
 
 
 def number(first: int, last: int) -> Callable[[str], int]:
@@ -95,7 +109,8 @@ def reading_words(group: argparse._ArgumentGroup) -> None:
                        f"{KINDS_TEXT}; by default LAPB is tried for the link types 147 to 162 of users")
     group.add_argument("--only", choices=[one.value for one in Carrier], help="read only what this carrier carries")
     group.add_argument("--interface", metavar="N", type=number(0, 65_535), action="append", default=[],
-                       help="read only this interface of a pcapng file, from 0; may be repeated")
+                       help="read only this interface of a pcapng file, from 0, or this device of cooked frames of version 2; may be "
+                       "repeated")
     group.add_argument("--port", metavar="N", type=number(1, 65_535), action="append", default=[],
                        help=f"a TCP port of XOT, instead of {XOT_PORT}; may be repeated")
     group.add_argument("--lapb-modulo", dest="link_modulus", type=int, choices=(8, 128),

@@ -15,6 +15,7 @@ class Why(enum.Enum):
     MIXED = "Mixed"
     NO_PACKET = "NoPacket"
     HEADER = "Header"
+    OUTPUT = "Output"
 
 
 class PageWhy(enum.Enum):

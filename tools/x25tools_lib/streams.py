@@ -1,6 +1,7 @@
 """Standard streams, files and pipes by their names, and how SIGINT ends the reading."""
 from __future__ import annotations
 
+import contextlib
 import errno
 import io
 import os
@@ -8,12 +9,14 @@ import pathlib
 import signal
 import stat
 import sys
+import tempfile
 import time
-from collections.abc import Callable, Sequence
+from collections.abc import Callable, Iterator, Sequence
 from types import FrameType
 from typing import BinaryIO
 
 from .packed import ENDING
+from .progress import Progress
 from .refusals import Refusal, Why
 from .waking import WAKER
 
@@ -93,6 +96,34 @@ def is_open(descriptor: int) -> bool:
     return True
 
 
+def is_terminal(descriptor: int) -> bool:
+    """Whether a stream is a terminal."""
+    try:
+        return os.isatty(descriptor)
+    except OSError:
+        return False
+
+
+@contextlib.contextmanager
+def replaced(name: str) -> Iterator[BinaryIO]:
+    """A file to write, which replaces one of that name once it is whole; a device or a pipe is written as it is."""
+    if os.path.exists(name) and not os.path.isfile(name):
+        with open(name, "wb") as out:
+            yield out
+        return
+    descriptor, path = tempfile.mkstemp(prefix=".x25-", dir=os.path.dirname(os.path.realpath(name)))
+    try:
+        with open(descriptor, "wb") as out:
+            yield out
+        mask = os.umask(0)
+        os.umask(mask)
+        os.chmod(path, 0o666 & ~mask)
+        os.replace(path, os.path.realpath(name))
+    except BaseException:
+        os.unlink(path)
+        raise
+
+
 def mute_errors() -> None:
     """Opens a replacement for a closed standard error, so that no file gets its number."""
     os.dup2(os.open(os.devnull, os.O_WRONLY), 2)
@@ -119,6 +150,7 @@ class Waiting:
         # Whether a signal ended the reading, and when; whether the reading is over; whether the program waits for octets.
         self.interrupted = self.is_over = self.inside = False
         self.since = 0.0
+        self.progress: Progress | None = None
 
     def handle(self, *numbers: signal.Signals) -> None:
         """Installs the handler that ends the reading."""
@@ -150,6 +182,9 @@ class Waiting:
                 raise Interrupted
             while not WAKER.wait(stream.fileno()):
                 pass
-            return stream.read1(CHUNK)  # type: ignore[attr-defined, no-any-return]
+            octets: bytes = stream.read1(CHUNK)  # type: ignore[attr-defined]
         finally:
             self.inside = False
+        if self.progress:
+            self.progress.add(len(octets))
+        return octets

@@ -129,8 +129,10 @@ class Captures:
                 self.check()
             for name in self.names:
                 if self.several:
+                    self.ledger.file = os.path.basename(shown_name(name))
                     self.ledger.note(f"frames from {self.number + 1} on are of {os.path.basename(name)}")
                 yield from self.frames_of(name)
+            self.ledger.file = ""
         except Interrupted:
             if not self.waiting.interrupted:
                 raise

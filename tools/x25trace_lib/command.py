@@ -11,10 +11,11 @@ from typing import TextIO
 
 from x25tools_lib.halves import Halves
 from x25tools_lib.header import Wishes
-from x25tools_lib.ledger import Ledger
+from x25tools_lib.ledger import Ledger, ignore
 from x25tools_lib.options import Status, chosen
-from x25tools_lib.refusals import Refusal
-from x25tools_lib.streams import Interrupted, Waiting, is_open, is_pipe, mute_errors, title_of
+from x25tools_lib.progress import Progress
+from x25tools_lib.refusals import Refusal, Why
+from x25tools_lib.streams import Interrupted, Waiting, is_open, is_pipe, is_terminal, mute_errors, replaced, title_of
 
 from . import comments, passing
 from .captures import Captures
@@ -46,7 +47,8 @@ def is_live(words: argparse.Namespace, wishes: Wishes, waiting: Waiting) -> bool
         return False
     missing = wishes.missing()
     if missing and not waiting.is_over and (words.is_followed or wishes.window and wishes.size):
-        say(f"rows wait for the end of the input; with {', '.join(missing)} too they are written as frames come")
+        if not words.is_quiet:
+            say(f"rows wait for the end of the input; with {', '.join(missing)} too they are written as frames come")
     return not missing
 
 
@@ -82,20 +84,25 @@ def write_captures(
 
 def write_comments(words: argparse.Namespace, ledger: Ledger, waiting: Waiting) -> None:
     """Has x25scan read the trace, and writes the captures again with its findings as comments."""
+    if not words.is_forced and not comments.may_replace(words.comments):
+        raise Refusal(Why.OUTPUT, f"{words.comments} is there, and --comments did not write it: --force writes over it")
     trace = gathered(words, ledger, waiting, True)
     # The first reading reported the damage.
     again = [Captures(words.captures, dict(words.kinds), Ledger(), Waiting()) for _ in range(2)]
     comments.check(again[0])
     with file_of(trace, words.captures) as (file, head):
         texts = comments.found(file, words.scanner, Halves(head))
-    with open(words.comments, "wb") as out:
+    with replaced(words.comments) as out:
         comments.write(again[1], texts, out)
-    say(f"{sum(map(len, texts.values()))} comments, in {len(texts)} frames of {words.comments}")
+    ledger.say(f"{sum(map(len, texts.values()))} comments, in {len(texts)} frames of {words.comments}")
 
 
 def run(words: argparse.Namespace, waiting: Waiting, out: TextIO) -> Status:
     """Reads and writes; returns the status."""
-    ledger = Ledger(say)
+    several = f"{title_of(words.captures)}: " if len(words.captures) > 1 else ""
+    ledger = Ledger(ignore if words.is_quiet else say)
+    if not words.is_quiet and is_terminal(2):
+        waiting.progress = Progress(say)
     try:
         write(words, ledger, waiting, out)
         out.flush()
@@ -105,7 +112,7 @@ def run(words: argparse.Namespace, waiting: Waiting, out: TextIO) -> Status:
     else:
         status = Status.WHOLE if ledger.whole else Status.DAMAGED
     for line in ledger.lines():
-        say(line)
+        ledger.say(several + line)
     return status
 
 

@@ -2,6 +2,7 @@
 from __future__ import annotations
 
 import contextlib
+import os
 import re
 import struct
 import subprocess
@@ -20,6 +21,7 @@ from .captures import Captures
 from .frames import Direction, Dropped
 from .pcap import Pcap
 from .pcapng import CHECK_LENGTH, FLAGS, TIME_RESOLUTION, Block, Pcapng
+from .pcapng import MAGIC as PCAPNG_MAGIC
 from .snoop import Snoop
 
 # The comments of each frame.
@@ -28,6 +30,9 @@ FINDING = re.compile(r"#! (F (\d+) .*)")
 CALL = re.compile(r"# (Call \d+, \w+ on logical channel (\d+): .*\bopened by packet (\d+)\b.*)")
 GAP = re.compile(r"# (a gap: .*)")
 PACKET = re.compile(r"(?:\bpacket |(?<=\bup with )|(?<=\bended with ))(\d+)\b")
+# The comment on the first section of a file, by which it is known as one that --comments wrote.
+MARK = b"written by x25trace --comments"
+LOOK = 1 << 16
 LEFT_OUT = "what x25scan finds of it is left out"
 # A comment's length has two octets.
 LONGEST = 60_000
@@ -37,6 +42,8 @@ BYTE_ORDER_MAGIC = 0x1A2B3C4D
 FLAGS_OF = {Direction.RECEIVED: 1, Direction.SENT: 2}
 # The offsets of the number of octets kept, and of these octets, in an enhanced or obsolete packet block.
 KEPT_AT, OCTETS_AT = 12, 20
+# The offset of the options in a section header.
+SECTION_OPTIONS_AT = 16
 
 
 def found(trace: IO[str], scanner: str | None, halves: Halves) -> Comments:
@@ -149,6 +156,24 @@ def section(order: str) -> bytes:
     return block(order, Block.SECTION, struct.pack(order + "IHHq", BYTE_ORDER_MAGIC, 1, 0, -1))
 
 
+def marked(order: str, octets: bytes) -> bytes:
+    """A section header with the comment by which the file is known."""
+    body = octets[8:-4]
+    if MARK in body:
+        return octets
+    at = end_of_options(order, body, SECTION_OPTIONS_AT)
+    return block(order, Block.SECTION, body[:at] + option(order, COMMENT, MARK) + END)
+
+
+def may_replace(name: str) -> bool:
+    """Whether a file of a name may be written over: there is none, it is no file, or --comments wrote it."""
+    if not os.path.isfile(name):
+        return True
+    with open(name, "rb") as file:
+        start = file.read(LOOK)
+    return not start or start.startswith(PCAPNG_MAGIC) and MARK in start
+
+
 def of_pcapng(form: Pcapng, comments: Comments) -> Generator[bytes, None, None]:
     """The blocks of a pcapng file; before them a section header where the file's own is damaged."""
     begun = False
@@ -208,5 +233,7 @@ def write(captures: Captures, comments: Comments, out: BinaryIO) -> None:
     """Writes the files of a capture one after the other, each as a section of its own."""
     for form in captures.forms():
         with contextlib.closing(REWRITERS[type(form)](form, comments)) as blocks:
+            first = next(blocks, section("<"))
+            out.write(marked(form.order if type(form) is Pcapng else "<", first))
             for octets in blocks:
                 out.write(octets)

@@ -15,6 +15,10 @@ RESPONSE_SIDES = {0x03: Side.T, 0x01: Side.N}
 Source = Direction | bytes
 
 
+# Of so many link addresses a refusal knows.
+MOST_SEEN = 64
+
+
 def link_text(address: bytes) -> str:
     """A link address as people write it."""
     return address.hex(":")
@@ -34,7 +38,9 @@ class Ends:
         self.by_source = self.side_by in (SideBy.DIRECTION, SideBy.LINK_ADDRESS)
         # Whether the sides of a trace are those of the ends exchanged. Options say the ends that they name.
         self.swapped = swapped and self.side_by is not SideBy.DIRECTION and not stations
-        self.sides: dict[Source, Side] = {source: side for source, side in stations.items()}
+        self.sides: dict[Source, Side] = {address: side for address, side in stations.items()}
+        # The link addresses that options name, and those that frames have.
+        self.stations, self.seen = frozenset(stations), set[bytes]()
         if self.side_by is SideBy.DIRECTION:
             host = Side.N if swapped else Side.T
             self.sides = {Direction.SENT: host, Direction.RECEIVED: host.other}
@@ -68,6 +74,8 @@ class Ends:
         known, source = self.known(frame), self.source(frame)
         if source is None:
             return by_address, False
+        if isinstance(source, bytes) and len(self.seen) < MOST_SEEN:
+            self.seen.add(source)
         is_against = known not in (None, by_address)
         if self.by_source:
             side = known or by_address
@@ -81,6 +89,13 @@ class Ends:
         self.contradictions += is_against and isinstance(source, Direction)
         self.sides[source] = by_address
         return by_address, False
+
+    def absent(self) -> str | None:
+        """What is wrong where no frame has a link address that an option names."""
+        if not self.stations or self.stations & self.seen:
+            return None
+        named, seen = (" and ".join(map(link_text, sorted(ends))) for ends in (self.stations, self.seen))
+        return f"no frame is from {named}: the link addresses are {seen or 'not in the capture'}"
 
     def separate(self, frame: Frame, source: Source, side: Side) -> None:
         """Has the source decide from here on: two sources send as one end."""

@@ -13,7 +13,7 @@ from x25tools_lib.notes import SECOND
 from x25tools_lib.refusals import Refusal, Why
 
 from .frames import KINDS_OF_PACKET, Direction, Dropped, Frame, without_check
-from .source import Source
+from .source import Source, zeros_before
 
 FILE_HEADER = 24
 # How long a record's header may be. The first one is that of the form; the others are those of old forms, whose magic
@@ -77,7 +77,8 @@ class Pcap:
                 self.end_inside(header)
                 return
             seconds, part, kept, length = unpack(header)
-            if kept > largest:
+            if kept > largest or not length:
+                # No frame has no octet: after a power cut the rest of a file may be zeros.
                 self.source.unread(header)
                 self.seek(f"a record of {kept} octets")
                 yield Dropped(self.number + 1, None, 0)
@@ -110,6 +111,9 @@ class Pcap:
         start = self.source.offset
         while True:
             window = self.source.peek(WINDOW)
+            if (zeros := zeros_before(window, self.header_size)):
+                self.source.skip(zeros)
+                continue
             at = self.next_record(window)
             if at is not None:
                 self.source.skip(at)

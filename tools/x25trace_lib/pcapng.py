@@ -11,7 +11,7 @@ from x25tools_lib.notes import SECOND
 from x25tools_lib.refusals import Refusal, Why
 
 from .frames import Direction, Dropped, Frame, without_check
-from .source import Source
+from .source import Source, zeros_before
 
 MAGIC = b"\x0a\x0d\x0d\x0a"
 ORDERS = {b"\x1a\x2b\x3c\x4d": ">", b"\x4d\x3c\x2b\x1a": "<"}
@@ -147,6 +147,9 @@ class Pcapng:
         """Skips to the next place with a whole block, and reports how far it is."""
         while True:
             window = self.source.peek(WINDOW)
+            if (zeros := zeros_before(window, SMALLEST)):
+                self.source.skip(zeros)
+                continue
             at = next((at for at in range(4, len(window) - SMALLEST + 1, 4) if self.is_block(window, at)), None)
             if at is not None:
                 self.source.skip(at)

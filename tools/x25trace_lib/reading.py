@@ -1,6 +1,7 @@
 """From the frames of a capture to its packets, whatever carries them."""
 from __future__ import annotations
 
+import ipaddress
 from collections.abc import Iterable, Iterator, Sequence
 
 from x25tools_lib.choices import KINDS_TEXT, Carrier, Choices
@@ -125,6 +126,9 @@ class Reading:
         words = f"no packet of X.25 in {frames}" if self.frames else "the capture has no frame"
         if kinds:
             words += f", with frames read as {kinds}: another KIND of --as may be right"
+        elif self.xot.hosts:
+            hosts = [str(ipaddress.ip_address(host)) for host in sorted(self.xot.hosts, key=lambda host: (len(host), host))]
+            words = f"no connection of XOT has the host of --dte; the hosts are {', '.join(hosts)}"
         elif self.ledger.counts[Reason.OTHER_PORT]:
             ports = " or ".join(map(str, self.choices.ports))
             words += f": XOT is looked for on TCP port {ports}, and --port N names another"

@@ -125,6 +125,15 @@ class Source:
                 return seen
 
 
+def zeros_before(window: bytes, least: int) -> int:
+    """How many octets of a window to skip where it begins with zeros, as after a power cut: whole words, but not the last ones.
+
+    A record may begin with fewer zeros than the least number.
+    """
+    zeros = len(window) - len(window.lstrip(b"\0"))
+    return (zeros - least) // 4 * 4 if zeros >= 2 * least else 0
+
+
 @contextlib.contextmanager
 def first_source(names: Sequence[str], waiting: Waiting) -> Iterator[Source]:
     """The octets of the first of some files."""

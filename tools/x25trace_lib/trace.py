@@ -105,6 +105,9 @@ class Trace:
         lines = self.lines.used()
         if not lines:
             raise self.reading.no_packet()
+        for line in lines:
+            if line.lapb and (words := line.lapb.ends.absent()):
+                raise Refusal(Why.NO_PACKET, words)
         if len(lines) == 1:
             return lines[0]
         if self.lines.are_same(lines):

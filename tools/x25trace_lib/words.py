@@ -4,7 +4,7 @@ from __future__ import annotations
 import argparse
 from collections.abc import Sequence
 
-from x25tools_lib.options import Words, check, option_among, header_words, reading_words, side_words
+from x25tools_lib.options import Words, check, option_among, header_words, reading_words, side_words, version_word
 from x25tools_lib.refusals import Why
 from x25tools_lib.streams import is_pipe, is_same, shown_name
 
@@ -41,7 +41,7 @@ exit status:
   130 it was interrupted (SIGINT): the trace has what was read before
 """
 # The options that a trace may have.
-OF_TRACES = ("is_followed", "is_json", "has_rows", "scanner")
+OF_TRACES = ("is_followed", "is_json", "has_rows", "is_quiet", "scanner")
 
 
 def parser() -> Words:
@@ -74,6 +74,11 @@ def parser() -> Words:
     words.add_argument("--scanner", metavar="PROGRAM",
                        help="the x25scan that tries headers, and that --follow and --comments run, by default the proved "
                        "one of this folder, else the one that bin/x25try runs")
+    words.add_argument("--force", dest="is_forced", action="store_true",
+                       help="let --comments write over a file that it did not write")
+    words.add_argument("--quiet", dest="is_quiet", action="store_true",
+                       help="print no messages, except why there is no trace; the trace has them as comments")
+    version_word(words)
     reading_words(words.add_argument_group("reading"))
     side_words(words.add_argument_group("sides"))
     header_words(words.add_argument_group("header, by default estimated from what was seen"))
@@ -96,6 +101,8 @@ def parsed(arguments: Sequence[str]) -> argparse.Namespace:
         parser().error("--follow prints a report, and --comments writes a capture: they do not go together")
     if words.comments is not None and any(map(is_pipe, words.captures)):
         parser().error("--comments reads the capture twice: it needs a file, not a pipe")
+    if words.is_forced and words.comments is None:
+        parser().error("--force is of --comments, which writes a file")
     if words.comments is not None and any(is_same(words.comments, name) for name in words.captures):
         parser().error("--comments would write over the capture: name another file")
     return words

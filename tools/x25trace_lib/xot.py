@@ -17,6 +17,8 @@ from .tcp import CIRCLE, Budget, Chunk, Connection, Event, Gap, ahead
 HEAD = struct.Struct(">HH")
 PVC_SETUP = 0xF5
 MOST_OVER = 1000
+# Of so many hosts a refusal knows.
+MOST_HOSTS = 64
 LINE_TYPES = frozenset((Type.RESTART, Type.RESTART_CONFIRM, Type.DIAGNOSTIC, Type.REGISTRATION, Type.REGISTERED))
 CALL_TYPES = frozenset((Type.CALL, Type.CLEAR, Type.CLEAR_CONFIRM))
 
@@ -162,6 +164,8 @@ class Xot:
     def __init__(self, ledger: Ledger, ports: Iterable[int], dte: bytes | None, swapped: bool) -> None:
         self.ledger, self.ports, self.dte = ledger, frozenset(ports), dte
         self.sides = (Side.N, Side.T) if swapped else (Side.T, Side.N)
+        # Hosts of connections without the host of --dte.
+        self.hosts: set[bytes] = set()
         self.budget = Budget()
         self.circuits: list[Circuit] = []
         self.table: dict[tuple[bytes, bytes], Entry] = {}
@@ -180,6 +184,8 @@ class Xot:
                 self.on_end(circuit)
         if self.dte is not None and self.dte not in (segment.source[:-2], segment.target[:-2]):
             self.ledger.left_out(Reason.OTHER_HOST)
+            if len(self.hosts) < MOST_HOSTS:
+                self.hosts.update((segment.source[:-2], segment.target[:-2]))
             return ()
         entry = self.table.get((segment.source, segment.target))
         if segment.flags & SYN and not (entry and self.goes_on(entry[0], entry[1], segment)):
