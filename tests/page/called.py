@@ -267,6 +267,27 @@ class Called(unittest.TestCase):
         self.assertEqual(done.returncode, 0, done.stderr)
         self.assertTrue(os.path.exists(os.path.join(os.fsencode(self.folder), b"day\xff<b>.html")))
 
+    def test_quiet(self):
+        """Standard error has why there is no page, and nothing else."""
+        for words in ((CAPTURE,), ("--summary", CAPTURE), ("--each", CAPTURE, "-o", "pages"), ("--compare", TRACE, CAPTURE)):
+            done = self.run_page("--quiet", *words)
+            self.assertEqual((done.returncode, done.stderr), (0, b""), words)
+        self.refused(2, "Absent: there is no file nowhere.pcap", "--quiet", "nowhere.pcap")
+        self.assertNotIn("--quiet", str(Page(self.folder / "ethernet.html").facts["again"]))
+
+    def test_version(self):
+        """It needs no file, and builds no program."""
+        done = run("--version", cwd=self.folder)
+        self.assertEqual((done.returncode, done.stderr, self.there()), (0, b"", []))
+        self.assertRegex(done.stdout, rb"^x25page(, whose x25scan is not built yet| \d+\.\d+\.\d+\S*)\n")
+
+    def test_usage_comes_last(self):
+        """What is wrong with the command line is said before how it is used."""
+        for words in (("--wim", "2", TRACE), (), ("--compare", TRACE)):
+            lines = run(*words, cwd=self.folder).stderr.decode().splitlines()
+            self.assertTrue(lines[0].startswith("x25page: "), lines)
+            self.assertTrue(lines[1].startswith("usage: x25page "), lines)
+
     def test_help(self):
         done = run("--help")
         self.assertEqual((done.returncode, done.stderr), (0, b""))
