@@ -3,13 +3,10 @@ from __future__ import annotations
 
 import argparse
 import shlex
-import subprocess
 from collections.abc import Sequence
-from typing import Any, NoReturn
 
-from x25tools_lib.options import Words, check, option_among, header_words, reading_words, side_words
+from x25tools_lib.options import Words, check, option_among, header_words, reading_words, side_words, version_word
 from x25tools_lib.refusals import PageWhy, Why
-from x25tools_lib.scanner import built
 
 REASONS = ", ".join(why.value for why in (*Why, *PageWhy))
 NAMES_OF_PAGES = """\
@@ -44,21 +41,6 @@ OF_PAGES = ("page", "scanner", "summary", "is_each", "is_comparison", "is_forced
 FLAGS = ("--summary", "--force", "--quiet")
 
 
-class Version(argparse.Action):
-    """Prints the version, which is that of x25scan; a program that is not built yet is not built for it."""
-
-    def __init__(self, **how: Any) -> None:
-        super().__init__(nargs=0, **how)
-
-    def __call__(self, words: argparse.ArgumentParser, *_: Any) -> NoReturn:
-        program = built()
-        if program is None:
-            words.exit(0, f"{words.prog}, whose x25scan is not built yet\n")
-        done = subprocess.run([program, "--version"], stdin=subprocess.DEVNULL, capture_output=True, text=True, check=False)
-        print(words.prog, done.stdout.partition(" ")[2], end="")
-        words.exit(0)
-
-
 def parser() -> Words:
     """The parser of the command line."""
     words = Words(
@@ -85,7 +67,7 @@ def parser() -> Words:
     words.add_argument("--force", dest="is_forced", action="store_true", help="write also over a file that is no page")
     words.add_argument("--quiet", dest="is_quiet", action="store_true",
                        help="print on standard error only why there is no page")
-    words.add_argument("--version", action=Version, help="print the version, and that of x25scan")
+    version_word(words)
     words.add_argument("--scanner", metavar="PROGRAM",
                        help="the x25scan to run, by default the proved one of this folder, else the one that bin/x25try runs")
     reading_words(words.add_argument_group("reading of a capture"))

@@ -4,7 +4,7 @@ from __future__ import annotations
 import re
 import subprocess
 
-from .scanner import ROOT, SCANNER
+from .scanner import INSTALLED, ROOT
 
 VERSION = re.compile(r"x25scan (\d+(?:\.\d+)+[\w.+-]*)")
 # Where the repository has it. An installed program is asked.
@@ -17,7 +17,7 @@ def version() -> str:
         if SOURCE.exists():
             text = SOURCE.read_text()
         else:
-            text = subprocess.run([SCANNER, "--version"], capture_output=True, text=True, check=False).stdout
+            text = subprocess.run([INSTALLED, "--version"], capture_output=True, text=True, check=False).stdout
     except OSError:
         text = ""
     found = VERSION.search(text)
