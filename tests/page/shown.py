@@ -1,4 +1,6 @@
 """A page in a headless Chromium: its tables, its ladders, what a click does, and that hostile text stays text."""
+import csv
+import io
 import pathlib
 import subprocess
 import sys
@@ -113,9 +115,11 @@ def saves(shown, folder, scanner):
         saved, end = downloads / f"{trace.stem}-calls.csv", time.monotonic() + SECONDS
         while not saved.exists() and time.monotonic() < end:
             time.sleep(0.05)
-        wanted = subprocess.run([scanner, "--calls", trace], capture_output=True, check=False).stdout
-        if not saved.exists() or saved.read_bytes() != wanted:
-            shown.said.append(f"{trace.stem}: saved {saved.exists() and saved.read_bytes()}, expected {wanted}")
+        wanted = list(csv.reader(io.StringIO(subprocess.run([scanner, "--calls", trace], capture_output=True, text=True, check=False).stdout)))
+        got = list(csv.reader(io.StringIO(saved.read_text()))) if saved.exists() else []
+        # Each column that x25scan prints; the page has those of the hosts after them.
+        if [line[:len(wanted[0])] for line in got] != wanted:
+            shown.said.append(f"{trace.stem}: saved {got}, expected {wanted}")
 
 
 def uses(shown):

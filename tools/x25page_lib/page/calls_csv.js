@@ -2,7 +2,7 @@
 
 const TABLE_HEADING = ["call", "channel", "direction", "called", "calling", "opened", "ended", "start", "seconds", "how",
   "cause", "cause_name", "diagnostic", "diagnostic_name", "data_t", "octets_t", "segments_t", "data_n", "octets_n",
-  "segments_n", "pays", "payer", "findings", "gaps"];
+  "segments_n", "pays", "payer", "findings", "gaps", "opened_frame", "ended_frame"];
 // Where the hosts are known, each line ends with the connection and the hosts of both sides.
 const HOST_HEADING = ["connection", "dte", "dce"];
 
@@ -28,7 +28,8 @@ function callFields(call) {
     call.start === null ? null : secondsOf(BigInt(facts.begun) + nanoseconds(call.start)),
     call.seconds === null ? null : secondsOf(nanoseconds(call.seconds)), call.end,
     ...namedFields(call.cause), ...namedFields(call.diagnostic), call.dataT, call.octetsT, call.segmentsT, call.dataN,
-    call.octetsN, call.segments - call.segmentsT, call.pays, call.payer, call.findings, hasGaps ? call.gaps : null];
+    call.octetsN, call.segments - call.segmentsT, call.pays, call.payer, call.findings, hasGaps ? call.gaps : null,
+    frameOf(call.opened) || null, (call.ended !== null && frameOf(call.ended)) || null];
 }
 
 function hostFields({ channel, opened }) {
