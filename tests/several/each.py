@@ -99,7 +99,7 @@ class Each(InFolder):
         done = self.page("--each", gap, half, SEVEN, "-o", "pages")
         self.assertEqual(done.returncode, 1, done.stderr)
         lines = self.index()
-        self.assertEqual((lines[0][7], lines[1][7], lines[2][7]), ("1", "12", "0"))
+        self.assertEqual((lines[0][7], lines[1][7], lines[2][7]), ("1", "9", "0"))
         self.assertIn("Packets may be missing: the page says which.", lines[0][1])
         text = Lists(self.folder / "pages" / "index.html").text
         self.assertEqual(text.count('class="number found"'), 1)

@@ -4,6 +4,7 @@ import os
 import pathlib
 import re
 import shutil
+import signal
 import subprocess
 import sys
 
@@ -88,10 +89,11 @@ class Clone:
         return {**os.environ, "X25SCAN_STORE": str(self.store), **more}
 
     def begin(self, *words, **more):
-        """Starts bin/x25prove."""
+        """Starts bin/x25prove, which heeds Ctrl-C: a shell has its background jobs ignore it."""
         command = [sys.executable, self.folder / "bin" / "x25prove", *words]
-        pipe = subprocess.PIPE
-        return subprocess.Popen(command, cwd=self.folder, stdin=subprocess.DEVNULL, stdout=pipe, stderr=pipe, text=True, env=self.environment(**more))
+        streams = {"stdin": subprocess.DEVNULL, "stdout": subprocess.PIPE, "stderr": subprocess.PIPE, "text": True}
+        heed = lambda: signal.signal(signal.SIGINT, signal.default_int_handler)  # noqa: E731
+        return subprocess.Popen(command, cwd=self.folder, env=self.environment(**more), preexec_fn=heed, **streams)
 
     def prove(self, *words, **more):
         """Runs bin/x25prove. Returns its status, how each crate was made, and what it said."""

@@ -81,8 +81,10 @@ WHOLE = (
          shown=("No recorded packet of it breaks the protocol.", "all data that was recorded was accepted"),
          hidden=("Nobody", "None of its packets breaks", "all data was accepted")),
     Case("dte-once", ("bad", "The DTE broke the protocol once."), trace=HEADER + CALL + "3 T 100102AA\n"),
-    Case("dce-twice", ("bad", "The DCE broke the protocol twice."), trace=HEADER + CALL + "3 N 100102AA\n4 N 100104AA\n"),
-    Case("both-sides", ("bad", "The DTE broke the protocol once, the DCE 3 times."),
+    Case("dce-twice", ("bad", "The DCE broke the protocol twice."), trace=HEADER + CALL + "3 N 100221\n4 N 100321\n"),
+    Case("both-sides", ("bad", "The DTE broke the protocol once, the DCE twice."), trace=HEADER + CALL + "3 N 100221\n4 N 100321\n5 T 100421\n"),
+    Case("one-that-follows", ("bad", "The DCE broke the protocol once; one finding of the DCE may follow from that."), trace=HEADER + CALL + "3 N 100102AA\n4 N 100104AA\n"),
+    Case("both-sides-follow", ("bad", "The DCE broke the protocol once; one finding of the DTE and 2 of the DCE may follow from that."),
          trace=HEADER + CALL + "3 N 100102AA\n4 N 100104AA\n5 N 100106AA\n6 T 100102AA\n"),
 )
 CASES = (*HALVES, *WHOLE)
