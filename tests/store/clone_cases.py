@@ -11,6 +11,14 @@ PROVED_BEFORE = "from nothing"
 OTHER_BODY = TEXTS["high/src/lib.rt"].replace("low::one()", "let number = low::one();\n    number")
 
 
+def without_proofs(base, name):
+    """A clone of the same sources, with nothing built and an empty store."""
+    clone = base.fresh(name)
+    for entry in clone.entries():
+        entry.unlink()
+    return clone
+
+
 def outcome_problems(outcome, made, *sentences):
     """How a run differs from one that ends well and made crates in these ways."""
     status, got, said = outcome
@@ -126,6 +134,23 @@ def refused_problems(base):
     return problems + way_problems(clone, None)
 
 
+def adopted_problems(base):
+    """What the gate proved is taken where the sources are those of its beginning, and no source of it is missing."""
+    clone = without_proofs(base, "adopted")
+    before = clone.tool("--sum")[1].strip()
+    for name in ("low", "high"):
+        shutil.copytree(base.folder / f"out/libraries/{name}.rlib", clone.folder / f"crates/{name}/out/rlib/{name}.rlib")
+    missing = f"x25prove: there is no program {clone.folder}/crates/x25scan/out/x25scan: ./check --gate leaves one\n"
+    problems = [] if (got := clone.tool("--adopt", before)) == (3, missing) else [f"without a program: {got}"]
+    shutil.copy(base.folder / "crates/x25scan/out/x25scan", clone.folder / "crates/x25scan/out/x25scan")
+    got = clone.tool("--adopt", before)
+    problems += [] if got == (0, "x25prove: 3 crates are those that the gate proved\n") else [f"got {got}"]
+    problems += way_problems(clone, PROVED_BEFORE) + ([] if len(clone.entries()) == 3 else ["the store has other entries"])
+    clone.comment()
+    got = clone.tool("--adopt", before)
+    return problems + ([] if got == (3, "x25prove: a source changed since the gate began, so nothing of it is taken\n") else [f"after a change: {got}"])
+
+
 def cases(base):
     other = base.copy("other", with_store=True)
     other.change("high/src/lib.rt", OTHER_BODY)
@@ -138,3 +163,4 @@ def cases(base):
     yield Case("a program that is copied late", copied_program_problems, base)
     yield Case("a damaged entry", damaged_problems, base)
     yield Case("a crate that is not proved", refused_problems, base)
+    yield Case("what the gate proved", adopted_problems, base)

@@ -89,17 +89,23 @@ class Clone:
         return {**os.environ, "X25SCAN_STORE": str(self.store), **more}
 
     def begin(self, *words, **more):
-        """Starts bin/x25prove, which heeds Ctrl-C: a shell has its background jobs ignore it."""
+        """Starts bin/x25prove, which a signal can end; a shell has its background jobs ignore Ctrl-C."""
         command = [sys.executable, self.folder / "bin" / "x25prove", *words]
-        streams = {"stdin": subprocess.DEVNULL, "stdout": subprocess.PIPE, "stderr": subprocess.PIPE, "text": True}
-        heed = lambda: signal.signal(signal.SIGINT, signal.default_int_handler)  # noqa: E731
-        return subprocess.Popen(command, cwd=self.folder, env=self.environment(**more), preexec_fn=heed, **streams)
+        pipe = subprocess.PIPE
+        how = {"stdin": subprocess.DEVNULL, "stdout": pipe, "stderr": pipe, "text": True, "env": self.environment(**more)}
+        return subprocess.Popen(command, cwd=self.folder, preexec_fn=lambda: signal.signal(signal.SIGINT, signal.SIG_DFL), **how)
 
     def prove(self, *words, **more):
         """Runs bin/x25prove. Returns its status, how each crate was made, and what it said."""
         with self.begin(*words, **more) as run:
             output, said = run.communicate(timeout=SECONDS)
         return run.returncode, dict(DONE.findall(said)), output + said
+
+    def tool(self, *words):
+        """Runs tools/build_program.py. Returns its status and what it said."""
+        command = [sys.executable, self.folder / "tools" / "build_program.py", *words]
+        done = subprocess.run(command, cwd=self.folder, env=self.environment(), capture_output=True, text=True, check=False, timeout=SECONDS)
+        return done.returncode, done.stdout + done.stderr
 
     def way(self, path=None):
         """How the program was proved that is built of the sources, as tools ask; the second line says whether it is stale."""
