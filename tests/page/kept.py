@@ -221,6 +221,12 @@ class Doubts(unittest.TestCase):
         self.assertIn("After 1 finding of the DTE (the first is packet 2)", sentence)
         self.assertEqual((name, values), ("WIN", [2, 3]))
 
+    def test_it_follows_from_another(self):
+        """What may follow from an earlier finding is no sign of a wrong header."""
+        finding = {**FINDING, "follows": 1}
+        rows = [row_of(2, owed=True, finding=finding), *(row_of(at, "rr", side="N", owed=True) for at in (3, 4, 5))]
+        self.assertEqual(warnings(self.HEADER, [], self.seen(rows)), [])
+
     def test_the_dce_reset(self):
         rows = [FAULTY, row_of(3, "rr", side="N", owed=True), row_of(4, "reset_indication", side="N")]
         self.assertEqual(warnings(self.HEADER, [], self.seen(rows)), [])

@@ -6,6 +6,7 @@ from dataclasses import dataclass
 
 from x25tools_lib.frames import Frames
 
+from .found import follows_of
 from .rows import ADRIFT, SIDES, Row
 
 DTE = SIDES.index("T")
@@ -29,6 +30,8 @@ class Debt:
     packet: int
     key: str
     code: str
+    # Whether it may follow from an earlier finding.
+    is_following: bool
     sent: int = 0
     # The data packets of both sides that do not count since.
     data: int = 0
@@ -42,6 +45,8 @@ class Ignored:
     packet: int
     key: str
     many: int = 0
+    # Those of them that follow from no earlier finding.
+    begun: int = 0
     data: int = 0
 
 
@@ -96,7 +101,7 @@ class Reactions:
         debt = self.open.get(channel)
         if debt is None:
             if row.owed and row.side == DTE and row.code:
-                self.open[channel] = Debt(row.packet, key, row.code)
+                self.open[channel] = Debt(row.packet, key, row.code, follows_of(row) is not None)
             return
         if not row.owed:
             self.open.pop(channel)
@@ -135,6 +140,7 @@ class Reactions:
             debt.is_counted = True
             ignored = self.ignored.setdefault(debt.code, Ignored(debt.packet, debt.key))
             ignored.many += 1
+            ignored.begun += not debt.is_following
             ignored.data += debt.data
 
     def finish(self) -> None:

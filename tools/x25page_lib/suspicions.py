@@ -58,14 +58,14 @@ def of_both_sides(header: Numbers, codes: list[list[Any]]) -> Iterator[tuple[str
 
 
 def of_debts(reactions: Reactions) -> Iterator[tuple[str, str]]:
-    """The sentence on errors that the DCE did not react to and that a wrong header gives."""
-    unpaid = {code: it for code, it in reactions.ignored.items() if code in NUMBERS}
+    """The sentence on errors that the DCE did not react to and that a wrong header gives, and no earlier error."""
+    unpaid = {code: it for code, it in reactions.ignored.items() if code in NUMBERS and it.begun}
     if not unpaid:
         return
-    code = max(unpaid, key=lambda it: unpaid[it].many)
+    code = max(unpaid, key=lambda it: unpaid[it].begun)
     first = min(it.packet for it in unpaid.values())
     yield NUMBERS[code], (
-        f"After {number(sum(it.many for it in unpaid.values()), 'finding')} of the DTE (the first is "
+        f"After {number(sum(it.begun for it in unpaid.values()), 'finding')} of the DTE (the first is "
         f"{reactions.frames.name(first)}) the DCE did not do what it had to: it went on as if nothing was wrong. Then the DTE "
         "was probably right, and the header is not that of the interface. Data after such a finding is not counted, so the "
         "sums are too low."
