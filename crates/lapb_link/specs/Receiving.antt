@@ -108,13 +108,17 @@ acknowledged g proves receive r = elim r.next [
   | Some next ↦ known_acknowledged g proves receive next r
 ]
 
--- a frame is accepted; what is held then may be of numbers that all have passed
+abbrev pub count_shown : ℕ → List Shown
+count_shown n = if nat_lt 0 n then shown.Refused n ∷ [] else []
+
+-- a frame is accepted: what is held then may be of numbers that all have passed, and its own number is no longer waited for
 abbrev pub accepted : Reading → IFrame → Receiver → Read
 accepted g f r =
     let is_gap = nat_lt 0 (length r.held) && not r.selective in
+    let kept = filter (is_kept f.send true false) r.held in
     record {
-      after = record r { next = Some (after g.modulus f.send 1); doubtful = r.doubtful || is_gap; since = f.place.frame; recent = slice_set r.recent f.send (recent_of f) };
-      shown = gap_if is_gap r.since f.place;
+      after = record r { next = Some (after g.modulus f.send 1); doubtful = r.doubtful || is_gap; since = f.place.frame; held = kept; recent = slice_set r.recent f.send (recent_of f) };
+      shown = gap_if is_gap r.since f.place ++ count_shown (length r.held - length kept);
       fate = fate.Accepted;
     }
 
@@ -126,7 +130,7 @@ is_repeated_number m next send r = elim r.acknowledged [
 ]
 
 abbrev pub recall_of : Modulus → (next : ℕ) → IFrame → Receiver → Recall
-recall_of m next f r = if not (is_held f.send r.held) && (f.send == next || not (is_repeated_number m next f.send r)) then recall.New
+recall_of m next f r = if f.send == next || (not (is_held f.send r.held) && not (is_repeated_number m next f.send r)) then recall.New
     else if is_repeated r.set_up f r.recent then recall.Same else recall.Other
 
 -- all numbers have passed
@@ -160,9 +164,6 @@ abbrev pub new_frame : Reading → (next : ℕ) → IFrame → Receiver → Read
 new_frame g next f r = if after g.modulus f.send 1 == next then reached g next f r else expected g next f (widened g.modulus next f.send r)
 
 -- held frames that were refused, as a frame shows that comes
-abbrev pub count_shown : ℕ → List Shown
-count_shown n = if nat_lt 0 n then shown.Refused n ∷ [] else []
-
 abbrev pub freed : (next : ℕ) → IFrame → Receiver → Step
 freed next f r =
     let comes = f.send == next in

@@ -211,6 +211,9 @@ impl HeldFrames {
     ) -> Result<(), AllocError>
         ensures { OnOk result (self.new ≡ filter (is_kept send again rejected) self.old) }
     {
+        if self.items.is_empty() {
+            return Ok(());
+        }
         let mut kept = Vec::new(*self.items.allocator());
         while !self.items.is_empty() {
             let held = self.items.remove(0);

@@ -508,7 +508,7 @@ impl Receiver {
         ensures { result ≡ recall_of modulus next (i_frame frame.now) self.now }
     {
         let send = frame.send;
-        if !self.held.has(send) && (send == next || !self.is_repeated_number(modulus, next, send)) {
+        if send == next || !self.held.has(send) && !self.is_repeated_number(modulus, next, send) {
             return Recall::New;
         }
         if self.recent.is_repeated(frame, self.set_up) {
@@ -631,12 +631,18 @@ impl Receiver {
             ≡ out.old.items ++ (accepted reading.now (i_frame frame.now) self.old).shown) }
         ensures fate { IfOk result (λ fate. fate ≡ (accepted reading.now (i_frame frame.now) self.old).fate) }
     {
-        if self.held.len() > 0 && !self.selective {
+        let before = self.held.len();
+        if before > 0 && !self.selective {
             self.doubtful = true;
             out.push(Shown::Gap(Gap {
                 since: self.since,
                 place: frame.place,
             }))?;
+        }
+        self.held.drop_refused(frame.send, true, false)?;
+        let refused = before.saturating_sub(self.held.len());
+        if refused > 0 {
+            out.push(Shown::Refused(refused))?;
         }
         self.recent.keep(frame)?;
         self.next = Some(reading.modulus.after(frame.send, 1));
