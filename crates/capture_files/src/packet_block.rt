@@ -1,7 +1,8 @@
 //! The blocks that hold frames: enhanced, obsolete and simple ones.
 
 ghost use Rattle.std.specs.Prelude.{◌≡◌, ◌+◌, ◌-◌, ◌≤◌, IfSome, drop, length, min, take};
-ghost use Rattle.capture_files.specs.BlockFrames.{block_frame, placed_in, simple_in};
+ghost use Rattle.std.specs.Option.{option_map};
+ghost use Rattle.capture_files.specs.BlockFrames.{block_frame, placed_in, simple_in, time_of};
 ghost use Rattle.capture_files.specs.Entries.{frame_at};
 
 use crate::block::{PACKET, SIMPLE};
@@ -9,6 +10,7 @@ use crate::entry::FrameHead;
 use crate::interface::Interface;
 use crate::numbers::{read_four, read_two};
 use capture_model::frame::Direction;
+use capture_model::time::Nanos;
 
 /// Where a block has a frame, and what it says of it.
 #[derive(Clone, Copy)]
@@ -83,7 +85,8 @@ impl Placed {
     /// Returns how many octets of the frame are there.
     pub(crate) fn there(&self, block: &[u8]) -> usize
         requires { self.now.from ≤ length block.now }
-        ensures { result ≡ min (length block.now - self.now.from) self.now.kept }
+        ensures there { result ≡ min (length block.now - self.now.from) self.now.kept }
+        ensures few { result ≤ self.now.kept }
     {
         (block.len() - self.from).min(self.kept as usize)
     }
@@ -95,6 +98,16 @@ impl Placed {
         ensures within { self.now.from + result ≤ length block.now }
     {
         self.there(block).min(line)
+    }
+
+    /// Returns the time that the timestamp says.
+    fn time(&self, interface: &Interface) -> Option<Nanos>
+        ensures { result ≡ option_map (time_of interface.now) self.now.stamp }
+    {
+        match self.stamp {
+            Some(stamp) => Some(interface.time(stamp)),
+            None => None,
+        }
     }
 
     /// Returns the frame, by its interface and the number of the first interface of its section.
@@ -120,7 +133,7 @@ impl Placed {
             length,
             direction,
             interface: first.saturating_add(self.which),
-            time: self.stamp.map(|stamp| interface.time(stamp)),
+            time: self.time(interface),
         }
     }
 }

@@ -332,7 +332,7 @@ impl Pcapng {
     {
         let was_damaged = self.is_damaged;
         let damage = self.block_damage(octets, said);
-        self.is_damaged = was_damaged || damage.is_some();
+        self.is_damaged = was_damaged | damage.is_some();
         let kind = read_four(self.is_big, octets, 0);
         let body = &octets[..octets.len().min(said as usize - 4)];
         match self.content(kind, body) {
