@@ -83,12 +83,12 @@ impl Placed {
     }
 
     /// Returns how many octets of the frame are there.
-    pub(crate) fn there(&self, block: &[u8]) -> usize
+    pub(crate) fn there(&self, block: &[u8]) -> u32
         requires { self.now.from ≤ length block.now }
         ensures there { result ≡ min (length block.now - self.now.from) self.now.kept }
         ensures few { result ≤ self.now.kept }
     {
-        (block.len() - self.from).min(self.kept as usize)
+        (block.len() - self.from).min(self.kept as usize) as u32
     }
 
     /// Returns how many octets of the frame are there, without its check sequence.
@@ -97,7 +97,7 @@ impl Placed {
         ensures octets { take result (drop self.now.from block.now) ≡ take line (take self.now.kept (drop self.now.from block.now)) }
         ensures within { self.now.from + result ≤ length block.now }
     {
-        self.there(block).min(line)
+        (self.there(block) as usize).min(line)
     }
 
     /// Returns the time that the timestamp says.

@@ -218,7 +218,7 @@ impl Pcapng {
         requires { placed.now.from ≤ length body.now }
         ensures { self.new ≡ record self.old { is_damaged = self.new.is_damaged } }
     {
-        let there = placed.there(body) as u32;
+        let there = placed.there(body);
         if there == placed.kept {
             return None;
         }
