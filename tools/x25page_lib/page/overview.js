@@ -30,7 +30,7 @@ function sideCard(side) {
     rows.length ? make("ul", { class: "codes" }, rows) : make("p", { class: "muted" }, kept), missing, foundHosts(side));
 }
 
-const mayFollow = (many) => many > 0 && make("small", {}, `${count(many)} may follow from others`);
+const mayFollow = (many) => many > 0 && make("small", {}, ` (${count(many)} may follow from others)`);
 
 const followers = (side) => facts.following[side] > 0 && `, and ${count(facts.following[side])} that may follow`;
 
