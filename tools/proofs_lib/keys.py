@@ -94,6 +94,7 @@ class Shelf:
 
     def put(self, name: str, fresh: pathlib.Path, record: Record) -> None:
         """Puts a library in its place, with its record."""
+        self.folder.mkdir(parents=True, exist_ok=True)
         self.remove(name)
         os.rename(fresh, self.library(name))
         record.write(self.record_path(name))
