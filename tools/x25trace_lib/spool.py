@@ -47,6 +47,8 @@ class Spool:
         self.has_common_gaps = False
         self.has_comments, self.last_number = has_comments, last_number
         self.number = 0
+        # Whether each row of a packet has the number of its frame.
+        self.is_exact = True
         # The number of rows replayed, and their first circuits.
         self.replayed = 0
         self.circuits: list[Circuit] = []
@@ -60,6 +62,7 @@ class Spool:
         self.rows += 1
         frame, lines = packet.frame, self.lines
         self.number = frame if frame > self.number else self.number + 1
+        self.is_exact &= self.number == frame
         time = time_text(packet.time) if self.has_comments else "-"
         lines.append(f"{circuit} {time} {frame} {packet.side.letter} {packet.octets.hex().upper() or '-'}\n")
         if len(lines) > self.MOST_LINES:
@@ -83,6 +86,14 @@ class Spool:
     def by_frames(self) -> bool:
         """Whether frame numbers are small enough to number the rows."""
         return self.number <= self.last_number
+
+    def numbers_text(self) -> str:
+        """How the rows are numbered, in words that are true of each."""
+        if not self.by_frames:
+            return "rows are numbered from 1"
+        words = "a row has the number of its frame"
+        words += "" if self.is_exact else ", or the next free one"
+        return words + (", and a gap the one before" if self.gaps else "")
 
     def replay(
         self, circuits: Sequence[xot.Circuit], first: int = 0, last_channel: int = LAST_CHANNEL, line_key: int = 0,

@@ -136,7 +136,7 @@ class Trace:
         header.window = evidence.values.get("WIN", header.window)
         header.size = evidence.values.get("SIZE", header.size)
         head = Head(header.line(), estimates=estimates(self.wishes, header, evidence))
-        head.comments.append(f"from {name} by x25trace, {self.reading.frames} frames; a row has the number of its frame")
+        head.comments.append(f"from {name} by x25trace, {self.reading.frames} frames; {self.spool.numbers_text()}")
         if head.estimates:
             head.comments.append(notes.estimates_text(head.estimates))
         for words in evidence.sentences():
