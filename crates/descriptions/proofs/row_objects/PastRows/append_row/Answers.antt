@@ -35,7 +35,7 @@ returns-clause-object g c i before line r text s lines head row is kept =
     let judged = c.in-Some-last_row.ensures w.0 (items_of w.0 (rows_in before)) (item_of w.0 r) (walked, keeps_rows g.C.Channel.interface_of g.C.Channel.number_of g.C.Channel.represents c.args.trace.now text c.in-Some.observer.now s.0 s.1 (sym c.observer.ensures ∙ ap (option_map (λ o. o.now)) c.in-Some.is)) in
     let past = subst (λ j. KeepsOrigins j (items_of j (rows_in before)) c.args.self.now.origins) (sym same) kept in
     let facts = c.facts-facts.ensures.facts w.0 (items_of w.0 (rows_in before)) (item_of w.0 r) judged
-    (c.in_ok-take.ensures.epoch w.0 (items_of w.0 (rows_in before)) past) (c.in_ok-take.ensures.follows w.0 (items_of w.0 (rows_in before)) (item_of w.0 r) c.in-Some.observer.now.events.items past judged) in
+    (c.in_ok-earlier.ensures.epoch w.0 (items_of w.0 (rows_in before)) past) (c.in_ok-earlier.ensures.follows w.0 (items_of w.0 (rows_in before)) (item_of w.0 r) c.in-Some.observer.now.events.items past judged) in
     let members = c.write_members.ensures line r is (written_row before line r row) (c.facts-facts.ensures.length ∙ ap (λ v. v.length) (c.row-row.ensures.last text s (rows_in before) r rows)) in
     let out = c.args.out.now.items in
     let after = c.append_object.new.out.items in
@@ -67,8 +67,8 @@ returns-clause-kept g c i before line r text s lines head row is kept =
     let same : w.0 ≡ i = same_interface (head_of before) w.0 i (sym (headed_row before line r row) ∙ ap head_of (sym lines) ∙ sym s.0.reads.interface ∙ w.1.header) head in
     let judged = c.in-Some-last_row.ensures w.0 (items_of w.0 (rows_in before)) (item_of w.0 r) (walked, keeps_rows g.C.Channel.interface_of g.C.Channel.number_of g.C.Channel.represents c.args.trace.now text c.in-Some.observer.now s.0 s.1 (sym c.observer.ensures ∙ ap (option_map (λ o. o.now)) c.in-Some.is)) in
     let past = subst (λ j. KeepsOrigins j (items_of j (rows_in before)) c.args.self.now.origins) (sym same) kept in
-    subst (λ j. KeepsOrigins j (items_of j (rows_in before) ++ item_of j r ∷ []) c.take.new.self) same
-    (c.in_ok-take.ensures.kept w.0 (items_of w.0 (rows_in before)) (item_of w.0 r) c.in-Some.observer.now.events.items past judged (c.epoch.ensures.walked w.0 (items_of w.0 (rows_in before) ++ item_of w.0 r ∷ []) walked))
+    subst (λ j. KeepsOrigins j (items_of j (rows_in before) ++ item_of j r ∷ []) c.take-2.new.self) same
+    (c.in_ok-earlier.ensures.kept w.0 (items_of w.0 (rows_in before)) (item_of w.0 r) c.in-Some.observer.now.events.items past judged (c.epoch.ensures.walked w.0 (items_of w.0 (rows_in before) ++ item_of w.0 r ∷ []) walked))
 
 pub returns-then-not-picked-clause-kept : goal.returns-then-not-picked-clause-kept
 returns-then-not-picked-clause-kept g c i before line r text s lines head row is kept =
@@ -78,5 +78,5 @@ returns-then-not-picked-clause-kept g c i before line r text s lines head row is
     let same : w.0 ≡ i = same_interface (head_of before) w.0 i (sym (headed_row before line r row) ∙ ap head_of (sym lines) ∙ sym s.0.reads.interface ∙ w.1.header) head in
     let judged = c.in-Some-last_row.ensures w.0 (items_of w.0 (rows_in before)) (item_of w.0 r) (walked, keeps_rows g.C.Channel.interface_of g.C.Channel.number_of g.C.Channel.represents c.args.trace.now text c.in-Some.observer.now s.0 s.1 (sym c.observer.ensures ∙ ap (option_map (λ o. o.now)) c.in-Some.is)) in
     let past = subst (λ j. KeepsOrigins j (items_of j (rows_in before)) c.args.self.now.origins) (sym same) kept in
-    subst (λ j. KeepsOrigins j (items_of j (rows_in before) ++ item_of j r ∷ []) c.take.new.self) same
-    (c.in_ok-take.ensures.kept w.0 (items_of w.0 (rows_in before)) (item_of w.0 r) c.in-Some.observer.now.events.items past judged (c.epoch.ensures.walked w.0 (items_of w.0 (rows_in before) ++ item_of w.0 r ∷ []) walked))
+    subst (λ j. KeepsOrigins j (items_of j (rows_in before) ++ item_of j r ∷ []) c.take-2.new.self) same
+    (c.in_ok-earlier.ensures.kept w.0 (items_of w.0 (rows_in before)) (item_of w.0 r) c.in-Some.observer.now.events.items past judged (c.epoch.ensures.walked w.0 (items_of w.0 (rows_in before) ++ item_of w.0 r ∷ []) walked))
