@@ -1,6 +1,6 @@
 //! What a receiver does where no frame is missing.
 
-ghost use Rattle.std.specs.Prelude.{◌≡◌, ◌==◌, ℕ, List, [], false, Some, true};
+ghost use Rattle.std.specs.Prelude.{◌≡◌, ◌==◌, ℕ, Bool, List, [], false, Some, true};
 ghost use Rattle.lapb_link.specs.Frames.{IFrame, is_repeated};
 ghost use Rattle.lapb_link.specs.Receiving.{acknowledged, informed, is_inside, is_repeated_number};
 ghost use Rattle.lapb_link.specs.WithoutLosses.{AreNumbered, AreWhole, IsAccepted, IsInside, IsRepeated, Seen, all_frames, all_shown};
