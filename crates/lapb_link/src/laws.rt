@@ -31,4 +31,8 @@ pub fn inside_acknowledgement_shows_nothing()
 pub fn without_losses()
     ensures { (ss : List Seen) (r : AnyReceiver) (n : ℕ) → r.next ≡ Some n → r.held ≡ [] → AreWhole ss r
         → (all_shown ss r ≡ []) × AreNumbered n (all_frames ss r) }
-{}
+{
+    next_frame_is_accepted();
+    repeated_frame_is_left_out();
+    inside_acknowledgement_shows_nothing();
+}
