@@ -1,0 +1,3 @@
+pub mod WindowLemmas
+pub mod RecordLemmas
+pub mod BlockLemmas

@@ -1,0 +1,10 @@
+pub mod Windows
+pub mod Numbers
+pub mod Entries
+pub mod PcapRecords
+pub mod PcapSteps
+pub mod Blocks
+pub mod BlockFrames
+pub mod BlockSteps
+pub mod PcapHeaders
+pub mod CaptureSteps
