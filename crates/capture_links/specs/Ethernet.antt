@@ -1,5 +1,5 @@
 -- What an Ethernet type carries.
-use Rattle.std.specs.Prelude.{ℕ, ◌+◌, ◌-◌, ◌*◌, ◌==◌, ◌||◌, nat_lt, Bool, false, List, [], ◌∷◌, drop, take, if◌then◌else◌}
+use Rattle.std.specs.Prelude.{ℕ, ◌+◌, ◌-◌, ◌*◌, ◌==◌, ◌||◌, nat_lt, Bool, false, List, ◌∷◌, drop, take, if◌then◌else◌}
 use Rattle.capture_links.specs.Views.{Payload, Carried, Internet, Lapb, Device, Other, Cut}
 
 abbrev pub two_octets : (high low : ℕ) → ℕ

@@ -1,14 +1,13 @@
 -- Frames of which none is missing.
-use Rattle.std.proofs.Common.{◌≡◌, ◌∙◌, ◌⊎◌, inl, inr, refl, sym, ap, subst, ℕ, ◌==◌, ◌++◌, Bool, true, false, List, [], ◌∷◌, Some, unwrap_or}
+use Rattle.std.proofs.Common.{◌≡◌, ◌∙◌, inl, inr, refl, sym, ap, subst, ℕ, ◌==◌, ◌++◌, Bool, true, false, List, [], ◌∷◌, Some, unwrap_or}
 use Rattle.lapb_link.specs.Numbers.{after}
 use Rattle.lapb_link.specs.Frames.{IFrame, is_repeated}
 use Rattle.lapb_link.specs.Receiving.{acknowledged, informed, is_inside, is_repeated_number}
-use Rattle.lapb_link.specs.WithoutLosses.{Seen, Sent, Received, IsAccepted, IsRepeated, IsInside, AreWhole, AreNumbered, all_shown, all_frames, after_seen, frames_if}
+use Rattle.lapb_link.specs.WithoutLosses.{Seen, Sent, Received, IsAccepted, IsRepeated, IsInside, AreWhole, AreNumbered, all_shown, all_frames, frames_if}
 use Rattle.lapb_link.specs.declared.frames.Reading.{Reading}
 use Rattle.lapb_link.specs.declared.receiver.Receiver.{Receiver}
 use Rattle.lapb_link.specs.declared.receiver.Shown.{Shown}
 use Rattle.lapb_link.specs.declared.receiver.Fate.{Fate}
-use Rattle.lapb_link.specs.declared.receiver.Fate.TheVariants.{Accepted, Repeated}
 
 -- what holds of one frame, and of one N(R)
 abbrev pub Accepts : Type 0
