@@ -1,5 +1,5 @@
 -- A tag, and octets without one.
-use Rattle.std.proofs.Common.{◌≡◌, sym, refl, absurd, true≢false, ℕ, ◌-◌, true, false, List, [], ◌∷◌, drop}
+use Rattle.std.proofs.Common.{◌≡◌, sym, refl, true≢false, ℕ, ◌-◌, ◌<◌, true, false, List, [], ◌∷◌, drop, length, arith}
 use Rattle.std.proofs.lemmas.Bool.{cond-true, cond-false}
 use Rattle.capture_links.specs.Views.{Payload}
 use Rattle.capture_links.specs.Ethernet.{is_tag, is_tagged, two_octets, untagged}
@@ -20,3 +20,10 @@ untagged_none (a ∷ []) n h = refl
 untagged_none (a ∷ b ∷ []) n h = refl
 untagged_none (a ∷ b ∷ c ∷ []) n h = refl
 untagged_none (a ∷ b ∷ c ∷ d ∷ xs) n h = cond-false (is_tag (two_octets a b)) (untagged xs (n - 4)) (plain (a ∷ b ∷ c ∷ d ∷ xs) n) h
+
+pub tagged_long : (xs : List ℕ) → is_tagged xs ≡ true → length (drop 4 xs) < length xs
+tagged_long [] h = absurd (true≢false (sym h))
+tagged_long (a ∷ []) h = absurd (true≢false (sym h))
+tagged_long (a ∷ b ∷ []) h = absurd (true≢false (sym h))
+tagged_long (a ∷ b ∷ c ∷ []) h = absurd (true≢false (sym h))
+tagged_long (a ∷ b ∷ c ∷ d ∷ xs) h = omega arith

@@ -1,5 +1,5 @@
 -- What an Ethernet type carries.
-use Rattle.std.specs.Prelude.{ℕ, ◌+◌, ◌-◌, ◌*◌, ◌==◌, ◌&&◌, ◌||◌, nat_le, nat_lt, Bool, List, [], ◌∷◌, drop, length, slice_index, take, if◌then◌else◌}
+use Rattle.std.specs.Prelude.{ℕ, ◌+◌, ◌-◌, ◌*◌, ◌==◌, ◌||◌, nat_lt, Bool, false, List, ◌∷◌, drop, take, if◌then◌else◌}
 use Rattle.capture_links.specs.Views.{Payload, Carried, Internet, Lapb, Device, Other, Cut}
 
 abbrev pub two_octets : (high low : ℕ) → ℕ
@@ -15,7 +15,8 @@ is_tag n = n == 0x8100 || (n == 0x88A8 || n == 0x9100)
 
 -- octets begin with a whole tag: its type and its control information
 abbrev pub is_tagged : List ℕ → Bool
-is_tagged xs = nat_le 4 (length xs) && is_tag (two_octets (slice_index xs 0) (slice_index xs 1))
+is_tagged (a ∷ b ∷ c ∷ d ∷ xs) = is_tag (two_octets a b)
+is_tagged xs = false
 
 -- what comes after tags of four octets
 abbrev pub untagged : List ℕ → (length : ℕ) → Payload

@@ -1,6 +1,5 @@
 -- The link header of each link type.
-use Rattle.std.specs.Prelude.{ℕ, ◌==◌, ◌||◌, List, [], ◌∷◌, Option, Some, None, if◌then◌else◌}
-use Rattle.std.specs.List.{list_any}
+use Rattle.std.specs.Prelude.{ℕ, ◌==◌, ◌||◌, Option, Some, None, if◌then◌else◌}
 use Rattle.capture_links.specs.declared.kind.LinkKind.{LinkKind}
 use Rattle.capture_links.specs.declared.kind.LinkKind.TheVariants as kind
 

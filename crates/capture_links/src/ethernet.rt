@@ -37,11 +37,14 @@ pub(crate) fn after<'a>(payload: Payload<'a>, count: u8) -> Payload<'a>
 fn is_tagged(octets: &[u8]) -> bool
     ensures { result ≡ is_tagged octets.now }
 {
-    octets.len() >= 4 && is_tag(two_octets(octets[0], octets[1]))
+    match octets {
+        [high, low, _, _, ..] => is_tag(two_octets(*high, *low)),
+        _ => false,
+    }
 }
 
 /// Returns what comes after VLAN tags.
-#[tactic(auto, using(crate::proofs::Tags::untagged_tag, crate::proofs::Tags::untagged_none))]
+#[tactic(auto, using(crate::proofs::Tags::untagged_tag, crate::proofs::Tags::untagged_none, crate::proofs::Tags::tagged_long))]
 fn untagged<'a>(payload: Payload<'a>) -> Payload<'a>
     ensures { payload_view result ≡ untagged payload.entry.octets.now payload.entry.length }
 {

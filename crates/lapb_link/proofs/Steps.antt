@@ -1,5 +1,5 @@
 -- Four steps of the division, as a multiple.
-use Rattle.std.proofs.Common.{◌≡◌, refl, sym, ap, ℕ, zero, suc, ◌+◌, ◌*◌, ◌/◌, ◌<◌, ◌%◌, arith}
+use Rattle.std.proofs.Common.{◌≡◌, refl, sym, ap, ℕ, zero, suc, ◌*◌, ◌/◌, ◌<◌, ◌%◌, arith}
 use Rattle.std.specs.Int.Bits.{bit_xor}
 use Rattle.lapb_link.specs.Checks.{divided, steps}
 

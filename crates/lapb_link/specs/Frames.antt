@@ -1,5 +1,5 @@
 -- I frames of one direction: those that are held, and the last one of each number.
-use Rattle.std.specs.Prelude.{ℕ, ◌==◌, ◌+◌, ◌&&◌, ◌||◌, nat_le, min, Bool, true, false, not, List, [], ◌∷◌, length, take, replicate, slice_index_or, if◌then◌else◌}
+use Rattle.std.specs.Prelude.{ℕ, ◌==◌, ◌&&◌, ◌||◌, nat_le, min, Bool, true, false, not, List, [], ◌∷◌, length, take, replicate, slice_index_or, if◌then◌else◌}
 use Rattle.std.specs.List.{list_any}
 use Rattle.std.specs.Str.{bytes_eq}
 use Rattle.lapb_link.specs.Numbers.{after, ahead}

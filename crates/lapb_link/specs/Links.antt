@@ -1,5 +1,5 @@
 -- A link: the frames of both directions.
-use Rattle.std.specs.Prelude.{ℕ, ◌&&◌, ◌||◌, Bool, true, false, not, min, List, [], ◌∷◌, ◌++◌, Option, Some, None, is_some, slice_index, if◌then◌else◌}
+use Rattle.std.specs.Prelude.{ℕ, ◌&&◌, ◌||◌, Bool, true, false, not, min, List, [], ◌++◌, Option, Some, None, is_some, slice_index, if◌then◌else◌}
 use Rattle.std.specs.List.{list_any}
 use Rattle.line_model.specs.channels.Channels.{other}
 use Rattle.line_model.specs.declared.state.Side.{Side}
@@ -12,7 +12,7 @@ use Rattle.lapb_link.specs.Frames.{IFrame}
 use Rattle.lapb_link.specs.Receiving as receiving
 use Rattle.lapb_link.specs.Receiving.{Step, forgotten, gap_if, held_shown, informed, is_holding, set_up_again, supervised, unknown}
 use Rattle.lapb_link.specs.declared.modulus.Modulus.{Modulus}
-use Rattle.lapb_link.specs.declared.modulus.Modulus.TheVariants.{Basic, Extended}
+use Rattle.lapb_link.specs.declared.modulus.Modulus.TheVariants.{Basic}
 use Rattle.lapb_link.specs.declared.control.Control.{Control}
 use Rattle.lapb_link.specs.declared.control.Control.TheVariants as control
 use Rattle.lapb_link.specs.declared.control.Supervisory.TheVariants.{Rr}

@@ -1,5 +1,5 @@
 -- What octets of an unknown link look like.
-use Rattle.std.specs.Prelude.{ℕ, ◌+◌, ◌/◌, ◌%◌, ◌==◌, ◌&&◌, ◌||◌, nat_le, Bool, true, false, List, [], ◌∷◌, length, slice_index, Option, Some, None, if◌then◌else◌}
+use Rattle.std.specs.Prelude.{ℕ, ◌+◌, ◌/◌, ◌%◌, ◌==◌, ◌&&◌, ◌||◌, nat_le, Bool, false, List, ◌∷◌, length, slice_index, Option, Some, None, if◌then◌else◌}
 use Rattle.lapb_link.specs.Checks.{unframed}
 use Rattle.lapb_link.specs.Controls.{unnumbered_of}
 use Rattle.lapb_link.specs.declared.control.Unnumbered.{Unnumbered}

@@ -1,6 +1,6 @@
 //! What a receiver does where no frame is missing.
 
-ghost use Rattle.std.specs.Prelude.{◌≡◌, ◌==◌, ℕ, List, [], false, Some, true};
+ghost use Rattle.std.specs.Prelude.{◌≡◌, ◌==◌, ℕ, Bool, List, [], false, Some, true};
 ghost use Rattle.lapb_link.specs.Frames.{IFrame, is_repeated};
 ghost use Rattle.lapb_link.specs.Receiving.{acknowledged, informed, is_inside, is_repeated_number};
 ghost use Rattle.lapb_link.specs.WithoutLosses.{AreNumbered, AreWhole, IsAccepted, IsInside, IsRepeated, Seen, all_frames, all_shown};
@@ -31,4 +31,8 @@ pub fn inside_acknowledgement_shows_nothing()
 pub fn without_losses()
     ensures { (ss : List Seen) (r : AnyReceiver) (n : ℕ) → r.next ≡ Some n → r.held ≡ [] → AreWhole ss r
         → (all_shown ss r ≡ []) × AreNumbered n (all_frames ss r) }
-{}
+{
+    next_frame_is_accepted();
+    repeated_frame_is_left_out();
+    inside_acknowledgement_shows_nothing();
+}

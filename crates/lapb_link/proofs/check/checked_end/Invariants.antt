@@ -1,5 +1,5 @@
 -- The octets so far leave the end that the rest goes on from.
-use Rattle.std.proofs.Common.{◌≡◌, ◌≤◌, ◌<◌, IfSome, drop, length}
+use Rattle.std.proofs.Common.{◌≡◌, ◌≤◌, IfSome, drop}
 use Rattle.lapb_link.specs.Checks.{end_from, checked_end}
 use Rattle.lapb_link.proofs.check.checked_end.Given as goal
 
