@@ -17,6 +17,7 @@ taken_twice xs k n = by_size (cases_lt (min k (length xs)) n)
   where
     few : length (take (min k (length xs)) xs) ≤ min k (length xs)
     few = omega (arith, length-take (min k (length xs)) xs)
+
     by_size : (min k (length xs) < n) ⊎ (n ≤ min k (length xs)) → take (min (min (length xs) k) n) xs ≡ take n (take k xs)
     by_size (inl less) =
         let all : min (min (length xs) k) n ≡ min k (length xs) = omega (arith, less) in

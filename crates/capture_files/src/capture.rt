@@ -1,6 +1,6 @@
 //! A capture file of either format.
 
-ghost use Rattle.std.specs.Prelude.{◌≡◌, ◌≤◌, ◌++◌, [], ℕ, List, IfOk, OnErr, OnOk, length};
+ghost use Rattle.std.specs.Prelude.{[], ℕ, List, IfOk, OnErr, OnOk};
 ghost use Rattle.capture_files.specs.CaptureSteps.{IsOpened, IsStep};
 ghost use Rattle.capture_files.specs.Windows.{Advances};
 

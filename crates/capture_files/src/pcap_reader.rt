@@ -1,6 +1,6 @@
 //! The reader of a pcap file after its header.
 
-ghost use Rattle.std.specs.Prelude.{◌≡◌, ◌+◌, ◌≤◌, ◌<◌, [], ◌++◌, ℕ, List, IfOk, IfSome, IsSome, None, OnErr, OnOk, drop, length, take};
+ghost use Rattle.std.specs.Prelude.{◌≡◌, ◌+◌, ◌≤◌, ◌<◌, [], ◌++◌, ℕ, List, IfOk, IfSome, IsSome, None, OnErr, OnOk, length};
 ghost use Rattle.capture_files.specs.Entries.{frame_at};
 ghost use Rattle.capture_files.specs.Numbers.{next_number};
 ghost use Rattle.capture_files.specs.PcapRecords.{Begins, header_size, kept, pcap_frame};

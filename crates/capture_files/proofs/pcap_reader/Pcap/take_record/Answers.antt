@@ -22,8 +22,8 @@ returns-clause-entry g c =
       frame = search rules;
       whole = λ some none. whole_record c.args.self.now.form old grown.0 last c.args.size c.requires.begins c.requires.size is_taken (omega (arith, same, c.record.ensures.whole none));
       cut = λ some cut.
-        let less : length last < c.args.size = omega (arith, same, c.record.ensures.cut cut) in
-        let all : length new ≤ c.min.result = omega (arith, less, size, c.min.ensures, c.len.ensures) in
-        (cut_record c.args.self.now.form old grown.0 last c.args.size c.requires.begins c.requires.size is_taken less, c.take.ensures.ahead ∙ drop_of_length-le new all);
+          let less : length last < c.args.size = omega (arith, same, c.record.ensures.cut cut) in
+          let all : length new ≤ c.min.result = omega (arith, less, size, c.min.ensures, c.len.ensures) in
+          (cut_record c.args.self.now.form old grown.0 last c.args.size c.requires.begins c.requires.size is_taken less, c.take.ensures.ahead ∙ drop_of_length-le new all);
       none = λ _ is_none _. cc (rw is_none at c.record.ensures.some);
     }
