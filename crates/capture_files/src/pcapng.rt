@@ -1,13 +1,13 @@
 //! The reader of a pcapng file.
 
-ghost use Rattle.std.specs.Prelude.{◌≡◌, ◌+◌, ◌≤◌, [], ◌++◌, ℕ, List, IfOk, IfSome, IsSome, None, OnErr, OnOk, false, length, slice_get, true};
+ghost use Rattle.std.specs.Prelude.{◌≡◌, ◌+◌, ◌≤◌, [], ◌++◌, ℕ, List, IfNone, IfOk, IfSome, IsSome, None, OnErr, OnOk, false, length, slice_get, true};
 ghost use Rattle.capture_files.specs.BlockFrames.{body_of};
 ghost use Rattle.capture_files.specs.Blocks.{BeginsBlock, block_length};
 ghost use Rattle.capture_files.specs.BlockSteps.{IsBlockEntry, IsBlockStep, IsDescribed, IsFrameOf, IsOneMore, first_snap};
 ghost use Rattle.capture_files.specs.Entries.{frame_at};
 ghost use Rattle.capture_files.specs.Numbers as numbers;
 ghost use Rattle.capture_files.specs.Numbers.{number};
-ghost use Rattle.capture_files.specs.Windows.{Advances};
+ghost use Rattle.capture_files.specs.Windows.{Advances, IsAtEnd, still};
 
 use crate::block::{
     BlockStart, ENHANCED, HEAD, INTERFACE, NUMBERED, PACKET, SECTION, SIMPLE, STATISTICS,
@@ -442,6 +442,8 @@ impl Pcapng {
     ) -> Result<Option<Entry>, Fault>
         ensures passes { OnOk result (Advances window.old (S.left source.old) window.new (S.left source.new) window.new.last) }
         ensures refused { OnErr result (Advances window.old (S.left source.old) window.new (S.left source.new) []) }
+        ensures end { IfOk result (λ entry. IfNone entry
+            (IsAtEnd (still window.old.ahead (S.left source.old)) (S.left source.new))) }
         ensures step { IfOk result (λ entry. IsBlockStep self.old self.new window.new entry) }
     {
         if let Some(search) = self.search {

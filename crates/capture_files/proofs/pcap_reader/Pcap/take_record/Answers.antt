@@ -1,5 +1,5 @@
 -- The octets of a record come first in the file, and are those of the entry.
-use Rattle.std.proofs.Common.{◌≡◌, ◌∙◌, ◌++◌, ◌<◌, ◌≤◌, [], ap, arith, length, length-take-le, min, rules, sym, take}
+use Rattle.std.proofs.Common.{◌≡◌, ◌∙◌, ◌++◌, ◌<◌, ◌≤◌, ap, arith, length, length-take-le, min, rules, take}
 use Rattle.std.proofs.Math.ListN.{drop_of_length-le}
 use Rattle.capture_files.proofs.RecordLemmas.{cut_record, whole_record}
 use Rattle.capture_files.proofs.WindowLemmas.{taken}

@@ -1,5 +1,5 @@
 -- The frame is where the block has it, and of the interface that it names.
-use Rattle.std.proofs.Common.{◌≡◌, ◌∙◌, ap, sym}
+use Rattle.std.proofs.Common.{◌∙◌, ap, sym}
 use Rattle.capture_files.specs.BlockFrames.{block_frame, placed_in}
 use Rattle.capture_files.proofs.pcapng.Pcapng.framed.Goals as goal
 
