@@ -1,5 +1,5 @@
 -- Blocks at the front of more or fewer of a file's octets, and octets that are cut.
-use Rattle.std.proofs.Common.{◌≡◌, ◌∙◌, sym, ap, Bool, true, false, ℕ, ◌+◌, ◌-◌, ◌%◌, ◌<◌, ◌≤◌, List, ◌++◌, arith, drop, length, length-append, length-take, length-take-le, min, refl, take, take_all, take-take, inl, inr, ◌⊎◌, IfSome, None, Option, Some, subst}
+use Rattle.std.proofs.Common.{◌≡◌, ◌∙◌, sym, ap, Bool, true, ℕ, ◌+◌, ◌-◌, ◌%◌, ◌<◌, ◌≤◌, List, ◌++◌, arith, drop, length, length-append, length-take, length-take-le, min, refl, take, take_all, take-take, inl, inr, ◌⊎◌, IfSome, None, Option, Some, subst}
 use Rattle.std.proofs.lemmas.Bool.{cases_lt, le-ltb}
 use Rattle.std.proofs.lemmas.List.{drop-take, take_min}
 use Rattle.capture_files.specs.Blocks.{BeginsBlock, IsBlock, IsCutBlock, block_length, order_at, order_of}
@@ -17,6 +17,7 @@ taken_twice xs k n = by_size (cases_lt (min k (length xs)) n)
   where
     few : length (take (min k (length xs)) xs) ≤ min k (length xs)
     few = omega (arith, length-take (min k (length xs)) xs)
+
     by_size : (min k (length xs) < n) ⊎ (n ≤ min k (length xs)) → take (min (min (length xs) k) n) xs ≡ take n (take k xs)
     by_size (inl less) =
         let all : min (min (length xs) k) n ≡ min k (length xs) = omega (arith, less) in

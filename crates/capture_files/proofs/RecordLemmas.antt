@@ -1,5 +1,5 @@
 -- Numbers of a file at the front of more or fewer of its octets, and the records that they begin.
-use Rattle.std.proofs.Common.{◌≡◌, ◌∙◌, sym, ap, Bool, None, ℕ, ◌+◌, ◌-◌, ◌<◌, ◌≤◌, List, ◌++◌, arith, drop, length, length-append, length-drop, length-take-le, min, refl, take, take-take}
+use Rattle.std.proofs.Common.{◌≡◌, ◌∙◌, ap, Bool, None, ℕ, ◌+◌, ◌-◌, ◌<◌, ◌≤◌, List, ◌++◌, arith, drop, length, length-append, length-drop, length-take-le, min, refl, take, take-take}
 use Rattle.std.proofs.lemmas.List.{drop-append-le, drop-take, take-append-le}
 use Rattle.capture_files.specs.Numbers.{number}
 use Rattle.capture_files.specs.PcapSteps.{IsPcapEntry}

@@ -1,5 +1,5 @@
 -- The frames of the blocks of a pcapng file.
-use Rattle.std.specs.Prelude.{◌≡◌, ℕ, ◌+◌, ◌-◌, ◌*◌, ◌/◌, ◌^◌, ◌<◌, ◌≤◌, ◌+ℤ◌, ◌*ℤ◌, Bool, List, Option, None, Some, drop, length, max, min, nat_eq, nat_lt, pos, take, if◌then◌else◌}
+use Rattle.std.specs.Prelude.{ℕ, ◌+◌, ◌-◌, ◌*◌, ◌/◌, ◌^◌, ◌+ℤ◌, ◌*ℤ◌, Bool, List, Option, None, Some, drop, length, max, min, nat_eq, nat_lt, pos, take, if◌then◌else◌}
 use Rattle.std.specs.Option.{option_map}
 use Rattle.capture_model.specs.Frames.{Frame}
 use Rattle.capture_model.specs.declared.time.Nanos.{Nanos}

@@ -1,6 +1,6 @@
 //! The blocks of a pcapng file.
 
-ghost use Rattle.std.specs.Prelude.{◌≡◌, ◌≤◌, ◌<◌, IfSome, length};
+ghost use Rattle.std.specs.Prelude.{◌≡◌, ◌<◌, IfSome, length};
 ghost use Rattle.capture_files.specs.Blocks.{IsBlockStart, order_at};
 
 use crate::numbers::read_four;
@@ -21,6 +21,7 @@ pub(crate) const ENHANCED: u32 = 6;
 pub(crate) const NUMBERED: [u32; 3] = [9, 0xBAD, 0x4000_0BAD];
 /// The other types that a search knows: names and secrets.
 const NAMES: u32 = 4;
+
 const SECRETS: u32 = 10;
 
 /// How many octets of a block come before its body, with the byte order of a section.

@@ -1,8 +1,8 @@
 //! A capture file of either format.
 
-ghost use Rattle.std.specs.Prelude.{◌≡◌, ◌≤◌, ◌++◌, [], ℕ, List, IfOk, OnErr, OnOk, length};
+ghost use Rattle.std.specs.Prelude.{[], ℕ, List, IfNone, IfOk, OnErr, OnOk};
 ghost use Rattle.capture_files.specs.CaptureSteps.{IsOpened, IsStep};
-ghost use Rattle.capture_files.specs.Windows.{Advances};
+ghost use Rattle.capture_files.specs.Windows.{Advances, IsAtEnd, still};
 
 use crate::entry::Entry;
 use crate::pcap_header::open_pcap;
@@ -61,6 +61,8 @@ impl CaptureFile {
     ) -> Result<Option<Entry>, Fault>
         ensures passes { OnOk result (Advances window.old (S.left source.old) window.new (S.left source.new) window.new.last) }
         ensures refused { OnErr result (Advances window.old (S.left source.old) window.new (S.left source.new) []) }
+        ensures end { IfOk result (λ entry. IfNone entry
+            (IsAtEnd (still window.old.ahead (S.left source.old)) (S.left source.new))) }
         ensures step { IfOk result (λ entry. IsStep self.old self.new window.new entry) }
     {
         match self {

@@ -10,7 +10,9 @@ use capture_model::time::Nanos;
 
 /// The options of a description.
 const RESOLUTION: u16 = 9;
+
 const CHECK_LENGTH: u16 = 13;
+
 const OFFSET: u16 = 14;
 
 /// What the description of an interface says of its frames.

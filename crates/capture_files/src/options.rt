@@ -1,6 +1,6 @@
 //! The options of blocks.
 
-ghost use Rattle.std.specs.Prelude.{◌+◌, ◌<◌, ◌≤◌, IfSome, length};
+ghost use Rattle.std.specs.Prelude.{◌<◌, ◌≤◌, IfSome, length};
 
 use crate::numbers::{read_four, read_two};
 use capture_model::frame::Direction;

@@ -17,6 +17,7 @@ use streams::room_source::RoomSource;
 const HEADER: usize = 24;
 /// How many octets a record may always have, and at most (profile).
 const LARGEST: u32 = 262_144;
+
 const MOST: u32 = 1 << 24;
 
 /// Returns the headers of records that files of a magic number may have, the form's own first: the others are of old forms

@@ -1,11 +1,11 @@
 //! The reader of a pcap file after its header.
 
-ghost use Rattle.std.specs.Prelude.{◌≡◌, ◌+◌, ◌≤◌, ◌<◌, [], ◌++◌, ℕ, List, IfOk, IfSome, IsSome, None, OnErr, OnOk, drop, length, take};
+ghost use Rattle.std.specs.Prelude.{◌≡◌, ◌+◌, ◌≤◌, ◌<◌, [], ◌++◌, ℕ, List, IfNone, IfOk, IfSome, IsSome, None, OnErr, OnOk, length};
 ghost use Rattle.capture_files.specs.Entries.{frame_at};
 ghost use Rattle.capture_files.specs.Numbers.{next_number};
 ghost use Rattle.capture_files.specs.PcapRecords.{Begins, header_size, kept, pcap_frame};
 ghost use Rattle.capture_files.specs.PcapSteps.{IsPcapEntry, IsPcapStep, IsStart};
-ghost use Rattle.capture_files.specs.Windows.{Advances};
+ghost use Rattle.capture_files.specs.Windows.{Advances, IsAtEnd, still};
 
 use crate::entry::{Dropped, Entry};
 use crate::numbers::read_four;
@@ -208,6 +208,8 @@ impl Pcap {
     ) -> Result<Option<Entry>, Fault>
         ensures passes { OnOk result (Advances window.old (S.left source.old) window.new (S.left source.new) window.new.last) }
         ensures refused { OnErr result (Advances window.old (S.left source.old) window.new (S.left source.new) []) }
+        ensures end { IfOk result (λ entry. IfNone entry
+            (IsAtEnd (still window.old.ahead (S.left source.old)) (S.left source.new))) }
         ensures step { IfOk result (λ entry. IsPcapStep self.old window.new entry) }
     {
         if let Some(search) = self.search {

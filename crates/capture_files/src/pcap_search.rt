@@ -29,7 +29,11 @@ impl PcapForm {
         let share = read_four(self.is_big, octets, at + 4);
         let kept = read_four(self.is_big, octets, at + 8);
         let length = read_four(self.is_big, octets, at + 12);
-        let parts = if self.is_nano { 1_000_000_000 } else { 1_000_000 };
+        let parts = if self.is_nano {
+            1_000_000_000
+        } else {
+            1_000_000
+        };
         let is_one = 0 < kept && kept <= length && length <= self.largest && share < parts;
         if is_one { Some(kept) } else { None }
     }

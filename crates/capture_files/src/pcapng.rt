@@ -1,13 +1,13 @@
 //! The reader of a pcapng file.
 
-ghost use Rattle.std.specs.Prelude.{◌≡◌, ◌+◌, ◌≤◌, ◌<◌, [], ◌++◌, Bool, ℕ, List, IfOk, IfSome, IsSome, None, OnErr, OnOk, false, length, slice_get, true};
+ghost use Rattle.std.specs.Prelude.{◌≡◌, ◌+◌, ◌≤◌, [], ◌++◌, ℕ, List, IfNone, IfOk, IfSome, IsSome, None, OnErr, OnOk, false, length, slice_get, true};
 ghost use Rattle.capture_files.specs.BlockFrames.{body_of};
-ghost use Rattle.capture_files.specs.Blocks.{BeginsBlock, block_length, order_at};
+ghost use Rattle.capture_files.specs.Blocks.{BeginsBlock, block_length};
 ghost use Rattle.capture_files.specs.BlockSteps.{IsBlockEntry, IsBlockStep, IsDescribed, IsFrameOf, IsOneMore, first_snap};
 ghost use Rattle.capture_files.specs.Entries.{frame_at};
 ghost use Rattle.capture_files.specs.Numbers as numbers;
 ghost use Rattle.capture_files.specs.Numbers.{number};
-ghost use Rattle.capture_files.specs.Windows.{Advances};
+ghost use Rattle.capture_files.specs.Windows.{Advances, IsAtEnd, still};
 
 use crate::block::{
     BlockStart, ENHANCED, HEAD, INTERFACE, NUMBERED, PACKET, SECTION, SIMPLE, STATISTICS,
@@ -105,7 +105,8 @@ impl Pcapng {
                 second: read_four(self.is_big, octets, size - 4),
             }
         };
-        let is_whole = matches!(fault, FileFault::LengthsDiffer { first, second } if first == second);
+        let is_whole =
+            matches!(fault, FileFault::LengthsDiffer { first, second } if first == second);
         if is_whole {
             return None;
         }
@@ -270,7 +271,7 @@ impl Pcapng {
         requires { 8 ≤ length body.now }
         ensures frame { IfSome result.frame (λ head. (head.from + head.kept ≤ length body.now)
             × IsFrameOf self.old.is_big kind self.old.interfaces.items self.old.first_interface
-                (numbers.next_number self.old.number) body.now (frame_at head body.now)) }
+            (numbers.next_number self.old.number) body.now (frame_at head body.now)) }
         ensures interfaces { self.new.interfaces.items ≡ self.old.interfaces.items }
     {
         self.number = next_number(self.number);
@@ -305,7 +306,7 @@ impl Pcapng {
         requires { 8 ≤ length body.now }
         ensures frame { IfOk result (λ entry. IfSome entry.frame (λ head. (head.from + head.kept ≤ length body.now)
             × IsFrameOf self.old.is_big kind self.old.interfaces.items self.old.first_interface
-                (numbers.next_number self.old.number) body.now (frame_at head body.now))) }
+            (numbers.next_number self.old.number) body.now (frame_at head body.now))) }
         ensures described { OnOk result (IsDescribed self.old.is_big kind body.now self.old.interfaces.items
             self.new.interfaces.items) }
     {
@@ -325,8 +326,8 @@ impl Pcapng {
         requires said { said ≡ block_length self.old.is_big octets.now }
         ensures frame { IfOk result (λ entry. IfSome entry.frame (λ head. (head.from + head.kept ≤ length octets.now)
             × IsFrameOf self.old.is_big (number self.old.is_big octets.now) self.old.interfaces.items
-                self.old.first_interface (numbers.next_number self.old.number) (body_of self.old.is_big octets.now)
-                (frame_at head octets.now))) }
+            self.old.first_interface (numbers.next_number self.old.number) (body_of self.old.is_big octets.now)
+            (frame_at head octets.now))) }
         ensures described { OnOk result (IsDescribed self.old.is_big (number self.old.is_big octets.now)
             (body_of self.old.is_big octets.now) self.old.interfaces.items self.new.interfaces.items) }
     {
@@ -441,6 +442,8 @@ impl Pcapng {
     ) -> Result<Option<Entry>, Fault>
         ensures passes { OnOk result (Advances window.old (S.left source.old) window.new (S.left source.new) window.new.last) }
         ensures refused { OnErr result (Advances window.old (S.left source.old) window.new (S.left source.new) []) }
+        ensures end { IfOk result (λ entry. IfNone entry
+            (IsAtEnd (still window.old.ahead (S.left source.old)) (S.left source.new))) }
         ensures step { IfOk result (λ entry. IsBlockStep self.old self.new window.new entry) }
     {
         if let Some(search) = self.search {

@@ -1,6 +1,6 @@
 //! The part of a file that is in memory.
 
-ghost use Rattle.std.specs.Prelude.{◌≡◌, ◌+◌, ◌≤◌, ◌<◌, ◌^◌, ◌⊎◌, ℕ, List, [], ◌++◌, IfOk, IfErr, OnErr, OnOk, drop, length, take};
+ghost use Rattle.std.specs.Prelude.{◌≡◌, ◌+◌, ◌≤◌, ◌^◌, ◌⊎◌, ℕ, List, [], ◌++◌, IfOk, OnErr, OnOk, drop, length, take};
 ghost use Rattle.line_model.specs.basics.Device.{Gives};
 ghost use Rattle.capture_files.specs.Windows.{Advances, IsAtEnd, still};
 

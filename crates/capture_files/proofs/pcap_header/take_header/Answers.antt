@@ -1,5 +1,5 @@
 -- The header comes first in the file.
-use Rattle.std.proofs.Common.{◌≡◌, ◌∙◌, ◌≤◌, ap, arith, length, length-take-le, rules}
+use Rattle.std.proofs.Common.{◌∙◌, ◌≤◌, ap, length, length-take-le, rules}
 use Rattle.capture_files.proofs.WindowLemmas.{taken}
 use Rattle.capture_files.proofs.pcap_header.take_header.Goals as goal
 

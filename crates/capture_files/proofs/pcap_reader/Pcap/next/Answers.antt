@@ -1,5 +1,5 @@
--- A search begins where no record does.
-use Rattle.std.proofs.Common.{◌∙◌, ◌++◌, ap, sym}
+-- A search begins where no record does. Nothing is left where the octets ahead end.
+use Rattle.std.proofs.Common.{◌∙◌, ◌++◌, ap, arith, inl, inr, length, sym}
 use Rattle.capture_files.proofs.RecordLemmas.{no_frame, none_begins}
 use Rattle.capture_files.proofs.pcap_reader.Pcap.next.Goals as goal
 
@@ -8,3 +8,6 @@ returns-in_ok-search_on-in-Long-clause-step g c =
     let front = c.in_ok-search_on-in-Long.ensures.front in
     let start = c.in-Long.ensures in
     no_frame c.args.self.now _ _ _ c.in_ok-search_on-in-Long.ensures.frame (λ _. none_begins c.args.self.now.form c.ahead.result.now front.0 _ (front.1 ∙ ap (λ xs. xs ++ front.0) (sym c.ahead.ensures)) start.0 start.1)
+
+pub returns-in-End-clause-end : goal.returns-in-End-clause-end
+returns-in-End-clause-end g c = elim c.in_ok-fill.ensures.there [ inl le ↦ absurd (omega (arith, le, c.in-End.ensures, ap length c.ahead.ensures, c.size.ensures.least)) | inr end ↦ end ]

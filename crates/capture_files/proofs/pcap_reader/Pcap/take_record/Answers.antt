@@ -1,5 +1,5 @@
 -- The octets of a record come first in the file, and are those of the entry.
-use Rattle.std.proofs.Common.{◌≡◌, ◌∙◌, ◌++◌, ◌<◌, ◌≤◌, [], ap, arith, length, length-take-le, min, rules, sym, take}
+use Rattle.std.proofs.Common.{◌≡◌, ◌∙◌, ◌++◌, ◌<◌, ◌≤◌, ap, arith, length, length-take-le, min, rules, take}
 use Rattle.std.proofs.Math.ListN.{drop_of_length-le}
 use Rattle.capture_files.proofs.RecordLemmas.{cut_record, whole_record}
 use Rattle.capture_files.proofs.WindowLemmas.{taken}
@@ -22,8 +22,8 @@ returns-clause-entry g c =
       frame = search rules;
       whole = λ some none. whole_record c.args.self.now.form old grown.0 last c.args.size c.requires.begins c.requires.size is_taken (omega (arith, same, c.record.ensures.whole none));
       cut = λ some cut.
-        let less : length last < c.args.size = omega (arith, same, c.record.ensures.cut cut) in
-        let all : length new ≤ c.min.result = omega (arith, less, size, c.min.ensures, c.len.ensures) in
-        (cut_record c.args.self.now.form old grown.0 last c.args.size c.requires.begins c.requires.size is_taken less, c.take.ensures.ahead ∙ drop_of_length-le new all);
+          let less : length last < c.args.size = omega (arith, same, c.record.ensures.cut cut) in
+          let all : length new ≤ c.min.result = omega (arith, less, size, c.min.ensures, c.len.ensures) in
+          (cut_record c.args.self.now.form old grown.0 last c.args.size c.requires.begins c.requires.size is_taken less, c.take.ensures.ahead ∙ drop_of_length-le new all);
       none = λ _ is_none _. cc (rw is_none at c.record.ensures.some);
     }

@@ -33,10 +33,10 @@ returns-clause-entry g c =
     let size : length new ≡ length (old ++ grown.0) = ap length grown.1 in
     record {
       block = elim (cases_lt (length (old ++ grown.0)) c.args.said) [
-        inl less ↦
-          let all : length new ≤ c.min-taken.result = omega (arith, less, size, c.min-taken.ensures, c.len.ensures) in
-          inr (cut_block big old grown.0 last c.args.said begins c.requires.said is_taken less, c.take.ensures.ahead ∙ drop_of_length-le new all)
-      | inr le ↦ inl (whole_block big old grown.0 last c.args.said begins c.requires.said is_taken le)
+        | inl less ↦
+            let all : length new ≤ c.min-taken.result = omega (arith, less, size, c.min-taken.ensures, c.len.ensures) in
+            inr (cut_block big old grown.0 last c.args.said begins c.requires.said is_taken less, c.take.ensures.ahead ∙ drop_of_length-le new all)
+        | inr le ↦ inl (whole_block big old grown.0 last c.args.said begins c.requires.said is_taken le)
       ];
       frame = rw (sym same) c.in_ok-entry.ensures.frame;
       described = rw (sym same) c.in_ok-entry.ensures.described;

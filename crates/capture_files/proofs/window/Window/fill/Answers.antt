@@ -8,5 +8,5 @@ returns-then-branch-eq0-clause-there g c =
     let read = c.in_ok-read.ensures.read in
     let none : length read.0 ≡ 0 = search rules in
     inr (λ file is.
-      let so_far = c.loop-self.invariant.passes file is in
-      at_end c.loop-self.self.ahead read.0 so_far.0 _ _ so_far.1 read.3 none)
+    let so_far = c.loop-self.invariant.passes file is in
+    at_end c.loop-self.self.ahead read.0 so_far.0 _ _ so_far.1 read.3 none)
