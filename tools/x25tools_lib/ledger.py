@@ -70,6 +70,7 @@ class Topic(enum.Enum):
     CHANNEL = "logical channels that change inside of a connection"
     PVC_SETUP = "set-ups of permanent circuits"
     PORT = "ports that look like XOT"
+    SIDES = "which end is the DTE"
     ORDER = "files that are not in the order of their times, and recorders whose clocks differ"
 
 
@@ -97,6 +98,14 @@ class Ledger:
         self.file = ""
         # What was recorded in one direction only.
         self.halves: list[Half] = []
+
+    def begin_again(self) -> None:
+        """Forgets what a first reading counted and reported."""
+        self.counts.clear()
+        self.reported.clear()
+        self.halves.clear()
+        self.is_hurt = False
+        self.file = ""
 
     def left_out(self, reason: Reason, many: int = 1) -> None:
         """Counts what is left out."""

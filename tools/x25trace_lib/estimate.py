@@ -14,6 +14,8 @@ from .xot import Circuit
 
 STANDARD_SIZE = 128
 STANDARD_WINDOW = 2
+# The cause of a local procedure error.
+LOCAL_ERRORS: dict[int, int] = {Type.RESET: 5, Type.CLEAR: 19}
 # RR, RNR and REJ, without their numbers.
 FLOW = frozenset((1, 5, 9))
 
@@ -39,6 +41,8 @@ class Estimator:
         self.largest = 0
         self.most = 0
         self.restarted = False
+        # Whether a reset or a clear says that the other side made an error.
+        self.has_reactions = False
         self.highest = 0
         # Channels of a line with calls, and those with data and no known call.
         self.with_calls: set[int] = set()
@@ -70,6 +74,7 @@ class Estimator:
             if modulus == 8 or len(octets) >= 4:
                 seen.edges[side.other] = kind >> 5 if modulus == 8 else octets[3] >> 1
         else:
+            self.has_reactions |= len(octets) > 3 and LOCAL_ERRORS.get(kind) == octets[3]
             self.signal(seen, kind, octets)
 
     def forget(self, circuit: Circuit) -> None:

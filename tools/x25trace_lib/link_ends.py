@@ -48,6 +48,11 @@ class Ends:
         self.is_mixed = False
         self.contradictions = 0
 
+    @property
+    def is_guess(self) -> bool:
+        """Whether both ends have one address, and no option says which one is the DTE."""
+        return self.by_source and self.side_by is None
+
     def named(self, side: Side) -> Side:
         """The side of a trace that an end has, and the end that a side of a trace is."""
         return side.other if self.swapped else side

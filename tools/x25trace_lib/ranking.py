@@ -28,6 +28,11 @@ class Tried:
         return self.counts[0]
 
     @property
+    def findings(self) -> int:
+        """The findings under it."""
+        return self.counts[3]
+
+    @property
     def reactions(self) -> tuple[int, ...]:
         """How the DCE reacts under it: findings answered, findings not answered, and answers without a finding."""
         return self.counts[:3]

@@ -22,8 +22,9 @@ from .frames import Dropped, Frame
 from .halves import halves_of
 from .lines import Line, preferred
 from .packets import Missing, Packet, channel_of
-from .ranking import MOST_ROWS, NO_SCANNER, Ranker
+from .ranking import MOST_ROWS, NO_SCANNER, Ranker, Tried
 from .reading import Reading
+from .sides_tried import tried_both
 from .spool import ALL, Spool
 from .xot import Circuit
 
@@ -48,6 +49,7 @@ class Trace:
         self.ledger, self.reading, self.wishes, self.ranker = ledger, reading, wishes, ranker
         self.spool = Spool(has_comments)
         self.lines = reading.lines
+        self.is_assigned = False
         reading.xot.on_end = self.forget
         ledger.keep = self.spool.note
 
@@ -128,8 +130,32 @@ class Trace:
         first = permanent if self.wishes.permanent is None else self.wishes.permanent
         highest = min(first + len(used) - permanent, LAST_CHANNEL)
         header = header_of(self.wishes, estimator, permanent, highest, False, has_gaps)
-        assign(used, header, self.ledger)
+        if not self.is_assigned:
+            self.is_assigned = True
+            assign(used, header, self.ledger)
         return header
+
+    def other_sides(self) -> tuple[Tried, Tried] | None:
+        """The best headers with these sides and with the sides exchanged, where the sides of the link are a guess."""
+        line = self.line()
+        if line.lapb and not line.lapb.ends.is_guess or not line.estimator.has_reactions:
+            return None
+        header, kept = self.header(line), (self.spool.gaps, self.spool.circuits)
+        rows = self.spool.replay(self.reading.xot.circuits, MOST_ROWS, header.outgoing, -line.number)
+        seen = seen_of(self.wishes, header, line.estimator)
+        numbers = {"MOD": header.modulus, "WIN": header.window, "SIZE": header.size}
+        fixed = {name: value for name, value in numbers.items() if name not in seen}
+        found = tried_both(self.ranker, header, fixed, self.beginning_of(rows))
+        self.spool.gaps, self.spool.circuits = kept[0], []
+        self.spool.replayed = 0
+        return found
+
+    def beginning_of(self, rows: Iterator[str]) -> Iterator[str]:
+        """The parts with the rows that are tried."""
+        for part in rows:
+            yield part
+            if self.spool.replayed >= MOST_ROWS:
+                return
 
     def head(self, name: str, line: Line, header: Header, evidence: Evidence) -> Head:
         """What the trace says before its rows."""
