@@ -55,6 +55,24 @@ class Each(InFolder):
         self.assertIn(b"pages/index.html: 2 lines; 5 other files passed over, neither captures nor traces\n", done.stderr)
         self.assertEqual([line[0] for line in self.index()], ["in/mon/day.pcap", "in/tue/a.trace"])
 
+    def test_hosts(self):
+        """The index names the host of each side, or says how many there are."""
+        self.page("--each", FILES / "gaps-that-share-a-row.pcap", FILES / "xot-circuits-of-one-pair.pcap", "-o", "pages",
+                  "--win", "7", "--size", "128")
+        one, two = self.index()
+        self.assertEqual(one[2].split(" ")[:2], ["1", "192.0.2.1"])
+        self.assertTrue(one[1].startswith("The DTE (192.0.2.1) broke the protocol once, in what was recorded: 1 gap."), one)
+        self.assertEqual(two[2:4], ["0 2 hosts", "0 2 hosts"])
+
+    def test_other_files(self):
+        """A file of the folder that is no page is written over only where that is forced."""
+        for name in ("seven-calls.html", "index.html"):
+            (self.folder / "pages").mkdir(exist_ok=True)
+            (self.folder / "pages" / name).write_text("other")
+            for force, wanted in (([], b"other"), (["--force"], b"<!DOCTYPE html>")):
+                self.page("--each", SEVEN, "-o", "pages", *force)
+                self.assertTrue((self.folder / "pages" / name).read_bytes().startswith(wanted), (name, force))
+
     def test_two_of_one_name(self):
         """The page of the second one has a number, and so has one that is named as the index."""
         self.copy(SEVEN, "mon/day.trace")
