@@ -1,11 +1,10 @@
 use Rattle.std.proofs.Common.{◌∙◌, ◌++◌, [], ap}
 use Rattle.std.specs.Prelude.{codes, decimal}
-use Rattle.descriptions.specs.CallTable.{address_text, column, last_columns, word_text}
+use Rattle.descriptions.specs.CallTable.{address_text, column, payer_word, word_text}
 use Rattle.descriptions.proofs.call_columns.last_columns.Goals as goal
 
 pub returns : goal.returns
 returns g c form =
-    (λ t. column form (codes "pays") (word_text form (c.payer_word.ensures t)) ++ (column form (codes "payer") ((c.address_cell.ensures form ∙ ap (address_text form) c.payer.ensures) t)
+    (λ t. column form (codes "pays") (word_text form ((c.payer_word.ensures ∙ ap (λ call. payer_word call.reverse) c.call.view_is) t)) ++ (column form (codes "payer") ((c.address_cell.ensures form ∙ ap (address_text form) c.payer.ensures) t)
     ++ (column form (codes "findings") (decimal c.args.further.now.findings) ++ (column form (codes "gaps") (c.maybe_number.ensures form t)
     ++ (column form (codes "opened_frame") (c.maybe_frame.ensures form t) ++ (column form (codes "ended_frame") (c.maybe_frame-2.ensures form t) ++ []))))))
-    ∙ ap (λ call. last_columns form call c.args.further.now) c.call.view_is

@@ -11,6 +11,7 @@ use Rattle.annotated_trace.specs.Rows.{row_written}
 use Rattle.descriptions.specs.Follows.{KeepsOrigins}
 use Rattle.descriptions.specs.RowObjects.{IsObjectWhere, IsRest, IsRowObject}
 use Rattle.descriptions.proofs.ChoiceLemmas.{items_written, headed_row, no_rows_written, none_mapped, rows_written, some_one, written_row}
+use Rattle.descriptions.proofs.LineLemmas.{on_any}
 use Rattle.descriptions.proofs.ObjectLemmas.{no_row, same_interface}
 use Rattle.descriptions.proofs.row_objects.PastRows.append_row.Goals as goal
 
@@ -67,8 +68,8 @@ returns-clause-kept g c i before line r text s lines head row is kept =
     let same : w.0 ≡ i = same_interface (head_of before) w.0 i (sym (headed_row before line r row) ∙ ap head_of (sym lines) ∙ sym s.0.reads.interface ∙ w.1.header) head in
     let judged = c.in-Some-last_row.ensures w.0 (items_of w.0 (rows_in before)) (item_of w.0 r) (walked, keeps_rows g.C.Channel.interface_of g.C.Channel.number_of g.C.Channel.represents c.args.trace.now text c.in-Some.observer.now s.0 s.1 (sym c.observer.ensures ∙ ap (option_map (λ o. o.now)) c.in-Some.is)) in
     let past = subst (λ j. KeepsOrigins j (items_of j (rows_in before)) c.args.self.now.origins) (sym same) kept in
-    subst (λ j. KeepsOrigins j (items_of j (rows_in before) ++ item_of j r ∷ []) c.take-2.new.self) same
-    (c.in_ok-earlier.ensures.kept w.0 (items_of w.0 (rows_in before)) (item_of w.0 r) c.in-Some.observer.now.events.items past judged (c.epoch.ensures.walked w.0 (items_of w.0 (rows_in before) ++ item_of w.0 r ∷ []) walked))
+    on_any c.append_object.result (subst (λ j. KeepsOrigins j (items_of j (rows_in before) ++ item_of j r ∷ []) c.take-2.new.self) same
+    (c.in_ok-earlier.ensures.kept w.0 (items_of w.0 (rows_in before)) (item_of w.0 r) c.in-Some.observer.now.events.items past judged (c.epoch.ensures.walked w.0 (items_of w.0 (rows_in before) ++ item_of w.0 r ∷ []) walked)))
 
 pub returns-then-not-picked-clause-kept : goal.returns-then-not-picked-clause-kept
 returns-then-not-picked-clause-kept g c i before line r text s lines head row is kept =
