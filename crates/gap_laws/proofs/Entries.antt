@@ -1,0 +1,210 @@
+-- How a packet on a permanent circuit is judged, in the whole walk and in that of a recording with gaps.
+use Rattle.std.proofs.Common.{◌≡◌, ◌⊎◌, inl, inr, ◌<◌, ◌≤◌, ◌==◌, ℕ, Bool, true, false, refl, sym, ◌∙◌, ap, subst, List, Option, Some, None, arith}
+use Rattle.std.specs.Prelude.{nat_lt, nat_le, ◌&&◌, ◌||◌, is_some, option_and_then}
+use Rattle.std.specs.List.{list_any}
+use Rattle.std.proofs.lemmas.Bool.{false≢true, and_parts, eqb-true, ltb-true}
+use Rattle.line_model.specs.declared.gap.AdriftEntry.TheVariants.{Carries}
+use Rattle.line_model.specs.declared.gap.LastData.{LastData}
+use Rattle.line_model.specs.declared.gap.Owed.TheVariants.{NoIndication}
+use Rattle.line_model.specs.declared.interface.Interface.{Interface}
+use Rattle.line_model.specs.declared.packet.Class.{Class}
+use Rattle.line_model.specs.declared.packet.Class.TheVariants.{Data, Interrupt, InterruptConfirm, Reset, ResetConfirm, Rr, Rnr}
+use Rattle.line_model.specs.declared.packet.PacketKind.{PacketKind}
+use Rattle.line_model.specs.declared.packet.Packet as packet
+use Rattle.line_model.specs.declared.state.Side.{Side}
+use Rattle.line_model.specs.declared.state.Side.TheVariants.{T, N}
+use Rattle.line_model.specs.declared.state.DState.{DState}
+use Rattle.line_model.specs.declared.state.DState as transfer
+use Rattle.line_model.specs.declared.state.ChannelState.TheVariants.{Transfer}
+use Rattle.line_model.specs.declared.state.StateName.{StateName}
+use Rattle.line_model.specs.declared.state.StateName.TheVariants.{D1, D2, D3}
+use Rattle.line_model.specs.declared.table.Action.{Action}
+use Rattle.line_model.specs.declared.table.Action.TheVariants.{Move, Normal, Error, Discard, Pass, Ends, Below, ToChannel}
+use Rattle.line_model.specs.basics.Limits.{is_numbering, is_channels, packet_sizes}
+use Rattle.line_model.specs.basics.Records.{Item}
+use Rattle.line_model.specs.packets.Classes.{packet_class}
+use Rattle.line_model.specs.packets.Formats.{packet_fault}
+use Rattle.line_model.specs.channels.Channels.{Channel, Sides, is_permanent, other}
+use Rattle.line_model.specs.channels.ChannelStep.{Judged, channel_step, judged, report_nothing, transfer_name, transferring, verdict, verdict_step}
+use Rattle.line_model.specs.channels.Gaps.{Doubts, GapChannel, WhileAdrift}
+use Rattle.line_model.specs.channels.GapStep.{GapOutcome, acknowledged_data, adrift_carried, adrift_entry, adrift_fault, adrift_received, adrift_step_by, gap_channel_step, is_resetting, passing, receive_of, settled_outcome, settled_verdict}
+use Rattle.line_model.specs.channels.Tables.{action}
+use Rattle.line_model.proofs.Every.{every, every_class, classes}
+use Rattle.gap_laws.proofs.Circuits.{Circuit, channel_of, failing_loud, silent}
+use Rattle.gap_laws.proofs.Settled.{in_doubt}
+use Rattle.gap_laws.proofs.Fits.{adrift_at, settled_at, idle}
+
+-- ---- the interface
+
+-- the numbers of an interface
+pub record IsLawful (i : Interface) : Type 0 where
+  pub eight : (i.modulus ≡ 8) ⊎ (i.modulus ≡ 128)
+  pub window_below : i.window < i.modulus
+  pub size_upto : i.size ≤ 4096
+
+eight_is : (m w : ℕ) → is_numbering m w ≡ true → (m ≡ 8) ⊎ (m ≡ 128)
+eight_is m w h = at (m == 8) refl (and_parts ((m == 8) || (m == 128)) (nat_le 1 w && nat_lt w m) h).0
+  where
+    at : (b : Bool) → (m == 8) ≡ b → (b || (m == 128)) ≡ true → (m ≡ 8) ⊎ (m ≡ 128)
+    at true e h = inl (eqb-true m 8 e)
+    at false e h = inr (eqb-true m 128 h)
+
+below_is : (m w : ℕ) → is_numbering m w ≡ true → w < m
+below_is m w h =
+    let both = and_parts ((m == 8) || (m == 128)) (nat_le 1 w && nat_lt w m) h in
+    ltb-true w m (and_parts (nat_le 1 w) (nat_lt w m) both.1).1
+
+size_is : (n : ℕ) → list_any (λ k. n == k) packet_sizes ≡ true → n ≤ 4096
+size_is n h = grind (arith, h)
+
+pub lawful_is : (i : Interface) → IsLawful i
+lawful_is i =
+    let both = and_parts (is_numbering i.modulus i.window) (list_any (λ n. i.size == n) packet_sizes && is_channels i.pvc i.incoming i.two_way i.svc) i.lawful in
+    record {
+      eight = eight_is i.modulus i.window both.0;
+      window_below = below_is i.modulus i.window both.0;
+      size_upto = size_is i.size (and_parts (list_any (λ n. i.size == n) packet_sizes) (is_channels i.pvc i.incoming i.two_way i.svc) both.1).0;
+    }
+
+-- ---- rows
+
+abbrev pub row_at : (number : ℕ) → Side → (channel : ℕ) → PacketKind → (length : ℕ) → (octets : List ℕ) → Item
+row_at nr x c k len os = record { number = nr; side = x; packet = packet.TheVariants.Channel c k; length = len; octets = os }
+
+-- ---- entries
+
+-- entries that do nothing or are errors
+abbrev pub quiet : Action → Bool
+quiet (Move s) = false
+quiet Normal = false
+quiet Ends = false
+quiet a = true
+
+abbrev pub is_moving : Class → Bool
+is_moving Reset = true
+is_moving ResetConfirm = true
+is_moving k = false
+
+abbrev pub is_flow : Class → Bool
+is_flow Data = true
+is_flow Interrupt = true
+is_flow InterruptConfirm = true
+is_flow Rr = true
+is_flow Rnr = true
+is_flow k = false
+
+abbrev pub judged_at : StateName → Action → Judged
+judged_at s a = record { state = s; entry = a }
+
+-- the whole walk judges by the second table
+pub whole_is : (i : Interface) (n : ℕ) (r : Item) (q : Circuit) (a : Action) → is_permanent i n ≡ true → action r.side (transfer_name q.state) false (packet_class r.packet) ≡ a
+    → channel_step i n (channel_of q) r ≡ verdict_step i (transfer_name q.state) r (verdict (judged_at (transfer_name q.state) a) (packet_fault i n (channel_of q) r)) (channel_of q)
+whole_is i n r q a p e =
+    ap (λ b. verdict_step i (judged b r.side (Transfer q.state) false (packet_class r.packet)).state r (verdict (judged b r.side (Transfer q.state) false (packet_class r.packet)) (packet_fault i n (channel_of q) r)) (channel_of q)) p
+    ∙ ap (λ a. verdict_step i (transfer_name q.state) r (verdict (judged_at (transfer_name q.state) a) (packet_fault i n (channel_of q) r)) (channel_of q)) e
+
+-- so does that of a settled circuit
+pub settled_is : (i : Interface) (n : ℕ) (r : Item) (b : Bool) (ns is ss : Sides Bool) (g : Circuit) (a : Action) → is_permanent i n ≡ true → action r.side (transfer_name g.state) false (packet_class r.packet) ≡ a
+    → gap_channel_step i n (settled_at b ns is ss g) r
+    ≡ settled_outcome (settled_at b ns is ss g) (settled_verdict i (transfer_name g.state) r (verdict (judged_at (transfer_name g.state) a) (packet_fault i n (channel_of g) r)) (in_doubt ns is ss) (channel_of g))
+settled_is i n r b ns is ss g a p e =
+    let G : GapChannel = settled_at b ns is ss g in
+    ap (λ u. settled_outcome G (settled_verdict i (judged u r.side (Transfer g.state) false (packet_class r.packet)).state r (verdict (judged u r.side (Transfer g.state) false (packet_class r.packet)) (packet_fault i n (channel_of g) r)) (in_doubt ns is ss) (channel_of g))) p
+    ∙ ap (λ a. settled_outcome G (settled_verdict i (transfer_name g.state) r (verdict (judged_at (transfer_name g.state) a) (packet_fault i n (channel_of g) r)) (in_doubt ns is ss) (channel_of g))) e
+
+-- an entry that does nothing, where it is no error
+pub quiet_whole : (i : Interface) (s : StateName) (r : Item) (a : Action) (f : Option ℕ) (c : Channel) → quiet a ≡ true → silent (verdict_step i s r (verdict (judged_at s a) f) c).reported ≡ true
+    → verdict_step i s r (verdict (judged_at s a) f) c ≡ report_nothing c
+quiet_whole i s r (Move t) f c e h = absurd (false≢true e)
+quiet_whole i s r Normal f c e h = absurd (false≢true e)
+quiet_whole i s r Ends f c e h = absurd (false≢true e)
+quiet_whole i s r (Error n) f c e h = failing_loud r.side s n c h
+quiet_whole i s r Discard f c e h = refl
+quiet_whole i s r Pass f c e h = refl
+quiet_whole i s r Below f c e h = refl
+quiet_whole i s r ToChannel f c e h = refl
+
+pub quiet_settled : (i : Interface) (s : StateName) (r : Item) (a : Action) (f u : Option ℕ) (c d : Channel) (b : Doubts) → quiet a ≡ true → silent (verdict_step i s r (verdict (judged_at s a) f) c).reported ≡ true
+    → settled_verdict i s r (verdict (judged_at s a) u) b d ≡ record { outcome = report_nothing d; doubts = b }
+quiet_settled i s r (Move t) f u c d b e h = absurd (false≢true e)
+quiet_settled i s r Normal f u c d b e h = absurd (false≢true e)
+quiet_settled i s r Ends f u c d b e h = absurd (false≢true e)
+quiet_settled i s r (Error n) f u c d b e h = failing_loud r.side s n c h
+quiet_settled i s r Discard f u c d b e h = refl
+quiet_settled i s r Pass f u c d b e h = refl
+quiet_settled i s r Below f u c d b e h = refl
+quiet_settled i s r ToChannel f u c d b e h = refl
+
+-- a packet of data transfer in d1 that is no finding has no fault
+pub normal_whole : (i : Interface) (r : Item) (f : Option ℕ) (c : Channel) → silent (verdict_step i D1 r (verdict (judged_at D1 Normal) f) c).reported ≡ true
+    → (f ≡ None) × (verdict_step i D1 r (verdict (judged_at D1 Normal) f) c ≡ transferring i D1 (packet_class r.packet) r c)
+normal_whole i r None c h = (refl, refl)
+normal_whole i r (Some n) c h = failing_loud r.side D1 n c h
+
+-- the entries of d1
+pub flow_class : (x : Side) (k : Class) → is_flow k ≡ true → action x D1 false k ≡ Normal
+flow_class T Data e = refl
+flow_class N Data e = refl
+flow_class T Interrupt e = refl
+flow_class N Interrupt e = refl
+flow_class T InterruptConfirm e = refl
+flow_class N InterruptConfirm e = refl
+flow_class T Rr e = refl
+flow_class N Rr e = refl
+flow_class T Rnr e = refl
+flow_class N Rnr e = refl
+flow_class x k e = cc
+
+-- the others, but resets and their confirmations
+quiet_in : (s : StateName) (x : Side) → every (λ k. is_moving k || (is_flow k || quiet (action x s false k))) classes ≡ true → (k : Class) → is_moving k ≡ false → is_flow k ≡ false → quiet (action x s false k) ≡ true
+quiet_in s x h k m f = at (is_moving k) (is_flow k) m f (every_class (λ k. is_moving k || (is_flow k || quiet (action x s false k))) h k)
+  where
+    at : (m f : Bool) → m ≡ false → f ≡ false → (m || (f || quiet (action x s false k))) ≡ true → quiet (action x s false k) ≡ true
+    at true f e w h = absurd (false≢true (sym e))
+    at false true e w h = absurd (false≢true (sym w))
+    at false false e w h = h
+
+pub quiet_entry : (d : DState) (x : Side) (k : Class) → is_moving k ≡ false → is_flow k ≡ false → quiet (action x (transfer_name d) false k) ≡ true
+quiet_entry transfer.TheVariants.D1 T = quiet_in D1 T refl
+quiet_entry transfer.TheVariants.D1 N = quiet_in D1 N refl
+quiet_entry transfer.TheVariants.D2 T = quiet_in D2 T refl
+quiet_entry transfer.TheVariants.D2 N = quiet_in D2 N refl
+quiet_entry transfer.TheVariants.D3 T = quiet_in D3 T refl
+quiet_entry transfer.TheVariants.D3 N = quiet_in D3 N refl
+
+-- ---- adrift
+
+abbrev pub last_seen : Sides (Option LastData) → WhileAdrift
+last_seen ls = record { owed = NoIndication; hidden = false; last = ls }
+
+-- a packet of data transfer on a circuit adrift: it has a fault, the other side resets, or it is received
+pub adrift_flow : (P : GapOutcome → Type 0) (i : Interface) (n : ℕ) (r : Item) (d : DState) (b : Bool) (ls : Sides (Option LastData)) → is_permanent i n ≡ true
+    → adrift_entry (is_permanent i n) (packet_class r.packet) ≡ Carries
+    → ((f : ℕ) → adrift_fault i n (channel_of (idle d)) r ≡ Some f → P (passing (adrift_at d b ls)))
+    → (is_resetting (other r.side) (Transfer d) ≡ true → P (passing (adrift_at d b ls)))
+    → (adrift_fault i n (channel_of (idle d)) r ≡ None → P (adrift_received i r (last_seen ls) (adrift_at d b ls) (receive_of r) (option_and_then (acknowledged_data (last_seen ls) r.side) (receive_of r))))
+    → P (gap_channel_step i n (adrift_at d b ls) r)
+adrift_flow P i n r d b ls p entry faulty resets received = at (adrift_fault i n (channel_of (idle d)) r) refl
+  where
+    g : GapChannel
+    g = adrift_at d b ls
+
+    a : WhileAdrift
+    a = last_seen ls
+
+    o : GapOutcome
+    o = adrift_received i r a g (receive_of r) (option_and_then (acknowledged_data a r.side) (receive_of r))
+
+    carries : adrift_step_by (adrift_entry (is_permanent i n) (packet_class r.packet)) i n r a g ≡ adrift_carried i r a g
+    carries =
+        ap (λ e. adrift_step_by e i n r a g) entry
+        ∙ ap (λ u. elim (u || false) as (λ _. GapOutcome) [ true ↦ adrift_carried i r a g | false ↦ passing g ]) p
+
+    carried : adrift_fault i n (channel_of (idle d)) r ≡ None → (u : Bool) → is_resetting (other r.side) (Transfer d) ≡ u → P (elim u as (λ _. GapOutcome) [ true ↦ passing g | false ↦ o ])
+    carried e true h = resets h
+    carried e false h = received e
+
+    at : (f : Option ℕ) → adrift_fault i n (channel_of (idle d)) r ≡ f
+        → P (elim (is_some f) as (λ _. GapOutcome) [ true ↦ passing g | false ↦ adrift_step_by (adrift_entry (is_permanent i n) (packet_class r.packet)) i n r a g ])
+    at (Some f) e = faulty f e
+    at None e = subst P (sym carries) (carried e (is_resetting (other r.side) (Transfer d)) refl)

@@ -1,0 +1,17 @@
+pub mod Numbers
+pub mod SentPackets
+pub mod Circuits
+pub mod Parts
+pub mod Settled
+pub mod Fits
+pub mod Settling
+pub mod Entries
+pub mod DataSteps
+pub mod ReceiveSteps
+pub mod Observers
+pub mod Thinning
+pub mod TransferRows
+pub mod InterruptSteps
+pub mod QuietSteps
+pub mod ResetSteps
+pub mod CircuitRows
