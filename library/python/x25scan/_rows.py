@@ -141,7 +141,7 @@ Object = Union[Row, Gap, Finding, Call, Setting, Account, Peak, Gaps, Sums, Unco
 # The members that the proof of the rows names; they come first.
 _ROW = re.compile(
     r'\{"line":"row","packet":(\d+),"side":"([TN])","channel":(?:(\d+)|null),"before":"(\w+)","after":"(\w+)",'
-    r'"counted":(?:null|\{"octets":(\d+),"segments":(\d+)\}),"finding":(?:null|\{[^}]*?"code":"(\w+)")'
+    r'"counted":(?:null|\{"octets":(\d+),"segments":(\d+)\}),"epoch":\d+,"owed":(?:true|false),"finding":(?:null|\{[^}]*?"code":"(\w+)")'
 ).match
 
 
