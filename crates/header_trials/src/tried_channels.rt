@@ -8,7 +8,7 @@ ghost use Rattle.line_model.specs.declared.gap.EpochStart.{EpochStart};
 ghost use Rattle.line_model.specs.declared.interface.Interface.{Interface as AnyInterface};
 ghost use Rattle.line_model.specs.observer.Machine.{with_state};
 ghost use Rattle.line_model.specs.observer.Observer.{row_step};
-ghost use Rattle.channel_run.specs.Run.{row_events};
+ghost use Rattle.channel_run.specs.Run.{data_events, row_events};
 ghost use Rattle.restart_epochs.specs.ChannelTables.{value_at};
 ghost use Rattle.header_trials.specs.Reactions.{channel_reaction};
 ghost use Rattle.header_trials.specs.Tried.{AreChannels, IsCaughtUp, IsChannel, IsOpenChannelOf, no_channels};
@@ -16,7 +16,7 @@ ghost use Rattle.header_trials.specs.Tried.{AreChannels, IsCaughtUp, IsChannel, 
 use crate::reactions::{self, Reaction};
 use channel_run::run::Channel;
 use channel_run::status_word::view_in;
-use line_model::event::Event;
+use line_model::event::{Event, What};
 use line_model::fault::Fault;
 use line_model::items::ItemRef;
 use restart_epochs::channel_table::ChannelTable;
@@ -61,38 +61,65 @@ fn catch_up<A: Allocator + Copy, C: Channel<A>>(
     if channel.gaps < gaps {
         channel
             .machine
-            .step(epoch, &ItemRef::gap_of_all(epoch), events)?;
+            .advance(epoch, &ItemRef::gap_of_all(epoch), events)?;
         channel.gaps = gaps;
     }
     Ok(())
 }
 
-/// Steps a channel by its next row. Appends the events of the row, and returns what it does there to an indication
-/// that is owed. Fails only when memory is refused.
-fn take_row<A: Allocator + Copy, C: Channel<A>>(
-    channel: &mut TriedChannel<C>,
-    gaps: u32,
+/// Appends the event of accepted data, by its octets of user data, where a row is such data. Fails only when memory is
+/// refused.
+fn push_data<A: Allocator>(
     epoch: u32,
+    channel: u16,
+    item: &ItemRef<'_>,
+    accepted: Option<u32>,
+    events: &mut Vec<Event, A>,
+) -> Result<(), Fault>
+    ensures events { OnOk result (events.new.items
+        ≡ events.old.items ++ data_events epoch channel item.now accepted) }
+    ensures memory { IfErr result (λ fault. fault ≡ Memory) }
+{
+    if let Some(octets) = accepted {
+        events.push(Event {
+            epoch,
+            channel,
+            packet: item.number,
+            what: What::Data {
+                side: item.side,
+                octets,
+            },
+        })?;
+    }
+    Ok(())
+}
+
+/// Steps a channel that has applied all gaps by its next row. Appends the events of the row, and returns what it does
+/// there to an indication that is owed. Fails only when memory is refused.
+fn take_row<A: Allocator + Copy, C: Channel<A>>(
+    tried: &mut TriedChannel<C>,
+    epoch: u32,
+    channel: u16,
     item: &ItemRef<'_>,
     events: &mut Vec<Event, A>,
 ) -> Result<Reaction, Fault>
-    requires { (i : AnyInterface) × (k : ℕ) × (g : GapChannel)
-        × IsChannel C.Channel i gaps k g channel.old × (0 < gaps → i.gaps ≡ true) × IsItem i k item.now }
-    ensures represented { (i : AnyInterface) (k : ℕ) (g : GapChannel)
-        → IsChannel C.Channel i gaps k g channel.old
-        → OnOk result (IsCaughtUp C.Channel i gaps k (row_step i k g item.now).after channel.new) }
-    ensures events { (i : AnyInterface) (k : ℕ) (g : GapChannel)
-        → IsChannel C.Channel i gaps k g channel.old
-        → OnOk result (events.new.items ≡ events.old.items ++ row_events i epoch k g item.now) }
-    ensures reaction { (i : AnyInterface) (k : ℕ) (g : GapChannel)
-        → IsChannel C.Channel i gaps k g channel.old
-        → IfOk result (λ reaction. reaction ≡ channel_reaction i k g item.now) }
+    requires { (i : AnyInterface) × (n : ℕ) × (g : GapChannel)
+        × IsCaughtUp C.Channel i n channel g tried.old × IsItem i channel item.now }
+    ensures represented { (i : AnyInterface) (n : ℕ) (g : GapChannel)
+        → IsCaughtUp C.Channel i n channel g tried.old
+        → OnOk result (IsCaughtUp C.Channel i n channel (row_step i channel g item.now).after tried.new) }
+    ensures events { (i : AnyInterface) (n : ℕ) (g : GapChannel)
+        → IsCaughtUp C.Channel i n channel g tried.old
+        → OnOk result (events.new.items ≡ events.old.items ++ row_events i epoch channel g item.now) }
+    ensures reaction { (i : AnyInterface) (n : ℕ) (g : GapChannel)
+        → IsCaughtUp C.Channel i n channel g tried.old
+        → IfOk result (λ reaction. reaction ≡ channel_reaction i channel g item.now) }
     ensures memory { IfErr result (λ fault. fault ≡ Memory) }
 {
-    catch_up(channel, gaps, epoch, events)?;
-    let before = view_in(&channel.machine.word());
-    channel.machine.step(epoch, item, events)?;
-    let after = view_in(&channel.machine.word());
+    let before = view_in(&tried.machine.word());
+    let accepted = tried.machine.advance(epoch, item, events)?;
+    let after = view_in(&tried.machine.word());
+    push_data(epoch, channel, item, accepted, events)?;
     Ok(reactions::channel_reaction(&before, after.owed, item))
 }
 
@@ -170,7 +197,8 @@ impl<A: Allocator + Copy, C: Channel<A>> TriedChannels<A, C> {
         ensures memory { IfErr result (λ fault. fault ≡ Memory) }
     {
         let mut taken = self.take_out(walk, channel)?;
-        let reaction = take_row(&mut *taken, self.gaps, walk.epoch, item, events)?;
+        catch_up(&mut *taken, self.gaps, walk.epoch, events)?;
+        let reaction = take_row(&mut *taken, walk.epoch, channel, item, events)?;
         self.open_channels.put(channel, taken);
         Ok(reaction)
     }

@@ -1,5 +1,5 @@
 -- The row that an observer read last, by the route of the row.
-use Rattle.std.proofs.Common.{◌≡◌, ◌∙◌, sym, ap, subst, refl, ℕ, ◌≤◌, Bool, true, false, true≢false, List, [], ◌∷◌, ◌++◌, length, length-append, Option, Some, None, option_to_list, arith}
+use Rattle.std.proofs.Common.{◌≡◌, ◌∙◌, sym, ap, subst, refl, ℕ, ◌≤◌, Bool, true, false, List, [], ◌∷◌, ◌++◌, length, length-append, Option, Some, None, option_to_list, arith}
 use Rattle.std.specs.Prelude.{MatchOption}
 use Rattle.line_model.specs.declared.event.Event.{Event}
 use Rattle.line_model.specs.declared.interface.Interface.{Interface}
@@ -10,11 +10,10 @@ use Rattle.line_model.specs.channels.Gaps.{GapChannel}
 use Rattle.line_model.specs.channels.GapRestart.{GapInterfaceState, is_of_all, is_ready, routing}
 use Rattle.line_model.specs.observer.Machine.{Observer}
 use Rattle.line_model.specs.observer.Report.{report_of}
-use Rattle.line_model.specs.pieces.Plan.{has_some}
 use Rattle.channel_run.specs.Live.{channel_so_far}
 use Rattle.channel_run.specs.Run.{row_events}
 use Rattle.restart_epochs.specs.OpenRows.{OpenRows, HasMore, last_number, rows_of}
-use Rattle.restart_epochs.specs.Cutting.{Cutting, HasEffect, IsTakenBy, Represents as IsCutterOf, gap_by_effect, items_out, observer, places, rows_if}
+use Rattle.restart_epochs.specs.Cutting.{Cutting, HasEffect, IsTakenBy, Represents as IsCutterOf, gap_by_effect, items_out, observer}
 use Rattle.restart_epochs.specs.declared.walk.EpochWalk.{EpochWalk}
 use Rattle.restart_epochs.specs.declared.walk.Step.{Step}
 use Rattle.restart_epochs.specs.declared.walk.ChannelEffect.{ChannelEffect}
@@ -67,14 +66,6 @@ knows i rs r l last events is h before x e =
     let same = same_last rs before r x e in
     subst (λ o. MatchOption o ⊥ (λ m. IsJudgedRow i before x m events)) (sym is)
     (subst (λ y. IsJudgedRow i before y l events) same.1 (subst (λ b. IsJudgedRow i b r l events) same.0 h))
-
--- where a channel has rows in the open epoch, it is open
-pub open_is_ready : (i : Interface) (rs : List Item) (c : Cutting) (k : ℕ) → IsCutterOf i rs c → has_some (rows_of c.open_rows k) ≡ true → is_ready (observer i rs).level ≡ true
-open_is_ready i rs c k s some = at (is_ready (observer i rs).level) refl
-  where
-    at : (b : Bool) → is_ready (observer i rs).level ≡ b → is_ready (observer i rs).level ≡ true
-    at true e = e
-    at false e = absurd (true≢false (sym some ∙ ap has_some (s.rows k ∙ ap (λ b. rows_if b i (places i rs) (observer i rs).epoch k) e)))
 
 -- what a step makes known of a row
 pub record Judged {B : Type 0} (effect : ChannelEffect) (item : Item) (walk : EpochWalk B) (gap : ℕ) (machine : GapInterfaceState) (rows rows_after : OpenRows) (row : JudgedRow) (events : List Event) : Type 0 where

@@ -1,6 +1,6 @@
 //! The observer that runs: it walks a trace row by row, and keeps what it found, not what it read.
 
-ghost use Rattle.std.specs.Prelude.{◌≡◌, ℕ, ◌<◌, ◌≤◌, ◌+◌, ◌-◌, ◌^◌, ◌++◌, ◌∷◌, [], None, Some, true, List, length, map, IfErr, IfOk, IfSome, MatchOption, OnOk, cond, is_some};
+ghost use Rattle.std.specs.Prelude.{◌≡◌, ℕ, ◌<◌, ◌≤◌, ◌+◌, ◌-◌, ◌^◌, ◌++◌, ◌∷◌, [], None, Some, true, List, length, map, IfErr, IfOk, MatchOption, OnOk, cond, is_some};
 ghost use Rattle.line_model.specs.basics.Records as records;
 ghost use Rattle.line_model.specs.declared.fault.Fault.TheVariants.{Memory};
 ghost use Rattle.line_model.specs.declared.interface.Interface.{Interface as AnyInterface};
@@ -10,14 +10,12 @@ ghost use Rattle.restart_epochs.specs.OpenRows.{OpenRows};
 ghost use Rattle.restart_epochs.specs.Walks.{step_to, IsStep};
 ghost use Rattle.restart_epochs.specs.Cutting.{Cutting, ended_by, gap_by_effect, observer, HasEffect};
 ghost use Rattle.report_merge.specs.Gathered.{gathered};
-ghost use Rattle.channel_run.specs.Live.{channel_so_far};
-ghost use Rattle.channel_run.specs.Views.{IsViewOf};
 ghost use Rattle.live_report.specs.OpenChannels.{ChannelsRepresent};
 ghost use Rattle.live_report.specs.JudgedRows.{IsJudgedRow, judged_row};
 ghost use Rattle.live_report.specs.Uncounted.{AreFew, uncounted_of};
 ghost use Rattle.live_report.specs.declared.judged_row.Judge.TheVariants.{Restart};
 ghost use Rattle.live_report.specs.Effects.{FindsBy, HasEvents, JudgesBy, MayAffect, OfOpen, RepresentsAt, epoch_of, with_data};
-ghost use Rattle.live_report.specs.Observing.{open_piece, HasKept, HasWalked, IsHolding, IsObserver, MayWalk, ReturnsFinding, ReturnsReport, WalksOn};
+ghost use Rattle.live_report.specs.Observing.{HasKept, HasWalked, IsHolding, IsObserver, MayWalk, ReturnsFinding, ReturnsReport, WalksOn};
 
 use crate::ending::end_channels;
 use crate::judged_row::{Judge, JudgedRow, RowOutcome};
@@ -25,7 +23,7 @@ use crate::open_channels::OpenChannels;
 use crate::reporting::report_channels;
 use crate::row_ref::RowRef;
 use crate::uncounted::Uncounted;
-use channel_run::run::{Channel, View};
+use channel_run::run::Channel;
 use line_model::event::{Event, What};
 use line_model::fault::Fault;
 use line_model::finding::Finding;
@@ -162,13 +160,6 @@ impl<A: Allocator + Copy, C: Channel<A>> Observer<A, C> {
         }
     }
 
-    /// Returns the state of the restart machine.
-    pub fn restart_state(&self) -> RState
-        ensures { result ≡ self.now.walk.machine.level.state }
-    {
-        self.walk.machine.state()
-    }
-
     /// Returns the number of the current epoch, counted from 1.
     pub fn epoch(&self) -> u32
         ensures kept { result ≡ self.now.walk.epoch }
@@ -210,19 +201,6 @@ impl<A: Allocator + Copy, C: Channel<A>> Observer<A, C> {
             → HasWalked C.Channel i rows self.now → result ≡ uncounted_of i rows }
     {
         self.uncounted
-    }
-
-    /// Returns what is known of a logical channel in the current epoch, if it has rows there, and no gap of all
-    /// channels came after the last of them.
-    pub fn view(&self, channel: u16) -> Option<View>
-        ensures held { (c : Cutting) (reports : List records.PieceReport)
-            → IsHolding C.Channel c reports self.now
-            → IfSome result (IsViewOf c.interface (channel_so_far (open_piece c channel))) }
-        ensures walked { (i : AnyInterface) (rows : List records.Item)
-            → HasWalked C.Channel i rows self.now
-            → IfSome result (IsViewOf i ((observer i rows).states channel)) }
-    {
-        self.open_channels.view(channel)
     }
 
     /// Reads the next row, and returns what it finds. Fails only when memory is refused; drop the observer then.

@@ -1,24 +1,22 @@
 //! The logical channels that have rows in the epoch that has not ended.
 
-ghost use Rattle.std.specs.Prelude.{◌≡◌, ℕ, ◌<◌, List, ◌++◌, ◌∷◌, [], true, IfErr, IfOk, IfSome, OnOk, length};
+ghost use Rattle.std.specs.Prelude.{◌≡◌, ℕ, ◌<◌, List, ◌++◌, ◌∷◌, [], IfErr, IfOk, OnOk, length};
 ghost use Rattle.line_model.specs.basics.Bounds.{IsPiece};
 ghost use Rattle.line_model.specs.basics.Records.{Item};
 ghost use Rattle.line_model.specs.declared.fault.Fault.TheVariants.{Memory};
 ghost use Rattle.line_model.specs.packets.Says.{gap_item};
-ghost use Rattle.line_model.specs.pieces.Plan.{has_some};
 ghost use Rattle.line_model.specs.pieces.Plans.{result_of};
 ghost use Rattle.restart_epochs.specs.ChannelTables.{no_open_channels, HasListed};
 ghost use Rattle.restart_epochs.specs.OpenRows.{OpenRows, rows_of, with_gap, HasMore};
 ghost use Rattle.channel_run.specs.Live.{channel_so_far};
 ghost use Rattle.channel_run.specs.Run.{row_events};
-ghost use Rattle.channel_run.specs.Views.{IsViewOf};
 ghost use Rattle.live_report.specs.AddedPieces.{ArePieces};
-ghost use Rattle.live_report.specs.OpenChannels.{ChannelsRepresent, OpenEpoch, IsOpenFor, IsOut, begun_piece, ended_piece, FindsOn};
+ghost use Rattle.live_report.specs.OpenChannels.{ChannelsRepresent, OpenEpoch, IsOpenFor, IsOut, ended_piece, FindsOn};
 ghost use Rattle.live_report.specs.Effects.{OfOpenChannels, TakesOn, epoch_of, reached_piece, with_data};
 
 use crate::judged_row::{Judge, RowOutcome};
 use channel_run::live::LiveChannel;
-use channel_run::run::{Channel, View};
+use channel_run::run::Channel;
 use line_model::event::Event;
 use line_model::fault::Fault;
 use line_model::items::ItemRef;
@@ -203,17 +201,5 @@ impl<A: Allocator + Copy, C: Channel<A>> OpenChannels<A, C> {
             },
             finding: taken.finding,
         })
-    }
-
-    /// Returns what is known of a channel, if it has rows, and no gap of all channels came after the last of them.
-    pub fn view(&self, channel: u16) -> Option<View>
-        ensures { (e : OpenEpoch) (rows : OpenRows) → ChannelsRepresent C.Channel e rows self.now
-            → IfSome result (λ view. (has_some (rows_of rows channel) ≡ true) × IsViewOf e.interface
-            (channel_so_far (begun_piece e channel (with_gap self.now.gap (rows_of rows channel)))) view) }
-    {
-        match self.table.get(channel) {
-            Some(entry) if self.gap <= entry.last => Some(entry.live.view()),
-            _ => None,
-        }
     }
 }

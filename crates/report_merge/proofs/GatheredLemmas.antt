@@ -2,14 +2,14 @@
 use Rattle.std.proofs.Common.{◌≡◌, ℕ, sym, ap, ◌∙◌, refl, ◌+◌, List, [], ◌∷◌, ◌++◌, length, sum_by, arith, length-append, subst}
 use Rattle.std.specs.List.Sorted.{IsPermutation}
 use Rattle.std.proofs.lemmas.List.Sums.{sum_by-append, sum_by-cons}
-use Rattle.std.proofs.lemmas.List.Sorted.{IsPermutation-refl, IsPermutation-trans, IsPermutation-append, length_permutation, sum_by-IsPermutation}
+use Rattle.std.proofs.lemmas.List.Sorted.{IsPermutation-refl, IsPermutation-trans, IsPermutation-append, length_permutation}
 use Rattle.line_model.specs.basics.Records.{PieceReport, CallRecord}
 use Rattle.line_model.specs.declared.finding.Finding.{Finding}
 use Rattle.line_model.specs.work.Book.{totals_of}
-use Rattle.report_merge.specs.Gathered.{Gathered, gathered, joined, counted, piece_findings, all_calls, AreGathered, AreSorted, HasMoved, IsBundle, IsSmall}
+use Rattle.report_merge.specs.Gathered.{Gathered, gathered, joined, counted, piece_findings, all_calls, AreGathered, AreSorted, IsBundle, IsSmall}
 use Rattle.std.proofs.lemmas.List.Elements.{All-push}
 use Rattle.line_model.proofs.Schedules.{ids-append}
-use Rattle.report_merge.proofs.SortedLists.{flat_map-append, flat_map_permuted}
+use Rattle.report_merge.proofs.SortedLists.{flat_map-append}
 
 pub gathered_more : (ps qs : List PieceReport) → joined (gathered ps) (gathered qs) ≡ gathered (ps ++ qs)
 gathered_more ps qs =
@@ -42,26 +42,6 @@ both ps qs g h a b = record {
       (IsPermutation-append (all_calls ps) g.calls (all_calls qs) h.calls a.same_calls b.same_calls);
   same_octets = omega (arith, a.same_octets, b.same_octets, sum_by-append (λ (p : PieceReport). p.octets) ps qs);
   same_segments = omega (arith, a.same_segments, b.same_segments, sum_by-append (λ (p : PieceReport). p.segments) ps qs);
-}
-
--- the reports in another order
-pub permuted : (ps qs : List PieceReport) (g : Gathered) → IsPermutation ps qs → AreGathered qs g → AreGathered ps g
-permuted ps qs g same a = record {
-  number = a.number ∙ length_permutation ps qs same;
-  same_findings = IsPermutation-trans (piece_findings ps) (piece_findings qs) g.findings (flat_map_permuted (λ (p : PieceReport). p.findings) ps qs same) a.same_findings;
-  same_calls = IsPermutation-trans (all_calls ps) (all_calls qs) g.calls (flat_map_permuted (λ (p : PieceReport). p.calls) ps qs same) a.same_calls;
-  same_octets = a.same_octets ∙ sum_by-IsPermutation (λ (p : PieceReport). p.octets) ps qs same;
-  same_segments = a.same_segments ∙ sum_by-IsPermutation (λ (p : PieceReport). p.segments) ps qs same;
-}
-
--- the same with the calls in another order
-pub moved : (ps : List PieceReport) (g h : Gathered) → HasMoved g h → AreGathered ps g → AreGathered ps h
-moved ps g h same a = record {
-  number = same.pieces ∙ a.number;
-  same_findings = subst (IsPermutation (piece_findings ps)) (sym same.findings) a.same_findings;
-  same_calls = IsPermutation-trans (all_calls ps) g.calls h.calls a.same_calls same.calls;
-  same_octets = same.octets ∙ a.same_octets;
-  same_segments = same.segments ∙ a.same_segments;
 }
 
 length_findings : (ps : List PieceReport) → length (piece_findings ps) ≡ sum_by (λ p. length p.findings) ps

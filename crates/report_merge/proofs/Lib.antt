@@ -8,4 +8,3 @@ pub mod Posted
 pub mod GatheredLemmas
 pub mod EmptyStructs
 pub mod UnknownIds
-pub mod Taken

@@ -1,7 +1,5 @@
 -- A list in the order of its keys is the one list of its elements whose keys rise; lists of parts in any order.
-use Rattle.std.proofs.Common.{◌≡◌, ℕ, suc, ◌-◌, ◌<◌, ◌≤◌, nat_lt, Bool, true, false, List, [], ◌∷◌, ◌++◌, length, map, get_or, refl, sym, ap, ◌∙◌, subst, arith, append_assoc, length-append}
-use Rattle.std.proofs.lemmas.List.{get_or_append_left, get_or-append_right}
-use Rattle.std.proofs.lemmas.Bool.Decides.{nat_tests}
+use Rattle.std.proofs.Common.{◌≡◌, ℕ, suc, ◌<◌, ◌≤◌, List, [], ◌∷◌, ◌++◌, length, map, get_or, refl, sym, ap, ◌∙◌, subst, arith, append_assoc}
 use Rattle.std.specs.List.{AllByRecursion, flat_map}
 use Rattle.std.specs.List.Sorted.{IsPermutation, IsNonDecreasingBy}
 use Rattle.std.proofs.lemmas.List.Sorted.{IsPermutation-refl, IsPermutation-trans, IsPermutation-append, IsPermutation-append_comm}
@@ -73,31 +71,3 @@ flat_map_permuted f xs ys h = flat_map_rearranged f xs ys (rearranged-from_IsPer
 pub flat_map-map : {X Y Z : Type 0} → (f : Y → List Z) (g : X → Y) (xs : List X) → flat_map f (map g xs) ≡ flat_map (λ x. f (g x)) xs
 flat_map-map f g [] = refl
 flat_map-map f g (x ∷ xs) = ap (λ l. f (g x) ++ l) (flat_map-map f g xs)
-
--- ---- lists in order
-
--- one list after another that begins no earlier than it ends
-pub in_order_after : {X : Type 0} → (n : X → ℕ) (xs ys : List X) → IsNonDecreasingBy n xs → IsNonDecreasingBy n ys
-    → ((d : X) → 0 < length xs → 0 < length ys → n (get_or xs (length xs - 1) d) ≤ n (get_or ys 0 d)) → IsNonDecreasingBy n (xs ++ ys)
-in_order_after {X} n xs ys f g between i j d le lt = at (nat_lt i (length xs)) refl (nat_lt j (length xs)) refl
-  where
-    at : (b : Bool) → nat_lt i (length xs) ≡ b → (c : Bool) → nat_lt j (length xs) ≡ c → n (get_or (xs ++ ys) i d) ≤ n (get_or (xs ++ ys) j d)
-    at true e true k =
-        let front = get_or_append_left xs ys d i (grind (arith, nat_tests, e)) in
-        let back = get_or_append_left xs ys d j (grind (arith, nat_tests, k)) in
-        let own = f i j d le (grind (arith, nat_tests, k)) in
-        omega (arith, ap n front, ap n back, own)
-    at true e false k =
-        let before : i < length xs = grind (arith, nat_tests, e) in
-        let after : length xs ≤ j = grind (arith, nat_tests, k) in
-        let front = get_or_append_left xs ys d i before in
-        let back = get_or-append_right xs ys (length xs) j d refl after in
-        let own = f i (length xs - 1) d (omega arith) (omega arith) in
-        let other = g 0 (j - length xs) d (omega arith) (omega (arith, length-append xs ys)) in
-        omega (arith, ap n front, ap n back, own, other, between d (omega arith) (omega (arith, length-append xs ys)))
-    at false e c k =
-        let after : length xs ≤ i = grind (arith, nat_tests, e) in
-        let front = get_or-append_right xs ys (length xs) i d refl after in
-        let back = get_or-append_right xs ys (length xs) j d refl (omega arith) in
-        let own = g (i - length xs) (j - length xs) d (omega arith) (omega (arith, length-append xs ys)) in
-        omega (arith, ap n front, ap n back, own)

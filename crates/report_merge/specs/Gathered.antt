@@ -6,7 +6,6 @@ use Rattle.line_model.specs.declared.finding.Finding.{Finding}
 use Rattle.line_model.specs.declared.totals.Totals.{Totals}
 use Rattle.line_model.specs.basics.Records.{CallRecord, PieceReport}
 use Rattle.line_model.specs.work.Book.{ids_of}
-use Rattle.std.specs.declared.collections.VecDeque.{VecDeque}
 
 -- the findings of the pieces
 abbrev pub piece_findings : List PieceReport → List Finding
@@ -15,13 +14,6 @@ piece_findings ps = flat_map (λ p. p.findings) ps
 -- the calls of the pieces
 abbrev pub all_calls : List PieceReport → List CallRecord
 all_calls ps = flat_map (λ p. p.calls) ps
-
--- the calls in some lists
-abbrev pub calls_in : {A : Type 0} → List (VecDeque CallRecord A) → List CallRecord
-calls_in lists = flat_map (λ l. l.items) lists
-
-abbrev pub calls_of_lists : List (List CallRecord) → List CallRecord
-calls_of_lists lists = flat_map (λ l. l) lists
 
 -- a count of pieces, their findings and calls, and their octets and segments
 pub record Gathered : Type 0 where
@@ -62,14 +54,6 @@ pub record AreGathered (ps : List PieceReport) (g : Gathered) : Type 0 where
   pub same_calls : IsPermutation (all_calls ps) g.calls
   pub same_octets : g.octets ≡ sum_by (λ p. p.octets) ps
   pub same_segments : g.segments ≡ sum_by (λ p. p.segments) ps
-
--- the same with the calls in any order
-pub record HasMoved (g h : Gathered) : Type 0 where
-  pub pieces : h.pieces ≡ g.pieces
-  pub findings : h.findings ≡ g.findings
-  pub calls : IsPermutation g.calls h.calls
-  pub octets : h.octets ≡ g.octets
-  pub segments : h.segments ≡ g.segments
 
 -- the same with the findings and the calls in the order of their packets
 pub record AreSorted (g h : Gathered) : Type 0 where

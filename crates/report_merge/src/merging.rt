@@ -8,7 +8,6 @@ ghost use Rattle.report_merge.specs.Gathered.{AreGathered};
 ghost use Rattle.report_merge.specs.Merged.{IsMemoryOfWalk, IsMerged, IsReportOfWalk};
 
 use crate::judge::{first_unknown_id, judge};
-use crate::part_lists::PartLists;
 use crate::parts::Parts;
 use crate::reports::Reports;
 use crate::row_counts::RowCounts;
@@ -40,20 +39,18 @@ fn all_ids<A: Allocator, T: Reports<A>>(alloc: A, reports: &[T]) -> Result<Vec<u
     Ok(ids)
 }
 
-/// Puts the results of pieces together, those with the first ids first. The calls are in the order of the packets that
-/// opened them where those of each report are.
+/// Puts the results of pieces together.
 fn gather<A: Allocator + Clone, T: Reports<A> + Drop>(
     alloc: A,
-    mut reports: Vec<T, A>,
+    reports: Vec<T, A>,
 ) -> Result<Parts<A>, AllocError>
     ensures { IfOk result (AreGathered (flat_map T.reports reports.items)) }
 {
-    reports.sort_unstable_by_key(|some| some.ids().first().copied());
-    let mut lists = PartLists::new(alloc)?;
+    let mut parts = Parts::none(alloc.clone()?, alloc);
     for some in reports {
-        lists = lists.with(some.into_parts())?;
+        parts.append(some.into_parts())?;
     }
-    lists.merged()
+    Ok(parts)
 }
 
 /// Merges the reports of pieces, or of bundles of pieces, in any order, with the findings of the restart machine, for a

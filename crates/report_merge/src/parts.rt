@@ -1,17 +1,16 @@
 //! The results of pieces, merged as their reports come.
 
-ghost use Rattle.std.specs.Prelude.{◌≡◌, ◌+◌, ◌<◌, ◌≤◌, ◌^◌, ◌++◌, ◌∷◌, [], List, length, sum_by, IfOk, IfErr, OnErr, OnOk};
+ghost use Rattle.std.specs.Prelude.{◌≡◌, ◌+◌, ◌<◌, ◌≤◌, ◌^◌, ◌++◌, ◌∷◌, [], List, length, IfOk, IfErr, OnErr, OnOk};
 ghost use Rattle.line_model.specs.basics.Records as records;
 ghost use Rattle.line_model.specs.declared.interface.Interface.{Interface};
 ghost use Rattle.line_model.specs.observer.Report.{report_of};
 ghost use Rattle.report_merge.specs.Gathered.{AreGathered, AreSorted, counted, gathered, joined};
 ghost use Rattle.report_merge.specs.Merged.{IsMerged, IsOfWalk};
 
-use crate::call_list::CallList;
 use crate::row_counts::RowCounts;
-use crate::turns::sort_findings;
 use call_accounts::account::accounts_of;
 use call_accounts::peak::peak_of;
+use line_model::call::{CallRecord, copies};
 use line_model::fault::Fault;
 use line_model::finding::Finding;
 use line_model::piece::PieceReport;
@@ -19,7 +18,6 @@ use line_model::report::Report;
 use line_model::totals::{Summary, Totals};
 use std::alloc::{AllocError, Allocator};
 use std::marker::Model;
-use std::mem::replace;
 
 /// Appends records to a list. They become the list where it is empty, and are not copied then. Where memory is refused
 /// nothing changes.
@@ -41,11 +39,11 @@ fn append_to<T: Drop, A: Allocator>(
 /// The results of some pieces, put together.
 #[derive(Drop)]
 pub struct Parts<A: Allocator> {
-    pub(crate) pieces: u32,
-    pub(crate) findings: Vec<Finding, A>,
-    pub(crate) calls: CallList<A>,
-    pub(crate) octets: u64,
-    pub(crate) segments: u64,
+    pieces: u32,
+    findings: Vec<Finding, A>,
+    calls: Vec<CallRecord<A>, A>,
+    octets: u64,
+    segments: u64,
 }
 
 impl<A: Allocator> Model for Parts<A> {
@@ -56,12 +54,12 @@ impl<A: Allocator> Model for Parts<A> {
     ghost view = { λ p. record {
       pieces = p.pieces;
       findings = p.findings.items;
-      calls = p.calls;
+      calls = p.calls.items;
       octets = p.octets;
       segments = p.segments;
     } };
 
-    ghost invariant = { λ p. AreFew p.pieces p.calls p.octets p.segments };
+    ghost invariant = { λ p. AreFew p.pieces p.calls.items p.octets p.segments };
 }
 
 impl<A: Allocator> Parts<A> {
@@ -79,7 +77,7 @@ impl<A: Allocator> Parts<A> {
         Parts {
             pieces: 1,
             findings,
-            calls: CallList::of(calls),
+            calls,
             octets,
             segments,
         }
@@ -92,7 +90,7 @@ impl<A: Allocator> Parts<A> {
         Parts {
             pieces: 0,
             findings: Vec::new(of_findings),
-            calls: CallList::of(Vec::new(of_calls)),
+            calls: Vec::new(of_calls),
             octets: 0,
             segments: 0,
         }
@@ -147,19 +145,7 @@ impl<A: Allocator + Clone> Parts<A> {
         self.octets += octets;
         self.segments += segments;
         append_to(&mut self.findings, findings)?;
-        self.calls.append(calls)
-    }
-
-    /// Returns the results without their calls, and the calls. Fails only when memory is refused.
-    pub(crate) fn without_calls(self) -> Result<(Self, CallList<A>), AllocError>
-        ensures apart { IfOk result (λ both. both.0 ≡ record self { calls = [] }) }
-        ensures calls { IfOk result (λ both. both.1 ≡ self.calls) }
-        ensures within { IfOk result (λ both. sum_by (λ c. c.segments) both.1 ≤ both.0.segments) }
-    {
-        let mut rest = self;
-        let none = CallList::of(Vec::new(rest.findings.allocator().clone()?));
-        let calls = replace(&mut rest.calls, none);
-        Ok((rest, calls))
+        append_to(&mut self.calls, calls)
     }
 
     /// Adds the results of a piece. Where memory is refused a part of them may have been added.
@@ -177,8 +163,8 @@ impl<A: Allocator + Clone> Parts<A> {
     pub fn sort(&mut self) -> Result<(), AllocError>
         ensures { OnOk result (AreSorted self.old self.new) }
     {
-        sort_findings(&mut self.findings);
-        self.calls.sort()
+        self.findings.sort_unstable_by_key(|finding| finding.packet);
+        self.calls.sort_by_cached_key(|call| call.opened)
     }
 
     /// Returns a copy. Fails only when memory is refused.
@@ -190,7 +176,7 @@ impl<A: Allocator + Clone> Parts<A> {
         Ok(Parts {
             pieces: self.pieces,
             findings: Vec::from_slice(alloc.clone()?, &self.findings)?,
-            calls: self.calls.copy()?,
+            calls: copies(alloc.clone()?, &self.calls)?,
             octets: self.octets,
             segments: self.segments,
         })
@@ -217,7 +203,6 @@ impl<A: Allocator + Clone> Parts<A> {
             segments,
             ..
         } = all;
-        let calls = calls.into_calls();
         let accounts = accounts_of(line.allocator().clone()?, calls.as_slice())?;
         let peak = peak_of(line.allocator().clone()?, calls.as_slice())?;
         let summary = Summary {

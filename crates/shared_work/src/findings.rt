@@ -9,10 +9,10 @@ mod share;
 mod spares;
 mod sums;
 mod tally;
-mod witness;
+mod voucher;
 
 pub use book::{Book, LockedPosts};
 pub use ledgers::{Blanks, Ledgers};
 pub use posts::Posts;
 pub use share::Share;
-pub use witness::{AnyReport, Voucher};
+pub use voucher::{AnyReport, Voucher};

@@ -16,9 +16,9 @@ use Rattle.trace_text.proofs.Headings.{heading_alone}
 use Rattle.restart_epochs.specs.BlockStates.{IsBlockCut, IsCutSoFar}
 use Rattle.restart_epochs.specs.declared.block_cut.BlockCutter.{BlockCutter}
 use Rattle.trace_reading.specs.TextBlocks.{AreRead, HasReadTo, IsReadAs}
-use Rattle.trace_reading.specs.declared.blocks.BlockRows.{BlockRows}
-use Rattle.trace_reading.specs.declared.blocks.RowsSoFar.{RowsSoFar}
-use Rattle.trace_reading.specs.declared.blocks.Start.{Start}
+use Rattle.trace_reading.specs.declared.text_block.BlockRows.{BlockRows}
+use Rattle.trace_reading.specs.declared.text_block.RowsSoFar.{RowsSoFar}
+use Rattle.trace_reading.specs.declared.text_block.Start.{Start}
 use Rattle.live_report.proofs.ChunkLemmas.{ReadsRow}
 use Rattle.line_model.proofs.Saying.{row_said}
 

@@ -11,8 +11,8 @@ use Rattle.trace_text.specs.Progress.{Progress, bytes_fed}
 use Rattle.trace_text.specs.Represents.{Represents}
 use Rattle.restart_epochs.specs.Cutting.{HasAppended, given_of}
 use Rattle.restart_epochs.specs.BlockStates.{IsBlockCut}
-use Rattle.trace_reading.specs.declared.blocks.BlockRows.{BlockRows}
-use Rattle.trace_reading.specs.declared.blocks.Start.{Start}
+use Rattle.trace_reading.specs.declared.text_block.BlockRows.{BlockRows}
+use Rattle.trace_reading.specs.declared.text_block.Start.{Start}
 use Rattle.trace_reading.specs.declared.text_cutter.RowCutter.{RowCutter}
 use Rattle.trace_reading.specs.declared.text_cutter.TextCutter.{TextCutter}
 use Rattle.trace_reading.specs.TextBlocks.{BlockView, IsReadAs}

@@ -9,9 +9,9 @@ use Rattle.restart_epochs.specs.BlockStates.{IsBlockCut, IsCutSoFar}
 use Rattle.trace_text.specs.Blocks.{IsBlock, IsSpanOf, first_number}
 use Rattle.trace_text.specs.Progress.{Progress}
 use Rattle.trace_text.specs.Represents.{Represents}
-use Rattle.trace_reading.specs.declared.blocks.BlockRows.{BlockRows}
-use Rattle.trace_reading.specs.declared.blocks.Start.{Start}
-use Rattle.trace_reading.specs.declared.blocks.RowsSoFar.{RowsSoFar}
+use Rattle.trace_reading.specs.declared.text_block.BlockRows.{BlockRows}
+use Rattle.trace_reading.specs.declared.text_block.Start.{Start}
+use Rattle.trace_reading.specs.declared.text_block.RowsSoFar.{RowsSoFar}
 
 -- what contracts see of a block
 pub record BlockView : Type 0 where

@@ -3,7 +3,7 @@
 ghost use Rattle.std.specs.Prelude.{◌≡◌, IfErr};
 ghost use Rattle.line_model.specs.declared.fault.Fault.TheVariants.{Memory};
 
-use crate::blocks::{Block, ReadBlock, TraceText};
+use crate::text_block::{Block, ReadBlock, TraceText};
 use crossbeam_queue::ArrayQueue;
 use line_model::fault::Fault;
 use std::alloc::{Allocator, Global};

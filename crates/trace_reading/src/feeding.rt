@@ -17,10 +17,10 @@ ghost use Rattle.trace_reading.specs.TextCuts.{HasCut, HasTaken, IsFedTo};
 ghost use Rattle.trace_reading.specs.Readings.{HasFedOn, HasRead, HasSentNone, Holds, HoldsAllOf, IsCutOf, IsFaultWithin, IsOutcome, IsPlanBegunSo, IsReadEnd, IsReadOf, IsRefusedText, bytes_read, in_flight, lag_of};
 
 use crate::block_queues::{BlockQueues, IN_FLIGHT};
-use crate::blocks::TraceText;
-use crate::blocks_out::BlocksOut;
+use crate::blocks_in_flight::BlocksInFlight;
 use crate::room::Room;
 use crate::taken_text::TakenText;
+use crate::text_block::TraceText;
 use crate::text_cutter::{RefusedLines, RowCutter, TextCutter};
 use line_model::fault::Fault;
 use line_model::finding::Finding;
@@ -488,7 +488,7 @@ impl<'a, P: Plan + TraceText, A: Allocator + Copy, S: RoomSource> Feed<P, A>
                 rt,
                 work,
                 text: TextCutter::new(alloc),
-                blocks: BlocksOut::new(alloc, queues),
+                blocks: BlocksInFlight::new(alloc, queues),
                 sent: 0,
             },
             room,

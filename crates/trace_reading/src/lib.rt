@@ -2,9 +2,9 @@
 #![tactic(auto)]
 
 pub mod block_queues;
-pub mod blocks;
-mod blocks_out;
+mod blocks_in_flight;
 pub mod feeding;
 pub mod room;
 mod taken_text;
+pub mod text_block;
 pub mod text_cutter;

@@ -8,8 +8,8 @@ ghost use Rattle.trace_reading.specs.TextBlocks.{IsBlockAt, IsPartAt};
 ghost use Rattle.line_model.specs.traces.Traces.{trace_plan};
 
 use crate::block_queues::MOST_BLOCKS;
-use crate::blocks::{Block, ReadBlock, TraceText};
-use crate::blocks_out::BlocksOut;
+use crate::blocks_in_flight::BlocksInFlight;
+use crate::text_block::{Block, ReadBlock, TraceText};
 use crate::text_cutter::TextCutter;
 use line_model::fault::Fault;
 use line_model::piece::Plan;
@@ -32,7 +32,7 @@ pub struct TakenText<'a, P: Plan + TraceText, A: Allocator, R> {
     pub rt: &'a R,
     pub work: &'a Work<P, A>,
     pub text: TextCutter<A>,
-    pub blocks: BlocksOut<'a, P, A>,
+    pub blocks: BlocksInFlight<'a, P, A>,
     /// How many bytes were consumed or handed out.
     pub sent: u32,
 }

@@ -283,4 +283,4 @@ impl<A: Allocator + Copy> TextCutter<A> {
     }
 }
 
-mod blocks;
+mod block_joining;

@@ -7,7 +7,7 @@ use line_model::piece::{Piece, PieceReport};
 use std::alloc::Allocator;
 use std::sync::Wait;
 use trace_reading::block_queues::BlockQueues;
-use trace_reading::blocks::TraceText;
+use trace_reading::text_block::TraceText;
 use workers::Gate;
 
 /// Runs each piece at once.

@@ -26,9 +26,9 @@ use std::thread::{Threads, available_parallelism};
 use std::time::Clock;
 use streams::room_source::RoomSource;
 use trace_reading::block_queues::{BLOCK_BYTES, BlockQueues, BlockSizes};
-use trace_reading::blocks::TraceText;
 use trace_reading::feeding::{Read, ReadingTask};
 use trace_reading::room::Room;
+use trace_reading::text_block::TraceText;
 use workers::{Crew, Gate, Gathered, Worked, work_through};
 
 /// What the reading thread read, and what the workers made of its pieces.

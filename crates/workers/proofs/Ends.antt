@@ -6,7 +6,7 @@ use Rattle.line_model.specs.declared.fault.Fault.TheVariants.{Memory}
 use Rattle.line_model.specs.declared.totals.Totals.{Totals}
 use Rattle.shared_work.specs.queue.Passes.{QueueId}
 use Rattle.shared_work.specs.declared.queue.rule.Record.{Record}
-use Rattle.workers.specs.declared.joining.JoinedWorkers.{JoinedWorkers}
+use Rattle.workers.specs.declared.thread_joining.JoinedWorkers.{JoinedWorkers}
 use Rattle.workers.specs.Runs.{IsJoined}
 
 match_map : {E : Type 0} (f : Option E) (p q : Type 0) (m : E → Type 0) → (p → q) → MatchOption f p m → MatchOption f q m

@@ -7,7 +7,7 @@ use Rattle.line_model.specs.basics.Records.{Piece}
 use Rattle.shared_work.specs.queue.Passes.{QueueId}
 use Rattle.shared_work.specs.queue.Rule.{IsAccounted}
 use Rattle.shared_work.specs.declared.queue.rule.Record.{Record}
-use Rattle.workers.specs.declared.joining.JoinedWorkers.{JoinedWorkers}
+use Rattle.workers.specs.declared.thread_joining.JoinedWorkers.{JoinedWorkers}
 use Rattle.workers.specs.declared.run.RunOutcome.{RunOutcome}
 
 -- this count of passes were joined to the feeder's. Without a fault the shares have as many posts as its record has takes

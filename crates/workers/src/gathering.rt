@@ -5,7 +5,7 @@ ghost use Rattle.std.specs.List.{flat_map};
 ghost use Rattle.workers.specs.Gathers.{IsWhole};
 ghost use Rattle.line_model.specs.work.Book.{AreOf, totals_of, sum_of};
 
-use crate::witness::{PieceWitness, QueueName};
+use crate::piece_witness::{PieceWitness, QueueName};
 use line_model::fault::Fault;
 use line_model::piece::{PieceReport, Plan};
 use line_model::totals::Totals;

@@ -4,8 +4,8 @@ ghost use Rattle.std.specs.Prelude.{◌≡◌, ◌+◌, All, OnOk, IfErr, length
 ghost use Rattle.line_model.specs.work.Book.{IsPlanned};
 ghost use Rattle.workers.specs.Vouching.{HasPiece};
 
-use crate::gate::Gate;
-use crate::witness::{PieceWitness, QueueName};
+use crate::piece_gate::Gate;
+use crate::piece_witness::{PieceWitness, QueueName};
 use line_model::fault::Fault;
 use line_model::piece::Plan;
 use report_merge::reports::BundleReport;

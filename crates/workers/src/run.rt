@@ -3,10 +3,10 @@
 ghost use Rattle.std.specs.Prelude.{◌≡◌, ◌<◌, ◌⊎◌, IfOk, IfErr};
 ghost use Rattle.workers.specs.Runs.{CameBack, IsRunOutcome};
 
-use crate::feeding::{Feed, feed_ends};
 use crate::handler::Handler;
-use crate::joining::join_all;
+use crate::piece_feeding::{Feed, feed_ends};
 use crate::starting::{ReadyWorkers, Started, start_all};
+use crate::thread_joining::join_all;
 use line_model::fault::Fault;
 use line_model::piece::Plan;
 use rayon::scope;

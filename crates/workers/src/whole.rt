@@ -6,13 +6,13 @@ ghost use Rattle.shared_work.specs.queue.Rule.{feeder};
 ghost use Rattle.workers.specs.Gathers.{HasWorked, IsWhole};
 ghost use Rattle.workers.specs.Runs.{CameBack};
 
-use crate::feeding::Feed;
-use crate::gate::Gate;
 use crate::gathering::{Gathered, gather_all};
 use crate::handler::Posting;
+use crate::piece_feeding::Feed;
+use crate::piece_gate::Gate;
+use crate::piece_witness::{PieceWitness, QueueName};
 use crate::run::{RunOutcome, run_scoped};
 use crate::starting::ready_workers;
-use crate::witness::{PieceWitness, QueueName};
 use line_model::fault::Fault;
 use line_model::piece::Plan;
 use report_merge::reports::BundleReport;

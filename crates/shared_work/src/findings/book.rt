@@ -11,7 +11,7 @@ use crate::findings::posts::Posts;
 use crate::findings::share::Share;
 use crate::findings::spares::Spares;
 use crate::findings::sums::Sums;
-use crate::findings::witness::{AnyReport, Voucher};
+use crate::findings::voucher::{AnyReport, Voucher};
 use line_model::fault::Fault;
 use line_model::piece::{PieceReport, Plan};
 use line_model::totals::Totals;

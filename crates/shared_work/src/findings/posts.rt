@@ -10,7 +10,7 @@ use crate::findings::room::make_room;
 use crate::findings::share::Share;
 use crate::findings::spares::Returned;
 use crate::findings::sums::Sums;
-use crate::findings::witness::{AnyReport, Voucher};
+use crate::findings::voucher::{AnyReport, Voucher};
 use line_model::fault::Fault;
 use line_model::piece::{PieceReport, Plan};
 use line_model::totals::Totals;

@@ -3,8 +3,8 @@ use Rattle.line_model.specs.basics.Bounds.{IsItem}
 use Rattle.header_trials.proofs.ChannelLemmas.{gap_said}
 use Rattle.header_trials.proofs.tried_channels.catch_up.Goals as goal
 
-pub step-requires : goal.step-requires
-step-requires g c =
+pub advance-requires : goal.advance-requires
+advance-requires g c =
     let i = c.requires.0 in
     let k = c.requires.1 in
     let h = c.requires.3 in

@@ -20,10 +20,18 @@ returns-in_err-from_slice-clause-memory g c =
     let p = err_from_is_err_and c.from_residual-in_err-from_slice.result c.from_residual-in_err-from_slice.ensures.1 in
     subst (λ r. IfErr r (λ f. f ≡ Memory)) (sym p.1) p.2
 
-pub returns-in_err-copy-clause-same : goal.returns-in_err-copy-clause-same
-returns-in_err-copy-clause-same g c = IfOk-from_err _ _ c.from_residual-in_err-copy.ensures.0
+pub returns-in_err-copies-clause-same : goal.returns-in_err-copies-clause-same
+returns-in_err-copies-clause-same g c = IfOk-from_err _ _ c.from_residual-in_err-copies.ensures.0
 
-pub returns-in_err-copy-clause-memory : goal.returns-in_err-copy-clause-memory
-returns-in_err-copy-clause-memory g c =
-    let p = err_from_is_err_and c.from_residual-in_err-copy.result c.from_residual-in_err-copy.ensures.1 in
-    subst (λ r. IfErr r (λ f. f ≡ Memory)) (sym p.1) (p.2 ∙ c.in_err-copy.ensures.memory)
+pub returns-in_err-copies-clause-memory : goal.returns-in_err-copies-clause-memory
+returns-in_err-copies-clause-memory g c =
+    let p = err_from_is_err_and c.from_residual-in_err-copies.result c.from_residual-in_err-copies.ensures.1 in
+    subst (λ r. IfErr r (λ f. f ≡ Memory)) (sym p.1) (p.2 ∙ c.in_err-copies.ensures.memory)
+
+pub returns-in_err-clone-2-clause-same : goal.returns-in_err-clone-2-clause-same
+returns-in_err-clone-2-clause-same g c = IfOk-from_err _ _ c.from_residual-in_err-clone-2.ensures.0
+
+pub returns-in_err-clone-2-clause-memory : goal.returns-in_err-clone-2-clause-memory
+returns-in_err-clone-2-clause-memory g c =
+    let p = err_from_is_err_and c.from_residual-in_err-clone-2.result c.from_residual-in_err-clone-2.ensures.1 in
+    subst (λ r. IfErr r (λ f. f ≡ Memory)) (sym p.1) p.2

@@ -2,7 +2,7 @@ use Rattle.std.proofs.Common.{◌≡◌, ◌∙◌, ap, subst, sym, List, ◌++�
 use Rattle.std.specs.Prelude.{IfErr}
 use Rattle.std.proofs.lemmas.Result.{IfOk-from_err, err_from_is_err_and}
 use Rattle.line_model.specs.declared.fault.Fault.TheVariants.{Memory}
-use Rattle.std.specs.List.Sorted.{IsNonDecreasingBy, IsPermutation}
+use Rattle.std.specs.List.Sorted.{IsPermutation}
 use Rattle.std.proofs.lemmas.List.Sorted.{IsPermutation-append, IsPermutation-append_comm, IsPermutation-refl, IsPermutation-trans, sum_by-IsPermutation}
 use Rattle.line_model.specs.basics.Records.{CallRecord}
 use Rattle.line_model.specs.declared.finding.Finding.{Finding}
@@ -18,7 +18,7 @@ pub accounts_of-requires : goal.accounts_of-requires
 accounts_of-requires g c =
     let sorted = sorted_as c.all-2.view_is c.in_ok-sort.ensures in
     let same = sum_by-IsPermutation (λ (call : CallRecord). call.segments) _ _ sorted.same_calls in
-    record { few_segments = grind (arith, same, ap (sum_by (λ (call : CallRecord). call.segments)) (c.as_slice.ensures.value ∙ c.into_calls-calls.ensures), c.all.invariant.within, c.all.invariant.few_segments) }
+    record { few_segments = grind (arith, same, ap (sum_by (λ (call : CallRecord). call.segments)) c.as_slice.ensures.value, c.all.invariant.within, c.all.invariant.few_segments) }
 
 pub returns-clause-merged : goal.returns-clause-merged
 returns-clause-merged g c ps all =
@@ -26,15 +26,15 @@ returns-clause-merged g c ps all =
     let sorted = sorted_as c.all-2.view_is c.in_ok-sort.ensures in
     let appended = subst (λ (l : List Finding). IsPermutation l c.all-2.inside.findings.items) c.in_ok-append.ensures.items sorted.same_findings in
     let many_findings = c.len.ensures ∙ c.all-2.inside.findings.ok.0 in
-    let many_calls = c.len-2.ensures ∙ c.into_calls-calls.result.ok.0 in
+    let many_calls = c.len-2.ensures ∙ c.all-2.inside.calls.ok.0 in
     record {
       same_findings = IsPermutation-trans (c.args.line.items ++ piece_findings ps) (piece_findings ps ++ c.args.line.items) c.all-2.inside.findings.items
           (IsPermutation-append_comm c.args.line.items (piece_findings ps))
           (IsPermutation-trans (piece_findings ps ++ c.args.line.items) (c.all.inside.findings.items ++ c.args.line.items) c.all-2.inside.findings.items
           (IsPermutation-append (piece_findings ps) c.all.inside.findings.items c.args.line.items c.args.line.items given.same_findings (IsPermutation-refl c.args.line.items)) appended);
       findings_sorted = sorted.findings_sorted;
-      same_calls = subst (IsPermutation (all_calls ps)) (sym c.into_calls-calls.ensures) (IsPermutation-trans (all_calls ps) c.all.inside.calls c.all-2.inside.calls given.same_calls sorted.same_calls);
-      calls_sorted = subst (IsNonDecreasingBy (λ (call : CallRecord). call.opened)) (sym c.into_calls-calls.ensures) sorted.calls_sorted;
+      same_calls = IsPermutation-trans (all_calls ps) c.all.inside.calls.items c.all-2.inside.calls.items given.same_calls sorted.same_calls;
+      calls_sorted = sorted.calls_sorted;
       accounts = c.in_ok-accounts.ensures.accounts ∙ ap accounts_of c.as_slice.ensures.value;
       peak = subst (λ (l : List CallRecord). IsPeakOfTimes (up_at l) c.in_ok-peak.peak.count c.in_ok-peak.peak.packet) c.as_slice-2.ensures.value c.in_ok-peak.ensures.peak;
       gaps = refl;

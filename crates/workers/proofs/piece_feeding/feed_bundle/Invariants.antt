@@ -1,0 +1,5 @@
+use Rattle.std.specs.Prelude.{◌≡◌}
+use Rattle.workers.proofs.piece_feeding.feed_bundle.Given as goal
+
+abbrev pub invariant-loop : goal.invariant-loop
+invariant-loop g l = (l.pass ≡ l.initial.pass) × (l.bundle ≡ l.initial.bundle)
