@@ -15,3 +15,4 @@ pub mod ClosingLemmas
 mod Anywhere
 pub mod CommonMembers
 pub mod RestLemmas
+pub mod ValueLemmas

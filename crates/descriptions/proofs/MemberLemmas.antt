@@ -1,15 +1,11 @@
 -- Members are put one after the other.
-use Rattle.std.proofs.Common.{◌≡◌, ◌∙◌, sym, ap, subst, refl, ℕ, ◌+◌, ◌<◌, ◌≤◌, ◌^◌, get_or, take, length, ◌==◌, ◌&&◌, ◌||◌, Bool, true, false, not, List, [], ◌∷◌, ◌++◌, append_assoc, append-nil, arith}
-use Rattle.std.specs.Prelude.{decimal}
+use Rattle.std.proofs.Common.{◌≡◌, ◌∙◌, sym, ap, subst, refl, ℕ, ◌==◌, ◌&&◌, ◌||◌, Bool, true, false, not, List, [], ◌∷◌, ◌++◌, append_assoc, append-nil, arith}
 use Rattle.std.specs.Str.{bytes_eq}
-use Rattle.std.specs.Str.Parse.{AllDigits}
-use Rattle.std.proofs.lemmas.Fmt.{decimal_nonempty, digits_decimal}
-use Rattle.std.proofs.lemmas.List.{take_more}
-use Rattle.std.proofs.lemmas.Str.Parse.{numerals_by_value, tells_digits}
 use Rattle.std.proofs.lemmas.Slice.Eq.{bytes_eq-Decides}
 use Rattle.json_lines.specs.Json.{quoted}
-use Rattle.descriptions.specs.Members.{AreElements, Array, Element, Fraction, IsFurther, IsMembers, IsText, IsValue, Member, NoElement, NoMember, Object, Text, is_among, is_plain, is_text, member, promised}
-use Rattle.descriptions.specs.Writing.{Adds, AreDigits, IsBeginning, IsFirst, IsOpenArray, IsOpenObject, These, beginning_of, comma_after, is_beginning, is_first, name_in}
+use Rattle.descriptions.specs.Members.{AreElements, Array, Element, False, IsFurther, IsMembers, IsText, IsValue, Member, NoElement, NoMember, Object, Text, True, is_among, is_plain, is_text, member, promised}
+use Rattle.descriptions.specs.RowObjects.{flag_word}
+use Rattle.descriptions.specs.Writing.{Adds, IsBeginning, IsFirst, IsOpenArray, IsOpenObject, These, beginning_of, comma_after, is_beginning, is_first, name_in}
 
 -- ---- bytes of one form and then of another
 
@@ -43,6 +39,10 @@ one_member x y b v = subst (IsMembers _) (same b.name ∙ ap (λ xs. xs ++ y) (s
 
 pub member_put : {O : Type 0} {has : O → List ℕ → Type 0} {a b c : O} → Adds has (IsBeginning promised) a b → Adds has IsValue b c → Adds has IsFurther a c
 member_put first later = both_put one_member first later
+
+pub flag_value : (b : Bool) → IsValue (flag_word b)
+flag_value true = True
+flag_value false = False
 
 pub no_member : {O : Type 0} {has : O → List ℕ → Type 0} {a : O} → Adds has IsFurther a a
 no_member = nothing_put NoMember
@@ -173,38 +173,9 @@ text_put {O} {has} {a} {b} {c} {d} first text later = record {
 pub plain_byte : (b : ℕ) → is_plain b ≡ true → IsText (b ∷ [])
 plain_byte b h = grind (arith, h)
 
--- the bytes up to one that needs none
+pub two_plain : (a b : ℕ) → is_plain a ≡ true → is_plain b ≡ true → IsText (a ∷ b ∷ [])
+two_plain a b h k = more_text false (a ∷ []) (b ∷ []) (plain_byte a h) (plain_byte b k)
+
 pub not_clear : (b : Bool) → not b ≡ false → b ≡ true
 not_clear true h = refl
 not_clear false h = cc
-
-pub plain_more : (bytes : List ℕ) (i b : ℕ) → i < length bytes → IsText (take i bytes) → is_plain (get_or bytes i b) ≡ true → IsText (take (i + 1) bytes)
-plain_more bytes i b lt text h = subst IsText (sym (take_more bytes i b lt)) (more_text false (take i bytes) (get_or bytes i b ∷ []) text (plain_byte (get_or bytes i b) h))
-
--- ---- numbers
-
-pub fraction_put : {O : Type 0} {has : O → List ℕ → Type 0} {a b c d : O} (n : ℕ) → Adds has (These (decimal n)) a b → Adds has (These (46 ∷ [])) b c → Adds has AreDigits c d → Adds has IsValue a d
-fraction_put n whole point later = both_put (λ x y h ds. value_of n x y h ds) (both_put {R = These (decimal n ++ 46 ∷ [])} (λ x y e f. (λ t. e t ++ f t)) whole point) later
-  where
-    value_of : (n : ℕ) (x y : List ℕ) → These (decimal n ++ 46 ∷ []) x → AreDigits y → IsValue (x ++ y)
-    value_of n x [] e h = absurd h
-    value_of n x (d ∷ ds) e h = subst IsValue (sym (append_assoc (decimal n) (46 ∷ []) (d ∷ ds)) ∙ ap (λ xs. xs ++ d ∷ ds) (sym e)) (Fraction n d ds h)
-
-some_digits : (ds : List ℕ) → 1 ≤ length ds → AllDigits 10 ds → AreDigits ds
-some_digits [] few h = absurd (omega (arith, few))
-some_digits (d ∷ ds) few h = h
-
-pub decimal_digits : (n : ℕ) → n < 2 ^ 64 → AreDigits (decimal n)
-decimal_digits n few = some_digits (decimal n) (omega (arith, decimal_nonempty n few)) (digits_decimal (numerals_by_value (AllDigits 10) tells_digits) n (omega (arith, few)))
-
-digits_append : (x y : List ℕ) → AllDigits 10 x → AllDigits 10 y → AllDigits 10 (x ++ y)
-digits_append [] y h k = k
-digits_append (d ∷ x) y h k = (h.0, digits_append x y h.1 k)
-
-more_digits : (x y : List ℕ) → AreDigits x → AreDigits y → AreDigits (x ++ y)
-more_digits [] y h k = absurd h
-more_digits (d ∷ x) [] h k = absurd k
-more_digits (d ∷ x) (e ∷ y) h k = digits_append (d ∷ x) (e ∷ y) h k
-
-pub digits_then : {O : Type 0} {has : O → List ℕ → Type 0} {a b c : O} → Adds has AreDigits a b → Adds has AreDigits b c → Adds has AreDigits a c
-digits_then first later = both_put more_digits first later

@@ -1,15 +1,11 @@
 -- The lines of the table of calls.
-use Rattle.std.proofs.Common.{◌≡◌, ◌≢◌, ◌∙◌, Option, Result, Ok, Err, OnOk, OnErr, sym, ap, refl, subst, ℕ, zero, suc, ◌+◌, ◌<◌, ◌≤◌, get_or, List, [], ◌∷◌, ◌++◌, take, drop, length, append_assoc, append-nil, arith, ne_eqb}
+use Rattle.std.proofs.Common.{◌≡◌, ◌≢◌, sym, ap, refl, subst, ℕ, zero, suc, ◌+◌, ◌<◌, ◌≤◌, get_or, List, [], ◌∷◌, ◌++◌, take, drop, length, append_assoc, append-nil, arith, ne_eqb}
 use Rattle.std.specs.Prelude.{if◌then◌else◌}
 use Rattle.std.specs.List.{enumerate_from}
 use Rattle.std.proofs.lemmas.List.{drop_all}
-use Rattle.line_model.specs.basics.Device.{with_more}
 use Rattle.line_model.specs.basics.Records.{CallRecord}
-use Rattle.line_model.specs.basics.Written.{HasFront}
-use Rattle.annotated_trace.specs.Printed.{HasTaken, HasTakenFirst}
-use Rattle.descriptions.specs.CallTable.{AreEntries, IsCallTable, IsEntry, heading, trimmed, with_digit}
+use Rattle.descriptions.specs.CallTable.{AreEntries, IsEntry, trimmed, with_digit}
 use Rattle.descriptions.specs.declared.call_columns.TableForm.{TableForm}
-use Rattle.descriptions.specs.RowObjects.{joined}
 
 -- ---- zeros at the end
 
@@ -30,11 +26,6 @@ trimmed_front (d ∷ []) zero size last = sym (ap (λ n. with_digit n []) last)
 trimmed_front (d ∷ []) (suc n) size last = absurd (omega arith)
 trimmed_front (d ∷ e ∷ ds) zero size last = absurd (omega arith)
 trimmed_front (d ∷ e ∷ ds) (suc n) size last = ap (λ l. with_digit d l) (trimmed_front (e ∷ ds) n (omega arith) last)
-
--- ---- an entry
-
-pub eight_parts : (t a b c d e f g h : List ℕ) → (((((((t ++ a) ++ b) ++ c) ++ d) ++ e) ++ f) ++ g) ++ h ≡ t ++ joined (a ∷ b ∷ c ∷ d ∷ e ∷ f ∷ g ∷ h ∷ [])
-eight_parts t a b c d e f g h = simp (append_assoc, append-nil)
 
 -- ---- the entries of calls
 
@@ -57,32 +48,3 @@ pub entries_end : (form : TableForm) (xs : List CallRecord) (i : ℕ) (done : Li
 entries_end form xs i done ge before =
     subst (λ l. AreEntries form (enumerate_from 1 xs) l) (append-nil done)
     (before [] (subst (λ ys. AreEntries form (enumerate_from (i + 1) ys) []) (sym (drop_all i xs ge)) refl))
-
--- ---- the table
-
-whole_table : (form : TableForm) (calls : List CallRecord) (entries : List ℕ) → AreEntries form (enumerate_from 1 calls) entries → IsCallTable form calls (heading form ++ entries)
-whole_table form calls entries each = record { entries = entries; each = each; written = refl }
-
-pub table_taken : {T E : Type 0} (r : Result T E) (form : TableForm) (calls : List CallRecord) (entries : List ℕ) (start lent : Option (List ℕ) × ℕ) (after : Option (List ℕ)) → start ≡ lent
-    → AreEntries form (enumerate_from 1 calls) entries → OnOk r (after ≡ with_more start.0 (heading form ++ entries)) → OnOk r (HasTaken (IsCallTable form calls) lent.0 after)
-table_taken (Ok x) form calls entries start lent after same each taken = record {
-  bytes = heading form ++ entries;
-  taken = taken ∙ ap (λ s. with_more s.0 (heading form ++ entries)) same;
-  formed = whole_table form calls entries each;
-}
-table_taken (Err e) form calls entries start lent after same each taken = tt
-
-pub table_begun : {T E : Type 0} (r : Result T E) (form : TableForm) (calls : List CallRecord) (entries : List ℕ) (start lent : Option (List ℕ) × ℕ) (after : Option (List ℕ)) → start ≡ lent
-    → AreEntries form (enumerate_from 1 calls) entries → OnErr r (HasFront start.0 after (heading form ++ entries)) → OnErr r (HasTakenFirst (IsCallTable form calls) lent.0 after)
-table_begun (Ok x) form calls entries start lent after same each front = tt
-table_begun (Err e) form calls entries start lent after same each front = record {
-  bytes = heading form ++ entries;
-  front = front.0;
-  left = front.1;
-  whole = front.2;
-  taken = front.3 ∙ ap (λ s. with_more s.0 front.0) same;
-  formed = whole_table form calls entries each;
-}
-
-pub table_failed : {T E : Type 0} (r : Result T E) (start lent : Option (List ℕ) × ℕ) (failures : ℕ) → start ≡ lent → OnErr r (start.1 < failures) → OnErr r (lent.1 < failures)
-table_failed r start lent failures same failed = subst (λ s. OnErr r (s.1 < failures)) same failed

@@ -1,11 +1,12 @@
 -- The table of calls: CSV with a heading (RFC 4180), or an object for each call (profile).
-use Rattle.std.specs.Prelude.{◌≡◌, ℕ, ◌-◌, ◌+◌, ◌==◌, ◌≤◌, Bool, true, false, List, [], ◌∷◌, ◌++◌, drop, flat_map, Option, Some, None, codes, decimal, if◌then◌else◌}
+use Rattle.std.specs.Prelude.{◌≡◌, ℕ, ◌-◌, ◌+◌, ◌==◌, ◌≤◌, ◌||◌, Bool, true, false, List, [], ◌∷◌, ◌++◌, drop, flat_map, Option, Some, None, codes, decimal, length, if◌then◌else◌}
 use Rattle.std.specs.List.{enumerate_from}
 use Rattle.line_model.specs.basics.Records.{CallRecord}
 use Rattle.line_model.specs.observer.Report.{direction_word, how_word}
+use Rattle.descriptions.specs.Members.{is_plain}
 use Rattle.descriptions.specs.RowObjects.{joined}
-use Rattle.descriptions.specs.declared.call_columns.Cell.{Cell}
-use Rattle.descriptions.specs.declared.call_columns.Cell.TheVariants as cell
+use Rattle.descriptions.specs.declared.value.Value.{Value}
+use Rattle.descriptions.specs.declared.value.Value.TheVariants as value
 use Rattle.descriptions.specs.declared.call_columns.Column.{Column}
 use Rattle.descriptions.specs.declared.call_columns.Further.{Further}
 use Rattle.descriptions.specs.declared.call_columns.Named.{Named}
@@ -20,19 +21,19 @@ abbrev pub absent : TableForm → List ℕ
 absent Csv = []
 absent Objects = codes "null"
 
--- a word of letters or digits, which CSV needs no quotes for
-abbrev pub word_text : TableForm → List ℕ → List ℕ
-word_text Csv w = w
-word_text Objects w = 34 ∷ (w ++ 34 ∷ [])
-
--- a character between quotes: a quote is written twice in CSV and after a backslash in JSON, and a space is in place of an LF
+-- a character between quotes: a quote is written twice in CSV, and a quote or a backslash after a backslash in JSON; a space is in place of an LF, in JSON of each control character
 abbrev pub character : TableForm → ℕ → List ℕ
 character Csv c = if c == 34 then 34 ∷ 34 ∷ [] else (if c == 10 then 32 ∷ [] else c ∷ [])
-character Objects c = if c == 34 then 92 ∷ 34 ∷ [] else (if c == 92 then 92 ∷ 92 ∷ [] else (if c == 10 then 32 ∷ [] else c ∷ []))
+character Objects c = if is_plain c then c ∷ [] else (if c == 34 || c == 92 then 92 ∷ c ∷ [] else 32 ∷ [])
 
 -- a text between quotes
 abbrev pub quoted : TableForm → List ℕ → List ℕ
 quoted form text = 34 ∷ (flat_map (character form) text ++ 34 ∷ [])
+
+-- a word of letters or digits, which CSV needs no quotes for
+abbrev pub word_text : TableForm → List ℕ → List ℕ
+word_text Csv w = w
+word_text Objects w = quoted Objects w
 
 -- a digit before others; a zero before none is left out
 abbrev pub with_digit : ℕ → List ℕ → List ℕ
@@ -48,9 +49,17 @@ trimmed (d ∷ ds) = with_digit d (trimmed ds)
 abbrev pub nine_digits : ℕ → List ℕ
 nine_digits n = drop 1 (decimal (1000000000 + n))
 
+-- a point before digits, if there are any
+abbrev pub point_before : (none : Bool) → List ℕ
+point_before true = []
+point_before false = 46 ∷ []
+
+abbrev pub with_point : List ℕ → List ℕ
+with_point ds = point_before (length ds == 0) ++ ds
+
 -- the part of a second after its point, if there is one
 abbrev pub point_part : ℕ → List ℕ
-point_part n = if n == 0 then [] else 46 ∷ trimmed (nine_digits n)
+point_part n = with_point (trimmed (nine_digits n))
 
 -- a time in seconds
 abbrev pub seconds_text : Time → List ℕ
@@ -176,12 +185,12 @@ pub record IsCallTable (form : TableForm) (calls : List CallRecord) (bytes : Lis
 
 -- ---- what the code has of a column
 
-abbrev pub cell_text : TableForm → Cell → List ℕ
-cell_text form cell.Absent = absent form
-cell_text form (cell.Number n) = decimal n
-cell_text form (cell.Seconds t) = seconds_text t
-cell_text form (cell.Word w) = word_text form w.now
-cell_text form (cell.Text t) = quoted form t.now
+abbrev pub cell_text : TableForm → Value → List ℕ
+cell_text form value.Null = absent form
+cell_text form (value.Number n) = decimal n
+cell_text form (value.Seconds t) = seconds_text t
+cell_text form (value.Word w) = word_text form w.now
+cell_text form (value.Text t) = quoted form t.now
 
 abbrev pub column_text : TableForm → Column → List ℕ
 column_text form c = column form c.name.now (cell_text form c.cell)

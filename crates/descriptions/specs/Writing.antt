@@ -1,7 +1,6 @@
 -- What the writer of members writes.
 use Rattle.std.specs.Prelude.{◌≡◌, ℕ, ◌==◌, ◌&&◌, ◌-◌, Bool, true, false, not, List, [], ◌∷◌, ◌++◌, drop, length, take}
 use Rattle.std.specs.Str.{bytes_eq}
-use Rattle.std.specs.Str.Parse.{AllDigits}
 use Rattle.json_lines.specs.Json.{quoted}
 use Rattle.descriptions.specs.Members.{AreElements, IsMembers, IsText, is_among, is_text}
 
@@ -66,8 +65,3 @@ IsOpenArray false bytes = (rest : List ℕ) × (bytes ≡ 91 ∷ rest) × AreEle
 abbrev pub comma_after : (empty : Bool) → List ℕ
 comma_after true = []
 comma_after false = 44 ∷ []
-
--- a fraction's digits, at least one
-abbrev pub AreDigits : List ℕ → Type 0
-AreDigits [] = ⊥
-AreDigits (d ∷ digits) = AllDigits 10 (d ∷ digits)

@@ -1,10 +1,11 @@
 //! What the table of calls says of a call, column by column.
 
 ghost use Rattle.std.specs.Prelude.{◌≡◌, ◌≤◌, flat_map};
-ghost use Rattle.descriptions.specs.CallTable.{cause_columns, cell_text, column_text, data_columns, last_columns, maybe_number, maybe_seconds, address_text, name_of, payer, payer_word, place_columns, span_columns, value_of};
+ghost use Rattle.descriptions.specs.CallTable.{cause_columns, cell_text, column_text, data_columns, last_columns, maybe_number, name_of, payer, payer_word, place_columns, span_columns, value_of};
 ghost use Rattle.descriptions.specs.declared.call_columns.TableForm.{TableForm as AnyForm};
 
 use crate::times::Time;
+use crate::value::Value;
 use line_model::address::Address;
 use line_model::call::CallRecord;
 use report_merge::words::{direction_word, how_word};
@@ -19,28 +20,13 @@ pub enum TableForm {
     Objects,
 }
 
-/// What a column says of a call.
-#[derive(Clone, Copy)]
-pub enum Cell<'a> {
-    /// Nothing is known.
-    Absent,
-    /// A number.
-    Number(u64),
-    /// A time in seconds.
-    Seconds(Time),
-    /// A word of letters or digits.
-    Word(&'a [u8]),
-    /// Any text.
-    Text(&'a [u8]),
-}
-
 /// A column of a call.
 #[derive(Clone, Copy)]
 pub struct Column<'a> {
     /// Its name in the heading.
     pub name: &'static [u8],
     /// What it says.
-    pub cell: Cell<'a>,
+    pub cell: Value<'a>,
 }
 
 /// A cause or a diagnostic code, and its name.
@@ -68,82 +54,52 @@ pub struct Further<'a> {
     /// The findings of its rows.
     pub findings: u64,
     /// The gap rows in it, where gaps are rows.
-    pub gaps: Option<u32>,
+    pub gaps: Option<u64>,
     /// The frame of the packet that opened it.
     pub opened_frame: Option<u64>,
     /// The frame of the packet that ended it.
     pub ended_frame: Option<u64>,
 }
 
-/// A number that may be absent.
-fn maybe_number<'a>(number: Option<u32>) -> Cell<'a>
-    ensures { (form : AnyForm) → cell_text form result ≡ maybe_number form number }
+/// The number of a packet that may be absent.
+fn maybe_packet<'a>(packet: Option<u32>) -> Value<'a>
+    ensures { (form : AnyForm) → cell_text form result ≡ maybe_number form packet }
 {
-    match number {
-        Some(number) => Cell::Number(u64::from(number)),
-        None => Cell::Absent,
-    }
-}
-
-/// The number of a frame, which may be absent.
-fn maybe_frame<'a>(frame: Option<u64>) -> Cell<'a>
-    ensures { (form : AnyForm) → cell_text form result ≡ maybe_number form frame }
-{
-    match frame {
-        Some(frame) => Cell::Number(frame),
-        None => Cell::Absent,
-    }
-}
-
-/// A time that may be absent.
-fn maybe_seconds<'a>(time: Option<Time>) -> Cell<'a>
-    ensures { (form : AnyForm) → cell_text form result ≡ maybe_seconds form time }
-{
-    match time {
-        Some(time) => Cell::Seconds(time),
-        None => Cell::Absent,
-    }
-}
-
-/// An address that may be absent.
-fn address_cell(address: &Address) -> Cell<'_>
-    ensures { (form : AnyForm) → cell_text form result ≡ address_text form address.now }
-{
-    match address.as_bytes() {
-        [] => Cell::Absent,
-        digits => Cell::Word(digits),
+    match packet {
+        Some(packet) => Value::Number(u64::from(packet)),
+        None => Value::Null,
     }
 }
 
 /// A code that may be absent.
-fn value_of<'a>(code: Option<Named<'_>>) -> Cell<'a>
+fn value_of<'a>(code: Option<Named<'_>>) -> Value<'a>
     ensures { (form : AnyForm) → cell_text form result ≡ value_of form code.entry }
 {
     match code {
-        Some(code) => Cell::Number(u64::from(code.value)),
-        None => Cell::Absent,
+        Some(code) => Value::Number(u64::from(code.value)),
+        None => Value::Null,
     }
 }
 
 /// The name of a code that may be absent.
-fn name_of<'a>(code: Option<Named<'a>>) -> Cell<'a>
+fn name_of<'a>(code: Option<Named<'a>>) -> Value<'a>
     ensures { (form : AnyForm) → cell_text form result ≡ name_of form code.entry }
 {
     match code {
-        Some(code) => Cell::Text(code.name),
-        None => Cell::Absent,
+        Some(code) => Value::Text(code.name),
+        None => Value::Null,
     }
 }
 
-/// Who pays.
-fn payer_word(reverse: bool) -> &'static [u8]
+/// Returns who pays.
+pub fn payer_word(reverse: bool) -> &'static [u8]
     ensures { result.now ≡ payer_word reverse }
 {
     if reverse { b"called" } else { b"calling" }
 }
 
-/// The address that pays.
-fn payer<A: Allocator>(call: &CallRecord<A>) -> &Address
+/// Returns the address that pays.
+pub fn payer<A: Allocator>(call: &CallRecord<A>) -> &Address
     ensures { result.now ≡ payer call.now }
 {
     if call.reverse {
@@ -160,19 +116,19 @@ pub fn place_columns<A: Allocator>(call: &CallRecord<A>) -> [Column<'_>; 4]
     [
         Column {
             name: b"channel",
-            cell: Cell::Number(u64::from(call.channel)),
+            cell: Value::Number(u64::from(call.channel)),
         },
         Column {
             name: b"direction",
-            cell: Cell::Word(direction_word(call.out)),
+            cell: Value::Word(direction_word(call.out)),
         },
         Column {
             name: b"called",
-            cell: address_cell(&call.called),
+            cell: Value::address(call.called.as_bytes()),
         },
         Column {
             name: b"calling",
-            cell: address_cell(&call.calling),
+            cell: Value::address(call.calling.as_bytes()),
         },
     ]
 }
@@ -187,23 +143,23 @@ pub fn span_columns<'a, A: Allocator>(
     [
         Column {
             name: b"opened",
-            cell: Cell::Number(u64::from(call.opened)),
+            cell: Value::Number(u64::from(call.opened)),
         },
         Column {
             name: b"ended",
-            cell: maybe_number(call.ended),
+            cell: maybe_packet(call.ended),
         },
         Column {
             name: b"start",
-            cell: maybe_seconds(further.start),
+            cell: Value::seconds(further.start),
         },
         Column {
             name: b"seconds",
-            cell: maybe_seconds(further.seconds),
+            cell: Value::seconds(further.seconds),
         },
         Column {
             name: b"how",
-            cell: Cell::Word(how_word(call.how)),
+            cell: Value::Word(how_word(call.how)),
         },
     ]
 }
@@ -244,27 +200,27 @@ pub fn data_columns<'a, A: Allocator>(
     [
         Column {
             name: b"data_t",
-            cell: Cell::Number(call.data_t),
+            cell: Value::Number(call.data_t),
         },
         Column {
             name: b"octets_t",
-            cell: Cell::Number(call.oct_t),
+            cell: Value::Number(call.oct_t),
         },
         Column {
             name: b"segments_t",
-            cell: Cell::Number(further.segments_t),
+            cell: Value::Number(further.segments_t),
         },
         Column {
             name: b"data_n",
-            cell: Cell::Number(call.data_n),
+            cell: Value::Number(call.data_n),
         },
         Column {
             name: b"octets_n",
-            cell: Cell::Number(call.oct_n),
+            cell: Value::Number(call.oct_n),
         },
         Column {
             name: b"segments_n",
-            cell: Cell::Number(segments_n),
+            cell: Value::Number(segments_n),
         },
     ]
 }
@@ -279,27 +235,27 @@ pub fn last_columns<'a, A: Allocator>(
     [
         Column {
             name: b"pays",
-            cell: Cell::Word(payer_word(call.reverse)),
+            cell: Value::Word(payer_word(call.reverse)),
         },
         Column {
             name: b"payer",
-            cell: address_cell(payer(call)),
+            cell: Value::address(payer(call).as_bytes()),
         },
         Column {
             name: b"findings",
-            cell: Cell::Number(further.findings),
+            cell: Value::Number(further.findings),
         },
         Column {
             name: b"gaps",
-            cell: maybe_number(further.gaps),
+            cell: Value::number(further.gaps),
         },
         Column {
             name: b"opened_frame",
-            cell: maybe_frame(further.opened_frame),
+            cell: Value::number(further.opened_frame),
         },
         Column {
             name: b"ended_frame",
-            cell: maybe_frame(further.ended_frame),
+            cell: Value::number(further.ended_frame),
         },
     ]
 }

@@ -1,31 +1,30 @@
 //! The table of calls: CSV with a heading, or an object for each call.
 
 ghost use Rattle.std.specs.Prelude.{◌≡◌, ◌<◌, ◌≤◌, IfErr, OnErr, OnOk};
-ghost use Rattle.line_model.specs.basics.Written.{PutsTo};
 ghost use Rattle.annotated_trace.specs.Printed.{HasTaken, HasTakenFirst};
 ghost use Rattle.descriptions.specs.CallTable.{HasPutEntries, IsCallTable};
+ghost use Rattle.descriptions.specs.Writing.{Adds, These};
 
 use crate::call_columns::{Further, Named, TableForm};
 use crate::call_memory::CallMemory;
-use crate::causes::{CauseTable, Causes};
+use crate::causes::{CauseTable, named_diagnostic};
 use crate::chosen::Chosen;
 use crate::closing_objects::{Rest, call_length};
-use crate::diagnostics::diagnostic;
+use crate::json::{Json, Out};
 use crate::row_objects::PastRows;
-use crate::table_lines::{Listed, put_entry, put_heading};
+use crate::sending::Sending;
+use crate::table_lines::{Listed, heading, put_entry};
 use crate::times::Recorded;
 use annotated_trace::printer::Printer;
 use annotated_trace::rows::Rows;
 use call_accounts::so_far::segments_in;
 use channel_run::run::Channel;
 use line_model::call::CallRecord;
-use line_model::device::Sink;
 use line_model::event::{Event, What};
 use line_model::fault::Fault;
 use line_model::lending::LentSink;
 use line_model::report::Report;
 use line_model::state::Side;
-use line_model::write_buffer::WriteBuffer;
 use live_report::live::Live;
 use std::alloc::{AllocError, Allocator};
 use std::marker::PhantomData;
@@ -158,20 +157,6 @@ impl<A: Allocator + Copy, K: TableKind> CallTable<A, K> {
     }
 }
 
-/// The cause of the packet that cleared a call, and its name.
-fn named_cause(causes: &Causes) -> Option<Named<'static>> {
-    let value = causes.cause?;
-    let name = CauseTable::Clearing.name(value).as_bytes();
-    Some(Named { value, name })
-}
-
-/// The diagnostic code of that packet, and its name.
-fn named_diagnostic(causes: &Causes) -> Option<Named<'static>> {
-    let value = causes.diagnostic?;
-    let name = diagnostic(value).as_bytes();
-    Some(Named { value, name })
-}
-
 /// How many rows of a call have a finding.
 fn finding_count<A: Allocator>(call: &CallMemory<A>) -> u64 {
     let mut findings: u64 = 0;
@@ -192,15 +177,11 @@ fn remembered<A: Allocator + Copy>(
     Further {
         start: call.start.time,
         seconds: call_length(call),
-        cause: named_cause(&call.causes),
-        diagnostic: named_diagnostic(&call.causes),
+        cause: call.causes.named_cause(CauseTable::Clearing),
+        diagnostic: named_diagnostic(call.causes.diagnostic),
         segments_t,
         findings: finding_count(call),
-        gaps: if rest.has_gaps {
-            Some(rest.calls.gaps_of(call))
-        } else {
-            None
-        },
+        gaps: rest.gaps_of(call),
         opened_frame: call.start.frame,
         ended_frame: call.end.frame,
     }
@@ -240,15 +221,14 @@ struct Sources<'a, A: Allocator> {
     calls: &'a [CallRecord<A>],
 }
 
-/// Puts the entries of calls.
-fn put_entries<W: Sink, A: Allocator + Copy>(
+/// Writes the entries of calls.
+fn put_entries<O: Out, A: Allocator + Copy>(
+    json: &mut Json<O>,
     form: TableForm,
     sources: &Sources<'_, A>,
-    out: &mut WriteBuffer,
-    sink: &mut W,
 )
     ensures { HasPutEntries form sources.now.calls.now
-        (λ bytes. PutsTo W.Sink sink.old sink.new out.old out.new bytes) }
+        (λ bytes. Adds O.has (These bytes) json.old.out json.new.out) }
 {
     let calls = sources.calls;
     for (index, record) in calls.iter().enumerate() {
@@ -263,7 +243,7 @@ fn put_entries<W: Sink, A: Allocator + Copy>(
                 record,
             ),
         };
-        put_entry(form, &call, out, sink);
+        put_entry(json, form, &call);
     }
 }
 
@@ -271,7 +251,7 @@ fn put_entries<W: Sink, A: Allocator + Copy>(
 fn write_table<A: Allocator + Copy, S: LentSink>(
     form: TableForm,
     sources: &Sources<'_, A>,
-    mut sink: S,
+    sink: S,
 ) -> (S, Result<(), Fault>)
     requires { (S.taken sink, S.failures sink) ≡ S.before }
     ensures ok { OnOk result.1 (HasTaken (IsCallTable form sources.now.calls.now) S.before.0
@@ -281,11 +261,12 @@ fn write_table<A: Allocator + Copy, S: LentSink>(
     ensures cause { OnErr result.1 (S.before.1 < S.failures result.0) }
     ensures write { IfErr result.1 (λ fault. fault ≡ Fault.Write) }
 {
-    let mut out = WriteBuffer::new();
-    put_heading(form, &mut out, &mut sink);
-    put_entries(form, sources, &mut out, &mut sink);
-    let answer = out.end(&mut sink);
-    (sink, answer)
+    let mut json = Json {
+        out: Sending::new(sink),
+    };
+    json.raw(heading(form));
+    put_entries(&mut json, form, sources);
+    json.out.finish()
 }
 
 impl<A: Allocator + Copy, C: Channel<A>, K: TableKind + Drop> Printer<A, Live<A, C>>

@@ -1,5 +1,7 @@
 //! The causes of packets that clear, reset or restart, and their names (X.25 clauses 5.2.3, 5.4.3 and 5.5.1).
 
+use crate::call_columns::Named;
+use crate::diagnostics::diagnostic;
 use explanations::lookup::{clearing_cause_row, resetting_cause_row, restarting_cause_row};
 
 /// The cause and the diagnostic code of a packet, each where it has one.
@@ -27,6 +29,20 @@ impl Causes {
             diagnostic: octets.get(4).copied(),
         }
     }
+
+    /// Returns the cause with its name.
+    pub fn named_cause(&self, table: CauseTable) -> Option<Named<'static>> {
+        let value = self.cause?;
+        let name = table.name(value).as_bytes();
+        Some(Named { value, name })
+    }
+}
+
+/// Returns a diagnostic code with its name.
+pub fn named_diagnostic(code: Option<u8>) -> Option<Named<'static>> {
+    let value = code?;
+    let name = diagnostic(value).as_bytes();
+    Some(Named { value, name })
 }
 
 /// The table that names the causes of a packet.

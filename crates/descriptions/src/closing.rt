@@ -49,18 +49,16 @@ fn call<A: Allocator, P: Page>(notes: &mut P, number: u64, call: &CallRecord<A>)
     notes.say(", calling ");
     address(notes, &call.calling);
     say_number(notes, "; opened by packet ", u64::from(call.opened));
-    up(notes, call.up);
-    ended(notes, call.ended, call.how);
-    traffic(notes, call);
-}
-
-fn up<P: Page>(notes: &mut P, up: Option<u32>) {
-    match up {
-        Some(packet) => {
-            say_number(notes, ", up with ", u64::from(packet));
-        }
+    match call.up {
+        Some(packet) => say_number(notes, ", up with ", u64::from(packet)),
         None => notes.say(", never up"),
     }
+    ended(notes, call.ended, call.how);
+    count(notes, "; from the DTE ", call.data_t, " data packet");
+    count(notes, " with ", call.oct_t, " octet");
+    count(notes, ", from the DCE ", call.data_n, " data packet");
+    count(notes, " with ", call.oct_n, " octet");
+    count(notes, "; ", call.segments, " segment");
 }
 
 fn ended<P: Page>(notes: &mut P, ended: Option<u32>, how: Option<How>) {
@@ -81,14 +79,6 @@ fn ended<P: Page>(notes: &mut P, ended: Option<u32>, how: Option<How>) {
         Some(How::Restart) => " by a restart",
         _ => "",
     })
-}
-
-fn traffic<A: Allocator, P: Page>(notes: &mut P, call: &CallRecord<A>) {
-    count(notes, "; from the DTE ", call.data_t, " data packet");
-    count(notes, " with ", call.oct_t, " octet");
-    count(notes, ", from the DCE ", call.data_n, " data packet");
-    count(notes, " with ", call.oct_n, " octet");
-    count(notes, "; ", call.segments, " segment");
 }
 
 fn settings<P: Page>(notes: &mut P, settings: &[SettingRecord]) {

@@ -7,14 +7,16 @@ ghost use Rattle.descriptions.specs.Members.{IsFurther};
 ghost use Rattle.descriptions.specs.Closing.{AreClosingObjects, AreObjects, AreUncounted, IsObjectLine};
 ghost use Rattle.descriptions.specs.Writing.{Adds};
 
+use crate::call_columns::{payer, payer_word};
 use crate::call_memory::{CallMemory, Calls, CodeCount};
 use crate::causes::CauseTable;
 use crate::json::{Element, Json, Out};
-use crate::packet_members::{address_member, cause_members};
+use crate::packet_members::cause_members;
 use crate::row_head::code_digits;
-use crate::row_members::{reason_word, time_member};
+use crate::row_members::reason_word;
 use crate::sending::Sending;
 use crate::times::Time;
+use crate::value::Value;
 use itoa::Buffer;
 use line_model::call::CallRecord;
 use line_model::device::Sink;
@@ -22,6 +24,7 @@ use line_model::event::How;
 use line_model::fault::Fault;
 use line_model::lending::{Borrowed, Origin, take_back};
 use live_report::uncounted::{Amount, REASONS, Reason, Uncounted};
+use report_merge::words::how_word;
 use std::alloc::Allocator;
 use std::marker::Brand;
 
@@ -34,6 +37,17 @@ pub struct Rest<A: Allocator> {
     pub uncounted: Uncounted,
     /// Whether the trace may have gap rows.
     pub has_gaps: bool,
+}
+
+impl<A: Allocator + Copy> Rest<A> {
+    /// Returns the gap rows in a call, where gaps are rows.
+    pub fn gaps_of(&self, call: &CallMemory<A>) -> Option<u64> {
+        if self.has_gaps {
+            Some(u64::from(self.calls.gaps_of(call)))
+        } else {
+            None
+        }
+    }
 }
 
 /// The objects after those of the report.
@@ -123,13 +137,14 @@ fn uncounted_object<O: Out>(json: &mut Json<O>, reason: Reason, amount: &Amount)
     ensures { Adds O.has (IsObjectLine (codes "not_counted")) json.old.out json.new.out }
 {
     json.raw(b"{\"line\":\"not_counted\"");
-    json.text_member(",\"reason\":", reason_word(reason));
-    json.number_member(",\"packets\":", amount.packets);
-    json.number_member(",\"octets\":", amount.octets);
+    json.member(",\"reason\":", Value::Text(reason_word(reason)));
+    json.member(",\"packets\":", Value::Number(amount.packets));
+    json.member(",\"octets\":", Value::Number(amount.octets));
     json.raw(b"}\n");
 }
 
-/// Writes what a call's line of the report does not say.
+/// Writes what a call's line of the report does not say: who pays, the side that cleared it, null where none did, and
+/// what is remembered of it.
 fn call_object<O: Out, A: Allocator + Copy>(
     json: &mut Json<O>,
     number: u32,
@@ -139,57 +154,35 @@ fn call_object<O: Out, A: Allocator + Copy>(
     ensures { Adds O.has (IsObjectLine (codes "call_facts")) json.old.out json.new.out }
 {
     json.raw(b"{\"line\":\"call_facts\"");
-    json.number_member(",\"call\":", u64::from(number));
-    payer_members(json, record);
-    clearer_member(json, record.how);
-    known_members(json, number, rest);
+    json.member(",\"call\":", Value::Number(u64::from(number)));
+    json.member(",\"pays\":", Value::Text(payer_word(record.reverse)));
+    json.member(",\"payer\":", Value::address(payer(record).as_bytes()));
+    json.member(",\"cleared_by\":", clearer(record.how));
+    memory_members(json, number, rest);
     json.raw(b"}\n");
 }
 
-/// Who pays for a call.
-fn payer_members<O: Out, A: Allocator + Copy>(json: &mut Json<O>, record: &CallRecord<A>)
-    ensures { Adds O.has IsFurther json.old.out json.new.out }
-{
-    if record.reverse {
-        json.text_member(",\"pays\":", "called");
-        address_member(json, ",\"payer\":", &record.called);
-    } else {
-        json.text_member(",\"pays\":", "calling");
-        address_member(json, ",\"payer\":", &record.calling);
-    }
-}
-
 /// The side that cleared a call, null where none did.
-fn clearer_member<O: Out>(json: &mut Json<O>, how: Option<How>)
-    ensures { Adds O.has IsFurther json.old.out json.new.out }
-{
+fn clearer(how: Option<How>) -> Value<'static> {
     match how {
-        Some(How::T) => json.text_member(",\"cleared_by\":", "T"),
-        Some(How::N) => json.text_member(",\"cleared_by\":", "N"),
-        _ => json.null_member(",\"cleared_by\":"),
+        Some(How::T | How::N) => Value::Text(how_word(how)),
+        _ => Value::Null,
     }
 }
 
-/// What is remembered of a call, where something is.
-fn known_members<O: Out, A: Allocator + Copy>(json: &mut Json<O>, number: u32, rest: &Rest<A>)
+/// What is remembered of a call's rows, where something is.
+fn memory_members<O: Out, A: Allocator + Copy>(json: &mut Json<O>, number: u32, rest: &Rest<A>)
     ensures { Adds O.has IsFurther json.old.out json.new.out }
 {
-    if let Some(call) = rest.calls.get(number) {
-        memory_members(json, call);
-        if rest.has_gaps {
-            json.number_member(",\"gaps\":", u64::from(rest.calls.gaps_of(call)));
-        }
-    }
-}
-
-/// What is remembered of a call's rows.
-fn memory_members<O: Out, A: Allocator>(json: &mut Json<O>, call: &CallMemory<A>)
-    ensures { Adds O.has IsFurther json.old.out json.new.out }
-{
+    let Some(call) = rest.calls.get(number) else {
+        return;
+    };
     cause_members(json, &call.causes, CauseTable::Clearing);
-    codes_member(json, &call.codes);
-    time_member(json, ",\"start\":", call.start.time);
-    time_member(json, ",\"seconds\":", call_length(call));
+    json.begin(",\"findings\":");
+    json.array(call.codes.as_slice());
+    json.member(",\"start\":", Value::seconds(call.start.time));
+    json.member(",\"seconds\":", Value::seconds(call_length(call)));
+    json.known_member(",\"gaps\":", Value::number(rest.gaps_of(call)));
 }
 
 /// Returns how long a call lasted, where both its rows have times.
@@ -199,20 +192,12 @@ pub fn call_length<A: Allocator>(call: &CallMemory<A>) -> Option<Time> {
     end.since(&start)
 }
 
-/// The findings of a call's rows, by their codes.
-fn codes_member<O: Out>(json: &mut Json<O>, codes: &[CodeCount])
-    ensures { Adds O.has IsFurther json.old.out json.new.out }
-{
-    json.member(",\"findings\":");
-    json.array(codes);
-}
-
 impl Element for CodeCount {
     fn write<O: Out>(&self, json: &mut Json<O>) {
         let mut code = Buffer::new();
         json.first("{\"code\":");
-        json.quoted(code_digits(self.code, &mut code));
-        json.number_member(",\"count\":", self.count);
+        json.value(Value::Text(code_digits(self.code, &mut code)));
+        json.member(",\"count\":", Value::Number(self.count));
         json.raw(b"}");
     }
 }

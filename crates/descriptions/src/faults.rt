@@ -1,6 +1,8 @@
 //! What is wrong with a row, in words.
 
-use crate::facts::{RowFacts, user_octets};
+use crate::facility_faults::{facility_length, facility_value};
+use crate::facts::{RowFacts, data_header, user_octets};
+use crate::message_faults::{MessageFacts, message_fault};
 use crate::names;
 use crate::packet_names::packet_name;
 use crate::prose::{Prose, count, say_number};
@@ -9,8 +11,9 @@ use data_transfer::flow::SendWindow;
 use explanations::explanation::Explanation;
 use explanations::lookup::code_row;
 use line_model::diagnostic::{
-    CALL_ON_ONE_WAY_LOGICAL_CHANNEL, INCONSISTENT_Q_BIT_SETTING, INVALID_GENERAL_FORMAT_IDENTIFIER,
-    INVALID_P_R, INVALID_P_S, INVALID_PACKET_TYPE_ON_A_PERMANENT_VIRTUAL_CIRCUIT,
+    CALL_ON_ONE_WAY_LOGICAL_CHANNEL, FACILITY_PARAMETER_NOT_ALLOWED, INCONSISTENT_Q_BIT_SETTING,
+    INVALID_FACILITY_OR_REGISTRATION_LENGTH, INVALID_GENERAL_FORMAT_IDENTIFIER, INVALID_P_R,
+    INVALID_P_S, INVALID_PACKET_TYPE_ON_A_PERMANENT_VIRTUAL_CIRCUIT,
     PACKET_ON_UNASSIGNED_LOGICAL_CHANNEL, PACKET_TOO_LONG, PACKET_TOO_SHORT,
     PACKET_TYPE_INVALID_FOR_STATE_D1, PACKET_TYPE_INVALID_FOR_STATE_D2,
     PACKET_TYPE_INVALID_FOR_STATE_D3, PACKET_TYPE_INVALID_FOR_STATE_P1,
@@ -24,7 +27,7 @@ use line_model::diagnostic::{
 };
 use line_model::finding::{Code, Finding};
 use line_model::interface::Interface;
-use line_model::packet::{DataHeader, Packet, PacketKind};
+use line_model::packet::{Packet, PacketKind};
 use line_model::state::{Side, StateName};
 use packet_decode::decode::logical_channel;
 
@@ -43,6 +46,8 @@ pub struct Before {
     pub had_gap: bool,
     /// The number of the finding that its own may follow from.
     pub follows: Option<u32>,
+    /// The PAD message that the packet completes, if its octets are known.
+    pub message: Option<MessageFacts>,
 }
 
 impl Before {
@@ -55,6 +60,7 @@ impl Before {
             length: facts.length,
             had_gap: facts.had_gap,
             follows: facts.earlier.follows,
+            message: facts.message.map(|octets| MessageFacts::of(octets)),
         }
     }
 }
@@ -70,7 +76,7 @@ pub fn fault<P: Prose>(out: &mut P, before: &Before, octets: &[u8], finding: &Fi
     wrong(out, before, octets, finding, row);
     out.say(" ");
     out.say(consequence(finding));
-    out.say(". (");
+    out.say(" (");
     out.say(row.clause);
     out.say(")");
     if let Some(number) = before.follows {
@@ -94,12 +100,12 @@ pub fn wrong<P: Prose>(
     }
 }
 
-/// Returns what an error has the DCE do.
+/// Returns what an error has the DCE do, as a sentence.
 pub fn consequence(finding: &Finding) -> &'static str {
     match finding.code {
-        Code::Pad(_) => "No state changes",
+        Code::Pad(_) => "No state changes.",
         Code::Number(code) => match finding.side {
-            Side::N => "Nothing changes",
+            Side::N => "Nothing changes.",
             Side::T => reaction(finding.state, code),
         },
     }
@@ -108,23 +114,27 @@ pub fn consequence(finding: &Finding) -> &'static str {
 /// What the DCE does after an error of the DTE in a state.
 fn reaction(state: StateName, code: u8) -> &'static str {
     match state {
-        StateName::Dash => "Nothing changes",
+        StateName::Dash => "Nothing changes.",
         StateName::R1 | StateName::R2 | StateName::R3 => match code {
-            PACKET_TOO_SHORT | PACKET_TOO_LONG => "Nothing changes",
-            _ => "The DCE restarts the interface (r3)",
+            PACKET_TOO_SHORT | PACKET_TOO_LONG => "Nothing changes.",
+            _ => "The DCE restarts the interface (r3).",
         },
-        StateName::D1 | StateName::D2 | StateName::D3 => "The DCE resets the channel (d3)",
-        _ => "The DCE clears the channel (p7)",
+        StateName::D1 | StateName::D2 | StateName::D3 => "The DCE resets the channel (d3).",
+        _ => "The DCE clears the channel (p7).",
     }
 }
 
 /// Writes what is wrong with the values of a row, where its values show it.
 fn values<P: Prose>(out: &mut P, before: &Before, octets: &[u8], finding: &Finding) -> bool {
-    let Code::Number(code) = finding.code else {
-        return false;
+    let code = match finding.code {
+        Code::Number(code) => code,
+        Code::Pad(code) => {
+            message_fault(out, before.message, code, finding.side);
+            return true;
+        }
     };
     match code {
-        INVALID_P_S | INVALID_P_R if before.had_gap => false,
+        INVALID_P_S | INVALID_P_R if before.had_gap => number_after_gap(out, before, code),
         INVALID_P_S => send_number(out, before, finding.side),
         INVALID_P_R => receive_number(out, before, finding.side),
         CALL_ON_ONE_WAY_LOGICAL_CHANNEL => direction(out, before, finding.side),
@@ -133,6 +143,8 @@ fn values<P: Prose>(out: &mut P, before: &Before, octets: &[u8], finding: &Findi
         INVALID_GENERAL_FORMAT_IDENTIFIER => format(out, before, octets),
         UNIDENTIFIABLE_PACKET => packet_type(out, octets),
         INCONSISTENT_Q_BIT_SETTING => qualifier(out, before),
+        FACILITY_PARAMETER_NOT_ALLOWED => facility_value(out, &before.interface, octets),
+        INVALID_FACILITY_OR_REGISTRATION_LENGTH => facility_length(out, octets),
         _ => out_of_place(out, before, finding.side, code),
     }
 }
@@ -237,7 +249,7 @@ fn place_of_dce(code: u8) -> Option<&'static str> {
 
 /// Writes what is wrong with a P(S) that is not the next one, or lies outside the window.
 fn send_number<P: Prose>(out: &mut P, before: &Before, side: Side) -> bool {
-    let Some(header) = header(&before.packet) else {
+    let Some(header) = data_header(&before.packet) else {
         return false;
     };
     let window = send_window(before, side);
@@ -270,6 +282,20 @@ fn receive_number<P: Prose>(out: &mut P, before: &Before, side: Side) -> bool {
     true
 }
 
+/// Writes the P(S) or P(R) of a packet after a gap in its call, which no packet missing there explains.
+fn number_after_gap<P: Prose>(out: &mut P, before: &Before, code: u8) -> bool {
+    let (name, number) = match (code, data_header(&before.packet)) {
+        (INVALID_P_S, Some(header)) => ("P(S) ", Some(header.send)),
+        _ => ("P(R) ", acknowledged(&before.packet)),
+    };
+    let Some(number) = number else {
+        return false;
+    };
+    say_number(out, name, u64::from(number));
+    out.say(", which no packet missing in the gap explains");
+    true
+}
+
 /// Writes the numbers that were allowed, from a first to a last one, each modulo the modulus.
 fn range<P: Prose>(out: &mut P, before: &Before, first: u64, last: u64) {
     let modulus = if before.interface.modulus == 8 {
@@ -285,17 +311,6 @@ fn range<P: Prose>(out: &mut P, before: &Before, first: u64, last: u64) {
     }
     say_number(out, " to ", last);
     out.say(" were allowed");
-}
-
-/// The header of a data packet.
-fn header(packet: &Packet) -> Option<DataHeader> {
-    match packet {
-        Packet::Channel {
-            kind: PacketKind::Data(header),
-            ..
-        } => *header,
-        _ => None,
-    }
 }
 
 /// The P(R) of a packet.
@@ -367,7 +382,7 @@ fn channel<P: Prose>(out: &mut P, before: &Before, octets: &[u8], side: Side) ->
 
 /// Writes how long a packet is whose length is wrong, and which lengths are allowed.
 fn length<P: Prose>(out: &mut P, before: &Before, finding: &Finding) -> bool {
-    if header(&before.packet).is_some() {
+    if data_header(&before.packet).is_some() {
         return data_length(out, before, finding.side);
     }
     count(out, "", before.length as u64, " octet");
@@ -466,7 +481,7 @@ fn packet_type<P: Prose>(out: &mut P, octets: &[u8]) -> bool {
 
 /// Writes that a packet has another Q bit than its sequence.
 fn qualifier<P: Prose>(out: &mut P, before: &Before) -> bool {
-    let Some(header) = header(&before.packet) else {
+    let Some(header) = data_header(&before.packet) else {
         return false;
     };
     out.say(if header.qualified {

@@ -1,11 +1,17 @@
 //! Members of an object, one after the other.
-#![tactic(auto, using(crate::proofs::MemberLemmas::further_then, crate::proofs::MemberLemmas::member_put, crate::proofs::MemberLemmas::first_put, crate::proofs::MemberLemmas::object_then, crate::proofs::MemberLemmas::object_more, crate::proofs::MemberLemmas::object_end, crate::proofs::MemberLemmas::text_then, crate::proofs::MemberLemmas::text_put))]
+#![tactic(auto, using(crate::proofs::MemberLemmas::further_then, crate::proofs::MemberLemmas::member_put, crate::proofs::MemberLemmas::first_put, crate::proofs::MemberLemmas::object_then, crate::proofs::MemberLemmas::object_more, crate::proofs::MemberLemmas::object_end, crate::proofs::MemberLemmas::text_then, crate::proofs::MemberLemmas::text_put, crate::proofs::ValueLemmas::these_then))]
 
-ghost use Rattle.std.specs.Prelude.{◌≡◌, ℕ, ◌<◌, List, [], ◌++◌, IsTrue, decimal, not, true};
+ghost use Rattle.std.specs.Prelude.{◌≡◌, ℕ, ◌<◌, List, [], ◌++◌, IsTrue, decimal, flat_map, not, true};
 ghost use Rattle.std.specs.Bool.{OnTrue};
+ghost use Rattle.descriptions.specs.CallTable.{cell_text, character, point_part, quoted};
 ghost use Rattle.descriptions.specs.Members.{IsFurther, IsText, IsValue, is_plain, promised};
-ghost use Rattle.descriptions.specs.Writing.{Adds, AreDigits, IsBeginning, IsFirst, IsOpenArray, IsOpenObject, These, comma_after, is_beginning, is_first};
+ghost use Rattle.descriptions.specs.Writing.{Adds, IsBeginning, IsFirst, IsOpenArray, IsOpenObject, These, comma_after, is_beginning, is_first};
+ghost use Rattle.descriptions.specs.declared.call_columns.TableForm.TheVariants.{Objects};
 
+use crate::call_columns::Named;
+use crate::row_head::flag_word;
+use crate::times::{after_first, point_before, trimmed};
+use crate::value::Value;
 use itoa::Buffer;
 use std::alloc::{AllocError, Allocator};
 
@@ -95,7 +101,7 @@ impl<O: Out> Json<O> {
     }
 
     /// Writes the beginning of a member, as `,"epoch":`.
-    pub fn member(&mut self, beginning: &str)
+    pub fn begin(&mut self, beginning: &str)
         requires { IsTrue (is_beginning promised beginning.now) }
         ensures { Adds O.has (IsBeginning promised) self.old.out self.new.out }
     {
@@ -117,11 +123,18 @@ impl<O: Out> Json<O> {
         self.raw(if empty { b"" } else { b"," });
     }
 
-    /// Writes a number.
-    pub fn value(&mut self, number: u64)
-        ensures { Adds O.has IsValue self.old.out self.new.out }
+    /// Writes a value.
+    pub fn value(&mut self, value: Value<'_>)
+        ensures written { Adds O.has (These (cell_text Objects value.entry)) self.old.out self.new.out }
+        ensures value { Adds O.has IsValue self.old.out self.new.out }
     {
-        self.number(number);
+        match value {
+            Value::Null => self.raw(b"null"),
+            Value::Number(number) => self.number(number),
+            Value::Seconds(time) => self.seconds(time.seconds, time.billionths),
+            Value::Word(word) => self.quoted(word),
+            Value::Text(text) => self.quoted(text),
+        }
     }
 
     /// Writes the digits of a number.
@@ -132,41 +145,24 @@ impl<O: Out> Json<O> {
         self.raw(buffer.format(number).as_bytes());
     }
 
-    /// Writes digits after the point of a number.
-    pub fn digits(&mut self, number: u64)
-        ensures { Adds O.has AreDigits self.old.out self.new.out }
+    /// Writes a number of seconds, with digits after the point where it is not whole.
+    pub fn seconds(&mut self, seconds: u64, billionths: u32)
+        ensures written { Adds O.has (These (decimal seconds ++ point_part billionths)) self.old.out self.new.out }
+        ensures value { Adds O.has IsValue self.old.out self.new.out }
     {
-        self.number(number);
-    }
-
-    /// Writes `null`.
-    pub fn null(&mut self)
-        ensures { Adds O.has IsValue self.old.out self.new.out }
-    {
-        self.raw(b"null");
-    }
-
-    /// Writes `true` or `false`.
-    pub fn flag(&mut self, is_set: bool)
-        ensures { Adds O.has IsValue self.old.out self.new.out }
-    {
-        if is_set {
-            self.raw(b"true");
-        } else {
-            self.raw(b"false");
-        }
-    }
-
-    /// Writes a string.
-    pub fn text(&mut self, text: &str)
-        ensures { Adds O.has IsValue self.old.out self.new.out }
-    {
-        self.quoted(text.as_bytes());
+        let mut buffer = Buffer::new();
+        let digits = buffer
+            .format(1_000_000_000 + u64::from(billionths))
+            .as_bytes();
+        let part = trimmed(after_first(digits));
+        self.number(seconds);
+        self.raw(point_before(part.is_empty()));
+        self.raw(part);
     }
 
     /// Writes bytes as a string.
-    pub fn quoted(&mut self, bytes: &[u8])
-        ensures { Adds O.has IsValue self.old.out self.new.out }
+    fn quoted(&mut self, bytes: &[u8])
+        ensures { Adds O.has (These (quoted Objects bytes.now)) self.old.out self.new.out }
     {
         self.raw(b"\"");
         self.words(bytes);
@@ -182,22 +178,37 @@ impl<O: Out> Json<O> {
         self.raw(b"\"");
     }
 
-    /// Writes a member that is a number.
-    pub fn number_member(&mut self, beginning: &str, number: u64)
-        requires { IsTrue (is_beginning promised beginning.now) }
-        ensures { Adds O.has IsFurther self.old.out self.new.out }
+    /// Writes an object of a code and its name, null where there is none.
+    pub fn named(&mut self, named: Option<Named<'_>>)
+        ensures { Adds O.has IsValue self.old.out self.new.out }
     {
-        self.member(beginning);
-        self.value(number);
+        let Some(named) = named else {
+            return self.value(Value::Null);
+        };
+        self.first("{\"value\":");
+        self.value(Value::Number(u64::from(named.value)));
+        self.member(",\"name\":", Value::Text(named.name));
+        self.raw(b"}");
     }
 
-    /// Writes a member that is a string.
-    pub fn text_member(&mut self, beginning: &str, text: &str)
+    /// Writes a member.
+    pub fn member(&mut self, beginning: &str, value: Value<'_>)
         requires { IsTrue (is_beginning promised beginning.now) }
         ensures { Adds O.has IsFurther self.old.out self.new.out }
     {
-        self.member(beginning);
-        self.text(text);
+        self.begin(beginning);
+        self.value(value);
+    }
+
+    /// Writes a member, unless it is null.
+    pub fn known_member(&mut self, beginning: &str, value: Value<'_>)
+        requires { IsTrue (is_beginning promised beginning.now) }
+        ensures { Adds O.has IsFurther self.old.out self.new.out }
+    {
+        match value {
+            Value::Null => {}
+            value => self.member(beginning, value),
+        }
     }
 
     /// Writes a member that is true or false.
@@ -205,21 +216,12 @@ impl<O: Out> Json<O> {
         requires { IsTrue (is_beginning promised beginning.now) }
         ensures { Adds O.has IsFurther self.old.out self.new.out }
     {
-        self.member(beginning);
-        self.flag(is_set);
-    }
-
-    /// Writes a member that is null.
-    pub fn null_member(&mut self, beginning: &str)
-        requires { IsTrue (is_beginning promised beginning.now) }
-        ensures { Adds O.has IsFurther self.old.out self.new.out }
-    {
-        self.member(beginning);
-        self.null();
+        self.begin(beginning);
+        self.raw(flag_word(is_set));
     }
 
     /// Writes an array.
-    pub fn array<T: Element>(&mut self, elements: &[T])
+    pub fn array<E: Element>(&mut self, elements: &[E])
         ensures { Adds O.has IsValue self.old.out self.new.out }
     {
         self.raw(b"[");
@@ -232,19 +234,9 @@ impl<O: Out> Json<O> {
         self.raw(b"]");
     }
 
-    /// Writes an object of a number and its name.
-    pub fn named(&mut self, value: u8, name: &str)
-        ensures { Adds O.has IsValue self.old.out self.new.out }
-    {
-        self.first("{\"value\":");
-        self.value(u64::from(value));
-        self.text_member(",\"name\":", name);
-        self.raw(b"}");
-    }
-
     /// Writes bytes in a string, with escapes where they need them.
-    pub fn words(&mut self, bytes: &[u8])
-        ensures { Adds O.has IsText self.old.out self.new.out }
+    fn words(&mut self, bytes: &[u8])
+        ensures { Adds O.has (These (flat_map (character Objects) bytes.now)) self.old.out self.new.out }
     {
         if is_plain(bytes) {
             self.raw(bytes);
@@ -257,14 +249,12 @@ impl<O: Out> Json<O> {
 
     /// Writes a byte in a string. A control character becomes a space.
     fn byte(&mut self, byte: u8)
-        ensures { Adds O.has IsText self.old.out self.new.out }
+        ensures { Adds O.has (These (character Objects byte)) self.old.out self.new.out }
     {
         if !needs_escape(byte) {
             self.raw(&[byte]);
-        } else if byte == b'"' {
-            self.raw(b"\\\"");
-        } else if byte == b'\\' {
-            self.raw(b"\\\\");
+        } else if byte == b'"' || byte == b'\\' {
+            self.raw(&[b'\\', byte]);
         } else {
             self.raw(b" ");
         }
@@ -275,15 +265,8 @@ impl<O: Out> Json<O> {
         ensures { Adds O.has IsText self.old.out self.new.out }
     {
         for octet in octets {
-            self.octet(*octet);
+            self.raw(&[hex_digit(*octet / 16), hex_digit(*octet % 16)]);
         }
-    }
-
-    /// Writes an octet in hex.
-    fn octet(&mut self, octet: u8)
-        ensures { Adds O.has IsText self.old.out self.new.out }
-    {
-        self.raw(&[hex_digit(octet / 16), hex_digit(octet % 16)]);
     }
 }
 
@@ -297,7 +280,7 @@ pub fn hex_digit(half: u8) -> u8
 
 /// Whether no byte of a string needs an escape.
 fn is_plain(bytes: &[u8]) -> bool
-    ensures { OnTrue result (IsText bytes.now) }
+    ensures { OnTrue result (flat_map (character Objects) bytes.now ≡ bytes.now) }
 {
     for byte in bytes {
         if needs_escape(*byte) {

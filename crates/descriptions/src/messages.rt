@@ -3,6 +3,7 @@
 use crate::parameters::parameter;
 use crate::prose::{Prose, say_number};
 use pad::message::{Message, MessageCode, read_message};
+use pad::pairs::Pairs;
 
 /// Returns what a message is for (X.29 Table 3).
 pub fn name(code: MessageCode) -> &'static str {
@@ -27,23 +28,23 @@ pub fn message<P: Prose>(out: &mut P, octets: &[u8]) {
     }
 }
 
-fn say_message<P: Prose>(out: &mut P, message: &Message<'_>) {
-    out.say("; PAD message: ");
-    out.say(name(message.code));
+/// Returns the standard pairs of a message, none where its kind has none.
+pub fn pairs_of<'a>(message: &Message<'a>) -> Pairs<'a> {
     match message.code {
         MessageCode::Indication | MessageCode::Set | MessageCode::Read | MessageCode::SetAndRead =>
-            { say_pairs(out, message) }
-        _ => {}
+            message.standard_pairs(),
+        _ => Pairs::new(false, &[]),
     }
 }
 
-/// Writes the standard pairs of a message; a read has no values.
-fn say_pairs<P: Prose>(out: &mut P, message: &Message<'_>) {
-    let read = message.code == MessageCode::Read;
-    for pair in message.standard_pairs() {
+/// Writes the name of a message and its standard pairs; a read has no values.
+fn say_message<P: Prose>(out: &mut P, message: &Message<'_>) {
+    out.say("; PAD message: ");
+    out.say(name(message.code));
+    for pair in pairs_of(message) {
         out.say(", ");
         parameter(out, pair.reference % 128);
-        if !read {
+        if message.code != MessageCode::Read {
             say_number(out, " = ", u64::from(pair.value));
         }
     }

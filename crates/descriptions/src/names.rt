@@ -10,14 +10,6 @@ pub fn side(side: Side) -> &'static str {
     }
 }
 
-/// Returns the name of a side of the interface, and that a logical channel comes next.
-pub fn side_on_channel(side: Side) -> &'static str {
-    match side {
-        Side::T => "DTE, logical channel ",
-        Side::N => "DCE, logical channel ",
-    }
-}
-
 /// Returns the name of a state of the restart machine (X.25 Annex B).
 pub fn restart_state(state: RState) -> &'static str {
     match state {

@@ -1,22 +1,20 @@
 //! The fields of a packet, as members of an object.
 #![tactic(auto, using(crate::proofs::MemberLemmas::further_then, crate::proofs::MemberLemmas::member_put, crate::proofs::MemberLemmas::no_member))]
 
-ghost use Rattle.std.specs.Prelude.{[], IsTrue};
-ghost use Rattle.descriptions.specs.Members.{IsFurther, IsMembers, IsValue, promised};
-ghost use Rattle.descriptions.specs.Writing.{Adds, IsOpenArray, IsOpenObject, is_beginning};
+ghost use Rattle.std.specs.Prelude.{[]};
+ghost use Rattle.descriptions.specs.Members.{IsFurther, IsMembers, IsValue};
+ghost use Rattle.descriptions.specs.Writing.{Adds, IsOpenArray, IsOpenObject};
 
-use crate::calls::is_pad;
-use crate::causes::{CauseTable, Causes};
-use crate::diagnostics::diagnostic;
+use crate::calls::{is_pad, sizes_of, windows_of};
+use crate::causes::{CauseTable, Causes, named_diagnostic};
 use crate::facts::{RowFacts, user_octets};
 use crate::json::{Json, Out};
-use crate::messages::name;
+use crate::messages::{name, pairs_of};
+use crate::value::Value;
 use explanations::lookup::parameter_row;
-use line_model::address::Address;
 use line_model::event::{Entry, Event, What};
 use line_model::packet::{DataHeader, Packet, PacketKind};
 use line_model::state::Side;
-use packet_decode::fields::CallFields;
 use pad::message::{Message, MessageCode, read_message};
 use pad::pairs::Pair;
 
@@ -25,8 +23,11 @@ pub fn packet_members<O: Out>(json: &mut Json<O>, facts: &RowFacts<'_>)
     ensures { Adds O.has IsFurther json.old.out json.new.out }
 {
     match &facts.last.packet {
-        Packet::Restart => row_causes(json, facts, CauseTable::Restarting),
-        Packet::Diagnostic => diagnostic_member(json, facts.octets.get(3).copied()),
+        Packet::Restart => cause_members(json, &Causes::of(facts.octets), CauseTable::Restarting),
+        Packet::Diagnostic => {
+            json.begin(",\"diagnostic\":");
+            json.named(named_diagnostic(facts.octets.get(3).copied()));
+        }
         Packet::Channel { kind, .. } => kind_members(json, facts, kind),
         _ => {}
     }
@@ -38,66 +39,41 @@ fn kind_members<O: Out>(json: &mut Json<O>, facts: &RowFacts<'_>, kind: &PacketK
 {
     match kind {
         PacketKind::Call | PacketKind::Accepted => call_members(json, facts),
-        PacketKind::Clear => row_causes(json, facts, CauseTable::Clearing),
-        PacketKind::Reset => row_causes(json, facts, CauseTable::Resetting),
+        PacketKind::Clear => cause_members(json, &Causes::of(facts.octets), CauseTable::Clearing),
+        PacketKind::Reset => cause_members(json, &Causes::of(facts.octets), CauseTable::Resetting),
         PacketKind::Data(Some(header)) => data_members(json, facts, header),
         PacketKind::Rr(Some(number)) | PacketKind::Rnr(Some(number)) => {
-            json.number_member(",\"receive\":", u64::from(*number))
+            json.member(",\"receive\":", Value::Number(u64::from(*number)))
         }
         PacketKind::Interrupt => {
-            json.number_member(",\"octets\":", facts.length.saturating_sub(3) as u64)
+            let octets = facts.length.saturating_sub(3) as u64;
+            json.member(",\"octets\":", Value::Number(octets));
         }
         _ => {}
     }
 }
 
-/// Writes a diagnostic code by number and name, null where there is none.
-fn diagnostic_member<O: Out>(json: &mut Json<O>, code: Option<u8>)
-    ensures { Adds O.has IsFurther json.old.out json.new.out }
-{
-    json.member(",\"diagnostic\":");
-    match code {
-        Some(code) => json.named(code, diagnostic(code)),
-        None => json.null(),
-    }
-}
-
-/// Writes the cause and the diagnostic code of a row's packet.
-fn row_causes<O: Out>(json: &mut Json<O>, facts: &RowFacts<'_>, table: CauseTable)
-    ensures { Adds O.has IsFurther json.old.out json.new.out }
-{
-    cause_members(json, &Causes::of(facts.octets), table);
-}
-
-/// Writes a cause by number and name and a diagnostic code, each null where there is none.
+/// Writes a cause and a diagnostic code, each by number and name, null where there is none.
 pub fn cause_members<O: Out>(json: &mut Json<O>, causes: &Causes, table: CauseTable)
     ensures { Adds O.has IsFurther json.old.out json.new.out }
 {
-    cause_member(json, causes.cause, table);
-    diagnostic_member(json, causes.diagnostic);
-}
-
-/// Writes a cause by number and name, null where there is none.
-fn cause_member<O: Out>(json: &mut Json<O>, cause: Option<u8>, table: CauseTable)
-    ensures { Adds O.has IsFurther json.old.out json.new.out }
-{
-    json.member(",\"cause\":");
-    match cause {
-        Some(cause) => json.named(cause, table.name(cause)),
-        None => json.null(),
-    }
+    json.begin(",\"cause\":");
+    json.named(causes.named_cause(table));
+    json.begin(",\"diagnostic\":");
+    json.named(named_diagnostic(causes.diagnostic));
 }
 
 /// Writes the members of a data packet.
 fn data_members<O: Out>(json: &mut Json<O>, facts: &RowFacts<'_>, header: &DataHeader)
     ensures { Adds O.has IsFurther json.old.out json.new.out }
 {
-    json.number_member(",\"send\":", u64::from(header.send));
-    json.number_member(",\"receive\":", u64::from(header.receive));
+    let octets = user_octets(facts.interface, facts.length);
+    json.member(",\"send\":", Value::Number(u64::from(header.send)));
+    json.member(",\"receive\":", Value::Number(u64::from(header.receive)));
     json.flag_member(",\"more\":", header.more);
     json.flag_member(",\"qualified\":", header.qualified);
     json.flag_member(",\"delivery\":", header.delivery);
-    json.number_member(",\"octets\":", user_octets(facts.interface, facts.length));
+    json.member(",\"octets\":", Value::Number(octets));
     message_member(json, facts.message);
 }
 
@@ -106,7 +82,7 @@ fn message_member<O: Out>(json: &mut Json<O>, message: Option<&[u8]>)
     ensures { Adds O.has IsFurther json.old.out json.new.out }
 {
     if let Some(octets) = message {
-        json.member(",\"message\":");
+        json.begin(",\"message\":");
         message_object(json, octets);
     }
 }
@@ -118,156 +94,95 @@ fn message_object<O: Out>(json: &mut Json<O>, octets: &[u8])
     match read_message(octets) {
         Ok(message) => {
             json.first("{\"name\":");
-            json.text(name(message.code));
-            json.member(",\"pairs\":");
+            json.value(Value::Text(name(message.code).as_bytes()));
+            json.begin(",\"pairs\":");
             pairs(json, &message);
             json.raw(b"}");
         }
-        Err(_) => json.null(),
+        Err(_) => json.value(Value::Null),
     }
 }
 
-/// Writes the standard pairs of a message, where it has any; a read has no values.
+/// Writes the standard pairs of a message; a read has no values.
 fn pairs<O: Out>(json: &mut Json<O>, message: &Message<'_>)
     ensures { Adds O.has IsValue json.old.out json.new.out }
 {
-    match message.code {
-        MessageCode::Indication | MessageCode::Set | MessageCode::Read | MessageCode::SetAndRead =>
-            standard_pairs(json, message),
-        _ => no_pairs(json),
-    }
-}
-
-/// Writes an empty array of pairs.
-fn no_pairs<O: Out>(json: &mut Json<O>)
-    ensures { Adds O.has IsValue json.old.out json.new.out }
-{
-    json.raw(b"[]");
-}
-
-/// Writes the standard pairs of a message.
-fn standard_pairs<O: Out>(json: &mut Json<O>, message: &Message<'_>)
-    ensures { Adds O.has IsValue json.old.out json.new.out }
-{
-    let read = message.code == MessageCode::Read;
     json.raw(b"[");
     let mut is_first = true;
-    for pair in message.standard_pairs() {
+    for pair in pairs_of(message) {
         json.separate(is_first);
         is_first = false;
-        pair_object(json, &pair, read);
+        pair_object(json, &pair, message.code);
     }
     json.raw(b"]");
 }
 
 /// Writes a pair of a message.
-fn pair_object<O: Out>(json: &mut Json<O>, pair: &Pair, read: bool)
+fn pair_object<O: Out>(json: &mut Json<O>, pair: &Pair, code: MessageCode)
     ensures { Adds O.has IsValue json.old.out json.new.out }
 {
-    let value = if read { None } else { Some(pair.value) };
+    let value = match code {
+        MessageCode::Read => Value::Null,
+        _ => Value::Number(u64::from(pair.value)),
+    };
     parameter(json, pair.reference % 128);
-    value_member(json, value);
+    json.member(",\"value\":", value);
     json.raw(b"}");
 }
 
-/// Begins an object by the number and the name of a parameter.
+/// Begins an object by the number and the name of a parameter, null where it has none.
 fn parameter<O: Out>(json: &mut Json<O>, reference: u8)
     ensures { Adds O.has IsOpenObject json.old.out json.new.out }
 {
+    let name = match parameter_row(reference) {
+        Some(row) => Value::Text(row.name.as_bytes()),
+        None => Value::Null,
+    };
     json.first("{\"parameter\":");
-    json.value(u64::from(reference));
-    json.member(",\"name\":");
-    parameter_name(json, reference);
+    json.value(Value::Number(u64::from(reference)));
+    json.member(",\"name\":", name);
 }
 
-/// Writes the name of a parameter, null where it has none.
-fn parameter_name<O: Out>(json: &mut Json<O>, reference: u8)
-    ensures { Adds O.has IsValue json.old.out json.new.out }
-{
-    match parameter_row(reference) {
-        Some(row) => json.text(row.name),
-        None => json.null(),
-    }
-}
-
-/// Writes an address, null where it has no digit.
-pub fn address_member<O: Out>(json: &mut Json<O>, beginning: &str, address: &Address)
-    requires { IsTrue (is_beginning promised beginning.now) }
-    ensures { Adds O.has IsFurther json.old.out json.new.out }
-{
-    json.member(beginning);
-    let digits = address.as_bytes();
-    if digits.is_empty() {
-        json.null();
-    } else {
-        json.quoted(digits);
-    }
-}
-
-/// Writes the members of a call packet without a fault.
+/// Writes the fields of a call packet without a fault.
 fn call_members<O: Out>(json: &mut Json<O>, facts: &RowFacts<'_>)
     ensures { Adds O.has IsFurther json.old.out json.new.out }
 {
-    if let Some(Ok(fields)) = facts.call_fields() {
-        field_members(json, &fields);
-    }
-}
-
-/// Writes the fields of a call packet.
-fn field_members<O: Out>(json: &mut Json<O>, fields: &CallFields<'_>)
-    ensures { Adds O.has IsFurther json.old.out json.new.out }
-{
-    address_member(json, ",\"called\":", &fields.called);
-    address_member(json, ",\"calling\":", &fields.calling);
+    let Some(Ok(fields)) = facts.call_fields() else {
+        return;
+    };
+    json.member(",\"called\":", Value::address(fields.called.as_bytes()));
+    json.member(",\"calling\":", Value::address(fields.calling.as_bytes()));
     json.flag_member(",\"reverse\":", fields.reverse);
     json.flag_member(",\"fast\":", fields.fast);
-    sizes_member(json, fields.sizes);
-    windows_member(json, fields.windows);
-    user_data_member(json, fields.user_data);
+    json.begin(",\"sizes\":");
+    pair_of(json, sizes_of(&fields));
+    json.begin(",\"windows\":");
+    pair_of(json, windows_of(&fields));
+    json.begin(",\"user_data\":");
+    user_data(json, fields.user_data);
     json.flag_member(",\"pad\":", is_pad(fields.user_data));
 }
 
-/// Writes the packet sizes of a call, null where it asks for none.
-fn sizes_member<O: Out>(json: &mut Json<O>, sizes: Option<(u16, u16)>)
-    ensures { Adds O.has IsFurther json.old.out json.new.out }
-{
-    json.member(",\"sizes\":");
-    match sizes {
-        Some((called, calling)) => pair_of(json, u64::from(called), u64::from(calling)),
-        None => json.null(),
-    }
-}
-
-/// Writes the windows of a call, null where it asks for none.
-fn windows_member<O: Out>(json: &mut Json<O>, windows: Option<(u8, u8)>)
-    ensures { Adds O.has IsFurther json.old.out json.new.out }
-{
-    json.member(",\"windows\":");
-    match windows {
-        Some((called, calling)) => pair_of(json, u64::from(called), u64::from(calling)),
-        None => json.null(),
-    }
-}
-
-/// Writes a value for data from the called DTE, and one for data from the calling DTE.
-fn pair_of<O: Out>(json: &mut Json<O>, called: u64, calling: u64)
+/// Writes a value for data from the called DTE, and one for data from the calling DTE, null where there are none.
+fn pair_of<O: Out>(json: &mut Json<O>, pair: Option<(u64, u64)>)
     ensures { Adds O.has IsValue json.old.out json.new.out }
 {
+    let Some((called, calling)) = pair else {
+        return json.value(Value::Null);
+    };
     json.first("{\"called\":");
-    json.value(called);
-    json.number_member(",\"calling\":", calling);
+    json.value(Value::Number(called));
+    json.member(",\"calling\":", Value::Number(calling));
     json.raw(b"}");
 }
 
 /// Writes the user data of a call, null where it has none.
-fn user_data_member<O: Out>(json: &mut Json<O>, user_data: &[u8])
-    ensures { Adds O.has IsFurther json.old.out json.new.out }
+fn user_data<O: Out>(json: &mut Json<O>, user_data: &[u8])
+    ensures { Adds O.has IsValue json.old.out json.new.out }
 {
-    json.member(",\"user_data\":");
-    if user_data.is_empty() {
-        json.null();
-    } else {
-        json.hex(user_data);
+    match user_data {
+        [] => json.value(Value::Null),
+        octets => json.hex(octets),
     }
 }
 
@@ -276,7 +191,7 @@ pub fn settings_member<O: Out>(json: &mut Json<O>, events: &[Event])
     ensures { Adds O.has IsFurther json.old.out json.new.out }
 {
     if has_setting(events) {
-        json.member(",\"settings\":");
+        json.begin(",\"settings\":");
         settings(json, events);
     }
 }
@@ -312,21 +227,26 @@ fn settings<O: Out>(json: &mut Json<O>, events: &[Event])
     json.raw(b"]");
 }
 
-/// Writes what is known of a parameter.
+/// Writes what is known of a parameter, whose value is null where it is not known.
 fn setting<O: Out>(json: &mut Json<O>, pad: Side, reference: u8, entry: Entry)
     ensures { Adds O.has IsValue json.old.out json.new.out }
 {
-    let (word, value) = match entry {
-        Entry::Unknown => ("unknown", None),
-        Entry::Asked(value) => ("asked", Some(value)),
-        Entry::Said(value) => ("said", Some(value)),
-        Entry::Refused(value) => ("refused", Some(value)),
-    };
+    let (word, value) = word_of(entry);
     parameter(json, reference);
     pad_member(json, pad);
-    json.text_member(",\"word\":", word);
-    value_member(json, value);
+    json.member(",\"word\":", Value::Text(word));
+    json.member(",\"value\":", Value::number(value));
     json.raw(b"}");
+}
+
+/// How a value of a parameter is known, and the value.
+fn word_of(entry: Entry) -> (&'static [u8], Option<u64>) {
+    match entry {
+        Entry::Unknown => (b"unknown", None),
+        Entry::Asked(value) => (b"asked", Some(u64::from(value))),
+        Entry::Said(value) => (b"said", Some(u64::from(value))),
+        Entry::Refused(value) => (b"refused", Some(u64::from(value))),
+    }
 }
 
 /// Writes the side of a PAD.
@@ -336,15 +256,5 @@ fn pad_member<O: Out>(json: &mut Json<O>, pad: Side)
     match pad {
         Side::T => json.raw(b",\"side\":\"T\""),
         Side::N => json.raw(b",\"side\":\"N\""),
-    }
-}
-
-/// Writes the value of a parameter, null where it is not known.
-fn value_member<O: Out>(json: &mut Json<O>, value: Option<u8>)
-    ensures { Adds O.has IsFurther json.old.out json.new.out }
-{
-    match value {
-        Some(value) => json.number_member(",\"value\":", u64::from(value)),
-        None => json.null_member(",\"value\":"),
     }
 }

@@ -14,7 +14,8 @@ pub fn packet<P: Prose>(out: &mut P, facts: &RowFacts<'_>) {
     let side = facts.last.side;
     match &facts.last.packet {
         Packet::Channel { channel, kind } => {
-            say_number(out, names::side_on_channel(side), u64::from(*channel));
+            out.say(names::side(side));
+            say_number(out, ", logical channel ", u64::from(*channel));
             out.say(": ");
             out.say(packet_name(side, &facts.last.packet));
             channel_fields(out, facts, kind)
@@ -51,8 +52,10 @@ fn channel_fields<P: Prose>(out: &mut P, facts: &RowFacts<'_>, kind: &PacketKind
             header,
             user_octets(facts.interface, facts.length),
         ),
-        PacketKind::Rr(Some(number)) | PacketKind::Rnr(Some(number)) => receive_number(
-            out, *number,
+        PacketKind::Rr(Some(number)) | PacketKind::Rnr(Some(number)) => say_number(
+            out,
+            ", P(R) ",
+            u64::from(*number),
         ),
         PacketKind::Data(None) | PacketKind::Rr(None) | PacketKind::Rnr(None) => out.say(
             ", its header is cut",
@@ -80,11 +83,6 @@ fn causes<P: Prose>(out: &mut P, facts: &RowFacts<'_>, table: CauseTable) {
 fn say_diagnostic<P: Prose>(out: &mut P, code: u8) {
     say_number(out, ", diagnostic ", u64::from(code));
     bracketed(out, diagnostic(code));
-}
-
-/// P(R).
-fn receive_number<P: Prose>(out: &mut P, number: u8) {
-    say_number(out, ", P(R) ", u64::from(number));
 }
 
 /// A bit that is 1 by its name.

@@ -143,8 +143,8 @@ fn is_owed(judge: &Judge) -> bool
     }
 }
 
-/// The word of a flag.
-fn flag_word(is_set: bool) -> &'static [u8]
+/// Returns the word of a flag.
+pub fn flag_word(is_set: bool) -> &'static [u8]
     ensures { result.now ≡ flag_word is_set }
 {
     if is_set { b"true" } else { b"false" }

@@ -199,8 +199,7 @@ fn write_members<A: Allocator>(
     line: &[u8],
     members: &mut Json<Growing<A>>,
 )
-    ensures { (l : Line) (r : Row) → line.now ≡ l ++ 10 ∷ [] → row_of l ≡ Some r
-        → facts.now.length ≡ length r.octets → Holds ⟦<Growing<A> as Out>⟧.has (IsRest
+    ensures { Holds ⟦<Growing<A> as Out>⟧.has (IsRest
         (gap_of facts.now.last.now.packet) facts.now.last.now.finding) members.new.out }
 {
     members.out.clear();

@@ -1,220 +1,117 @@
-//! The lines of the table of calls, on their way to a sink.
+//! The lines of the table of calls.
+#![tactic(auto, using(crate::proofs::ValueLemmas::these_then))]
 
-ghost use Rattle.std.specs.Prelude.{◌≡◌, ◌≤◌, decimal, drop, flat_map};
-ghost use Rattle.line_model.specs.basics.Written.{PutsTo};
-ghost use Rattle.descriptions.specs.CallTable.{absent, after_call, before_call, cell_text, character, column_text, entry, heading, point_part, quoted, seconds_text, trimmed, word_text};
+ghost use Rattle.std.specs.Prelude.{◌≡◌, ◌≤◌, flat_map};
+ghost use Rattle.descriptions.specs.CallTable.{after_call, before_call, cell_text, character, column_text, entry, heading, quoted};
+ghost use Rattle.descriptions.specs.Writing.{Adds, These};
+ghost use Rattle.descriptions.specs.declared.call_columns.TableForm.TheVariants.{Csv};
 
 use crate::call_columns::{
-    Cell, Column, Further, TableForm, cause_columns, data_columns, last_columns, place_columns,
+    Column, Further, TableForm, cause_columns, data_columns, last_columns, place_columns,
     span_columns,
 };
-use crate::times::Time;
-use itoa::Buffer;
+use crate::json::{Json, Out};
+use crate::value::Value;
 use line_model::call::CallRecord;
-use line_model::device::Sink;
-use line_model::write_buffer::WriteBuffer;
 use std::alloc::Allocator;
 
 /// The heading of the table as CSV.
 const HEADING: &[u8] =
     b"call,channel,direction,called,calling,opened,ended,start,seconds,how,cause,cause_name,diagnostic,diagnostic_name,data_t,octets_t,segments_t,data_n,octets_n,segments_n,pays,payer,findings,gaps,opened_frame,ended_frame\n";
 
-/// Puts a number.
-fn put_number<W: Sink>(number: u64, out: &mut WriteBuffer, sink: &mut W)
-    ensures { PutsTo W.Sink sink.old sink.new out.old out.new (decimal number) }
+/// Writes a character of a field in quotes.
+fn csv_character<O: Out>(json: &mut Json<O>, byte: u8)
+    ensures { Adds O.has (These (character Csv byte)) json.old.out json.new.out }
 {
-    let mut buffer = Buffer::new();
-    out.put(sink, buffer.format(number).as_bytes());
-}
-
-/// Digits without the zeros at their end.
-#[tactic(auto, using(crate::proofs::TableLemmas::trimmed_last, crate::proofs::TableLemmas::trimmed_front))]
-fn trimmed(digits: &[u8]) -> &[u8]
-    ensures { result.now ≡ trimmed digits.now }
-{
-    let mut rest = digits;
-    while let [front @ .., b'0'] = rest {
-        rest = front;
-    }
-    rest
-}
-
-/// Puts the part of a second after its point, if there is one.
-fn put_point_part<W: Sink>(billionths: u32, out: &mut WriteBuffer, sink: &mut W)
-    ensures { PutsTo W.Sink sink.old sink.new out.old out.new (point_part billionths) }
-{
-    if billionths == 0 {
-        return;
-    }
-    let mut buffer = Buffer::new();
-    let digits = buffer
-        .format(1_000_000_000 + u64::from(billionths))
-        .as_bytes();
-    out.put(sink, b".");
-    out.put(sink, trimmed(after_first(digits)));
-}
-
-/// What comes after the first digit.
-fn after_first(digits: &[u8]) -> &[u8]
-    ensures { result.now ≡ drop 1 digits.now }
-{
-    match digits {
-        [_, rest @ ..] => rest,
-        [] => digits,
+    if byte == 34 {
+        json.raw(b"\"\"");
+    } else if byte == 10 {
+        json.raw(b" ");
+    } else {
+        json.raw(&[byte]);
     }
 }
 
-/// Puts a time.
-fn put_seconds<W: Sink>(time: Time, out: &mut WriteBuffer, sink: &mut W)
-    ensures { PutsTo W.Sink sink.old sink.new out.old out.new (seconds_text time) }
-{
-    put_number(time.seconds, out, sink);
-    put_point_part(time.billionths, out, sink);
-}
-
-/// Puts a word.
-fn put_word<W: Sink>(form: TableForm, letters: &[u8], out: &mut WriteBuffer, sink: &mut W)
-    ensures { PutsTo W.Sink sink.old sink.new out.old out.new (word_text form letters.now) }
-{
-    match form {
-        TableForm::Csv => out.put(sink, letters),
-        TableForm::Objects => {
-            out.put(sink, b"\"");
-            out.put(sink, letters);
-            out.put(sink, b"\"");
-        }
-    }
-}
-
-/// Puts a character of a text.
-fn put_character<W: Sink>(form: TableForm, byte: u8, out: &mut WriteBuffer, sink: &mut W)
-    ensures { PutsTo W.Sink sink.old sink.new out.old out.new (character form byte) }
-{
-    match form {
-        TableForm::Csv => {
-            if byte == 34 {
-                out.put(sink, b"\"\"");
-            } else if byte == 10 {
-                out.put(sink, b" ");
-            } else {
-                out.put(sink, &[byte]);
-            }
-        }
-        TableForm::Objects => {
-            if byte == 34 {
-                out.put(sink, b"\\\"");
-            } else if byte == 92 {
-                out.put(sink, b"\\\\");
-            } else if byte == 10 {
-                out.put(sink, b" ");
-            } else {
-                out.put(sink, &[byte]);
-            }
-        }
-    }
-}
-
-/// Puts the characters of a text.
-fn put_characters<W: Sink>(form: TableForm, text: &[u8], out: &mut WriteBuffer, sink: &mut W)
-    ensures { PutsTo W.Sink sink.old sink.new out.old out.new (flat_map (character form) text.now) }
+/// Writes the characters of a field in quotes.
+fn csv_characters<O: Out>(json: &mut Json<O>, text: &[u8])
+    ensures { Adds O.has (These (flat_map (character Csv) text.now)) json.old.out json.new.out }
 {
     for byte in text {
-        put_character(form, *byte, out, sink);
+        csv_character(json, *byte);
     }
 }
 
-/// Puts a text between quotes.
-fn put_quoted<W: Sink>(form: TableForm, text: &[u8], out: &mut WriteBuffer, sink: &mut W)
-    ensures { PutsTo W.Sink sink.old sink.new out.old out.new (quoted form text.now) }
+/// Writes a field of CSV.
+fn csv_value<O: Out>(json: &mut Json<O>, value: Value<'_>)
+    ensures { Adds O.has (These (cell_text Csv value.entry)) json.old.out json.new.out }
 {
-    out.put(sink, b"\"");
-    put_characters(form, text, out, sink);
-    out.put(sink, b"\"");
-}
-
-/// Puts an absent value.
-fn put_absent<W: Sink>(form: TableForm, out: &mut WriteBuffer, sink: &mut W)
-    ensures { PutsTo W.Sink sink.old sink.new out.old out.new (absent form) }
-{
-    match form {
-        TableForm::Csv => {}
-        TableForm::Objects => out.put(sink, b"null"),
+    match value {
+        Value::Null => {}
+        Value::Number(number) => json.number(number),
+        Value::Seconds(time) => json.seconds(time.seconds, time.billionths),
+        Value::Word(word) => json.raw(word),
+        Value::Text(text) => {
+            json.raw(b"\"");
+            csv_characters(json, text);
+            json.raw(b"\"");
+        }
     }
 }
 
-/// Puts what a column says.
-fn put_cell<W: Sink>(form: TableForm, cell: Cell<'_>, out: &mut WriteBuffer, sink: &mut W)
-    ensures { PutsTo W.Sink sink.old sink.new out.old out.new (cell_text form cell.entry) }
-{
-    match cell {
-        Cell::Absent => put_absent(form, out, sink),
-        Cell::Number(number) => put_number(number, out, sink),
-        Cell::Seconds(time) => put_seconds(time, out, sink),
-        Cell::Word(word) => put_word(form, word, out, sink),
-        Cell::Text(text) => put_quoted(form, text, out, sink),
-    }
-}
-
-/// Puts a column.
-fn put_column<W: Sink>(form: TableForm, column: &Column<'_>, out: &mut WriteBuffer, sink: &mut W)
-    ensures { PutsTo W.Sink sink.old sink.new out.old out.new (column_text form column.now) }
+/// Writes a column.
+fn put_column<O: Out>(json: &mut Json<O>, form: TableForm, column: &Column<'_>)
+    ensures { Adds O.has (These (column_text form column.now)) json.old.out json.new.out }
 {
     match form {
         TableForm::Csv => {
-            out.put(sink, b",");
-            put_cell(form, column.cell, out, sink);
+            json.raw(b",");
+            csv_value(json, column.cell);
         }
         TableForm::Objects => {
-            out.put(sink, b",\"");
-            out.put(sink, column.name);
-            out.put(sink, b"\":");
-            put_cell(form, column.cell, out, sink);
+            json.raw(b",\"");
+            json.raw(column.name);
+            json.raw(b"\":");
+            json.value(column.cell);
         }
     }
 }
 
-/// Puts columns.
-fn put_columns<W: Sink>(
-    form: TableForm,
-    columns: &[Column<'_>],
-    out: &mut WriteBuffer,
-    sink: &mut W,
-)
-    ensures { PutsTo W.Sink sink.old sink.new out.old out.new
-        (flat_map (column_text form) columns.now) }
+/// Writes columns.
+fn put_columns<O: Out>(json: &mut Json<O>, form: TableForm, columns: &[Column<'_>])
+    ensures { Adds O.has (These (flat_map (column_text form) columns.now)) json.old.out json.new.out }
 {
     for column in columns {
-        put_column(form, column, out, sink);
+        put_column(json, form, column);
     }
 }
 
-/// Puts what comes before a call's number.
-fn put_before_call<W: Sink>(form: TableForm, out: &mut WriteBuffer, sink: &mut W)
-    ensures { PutsTo W.Sink sink.old sink.new out.old out.new (before_call form) }
+/// What comes before a call's number.
+fn before_call(form: TableForm) -> &'static [u8]
+    ensures { result.now ≡ before_call form }
 {
     match form {
-        TableForm::Csv => {}
-        TableForm::Objects => out.put(sink, b"{\"line\":\"call_entry\",\"call\":"),
+        TableForm::Csv => b"",
+        TableForm::Objects => b"{\"line\":\"call_entry\",\"call\":",
     }
 }
 
-/// Puts what comes after a call's last column.
-fn put_after_call<W: Sink>(form: TableForm, out: &mut WriteBuffer, sink: &mut W)
-    ensures { PutsTo W.Sink sink.old sink.new out.old out.new (after_call form) }
+/// What comes after a call's last column.
+fn after_call(form: TableForm) -> &'static [u8]
+    ensures { result.now ≡ after_call form }
 {
     match form {
-        TableForm::Csv => out.put(sink, b"\n"),
-        TableForm::Objects => out.put(sink, b"}\n"),
+        TableForm::Csv => b"\n",
+        TableForm::Objects => b"}\n",
     }
 }
 
-/// Writes the heading.
-pub fn put_heading<W: Sink>(form: TableForm, out: &mut WriteBuffer, sink: &mut W)
-    ensures { PutsTo W.Sink sink.old sink.new out.old out.new (heading form) }
+/// Returns the heading, which objects have none of.
+pub fn heading(form: TableForm) -> &'static [u8]
+    ensures { result.now ≡ heading form }
 {
     match form {
-        TableForm::Csv => out.put(sink, HEADING),
-        TableForm::Objects => {}
+        TableForm::Csv => HEADING,
+        TableForm::Objects => b"",
     }
 }
 
@@ -230,22 +127,17 @@ pub struct Listed<'a, A: Allocator> {
 }
 
 /// Writes the entry of a call.
-pub fn put_entry<W: Sink, A: Allocator>(
-    form: TableForm,
-    call: &Listed<'_, A>,
-    out: &mut WriteBuffer,
-    sink: &mut W,
-)
+pub fn put_entry<O: Out, A: Allocator>(json: &mut Json<O>, form: TableForm, call: &Listed<'_, A>)
     requires { call.now.further.segments_t ≤ call.now.record.now.segments }
-    ensures { PutsTo W.Sink sink.old sink.new out.old out.new
-        (entry form (call.now.number, call.now.record.now) call.now.further) }
+    ensures { Adds O.has (These (entry form (call.now.number, call.now.record.now) call.now.further))
+        json.old.out json.new.out }
 {
-    put_before_call(form, out, sink);
-    put_number(call.number, out, sink);
-    put_columns(form, &place_columns(call.record), out, sink);
-    put_columns(form, &span_columns(call.record, &call.further), out, sink);
-    put_columns(form, &cause_columns(&call.further), out, sink);
-    put_columns(form, &data_columns(call.record, &call.further), out, sink);
-    put_columns(form, &last_columns(call.record, &call.further), out, sink);
-    put_after_call(form, out, sink);
+    json.raw(before_call(form));
+    json.number(call.number);
+    put_columns(json, form, &place_columns(call.record));
+    put_columns(json, form, &span_columns(call.record, &call.further));
+    put_columns(json, form, &cause_columns(&call.further));
+    put_columns(json, form, &data_columns(call.record, &call.further));
+    put_columns(json, form, &last_columns(call.record, &call.further));
+    json.raw(after_call(form));
 }

@@ -1,5 +1,8 @@
 //! Times and frames of rows, which are in comments before them.
 
+ghost use Rattle.std.specs.Prelude.{◌≡◌, drop};
+ghost use Rattle.descriptions.specs.CallTable.{point_before, trimmed};
+
 use trace_text::cuts::split_at_byte;
 
 /// A time in seconds.
@@ -12,7 +15,7 @@ pub struct Time {
 }
 
 /// The billionths of a second that a digit counts, by its place after the point.
-pub const BILLIONTHS: [u32; 9] = [
+const BILLIONTHS: [u32; 9] = [
     100_000_000,
     10_000_000,
     1_000_000,
@@ -67,7 +70,10 @@ impl Recorded {
 impl Time {
     /// Reads a time: one to twelve digits, and perhaps a point with one to nine more.
     fn of_word(word: &[u8]) -> Option<Time> {
-        let (whole, part) = split_at_point(word);
+        let (whole, part) = match split_at_byte(word, b'.') {
+            Some((whole, part)) => (whole, Some(part)),
+            None => (word, None),
+        };
         let seconds = whole_number(whole)?;
         let billionths = match part {
             Some(part) => part_of_second(part)?,
@@ -95,14 +101,6 @@ impl Time {
                     .saturating_sub(start.billionths),
             }),
         }
-    }
-}
-
-/// The digits before the first point, and those after it.
-fn split_at_point(digits: &[u8]) -> (&[u8], Option<&[u8]>) {
-    match split_at_byte(digits, b'.') {
-        Some((whole, part)) => (whole, Some(part)),
-        None => (digits, None),
     }
 }
 
@@ -147,4 +145,33 @@ fn part_of_second(digits: &[u8]) -> Option<u32> {
         billionths = billionths.saturating_add(place_value.saturating_mul(u32::from(value)));
     }
     Some(billionths)
+}
+
+/// Returns digits without the zeros at their end.
+#[tactic(auto, using(crate::proofs::TableLemmas::trimmed_last, crate::proofs::TableLemmas::trimmed_front))]
+pub fn trimmed(digits: &[u8]) -> &[u8]
+    ensures { result.now ≡ trimmed digits.now }
+{
+    let mut rest = digits;
+    while let [front @ .., b'0'] = rest {
+        rest = front;
+    }
+    rest
+}
+
+/// Returns what comes after the first digit.
+pub fn after_first(digits: &[u8]) -> &[u8]
+    ensures { result.now ≡ drop 1 digits.now }
+{
+    match digits {
+        [_, rest @ ..] => rest,
+        [] => digits,
+    }
+}
+
+/// Returns the point before digits, nothing before none.
+pub fn point_before(is_none: bool) -> &'static [u8]
+    ensures { result.now ≡ point_before is_none }
+{
+    if is_none { b"" } else { b"." }
 }

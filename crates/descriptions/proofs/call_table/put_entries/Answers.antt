@@ -1,12 +1,12 @@
-use Rattle.std.proofs.Common.{◌+◌, ◌++◌, List, ℕ, subst, append_assoc, append-nil, [], refl, sym}
-use Rattle.line_model.specs.basics.Written.{Writes}
+use Rattle.std.proofs.Common.{◌+◌, ◌++◌, List, ℕ, [], refl}
 use Rattle.descriptions.specs.CallTable.{entry}
+use Rattle.descriptions.proofs.MemberLemmas.{nothing_put}
 use Rattle.descriptions.proofs.TableLemmas.{entries_end, entry_more}
+use Rattle.descriptions.proofs.ValueLemmas.{these_then}
 use Rattle.descriptions.proofs.call_table.put_entries.Goals as goal
 
 pub loop-index-init : goal.loop-index-init
-loop-index-init g c =
-    ([], λ entries h. h, λ before text w. subst (λ l. Writes before (g.W.Sink.taken c.args.sink.now, g.W.Sink.failures c.args.sink.now) c.args.out.now l) (sym (append-nil text)) w)
+loop-index-init g c = ([], λ entries h. h, nothing_put refl)
 
 pub loop-index-preserved : goal.loop-index-preserved
 loop-index-preserved g c =
@@ -16,7 +16,7 @@ loop-index-preserved g c =
     let more : List ℕ = entry c.args.form (i + 1, x) c.further.result in (
       t.0 ++ more,
       entry_more c.args.form c.args.sources.now.calls.now i x t.0 more c.loop-index-test.true c.index-calls-index.is t.1 (record { further = c.further.result; sides = c.further.ensures; written = refl }),
-      λ before text w. subst (λ l. Writes before (g.W.Sink.taken c.put_entry.new.sink, g.W.Sink.failures c.put_entry.new.sink) c.put_entry.new.out l) (append_assoc text t.0 more) (c.put_entry.ensures before _ (t.2 before text w)),
+      these_then t.2 c.put_entry.ensures,
     )
 
 pub returns : goal.returns

@@ -4,4 +4,4 @@ use Rattle.descriptions.proofs.ClosingLemmas.{line_put}
 use Rattle.descriptions.proofs.closing_objects.uncounted_object.Goals as goal
 
 pub returns : goal.returns
-returns g c = line_put (codes "not_counted") c.raw.ensures (further_then c.text_member.ensures (further_then c.number_member.ensures c.number_member-2.ensures)) c.raw-2.ensures
+returns g c = line_put (codes "not_counted") c.raw.ensures (further_then c.member.ensures (further_then c.member-2.ensures c.member-3.ensures)) c.raw-2.ensures

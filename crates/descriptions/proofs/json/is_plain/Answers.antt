@@ -1,5 +1,6 @@
 use Rattle.std.proofs.Common.{◌∙◌, sym}
-use Rattle.descriptions.proofs.MemberLemmas.{not_clear, plain_more}
+use Rattle.descriptions.proofs.MemberLemmas.{not_clear}
+use Rattle.descriptions.proofs.ValueLemmas.{plain_more}
 use Rattle.descriptions.proofs.json.is_plain.Goals as goal
 
 pub loop-byte-preserved : goal.loop-byte-preserved

@@ -2,4 +2,4 @@ use Rattle.descriptions.proofs.MemberLemmas.{first_put, member_put, object_end, 
 use Rattle.descriptions.proofs.packet_members.message_object.Goals as goal
 
 pub returns-in-Ok : goal.returns-in-Ok
-returns-in-Ok g c = object_end (object_more (first_put c.first.ensures c.text.ensures) (member_put c.member.ensures c.pairs.ensures)) c.raw.ensures
+returns-in-Ok g c = object_end (object_more (first_put c.first.ensures c.value.ensures.value) (member_put c.begin.ensures c.pairs.ensures)) c.raw.ensures

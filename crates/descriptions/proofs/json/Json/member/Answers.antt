@@ -1,8 +1,5 @@
-use Rattle.std.proofs.Common.{subst, sym}
-use Rattle.descriptions.specs.Members.{promised}
-use Rattle.descriptions.specs.Writing.{IsBeginning}
-use Rattle.descriptions.proofs.MemberLemmas.{as_form, begins}
+use Rattle.descriptions.proofs.MemberLemmas.{member_put}
 use Rattle.descriptions.proofs.json.Json.member.Goals as goal
 
 pub returns : goal.returns
-returns g c = as_form (subst (IsBeginning promised) (sym c.as_bytes.ensures.value) (begins promised c.args.beginning.now c.requires)) c.raw.ensures
+returns g c = member_put c.begin.ensures c.value.ensures.value

@@ -1,5 +1,5 @@
-use Rattle.descriptions.proofs.MemberLemmas.{text_put}
+use Rattle.descriptions.proofs.ValueLemmas.{these_then}
 use Rattle.descriptions.proofs.json.Json.quoted.Goals as goal
 
 pub returns : goal.returns
-returns g c = text_put c.raw.ensures c.words.ensures c.raw-2.ensures
+returns g c = these_then c.raw.ensures (these_then c.words.ensures c.raw-2.ensures)

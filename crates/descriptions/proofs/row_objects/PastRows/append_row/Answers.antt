@@ -37,7 +37,7 @@ returns-clause-object g c i before line r text s lines head row is kept =
     let past = subst (λ j. KeepsOrigins j (items_of j (rows_in before)) c.args.self.now.origins) (sym same) kept in
     let facts = c.facts-facts.ensures.facts w.0 (items_of w.0 (rows_in before)) (item_of w.0 r) judged
     (c.in_ok-earlier.ensures.epoch w.0 (items_of w.0 (rows_in before)) past) (c.in_ok-earlier.ensures.follows w.0 (items_of w.0 (rows_in before)) (item_of w.0 r) c.in-Some.observer.now.events.items past judged) in
-    let members = c.write_members.ensures line r is (written_row before line r row) (c.facts-facts.ensures.length ∙ ap (λ v. v.length) (c.row-row.ensures.last text s (rows_in before) r rows)) in
+    let members = c.write_members.ensures in
     let out = c.args.out.now.items in
     let after = c.append_object.new.out.items in
     subst (λ b. OnOk c.append_object.result (HasAppended (IsObjectWhere b i (items_of i (rows_in before)) (item_of i r)) out after)) (sym c.if-not-picked.false)
