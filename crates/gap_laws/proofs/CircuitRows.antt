@@ -1,40 +1,38 @@
 -- Packets on permanent circuits keep the order.
-use Rattle.std.proofs.Common.{◌≡◌, ℕ, Bool, true, false, refl, sym, ap, subst, List, [], ◌∷◌, ◌++◌, Some, None}
-use Rattle.std.specs.Prelude.{◌&&◌}
-use Rattle.std.specs.List.{AllByRecursion}
-use Rattle.std.proofs.lemmas.Bool.{false≢true, and_parts}
+use Rattle.std.proofs.Common.{◌≡◌, ℕ, Bool, true, false, refl, sym, ap, subst, List, Option, Some, None}
+use Rattle.std.specs.Prelude.{is_some}
+use Rattle.std.proofs.lemmas.Bool.{false≢true}
 use Rattle.line_model.specs.declared.gap.AdriftEntry.TheVariants.{Carries}
 use Rattle.line_model.specs.declared.event.What.{What}
 use Rattle.line_model.specs.declared.interface.Interface.{Interface}
-use Rattle.line_model.specs.declared.packet.DataHeader.{DataHeader}
-use Rattle.line_model.specs.declared.packet.Packet.{Packet}
 use Rattle.line_model.specs.declared.packet.Packet as packet
 use Rattle.line_model.specs.declared.packet.PacketKind.{PacketKind}
 use Rattle.line_model.specs.declared.packet.PacketKind as kind
 use Rattle.line_model.specs.declared.state.Side.{Side}
+use Rattle.line_model.specs.declared.state.Side.TheVariants.{T, N}
 use Rattle.line_model.specs.declared.state.DState.{DState}
 use Rattle.line_model.specs.declared.state.DState as transfer
 use Rattle.line_model.specs.basics.Records.{Item}
-use Rattle.line_model.specs.packets.Classes.{packet_class}
-use Rattle.line_model.specs.packets.Says.{gap_of, packet_channel}
-use Rattle.line_model.specs.channels.Channels.{AcceptedData, Sides, is_permanent, other, with_side}
+use Rattle.line_model.specs.packets.Classes.{kind_class, packet_class}
+use Rattle.line_model.specs.packets.Says.{gap_of}
+use Rattle.line_model.specs.channels.Channels.{AcceptedData, Sides, is_permanent, other}
 use Rattle.line_model.specs.channels.ChannelStep.{channel_step}
 use Rattle.line_model.specs.channels.Gaps.{GapChannel}
 use Rattle.line_model.specs.channels.Gaps.Certainty.{Certain}
-use Rattle.line_model.specs.channels.GapStep.{GapOutcome, adrift_entry, gap_channel_step}
-use Rattle.gap_laws.specs.Thinned.{CircuitLaw, JoinedCircuitLaw, is_circuit_row, is_whole}
-use Rattle.gap_laws.proofs.Circuits.{Circuit, IsOrdered, channel_of, silent, with_data, with_receive}
-use Rattle.gap_laws.proofs.Parts.{part_silent}
+use Rattle.line_model.specs.channels.GapStep.{GapOutcome, adrift_entry, adrift_fault, adrift_step_by, gap_channel_step, passing}
+use Rattle.gap_laws.specs.Thinned.{is_whole}
+use Rattle.gap_laws.proofs.Circuits.{Circuit, IsOrdered, channel_of, silent}
 use Rattle.gap_laws.proofs.Settled.{SideFits, in_doubt}
-use Rattle.gap_laws.proofs.Fits.{Fits, FitsAdrift, FitsSettled, Takes, adrift_at, circuit, settled_at}
+use Rattle.gap_laws.proofs.Fits.{Fits, FitsAdrift, FitsSettled, Takes, adrift_at, circuit, idle, settled_at}
 use Rattle.gap_laws.proofs.Fits.Fits.{FitsAll, FitsAnyAfter, FitsSome}
-use Rattle.gap_laws.proofs.Entries.{is_flow, is_moving, quiet_entry, row_at}
-use Rattle.gap_laws.proofs.DataSteps.{DataStep, FollowsAs, FollowsBy, data_adrift, data_on_settled, data_whole, said_of}
-use Rattle.gap_laws.proofs.ReceiveSteps.{IsReceive, ReceiveStep, receive_adrift, receive_on_settled, receive_whole, rnr_receives, rr_receives}
-use Rattle.gap_laws.proofs.InterruptSteps.{IsTurn, TurnStep, confirmation_turns, interrupt_turns, turn_adrift, turn_on_settled, turn_whole}
-use Rattle.gap_laws.proofs.QuietSteps.{Waiting, nothing_adrift, quiet_adrift, quiet_on_settled, quiet_takes, waiting_adrift, waiting_whole}
-use Rattle.gap_laws.proofs.ResetSteps.{IsReset, ResetStep, confirmation_resets, reset_adrift, reset_on_settled, reset_resets, reset_whole}
-use Rattle.gap_laws.proofs.Thinning.{Keeps, Step, accuses_nobody, accuses_nobody_joined}
+use Rattle.gap_laws.proofs.Entries.{is_flow, is_moving, last_seen, quiet_entry, row_at}
+use Rattle.gap_laws.proofs.DataSteps.{DriftsBy, FollowsBy, drifted, fits_adrift}
+use Rattle.gap_laws.proofs.ReceiveSteps.{rnr_receives, rr_receives}
+use Rattle.gap_laws.proofs.InterruptSteps.{confirmation_turns, interrupt_turns}
+use Rattle.gap_laws.proofs.QuietSteps.{Waiting, Waits, nothing_adrift, quiet_adrift, quiet_on_settled, quiet_takes, waiting_adrift, waiting_whole}
+use Rattle.gap_laws.proofs.ResetSteps.{IsReset, ResetStep, confirmation_resets, reset_adrift, reset_on_settled, reset_opens, reset_resets, reset_whole}
+use Rattle.gap_laws.proofs.Thinning.{Step}
+use Rattle.gap_laws.proofs.TransferRows.{StepsInD1, by_parts, data_step_of, receive_step_of, turn_step_of}
 
 -- every circuit
 abbrev pub Any : Circuit → Type 0
@@ -43,14 +41,6 @@ Any q = Unit {0}
 -- whatever a row says
 abbrev pub NothingSaid : List What → List What → Type 0
 NothingSaid ws us = Unit {0}
-
--- what says no more than events of which none is a finding
-followed : (i : Interface) (w : Circuit) (ws : List What) (o : GapOutcome) → silent ws ≡ true → FollowsAs i w ws o → FollowsBy i w o
-followed i w ws o h f = (part_silent o.reported ws h f.0, f.1)
-
--- a settled circuit, by its parts
-by_parts : (P : Circuit → Type 0) (g : Circuit) → g.state ≡ transfer.TheVariants.D1 → P (circuit transfer.TheVariants.D1 g.accepted g.acknowledged g.unconfirmed) → P g
-by_parts P g e h = subst (λ d. P (circuit d g.accepted g.acknowledged g.unconfirmed)) (sym e) h
 
 d2_apart : transfer.TheVariants.D2 ≡ transfer.TheVariants.D1 → ⊥
 d2_apart e = cc
@@ -92,66 +82,24 @@ waiting_step i n r d hs v u p flow carries o s otherwise =
       valid = tt;
       said = λ g f. tt;
       takes = t.takes;
-      follows = follows i n r q q s t.takes (λ g f. waiting_adrift i n r q p carries t.waits f.state f.restarting f.last f.seen f.resting) (none_settled i n r q q otherwise);
+      follows = follows i n r q q s t.takes (λ g f. drifted i q (gap_channel_step i n (adrift_at f.state f.restarting f.last) r) (waiting_adrift i n r q p carries t.waits f.state f.restarting f.last f.seen f.resting)) (none_settled i n r q q otherwise);
     }
 
 -- the steps of a row on every circuit
-abbrev Steps : Interface → ℕ → Item → Type 0
+abbrev pub Steps : Interface → ℕ → Item → Type 0
 Steps i n r = (q : Circuit) → Any q → ((y : Side) → IsOrdered i.modulus q y) → silent (channel_step i n (channel_of q) r).reported ≡ true → Step i Any NothingSaid n r q
 
 -- those of a packet of data transfer, by those in d1
-flow_steps : (i : Interface) (n : ℕ) (r : Item) → is_permanent i n ≡ true → is_flow (packet_class r.packet) ≡ true → adrift_entry (is_permanent i n) (packet_class r.packet) ≡ Carries
-    → ((hs : List AcceptedData) (v : Sides ℕ) (u : Sides Bool) → ((y : Side) → IsOrdered i.modulus (circuit transfer.TheVariants.D1 hs v u) y)
-    → silent (channel_step i n (channel_of (circuit transfer.TheVariants.D1 hs v u)) r).reported ≡ true → Step i Any NothingSaid n r (circuit transfer.TheVariants.D1 hs v u))
-    → Steps i n r
+flow_steps : (i : Interface) (n : ℕ) (r : Item) → is_permanent i n ≡ true → is_flow (packet_class r.packet) ≡ true → adrift_entry (is_permanent i n) (packet_class r.packet) ≡ Carries → StepsInD1 i n r → Steps i n r
 flow_steps i n r p flow carries in_d1 q valid = at q.state
   where
     at : (d : DState) → ((y : Side) → IsOrdered i.modulus (circuit d q.accepted q.acknowledged q.unconfirmed) y) → silent (channel_step i n (channel_of (circuit d q.accepted q.acknowledged q.unconfirmed)) r).reported ≡ true
         → Step i Any NothingSaid n r (circuit d q.accepted q.acknowledged q.unconfirmed)
-    at transfer.TheVariants.D1 o s = in_d1 q.accepted q.acknowledged q.unconfirmed o s
+    at transfer.TheVariants.D1 o s =
+        let step = in_d1 q.accepted q.acknowledged q.unconfirmed o s in
+        record { whole = step.whole; valid = tt; said = λ g f. tt; takes = step.takes; follows = step.follows }
     at transfer.TheVariants.D2 o s = waiting_step i n r transfer.TheVariants.D2 q.accepted q.acknowledged q.unconfirmed p flow carries o s d2_apart
     at transfer.TheVariants.D3 o s = waiting_step i n r transfer.TheVariants.D3 q.accepted q.acknowledged q.unconfirmed p flow carries o s d3_apart
-
-data_steps : (i : Interface) (n nr : ℕ) (x : Side) (c : ℕ) (h : DataHeader) (len : ℕ) (os : List ℕ) → is_permanent i n ≡ true → Steps i n (row_at nr x c (kind.TheVariants.Data (Some h)) len os)
-data_steps i n nr x c h len os p = flow_steps i n (row_at nr x c (kind.TheVariants.Data (Some h)) len os) p refl refl (λ hs v u o s.
-    let r : Item = row_at nr x c (kind.TheVariants.Data (Some h)) len os in
-    let q : Circuit = circuit transfer.TheVariants.D1 hs v u in
-    let t : DataStep i n r h q = data_whole i n nr x c h len os hs v u p o s in
-    record {
-      whole = with_data i r h t.taken.upto q;
-      valid = tt;
-      said = λ g f. tt;
-      takes = t.takes;
-      follows = follows i n r q (with_data i r h t.taken.upto q) s t.takes (λ g f. followed i (with_data i r h t.taken.upto q) (said_of i r h) (gap_channel_step i n (adrift_at f.state f.restarting f.last) r) refl (data_adrift i n nr x c h len os hs v u p o t f.state f.restarting f.last f.seen f.resting))
-          (settled_parts i n r q (with_data i r h t.taken.upto q) (λ b ns is ss gs a f sides. followed i (with_data i r h t.taken.upto q) (said_of i r h) (gap_channel_step i n (settled_at b ns is ss (circuit transfer.TheVariants.D1 gs a f)) r) refl (data_on_settled i n nr x c h len os hs v u p t b ns is ss gs a f sides)));
-    })
-
-receive_steps : (i : Interface) (n : ℕ) (r : Item) (receive : ℕ) → IsReceive i n r receive → is_flow (packet_class r.packet) ≡ true → is_permanent i n ≡ true → Steps i n r
-receive_steps i n r receive k flow p = flow_steps i n r p flow k.carries (λ hs v u o s.
-    let q : Circuit = circuit transfer.TheVariants.D1 hs v u in
-    let t : ReceiveStep i n r receive q = receive_whole i n r receive k hs v u p o s in
-    record {
-      whole = with_receive r.side t.taken.upto q;
-      valid = tt;
-      said = λ g f. tt;
-      takes = t.takes;
-      follows = follows i n r q (with_receive r.side t.taken.upto q) s t.takes (λ g f. followed i (with_receive r.side t.taken.upto q) [] (gap_channel_step i n (adrift_at f.state f.restarting f.last) r) refl (receive_adrift i n r receive k hs v u p o t f.state f.restarting f.last f.seen f.resting))
-          (settled_parts i n r q (with_receive r.side t.taken.upto q) (λ b ns is ss gs a f sides. followed i (with_receive r.side t.taken.upto q) [] (gap_channel_step i n (settled_at b ns is ss (circuit transfer.TheVariants.D1 gs a f)) r) refl (receive_on_settled i n r receive k hs v u p t b ns is ss gs a f sides)));
-    })
-
-turn_steps : (i : Interface) (n : ℕ) (r : Item) (y : Side) (b : Bool) → IsTurn i n r y b → is_flow (packet_class r.packet) ≡ true → is_permanent i n ≡ true → Steps i n r
-turn_steps i n r y b k flow p = flow_steps i n r p flow k.carries (λ hs v u o s.
-    let q : Circuit = circuit transfer.TheVariants.D1 hs v u in
-    let w : Circuit = circuit transfer.TheVariants.D1 hs v (with_side y b u) in
-    let t : TurnStep i n r y b q = turn_whole i n r y b k hs v u p o s in
-    record {
-      whole = w;
-      valid = tt;
-      said = λ g f. tt;
-      takes = t.takes;
-      follows = follows i n r q w s t.takes (λ g f. followed i w [] (gap_channel_step i n (adrift_at f.state f.restarting f.last) r) refl (turn_adrift i n r y b k hs v u p t f.state f.restarting f.last f.seen f.resting))
-          (settled_parts i n r q w (λ d ns is ss gs a f sides. followed i w [] (gap_channel_step i n (settled_at d ns is ss (circuit transfer.TheVariants.D1 gs a f)) r) refl (turn_on_settled i n r y b k hs v u p t d ns is ss gs a f sides)));
-    })
 
 reset_steps : (i : Interface) (n : ℕ) (r : Item) → IsReset i n r → is_permanent i n ≡ true → Steps i n r
 reset_steps i n r k p q valid o s =
@@ -179,7 +127,7 @@ quiet_steps i n r moving flow p q valid o s =
       valid = tt;
       said = λ g f. tt;
       takes = t;
-      follows = follows i n r q q s t (λ g f. quiet_adrift i n r q (nothing_adrift (is_permanent i n) (packet_class r.packet) p moving flow) f.state f.restarting f.last f.seen f.resting) (λ g f. at q.state f.in_d1_too s g f);
+      follows = follows i n r q q s t (λ g f. drifted i q (gap_channel_step i n (adrift_at f.state f.restarting f.last) r) (quiet_adrift i n r q (nothing_adrift (is_permanent i n) (packet_class r.packet) p moving flow) f.state f.restarting f.last f.seen f.resting)) (λ g f. at q.state f.in_d1_too s g f);
     }
   where
     at : (d : DState) → d ≡ transfer.TheVariants.D1 → silent (channel_step i n (channel_of (circuit d q.accepted q.acknowledged q.unconfirmed)) r).reported ≡ true → (g : GapChannel) (f : FitsSettled i (circuit d q.accepted q.acknowledged q.unconfirmed) g)
@@ -191,12 +139,16 @@ quiet_steps i n r moving flow p q valid o s =
     at transfer.TheVariants.D3 e s g f = absurd (d3_apart e)
 
 -- the steps of each packet
-kind_steps : (i : Interface) (n nr : ℕ) (x : Side) (c : ℕ) (k : PacketKind) (len : ℕ) (os : List ℕ) → is_whole (packet.TheVariants.Channel c k) ≡ true → is_permanent i n ≡ true → Steps i n (row_at nr x c k len os)
-kind_steps i n nr x c (kind.TheVariants.Data (Some h)) len os e p = data_steps i n nr x c h len os p
-kind_steps i n nr x c (kind.TheVariants.Rr (Some m)) len os e p = receive_steps i n (row_at nr x c (kind.TheVariants.Rr (Some m)) len os) m (rr_receives i n nr x c m len os) refl p
-kind_steps i n nr x c (kind.TheVariants.Rnr (Some m)) len os e p = receive_steps i n (row_at nr x c (kind.TheVariants.Rnr (Some m)) len os) m (rnr_receives i n nr x c m len os) refl p
-kind_steps i n nr x c kind.TheVariants.Interrupt len os e p = turn_steps i n (row_at nr x c kind.TheVariants.Interrupt len os) x true (interrupt_turns i n nr x c len os) refl p
-kind_steps i n nr x c kind.TheVariants.InterruptConfirm len os e p = turn_steps i n (row_at nr x c kind.TheVariants.InterruptConfirm len os) (other x) false (confirmation_turns i n nr x c len os) refl p
+pub kind_steps : (i : Interface) (n nr : ℕ) (x : Side) (c : ℕ) (k : PacketKind) (len : ℕ) (os : List ℕ) → is_whole (packet.TheVariants.Channel c k) ≡ true → is_permanent i n ≡ true → Steps i n (row_at nr x c k len os)
+kind_steps i n nr x c (kind.TheVariants.Data (Some h)) len os e p = flow_steps i n (row_at nr x c (kind.TheVariants.Data (Some h)) len os) p refl refl (data_step_of i n nr x c h len os p)
+kind_steps i n nr x c (kind.TheVariants.Rr (Some m)) len os e p =
+    flow_steps i n (row_at nr x c (kind.TheVariants.Rr (Some m)) len os) p refl refl (receive_step_of i n (row_at nr x c (kind.TheVariants.Rr (Some m)) len os) m (rr_receives i n nr x c m len os) p)
+kind_steps i n nr x c (kind.TheVariants.Rnr (Some m)) len os e p =
+    flow_steps i n (row_at nr x c (kind.TheVariants.Rnr (Some m)) len os) p refl refl (receive_step_of i n (row_at nr x c (kind.TheVariants.Rnr (Some m)) len os) m (rnr_receives i n nr x c m len os) p)
+kind_steps i n nr x c kind.TheVariants.Interrupt len os e p =
+    flow_steps i n (row_at nr x c kind.TheVariants.Interrupt len os) p refl refl (turn_step_of i n (row_at nr x c kind.TheVariants.Interrupt len os) x true (interrupt_turns i n nr x c len os) p)
+kind_steps i n nr x c kind.TheVariants.InterruptConfirm len os e p =
+    flow_steps i n (row_at nr x c kind.TheVariants.InterruptConfirm len os) p refl refl (turn_step_of i n (row_at nr x c kind.TheVariants.InterruptConfirm len os) (other x) false (confirmation_turns i n nr x c len os) p)
 kind_steps i n nr x c kind.TheVariants.Reset len os e p = reset_steps i n (row_at nr x c kind.TheVariants.Reset len os) (reset_resets i n nr x c len os) p
 kind_steps i n nr x c kind.TheVariants.ResetConfirm len os e p = reset_steps i n (row_at nr x c kind.TheVariants.ResetConfirm len os) (confirmation_resets i n nr x c len os) p
 kind_steps i n nr x c (kind.TheVariants.Data None) len os e p = absurd (false≢true e)
@@ -205,22 +157,55 @@ kind_steps i n nr x c (kind.TheVariants.Rnr None) len os e p = absurd (false≢t
 kind_steps i n nr x c kind.TheVariants.Gap len os e p = absurd (false≢true e)
 kind_steps i n nr x c k len os e p = quiet_steps i n (row_at nr x c k len os) refl refl p
 
-none_gap : (c : ℕ) (k : PacketKind) → is_whole (packet.TheVariants.Channel c k) ≡ true → gap_of (packet.TheVariants.Channel c k) ≡ None
+-- ---- while the interface restarts, which is as if each circuit resets
+
+-- the state in which the packets of a side pass
+abbrev pub passing_state : Side → DState
+passing_state N = transfer.TheVariants.D2
+passing_state T = transfer.TheVariants.D3
+
+waits_there : (x : Side) → Waits (passing_state x) x
+waits_there T = refl
+waits_there N = refl
+
+-- a packet of that side leaves a circuit adrift as it is
+pub circuit_waits : (i : Interface) (n nr : ℕ) (x : Side) (c : ℕ) (k : PacketKind) (len : ℕ) (os : List ℕ) → is_whole (packet.TheVariants.Channel c k) ≡ true → is_permanent i n ≡ true
+    → (g : GapChannel) → FitsAdrift i (idle (passing_state x)) g → DriftsBy i (idle (passing_state x)) (gap_channel_step i n g (row_at nr x c k len os))
+circuit_waits i n nr x c k len os e p g f = subst (λ g. DriftsBy i q (gap_channel_step i n g (row_at nr x c k len os))) (sym f.is) (at k e)
+  where
+    q : Circuit
+    q = idle (passing_state x)
+
+    resets : (k : PacketKind) → IsReset i n (row_at nr x c k len os) → DriftsBy i q (gap_channel_step i n (adrift_at f.state f.restarting f.last) (row_at nr x c k len os))
+    resets k reset = by (adrift_fault i n (channel_of (idle f.state)) r)
+      where
+        r : Item
+        r = row_at nr x c k len os
+
+        by : (u : Option ℕ) → DriftsBy i q (elim (is_some u) as (λ _. GapOutcome) [
+          | true ↦ passing (adrift_at f.state f.restarting f.last)
+          | false ↦ adrift_step_by (adrift_entry (is_permanent i n) (packet_class r.packet)) i n r (last_seen f.last) (adrift_at f.state f.restarting f.last)
+        ])
+        by (Some u) = (refl, fits_adrift i q f.state f.restarting f.last f.seen f.resting)
+        by None = reset_opens i n r reset q p f.state f.restarting f.last
+
+    flows : (k : PacketKind) → adrift_entry (is_permanent i n) (kind_class k) ≡ Carries → DriftsBy i q (gap_channel_step i n (adrift_at f.state f.restarting f.last) (row_at nr x c k len os))
+    flows k carries = waiting_adrift i n (row_at nr x c k len os) q p carries (waits_there x) f.state f.restarting f.last f.seen f.resting
+
+    at : (k : PacketKind) → is_whole (packet.TheVariants.Channel c k) ≡ true → DriftsBy i q (gap_channel_step i n (adrift_at f.state f.restarting f.last) (row_at nr x c k len os))
+    at (kind.TheVariants.Data (Some h)) e = flows (kind.TheVariants.Data (Some h)) refl
+    at (kind.TheVariants.Rr (Some m)) e = flows (kind.TheVariants.Rr (Some m)) refl
+    at (kind.TheVariants.Rnr (Some m)) e = flows (kind.TheVariants.Rnr (Some m)) refl
+    at kind.TheVariants.Interrupt e = flows kind.TheVariants.Interrupt refl
+    at kind.TheVariants.InterruptConfirm e = flows kind.TheVariants.InterruptConfirm refl
+    at kind.TheVariants.Reset e = resets kind.TheVariants.Reset (reset_resets i n nr x c len os)
+    at kind.TheVariants.ResetConfirm e = resets kind.TheVariants.ResetConfirm (confirmation_resets i n nr x c len os)
+    at (kind.TheVariants.Data None) e = absurd (false≢true e)
+    at (kind.TheVariants.Rr None) e = absurd (false≢true e)
+    at (kind.TheVariants.Rnr None) e = absurd (false≢true e)
+    at kind.TheVariants.Gap e = absurd (false≢true e)
+    at k e = quiet_adrift i n (row_at nr x c k len os) q (nothing_adrift (is_permanent i n) (kind_class k) p refl refl) f.state f.restarting f.last f.seen f.resting
+
+pub none_gap : (c : ℕ) (k : PacketKind) → is_whole (packet.TheVariants.Channel c k) ≡ true → gap_of (packet.TheVariants.Channel c k) ≡ None
 none_gap c kind.TheVariants.Gap e = absurd (false≢true e)
 none_gap c k e = refl
-
-row_keeps : (i : Interface) (nr : ℕ) (x : Side) (p : Packet) (len : ℕ) (os : List ℕ) → (is_whole p && is_permanent i (packet_channel p)) ≡ true → Keeps i Any NothingSaid (record { number = nr; side = x; packet = p; length = len; octets = os })
-row_keeps i nr x (packet.TheVariants.Channel c k) len os e =
-    let both = and_parts (is_whole (packet.TheVariants.Channel c k)) (is_permanent i c) e in
-    record { channel = c; on = record { form = k; is = refl; no_gap = none_gap c k both.0 }; permanent = both.1; steps = kind_steps i c nr x c k len os both.0 both.1 }
-row_keeps i nr x p len os e = absurd (false≢true e)
-
-rows_keep : (i : Interface) (rs : List Item) → AllByRecursion (λ r. is_circuit_row i r ≡ true) rs → AllByRecursion (Keeps i Any NothingSaid) rs
-rows_keep i [] h = tt
-rows_keep i (r ∷ rs) (h, rest) = (row_keeps i r.number r.side r.packet r.length r.octets h, rows_keep i rs rest)
-
-pub circuit_law : CircuitLaw
-circuit_law i xs ys join rows thin h = accuses_nobody i Any NothingSaid xs ys join tt (rows_keep i xs rows) thin h
-
-pub joined_circuit_law : JoinedCircuitLaw
-joined_circuit_law i before rest ys join gaps rows thin h = accuses_nobody_joined i Any NothingSaid before rest ys join gaps tt (rows_keep i (before ++ rest) rows) thin h

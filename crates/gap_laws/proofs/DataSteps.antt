@@ -31,7 +31,7 @@ use Rattle.gap_laws.specs.Thinned.{IsPart}
 use Rattle.gap_laws.proofs.SentPackets.{other_side, own_side, sent_other, sent_own}
 use Rattle.gap_laws.proofs.Circuits.{Circuit, DataTaken, IsOrdered, by_side, channel_of, data_taken, of_back, of_other, of_own, silent, with_data}
 use Rattle.gap_laws.proofs.Settled.{DataSettled, SideFits, after_data, data_settled, doubts_then, in_doubt, taken_with}
-use Rattle.gap_laws.proofs.Fits.{Fits, IsResting, LastFits, Takes, adrift_at, circuit, settled_at}
+use Rattle.gap_laws.proofs.Fits.{Fits, FitsAdrift, IsResting, LastFits, Takes, adrift_at, circuit, settled_at}
 use Rattle.gap_laws.proofs.Fits.Fits.{FitsAnyAfter, FitsSome}
 use Rattle.gap_laws.proofs.Settling.{settled_circuit, settles_by_data}
 use Rattle.gap_laws.proofs.Entries.{adrift_flow, lawful_is, last_seen, normal_whole, row_at, settled_is, whole_is}
@@ -54,8 +54,18 @@ none_seen m w ls e y = subst (λ l. LastFits m w y (of_side y l)) (sym e) (at y)
     at T = tt
     at N = tt
 
+pub fits_adrift : (i : Interface) (w : Circuit) (d : DState) (b : Bool) (ls : Sides (Option LastData)) → ((y : Side) → LastFits i.modulus w y (of_side y ls)) → IsResting d ls → FitsAdrift i w (adrift_at d b ls)
+fits_adrift i w d b ls seen rest = record { state = d; restarting = b; last = ls; is = refl; seen = seen; resting = rest }
+
 pub adrift_fits : (i : Interface) (w : Circuit) (d : DState) (b : Bool) (ls : Sides (Option LastData)) → ((y : Side) → LastFits i.modulus w y (of_side y ls)) → IsResting d ls → Fits i w (adrift_at d b ls)
-adrift_fits i w d b ls seen rest = FitsAnyAfter (record { state = d; restarting = b; last = ls; is = refl; seen = seen; resting = rest })
+adrift_fits i w d b ls seen rest = FitsAnyAfter (fits_adrift i w d b ls seen rest)
+
+-- an outcome that stays adrift
+abbrev pub DriftsBy : Interface → Circuit → GapOutcome → Type 0
+DriftsBy i w o = (silent o.reported ≡ true) × FitsAdrift i w o.after
+
+pub drifted : (i : Interface) (w : Circuit) (o : GapOutcome) → DriftsBy i w o → FollowsBy i w o
+drifted i w o h = (h.0, FitsAnyAfter h.1)
 
 -- while a side resets, no data was seen
 pub resting_none : (x : Side) (d : DState) (ls : Sides (Option LastData)) → is_resetting x (Transfer d) ≡ true → IsResting d ls → ls ≡ of_both None

@@ -82,6 +82,7 @@ pub record TurnStep (i : Interface) (n : ℕ) (r : Item) (y : Side) (b : Bool) (
   pub no_fault : packet_fault i n (channel_of q) r ≡ None
   pub before : of_side y q.unconfirmed ≡ not b
   pub takes : Takes i n r q (with_unconfirmed y b q)
+  pub reported : (channel_step i n (channel_of q) r).reported ≡ []
 
 pub turn_whole : (i : Interface) (n : ℕ) (r : Item) (y : Side) (b : Bool) → IsTurn i n r y b → (hs : List AcceptedData) (v : Sides ℕ) (u : Sides Bool) → is_permanent i n ≡ true
     → ((y : Side) → IsOrdered i.modulus (circuit transfer.TheVariants.D1 hs v u) y)
@@ -95,6 +96,7 @@ turn_whole i n r y b k hs v u p o s =
       no_fault = none;
       before = before;
       takes = record { after = ap (λ (o : Outcome). o.after) same ∙ ap (λ v. (counting r.side D1 v (channel_of q)).after) (turned_is b y (counts_of (channel_of q)) before); ordered = λ y. record { ordered = (o y).ordered; within = (o y).within } };
+      reported = ap (λ (o : Outcome). o.reported) same ∙ ap (λ v. (counting r.side D1 v (channel_of q)).reported) (turned_is b y (counts_of (channel_of q)) before);
     }
   where
     q : Circuit

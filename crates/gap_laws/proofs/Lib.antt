@@ -15,3 +15,13 @@ pub mod InterruptSteps
 pub mod QuietSteps
 pub mod ResetSteps
 pub mod CircuitRows
+pub mod Calls
+pub mod WholeCalls
+pub mod Levels
+pub mod Order
+pub mod Restarts
+pub mod Laws
+pub mod ThinnedTwice
+pub mod OwnCounts
+pub mod Bounds
+pub mod SameEvents

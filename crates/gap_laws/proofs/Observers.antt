@@ -158,10 +158,14 @@ pub record IsOn (k : ℕ) (r : Item) : Type 0 where
   pub is : r.packet ≡ packet.TheVariants.Channel k form
   pub no_gap : gap_of r.packet ≡ None
 
+-- it has a class that is judged on channels
+pub on_class : (k : ℕ) (r : Item) → IsOn k r → on_channel (packet_class r.packet) ≡ true
+on_class k r h = subst (λ p. on_channel (packet_class p) ≡ true) (sym h.is) (kind_on_channel h.form)
+
 on_routes : (b : Bool) (k : ℕ) (r : Item) → IsOn k r → routing (level_in_r1_with b false) r ≡ record { route = route.TheVariants.ToChannel; after = level_in_r1_with b false }
 on_routes b k r h =
     ap (λ g. routing_by g (level_in_r1_with b false) r.side (packet_class r.packet) r.length) h.no_gap
-    ∙ class_routes b r.side (packet_class r.packet) r.length (subst (λ p. on_channel (packet_class p) ≡ true) (sym h.is) (kind_on_channel h.form))
+    ∙ class_routes b r.side (packet_class r.packet) r.length (on_class k r h)
 
 -- the row steps its channel alone
 pub record StepsOne (i : Interface) (e : ℕ) (b : Bool) (f : ℕ → GapChannel) (k : ℕ) (r : Item) : Type 0 where

@@ -15,6 +15,10 @@ mapped : {A B : Type 0} (f : A → B) (xs ys : List A) → map f (xs ++ ys) ≡ 
 mapped f [] ys = refl
 mapped f (x ∷ xs) ys = ap (λ l. f x ∷ l) (mapped f xs ys)
 
+pub part_same : {A : Type 0} (us : List A) → IsPart us us
+part_same [] = tt
+part_same (u ∷ us) = ([], us, refl, part_same us)
+
 pub part_after : {A : Type 0} (us ws xs : List A) → IsPart us xs → IsPart us (ws ++ xs)
 part_after [] ws xs h = tt
 part_after (u ∷ us) ws xs (front, back, e, rest) = (ws ++ front, back, ap (λ l. ws ++ l) e ∙ sym (assoc ws front (u ∷ back)), rest)

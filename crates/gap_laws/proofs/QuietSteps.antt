@@ -30,7 +30,7 @@ use Rattle.gap_laws.proofs.Settled.{SideFits, in_doubt}
 use Rattle.gap_laws.proofs.Fits.{IsResting, LastFits, LastIn, Takes, adrift_at, circuit, idle, settled_at}
 use Rattle.gap_laws.proofs.Fits.Fits.{FitsSome}
 use Rattle.gap_laws.proofs.Entries.{adrift_flow, is_flow, is_moving, judged_at, last_seen, quiet, quiet_settled, quiet_whole, settled_is, whole_is}
-use Rattle.gap_laws.proofs.DataSteps.{FollowsBy, adrift_fits, by_last}
+use Rattle.gap_laws.proofs.DataSteps.{DriftsBy, FollowsBy, by_last, fits_adrift}
 
 -- ---- packets of no circuit
 
@@ -76,15 +76,15 @@ nothing_adrift p k e m f = ap (λ p. adrift_entry p k) e ∙ does_nothing (adrif
 
 pub quiet_adrift : (i : Interface) (n : ℕ) (r : Item) (q : Circuit) → adrift_entry (is_permanent i n) (packet_class r.packet) ≡ DoesNothing
     → (d : DState) (b : Bool) (ls : Sides (Option LastData)) → ((y : Side) → LastFits i.modulus q y (of_side y ls)) → IsResting d ls
-    → FollowsBy i q (gap_channel_step i n (adrift_at d b ls) r)
+    → DriftsBy i q (gap_channel_step i n (adrift_at d b ls) r)
 quiet_adrift i n r q entry d b ls seen rest = at (is_some (adrift_fault i n (channel_of (idle d)) r))
   where
-    same : FollowsBy i q (passing (adrift_at d b ls))
-    same = (refl, adrift_fits i q d b ls seen rest)
+    same : DriftsBy i q (passing (adrift_at d b ls))
+    same = (refl, fits_adrift i q d b ls seen rest)
 
-    at : (f : Bool) → FollowsBy i q (elim f as (λ _. GapOutcome) [ true ↦ passing (adrift_at d b ls) | false ↦ adrift_step_by (adrift_entry (is_permanent i n) (packet_class r.packet)) i n r (last_seen ls) (adrift_at d b ls) ])
+    at : (f : Bool) → DriftsBy i q (elim f as (λ _. GapOutcome) [ true ↦ passing (adrift_at d b ls) | false ↦ adrift_step_by (adrift_entry (is_permanent i n) (packet_class r.packet)) i n r (last_seen ls) (adrift_at d b ls) ])
     at true = same
-    at false = subst (λ e. FollowsBy i q (adrift_step_by e i n r (last_seen ls) (adrift_at d b ls))) (sym entry) same
+    at false = subst (λ e. DriftsBy i q (adrift_step_by e i n r (last_seen ls) (adrift_at d b ls))) (sym entry) same
 
 -- ---- packets of data transfer while a side resets
 
@@ -180,20 +180,20 @@ data_silent i r (Some h) = refl
 -- a circuit adrift
 pub waiting_adrift : (i : Interface) (n : ℕ) (r : Item) (q : Circuit) → is_permanent i n ≡ true → adrift_entry (is_permanent i n) (packet_class r.packet) ≡ Carries → Waits q.state r.side
     → (d : DState) (b : Bool) (ls : Sides (Option LastData)) → ((y : Side) → LastFits i.modulus q y (of_side y ls)) → IsResting d ls
-    → FollowsBy i q (gap_channel_step i n (adrift_at d b ls) r)
+    → DriftsBy i q (gap_channel_step i n (adrift_at d b ls) r)
 waiting_adrift i n r q p carries w d b ls seen rest =
-    adrift_flow (FollowsBy i q) i n r d b ls p carries (λ f e. same) (λ e. same)
+    adrift_flow (DriftsBy i q) i n r d b ls p carries (λ f e. same) (λ e. same)
     (λ e. received (receive_of r))
   where
-    same : FollowsBy i q (passing (adrift_at d b ls))
-    same = (refl, adrift_fits i q d b ls seen rest)
+    same : DriftsBy i q (passing (adrift_at d b ls))
+    same = (refl, fits_adrift i q d b ls seen rest)
 
-    drifts : (o : Option ℕ) → FollowsBy i q (adrift_received i r (last_seen ls) (adrift_at d b ls) o None)
-    drifts None = (data_silent i r (header_in r.packet), adrift_fits i q transfer.TheVariants.D1 b (last_after i.modulus r.side (header_in r.packet) (receive_of r) ls) (waiting_seen i.modulus q r.side (header_in r.packet) (receive_of r) ls w seen) tt)
-    drifts (Some n) = (data_silent i r (header_in r.packet), adrift_fits i q transfer.TheVariants.D1 b (last_after i.modulus r.side (header_in r.packet) (receive_of r) ls) (waiting_seen i.modulus q r.side (header_in r.packet) (receive_of r) ls w seen) tt)
+    drifts : (o : Option ℕ) → DriftsBy i q (adrift_received i r (last_seen ls) (adrift_at d b ls) o None)
+    drifts None = (data_silent i r (header_in r.packet), fits_adrift i q transfer.TheVariants.D1 b (last_after i.modulus r.side (header_in r.packet) (receive_of r) ls) (waiting_seen i.modulus q r.side (header_in r.packet) (receive_of r) ls w seen) tt)
+    drifts (Some n) = (data_silent i r (header_in r.packet), fits_adrift i q transfer.TheVariants.D1 b (last_after i.modulus r.side (header_in r.packet) (receive_of r) ls) (waiting_seen i.modulus q r.side (header_in r.packet) (receive_of r) ls w seen) tt)
 
-    received : (o : Option ℕ) → FollowsBy i q (adrift_received i r (last_seen ls) (adrift_at d b ls) o (option_and_then (acknowledged_data (last_seen ls) r.side) o))
+    received : (o : Option ℕ) → DriftsBy i q (adrift_received i r (last_seen ls) (adrift_at d b ls) o (option_and_then (acknowledged_data (last_seen ls) r.side) o))
     received None = drifts None
     received (Some n) =
-        by_last (λ l. FollowsBy i q (adrift_received i r (last_seen ls) (adrift_at d b ls) (Some n) l)) n (of_side (other r.side) ls) (drifts (Some n))
+        by_last (λ l. DriftsBy i q (adrift_received i r (last_seen ls) (adrift_at d b ls) (Some n) l)) n (of_side (other r.side) ls) (drifts (Some n))
         (λ l is same. absurd (none_of_other i.modulus q r.side l w (subst (LastFits i.modulus q (other r.side)) is (seen (other r.side)))))

@@ -1,13 +1,13 @@
 -- Resets and their confirmations on a permanent circuit.
 use Rattle.std.proofs.Common.{◌≡◌, ◌⊎◌, inl, inr, ◌<◌, ◌+◌, ℕ, Bool, true, false, refl, sym, ◌∙◌, ap, subst, List, [], Option, Some, None, arith}
-use Rattle.std.specs.Prelude.{◌||◌, is_some}
+use Rattle.std.specs.Prelude.{not, ◌||◌, is_some}
 use Rattle.std.proofs.lemmas.Bool.{false≢true}
 use Rattle.line_model.specs.declared.gap.AdriftEntry.{AdriftEntry}
 use Rattle.line_model.specs.declared.gap.AdriftEntry.TheVariants.{ConfirmsReset, Resets}
 use Rattle.line_model.specs.declared.gap.LastData.{LastData}
 use Rattle.line_model.specs.declared.gap.Owed.TheVariants.{NoIndication}
 use Rattle.line_model.specs.declared.interface.Interface.{Interface}
-use Rattle.line_model.specs.declared.packet.Class.TheVariants.{Reset, ResetConfirm}
+use Rattle.line_model.specs.declared.packet.Class.{Class}
 use Rattle.line_model.specs.declared.packet.PacketKind as kind
 use Rattle.line_model.specs.declared.state.Side.{Side}
 use Rattle.line_model.specs.declared.state.Side.TheVariants.{T, N}
@@ -22,16 +22,18 @@ use Rattle.line_model.specs.packets.Classes.{packet_class}
 use Rattle.line_model.specs.packets.Formats.{packet_fault}
 use Rattle.line_model.specs.channels.Channels.{AcceptedData, Sides, is_permanent, of_side}
 use Rattle.line_model.specs.channels.ChannelStep.{Outcome, call_change, changing, channel_step, entering, report_nothing, transfer_name, verdict, verdict_step}
+use Rattle.line_model.specs.channels.Verdicts.{CallChange}
 use Rattle.line_model.specs.channels.Verdicts.CallChange.{Keeps}
 use Rattle.line_model.specs.channels.Gaps.{of_both}
 use Rattle.line_model.specs.channels.GapStep.{GapOutcome, adrift_entry, adrift_fault, adrift_reset, adrift_step_by, gap_channel_step, passing, settled_outcome, settled_verdict}
 use Rattle.line_model.specs.channels.Tables.{action}
+use Rattle.line_model.proofs.Every.{classes, every, every_class, every_side, sides}
 use Rattle.gap_laws.proofs.Circuits.{Circuit, IsOrdered, channel_of, failing_loud, silent}
 use Rattle.gap_laws.proofs.Settled.{in_doubt}
 use Rattle.gap_laws.proofs.Fits.{IsResting, LastFits, Takes, adrift_at, circuit, idle, settled_at}
 use Rattle.gap_laws.proofs.Fits.Fits.{FitsAll}
-use Rattle.gap_laws.proofs.Entries.{judged_at, last_seen, lawful_is, row_at, settled_is, whole_is}
-use Rattle.gap_laws.proofs.DataSteps.{FollowsBy, adrift_fits, none_seen}
+use Rattle.gap_laws.proofs.Entries.{is_moving, judged_at, last_seen, lawful_is, row_at, settled_is, whole_is}
+use Rattle.gap_laws.proofs.DataSteps.{DriftsBy, FollowsBy, adrift_fits, drifted, fits_adrift, none_seen}
 
 -- what a reset or its confirmation is in each state
 abbrev pub is_reset_entry : Action → Bool
@@ -49,12 +51,50 @@ is_still Discard = true
 is_still Ends = true
 is_still a = false
 
+-- a test that holds of resets and their confirmations from both sides
+moving_test : (t : Side → Class → Bool) → every (λ x. every (λ k. not (is_moving k) || t x k) classes) sides ≡ true → (x : Side) (k : Class) → is_moving k ≡ true → t x k ≡ true
+moving_test t h x k m = at (is_moving k) m (every_class (λ k. not (is_moving k) || t x k) (every_side (λ x. every (λ k. not (is_moving k) || t x k) classes) h x) k)
+  where
+    at : (m : Bool) → m ≡ true → (not m || t x k) ≡ true → t x k ≡ true
+    at true e h = h
+    at false e h = absurd (false≢true e)
+
+reset_entry : (x : Side) (k : Class) → is_moving k ≡ true → (d : DState) → is_reset_entry (action x (transfer_name d) false k) ≡ true
+reset_entry x k m transfer.TheVariants.D1 = moving_test (λ x k. is_reset_entry (action x D1 false k)) refl x k m
+reset_entry x k m transfer.TheVariants.D2 = moving_test (λ x k. is_reset_entry (action x D2 false k)) refl x k m
+reset_entry x k m transfer.TheVariants.D3 = moving_test (λ x k. is_reset_entry (action x D3 false k)) refl x k m
+
+-- in d1 it is not ignored, and does not stay there
+abbrev leaves_d1 : Action → Bool
+leaves_d1 Discard = false
+leaves_d1 Ends = false
+leaves_d1 (Move D1) = false
+leaves_d1 a = true
+
+left : (x : Side) (k : Class) → is_moving k ≡ true → leaves_d1 (action x D1 false k) ≡ true
+left x k m = moving_test (λ x k. leaves_d1 (action x D1 false k)) refl x k m
+
+still_stays : (a : Action) → is_still a ≡ true → leaves_d1 a ≡ false
+still_stays Discard e = refl
+still_stays Ends e = refl
+still_stays a e = absurd (false≢true e)
+
+abbrev is_keeping : CallChange → Bool
+is_keeping Keeps = true
+is_keeping c = false
+
+keeping : (c : CallChange) → is_keeping c ≡ true → c ≡ Keeps
+keeping Keeps e = refl
+keeping c e = absurd (false≢true e)
+
+keeps_call : (x : Side) (k : Class) → is_moving k ≡ true → (d : DState) → call_change x k (transfer_name d) ≡ Keeps
+keeps_call x k m transfer.TheVariants.D1 = keeping (call_change x k D1) (moving_test (λ x k. is_keeping (call_change x k D1)) refl x k m)
+keeps_call x k m transfer.TheVariants.D2 = keeping (call_change x k D2) (moving_test (λ x k. is_keeping (call_change x k D2)) refl x k m)
+keeps_call x k m transfer.TheVariants.D3 = keeping (call_change x k D3) (moving_test (λ x k. is_keeping (call_change x k D3)) refl x k m)
+
 -- a row that resets, or confirms it
 pub record IsReset (i : Interface) (n : ℕ) (r : Item) : Type 0 where
-  pub entries : (d : DState) → is_reset_entry (action r.side (transfer_name d) false (packet_class r.packet)) ≡ true
-  pub leaves : (d : DState) → action r.side D1 false (packet_class r.packet) ≡ Move (transfer_name d) → d ≡ transfer.TheVariants.D1 → ⊥
-  pub busy : is_still (action r.side D1 false (packet_class r.packet)) ≡ false
-  pub keeps : (d : DState) → call_change r.side (packet_class r.packet) (transfer_name d) ≡ Keeps
+  pub moving : is_moving (packet_class r.packet) ≡ true
   pub fault : Option ℕ
   pub same_fault : (q : Circuit) → packet_fault i n (channel_of q) r ≡ fault
   pub same_adrift : (q : Circuit) → adrift_fault i n (channel_of q) r ≡ fault
@@ -74,40 +114,13 @@ reset_is i n s e d b ls p same =
 
 pub reset_resets : (i : Interface) (n nr : ℕ) (x : Side) (c len : ℕ) (os : List ℕ) → IsReset i n (row_at nr x c kind.TheVariants.Reset len os)
 reset_resets i n nr x c len os = record {
-  entries = λ d. entry x d;
-  leaves = λ d e m. leave x (e ∙ ap (λ d. Move (transfer_name d)) m);
-  busy = busy x;
-  keeps = λ d. keep x d;
+  moving = refl;
   fault = packet_fault i n (channel_of (idle transfer.TheVariants.D1)) (row_at nr x c kind.TheVariants.Reset len os);
   same_fault = λ q. refl;
   same_adrift = λ q. refl;
   opens = λ d b ls p. opens x d b ls p;
 }
   where
-    entry : (x : Side) (d : DState) → is_reset_entry (action x (transfer_name d) false Reset) ≡ true
-    entry T transfer.TheVariants.D1 = refl
-    entry T transfer.TheVariants.D2 = refl
-    entry T transfer.TheVariants.D3 = refl
-    entry N transfer.TheVariants.D1 = refl
-    entry N transfer.TheVariants.D2 = refl
-    entry N transfer.TheVariants.D3 = refl
-
-    leave : (x : Side) → action x D1 false Reset ≡ Move D1 → ⊥
-    leave T e = let f : Move D2 ≡ Move D1 = e in cc
-    leave N e = let f : Move D3 ≡ Move D1 = e in cc
-
-    busy : (x : Side) → is_still (action x D1 false Reset) ≡ false
-    busy T = refl
-    busy N = refl
-
-    keep : (x : Side) (d : DState) → call_change x Reset (transfer_name d) ≡ Keeps
-    keep T transfer.TheVariants.D1 = refl
-    keep T transfer.TheVariants.D2 = refl
-    keep T transfer.TheVariants.D3 = refl
-    keep N transfer.TheVariants.D1 = refl
-    keep N transfer.TheVariants.D2 = refl
-    keep N transfer.TheVariants.D3 = refl
-
     opens : (x : Side) (d : DState) (b : Bool) (ls : Sides (Option LastData)) → is_permanent i n ≡ true
         → (e : DState) × (adrift_step_by Resets i n (row_at nr x c kind.TheVariants.Reset len os) (last_seen ls) (adrift_at d b ls) ≡ record { reported = []; after = adrift_at e b (of_both None) })
     opens T d b ls p = (transfer.TheVariants.D2, reset_is i n D2 transfer.TheVariants.D2 d b ls p refl)
@@ -115,40 +128,13 @@ reset_resets i n nr x c len os = record {
 
 pub confirmation_resets : (i : Interface) (n nr : ℕ) (x : Side) (c len : ℕ) (os : List ℕ) → IsReset i n (row_at nr x c kind.TheVariants.ResetConfirm len os)
 confirmation_resets i n nr x c len os = record {
-  entries = λ d. entry x d;
-  leaves = λ d e m. leave x (e ∙ ap (λ d. Move (transfer_name d)) m);
-  busy = busy x;
-  keeps = λ d. keep x d;
+  moving = refl;
   fault = packet_fault i n (channel_of (idle transfer.TheVariants.D1)) (row_at nr x c kind.TheVariants.ResetConfirm len os);
   same_fault = λ q. refl;
   same_adrift = λ q. refl;
   opens = λ d b ls p. opens x d b ls p;
 }
   where
-    entry : (x : Side) (d : DState) → is_reset_entry (action x (transfer_name d) false ResetConfirm) ≡ true
-    entry T transfer.TheVariants.D1 = refl
-    entry T transfer.TheVariants.D2 = refl
-    entry T transfer.TheVariants.D3 = refl
-    entry N transfer.TheVariants.D1 = refl
-    entry N transfer.TheVariants.D2 = refl
-    entry N transfer.TheVariants.D3 = refl
-
-    leave : (x : Side) → action x D1 false ResetConfirm ≡ Move D1 → ⊥
-    leave T e = let f : Error 27 ≡ Move D1 = e in cc
-    leave N e = let f : Error 27 ≡ Move D1 = e in cc
-
-    busy : (x : Side) → is_still (action x D1 false ResetConfirm) ≡ false
-    busy T = refl
-    busy N = refl
-
-    keep : (x : Side) (d : DState) → call_change x ResetConfirm (transfer_name d) ≡ Keeps
-    keep T transfer.TheVariants.D1 = refl
-    keep T transfer.TheVariants.D2 = refl
-    keep T transfer.TheVariants.D3 = refl
-    keep N transfer.TheVariants.D1 = refl
-    keep N transfer.TheVariants.D2 = refl
-    keep N transfer.TheVariants.D3 = refl
-
     opens : (x : Side) (d : DState) (b : Bool) (ls : Sides (Option LastData)) → is_permanent i n ≡ true
         → (e : DState) × (adrift_step_by ConfirmsReset i n (row_at nr x c kind.TheVariants.ResetConfirm len os) (last_seen ls) (adrift_at d b ls) ≡ record { reported = []; after = adrift_at e b (of_both None) })
     opens T d b ls p = (transfer.TheVariants.D1, reset_is i n D1 transfer.TheVariants.D1 d b ls p refl)
@@ -172,22 +158,19 @@ turned_by i r q a f e s = cc
 -- a state that is entered
 enters_is : (i : Interface) (n : ℕ) (r : Item) (k : IsReset i n r) (s : StateName) (d : DState) (q : Circuit)
     → verdict_step i s r (verdict (judged_at s (Move (transfer_name d))) None) (channel_of q) ≡ report_nothing (channel_of (idle d))
-enters_is i n r k s d q = ap (λ c. changing r.octets c (entering (transfer_name d) false (channel_of q))) (k.keeps d) ∙ at d
+enters_is i n r k s d q = ap (λ c. changing r.octets c (entering (transfer_name d) false (channel_of q))) (keeps_call r.side (packet_class r.packet) k.moving d) ∙ at d
   where
     at : (d : DState) → report_nothing (entering (transfer_name d) false (channel_of q)) ≡ report_nothing (channel_of (idle d))
     at transfer.TheVariants.D1 = refl
     at transfer.TheVariants.D2 = refl
     at transfer.TheVariants.D3 = refl
 
-idle_ordered : (i : Interface) (d : DState) (y : Side) → IsOrdered i.modulus (idle d) y
+above : (m : ℕ) → (m ≡ 8) ⊎ (m ≡ 128) → 0 < 0 + m
+above m e = grind (arith, e)
+
+pub idle_ordered : (i : Interface) (d : DState) (y : Side) → IsOrdered i.modulus (idle d) y
 idle_ordered i d T = record { ordered = omega arith; within = above i.modulus (lawful_is i).eight }
-  where
-    above : (m : ℕ) → (m ≡ 8) ⊎ (m ≡ 128) → 0 < 0 + m
-    above m e = grind (arith, e)
 idle_ordered i d N = record { ordered = omega arith; within = above i.modulus (lawful_is i).eight }
-  where
-    above : (m : ℕ) → (m ≡ 8) ⊎ (m ≡ 128) → 0 < 0 + m
-    above m e = grind (arith, e)
 
 -- the whole walk takes it
 pub record ResetStep (i : Interface) (n : ℕ) (r : Item) (q : Circuit) : Type 0 where
@@ -198,7 +181,7 @@ pub record ResetStep (i : Interface) (n : ℕ) (r : Item) (q : Circuit) : Type 0
 
 pub reset_whole : (i : Interface) (n : ℕ) (r : Item) → IsReset i n r → (q : Circuit) → is_permanent i n ≡ true → ((y : Side) → IsOrdered i.modulus q y)
     → silent (channel_step i n (channel_of q) r).reported ≡ true → ResetStep i n r q
-reset_whole i n r k q p o s = at (turned_by i r q a f (k.entries q.state) (ap (λ (o : Outcome). silent o.reported) (sym e) ∙ s))
+reset_whole i n r k q p o s = at (turned_by i r q a f (reset_entry r.side (packet_class r.packet) k.moving q.state) (ap (λ (o : Outcome). silent o.reported) (sym e) ∙ s))
   where
     a : Action
     a = action r.side (transfer_name q.state) false (packet_class r.packet)
@@ -220,6 +203,18 @@ reset_whole i n r k q p o s = at (turned_by i r q a f (k.entries q.state) (ap (�
       turned = inr (d, refl, m, none);
     }
 
+-- nothing is known of a circuit adrift after it
+pub reset_opens : (i : Interface) (n : ℕ) (r : Item) → IsReset i n r → (q : Circuit) → is_permanent i n ≡ true → (d : DState) (b : Bool) (ls : Sides (Option LastData))
+    → DriftsBy i q (adrift_step_by (adrift_entry (is_permanent i n) (packet_class r.packet)) i n r (last_seen ls) (adrift_at d b ls))
+reset_opens i n r k q p d b ls =
+    let w = k.opens d b ls p in
+    subst (DriftsBy i q) (sym w.1) (refl, fits_adrift i q w.0 b (of_both None) (none_seen i.modulus q (of_both None) refl) (resting w.0))
+  where
+    resting : (d : DState) → IsResting d (of_both None)
+    resting transfer.TheVariants.D1 = tt
+    resting transfer.TheVariants.D2 = refl
+    resting transfer.TheVariants.D3 = refl
+
 -- a circuit adrift
 pub reset_adrift : (i : Interface) (n : ℕ) (r : Item) (k : IsReset i n r) (q : Circuit) → is_permanent i n ≡ true → (s : ResetStep i n r q)
     → (d : DState) (b : Bool) (ls : Sides (Option LastData)) → ((y : Side) → LastFits i.modulus q y (of_side y ls)) → IsResting d ls
@@ -230,14 +225,7 @@ reset_adrift i n r k q p s d b ls seen rest = at (adrift_fault i n (channel_of (
     entry = adrift_entry (is_permanent i n) (packet_class r.packet)
 
     opened : FollowsBy i s.whole (adrift_step_by entry i n r (last_seen ls) (adrift_at d b ls))
-    opened =
-        let w = k.opens d b ls p in
-        subst (FollowsBy i s.whole) (sym w.1) (refl, adrift_fits i s.whole w.0 b (of_both None) (none_seen i.modulus s.whole (of_both None) refl) (resting w.0))
-      where
-        resting : (d : DState) → IsResting d (of_both None)
-        resting transfer.TheVariants.D1 = tt
-        resting transfer.TheVariants.D2 = refl
-        resting transfer.TheVariants.D3 = refl
+    opened = drifted i s.whole (adrift_step_by entry i n r (last_seen ls) (adrift_at d b ls)) (reset_opens i n r k s.whole p d b ls)
 
     at : (f : Option ℕ) → adrift_fault i n (channel_of (idle d)) r ≡ f → FollowsBy i s.whole (elim (is_some f) as (λ _. GapOutcome) [ true ↦ passing (adrift_at d b ls) | false ↦ adrift_step_by entry i n r (last_seen ls) (adrift_at d b ls) ])
     at None e = opened
@@ -269,10 +257,10 @@ reset_on_settled i n r k hs v u p s b ns is ss gs a f = at s.turned
     at : ((s.whole ≡ q) × (is_still (action r.side D1 false (packet_class r.packet)) ≡ true))
         ⊎ ((d : DState) × (s.whole ≡ idle d) × (action r.side D1 false (packet_class r.packet) ≡ Move (transfer_name d)) × (packet_fault i n (channel_of q) r ≡ None))
         → FollowsBy i s.whole (gap_channel_step i n (settled_at b ns is ss g) r)
-    at (inl w) = absurd (false≢true (sym k.busy ∙ w.1))
+    at (inl w) = absurd (false≢true (sym (still_stays (action r.side D1 false (packet_class r.packet)) w.1) ∙ left r.side (packet_class r.packet) k.moving))
     at (inr (d, whole, moves, none)) =
         let same : gap_channel_step i n (settled_at b ns is ss g) r ≡ settled_outcome (settled_at b ns is ss g) (record { outcome = report_nothing (channel_of (idle d)); doubts = in_doubt ns is ss }) =
         settled_is i n r b ns is ss g (Move (transfer_name d)) p moves
         ∙ ap (λ e. settled_outcome (settled_at b ns is ss g) (settled_verdict i D1 r (verdict (judged_at D1 (Move (transfer_name d))) e) (in_doubt ns is ss) (channel_of g))) (k.same_fault g ∙ sym (k.same_fault q) ∙ none)
         ∙ ap (λ o. settled_outcome (settled_at b ns is ss g) (record { outcome = o; doubts = in_doubt ns is ss })) (enters_is i n r k D1 d g) in
-        subst (λ w. FollowsBy i w (gap_channel_step i n (settled_at b ns is ss g) r)) (sym whole) (subst (FollowsBy i (idle d)) (sym same) (enters d (k.leaves d moves)))
+        subst (λ w. FollowsBy i w (gap_channel_step i n (settled_at b ns is ss g) r)) (sym whole) (subst (FollowsBy i (idle d)) (sym same) (enters d (λ e. false≢true (sym (ap leaves_d1 (moves ∙ ap (λ d. Move (transfer_name d)) e)) ∙ left r.side (packet_class r.packet) k.moving))))

@@ -1,20 +1,18 @@
 -- Thinning: a row that stays steps both observers, and one that was taken out steps the observer of the whole walk alone.
-use Rattle.std.proofs.Common.{◌≡◌, ◌⊎◌, inl, inr, ◌==◌, ◌<◌, ◌+◌, ℕ, Bool, true, false, cond, refl, sym, ◌∙◌, ap, subst, List, [], ◌∷◌, ◌++◌, Option, Some, None, arith, eq-eqb}
+use Rattle.std.proofs.Common.{◌≡◌, inl, inr, ◌==◌, ℕ, Bool, true, false, cond, refl, sym, ◌∙◌, ap, subst, List, [], ◌∷◌, ◌++◌, Option, Some, None, eq-eqb}
 use Rattle.std.specs.Prelude.{not, ◌&&◌, ◌||◌}
 use Rattle.std.specs.List.{AllByRecursion}
 use Rattle.std.proofs.lemmas.Bool.{false≢true, eqb-true}
 use Rattle.line_model.specs.declared.gap.EpochStart.TheVariants.{Drifting}
-use Rattle.line_model.specs.declared.gap.Owed.TheVariants.{NoIndication}
 use Rattle.line_model.specs.declared.event.What.{What}
 use Rattle.line_model.specs.declared.interface.Interface.{Interface}
 use Rattle.line_model.specs.declared.packet.Packet.{Packet}
 use Rattle.line_model.specs.declared.packet.Packet as packet
 use Rattle.line_model.specs.declared.packet.PacketKind as kind
 use Rattle.line_model.specs.declared.state.Side.{Side}
-use Rattle.line_model.specs.declared.state.Side.TheVariants.{T, N}
 use Rattle.line_model.specs.declared.state.DState as transfer
 use Rattle.line_model.specs.basics.Records.{Item}
-use Rattle.line_model.specs.packets.Says.{gap_of, packet_channel}
+use Rattle.line_model.specs.packets.Says.{gap_of}
 use Rattle.line_model.specs.channels.Channels.{channel_in, fresh_state, is_open, is_in_transfer, is_permanent}
 use Rattle.line_model.specs.channels.ChannelStep.{channel_step, entering}
 use Rattle.line_model.specs.channels.Gaps.{GapChannel, certain, drifting, fresh_at, gap_step, idle_name, of_both, owed_at_gap, with_largest_terms}
@@ -24,14 +22,14 @@ use Rattle.line_model.specs.channels.RestartMachine.{level_in_r1}
 use Rattle.line_model.specs.observer.Machine.{after, with_state}
 use Rattle.line_model.specs.observer.MachineEvents.{RowEvent, stamp, walk_events}
 use Rattle.line_model.specs.observer.Observer.{event_of, events, start, x25}
-use Rattle.gap_laws.specs.Thinned.{AccusesNobody, AccusesNobodyFromRestart, Covers, IsPart, IsThinned, RestartedLaw, restarted}
+use Rattle.gap_laws.specs.Thinned.{AccusesNobody, Covers, IsPart, IsThinned, RestartedLaw, own_channel, restarted}
 use Rattle.gap_laws.proofs.Circuits.{Circuit, IsOrdered, channel_of, silent}
 use Rattle.gap_laws.proofs.Fits.{Fits, Takes, adrift_at, certain_at, idle, settled_at}
 use Rattle.gap_laws.proofs.Fits.Fits.{FitsAll, FitsAnyAfter, FitsSome}
 use Rattle.gap_laws.proofs.Parts.{part_after, part_append, part_map}
-use Rattle.gap_laws.proofs.Entries.{lawful_is}
 use Rattle.gap_laws.proofs.DataSteps.{FollowsBy, adrift_fits, none_seen}
-use Rattle.gap_laws.proofs.Observers.{IsOn, Silent, all_silent, none_found, observer, silent_events, silent_stamp, stamp_silent, steps_one}
+use Rattle.gap_laws.proofs.ResetSteps.{idle_ordered}
+use Rattle.gap_laws.proofs.Observers.{IsOn, Silent, all_silent, observer, silent_events, silent_stamp, stamp_silent, steps_one}
 
 -- ---- pairs of channels
 
@@ -76,13 +74,13 @@ after_gap i k all g p =
     }) p
 
 -- whatever is known of it, after a gap it is adrift, and nothing was seen since
-gap_opens : (i : Interface) (k : ℕ) (all : Bool) (q : Circuit) (g : GapChannel) → is_permanent i k ≡ true → Fits i q g → (b : Bool) × (gap_step i k all g ≡ adrift_at transfer.TheVariants.D1 b (of_both None))
+pub gap_opens : (i : Interface) (k : ℕ) (all : Bool) (q : Circuit) (g : GapChannel) → is_permanent i k ≡ true → Fits i q g → (b : Bool) × (gap_step i k all g ≡ adrift_at transfer.TheVariants.D1 b (of_both None))
 gap_opens i k all q g p (FitsAll b e) = (b || all, ap (λ g. gap_step i k all g) e ∙ after_gap i k all (certain_at b q) p)
 gap_opens i k all q g p (FitsAnyAfter f) = (f.restarting || all, ap (λ g. gap_step i k all g) f.is ∙ after_gap i k all (adrift_at f.state f.restarting f.last) p)
 gap_opens i k all q g p (FitsSome f) = (f.restarting || all, ap (λ g. gap_step i k all g) f.is ∙ after_gap i k all (settled_at f.restarting f.numbers f.interrupts f.sequences f.settled) p)
 
 -- such a channel fits every circuit
-open_fits : (i : Interface) (q : Circuit) (b : Bool) (g : GapChannel) → g ≡ adrift_at transfer.TheVariants.D1 b (of_both None) → Fits i q g
+pub open_fits : (i : Interface) (q : Circuit) (b : Bool) (g : GapChannel) → g ≡ adrift_at transfer.TheVariants.D1 b (of_both None) → Fits i q g
 open_fits i q b g e = subst (Fits i q) (sym e) (adrift_fits i q transfer.TheVariants.D1 b (of_both None) (none_seen i.modulus q (of_both None) refl) tt)
 
 -- the channels of some numbers are such
@@ -91,7 +89,7 @@ Open i C g = (k : ℕ) → C k → is_permanent i k ≡ true → (b : Bool) × (
 
 -- ---- one row
 
-with_one : {A : Type 0} (P : ℕ → A → Type 0) (f : ℕ → A) (k : ℕ) (a : A) → P k a → (j : ℕ) → P j (f j) → P j (with_state f k a j)
+pub with_one : {A : Type 0} (P : ℕ → A → Type 0) (f : ℕ → A) (k : ℕ) (a : A) → P k a → (j : ℕ) → P j (f j) → P j (with_state f k a j)
 with_one P f k a own j other = at (j == k) refl
   where
     at : (b : Bool) → (j == k) ≡ b → P j (cond b a (f j))
@@ -99,7 +97,7 @@ with_one P f k a own j other = at (j == k) refl
     at false e = other
 
 -- two at once
-with_two : {A : Type 0} (P : ℕ → A → A → Type 0) (f g : ℕ → A) (k : ℕ) (a b : A) → P k a b → (j : ℕ) → P j (f j) (g j) → P j (with_state f k a j) (with_state g k b j)
+pub with_two : {A : Type 0} (P : ℕ → A → A → Type 0) (f g : ℕ → A) (k : ℕ) (a b : A) → P k a b → (j : ℕ) → P j (f j) (g j) → P j (with_state f k a j) (with_state g k b j)
 with_two P f g k a b own j other = at (j == k) refl
   where
     at : (c : Bool) → (j == k) ≡ c → P j (cond c a (f j)) (cond c b (g j))
@@ -107,7 +105,7 @@ with_two P f g k a b own j other = at (j == k) refl
     at false e = other
 
 -- the first row of a walk without a finding
-first_row : (i : Interface) (e : ℕ) (b : Bool) (f : ℕ → GapChannel) (k : ℕ) (r : Item) (rs : List Item) → IsOn k r → Silent i (observer e b f) (r ∷ rs)
+pub first_row : (i : Interface) (e : ℕ) (b : Bool) (f : ℕ → GapChannel) (k : ℕ) (r : Item) (rs : List Item) → IsOn k r → Silent i (observer e b f) (r ∷ rs)
     → (silent (gap_channel_step i k (f k) r).reported ≡ true) × Silent i (observer e b (with_state f k (gap_channel_step i k (f k) r).after)) rs
 first_row i e b f k r rs on h =
     let one = steps_one i e b f k r on in
@@ -115,7 +113,7 @@ first_row i e b f k r rs on h =
     (subst (λ l. silent_events (l ++ walk_events (x25 i) (after (x25 i) (observer e b f) r) rs) ≡ true) one.events h) in
     (said.0, subst (λ o. Silent i o rs) one.after said.1)
 
-row_first : (i : Interface) (e : ℕ) (b : Bool) (f : ℕ → GapChannel) (k : ℕ) (r : Item) (rs : List Item) → IsOn k r → silent (gap_channel_step i k (f k) r).reported ≡ true
+pub row_first : (i : Interface) (e : ℕ) (b : Bool) (f : ℕ → GapChannel) (k : ℕ) (r : Item) (rs : List Item) → IsOn k r → silent (gap_channel_step i k (f k) r).reported ≡ true
     → Silent i (observer e b (with_state f k (gap_channel_step i k (f k) r).after)) rs → Silent i (observer e b f) (r ∷ rs)
 row_first i e b f k r rs on h rest =
     let one = steps_one i e b f k r on in
@@ -128,10 +126,10 @@ events_first : (i : Interface) (e : ℕ) (b : Bool) (f : ℕ → GapChannel) (k 
 events_first i e b f k r rs on = let one = steps_one i e b f k r on in (λ j. one.events j ++ walk_events (x25 i) (one.after j) rs)
 
 -- what the whole walk takes
-whole_silent : (i : Interface) (k : ℕ) (r : Item) (a : GapChannel) (q : Circuit) → a ≡ certain (channel_of q) → silent (gap_channel_step i k a r).reported ≡ true → silent (channel_step i k (channel_of q) r).reported ≡ true
+pub whole_silent : (i : Interface) (k : ℕ) (r : Item) (a : GapChannel) (q : Circuit) → a ≡ certain (channel_of q) → silent (gap_channel_step i k a r).reported ≡ true → silent (channel_step i k (channel_of q) r).reported ≡ true
 whole_silent i k r a q e h = subst (λ a. silent (gap_channel_step i k a r).reported ≡ true) e h
 
-whole_after : (i : Interface) (k : ℕ) (r : Item) (a : GapChannel) (q w : Circuit) → a ≡ certain (channel_of q) → (channel_step i k (channel_of q) r).after ≡ channel_of w → (gap_channel_step i k a r).after ≡ certain (channel_of w)
+pub whole_after : (i : Interface) (k : ℕ) (r : Item) (a : GapChannel) (q w : Circuit) → a ≡ certain (channel_of q) → (channel_step i k (channel_of q) r).after ≡ channel_of w → (gap_channel_step i k a r).after ≡ certain (channel_of w)
 whole_after i k r a q w e h = ap (λ a. (gap_channel_step i k a r).after) e ∙ ap (λ c. certain c) h
 
 -- a row that stays
@@ -163,11 +161,11 @@ taken_out i Valid Said r t C f g covered opened pairs h j perm =
     (record { whole = s.whole; is = whole_after i k r (f k) p.whole s.whole p.is s.takes.after; valid = s.valid; ordered = s.takes.ordered; fits = open_fits i s.whole adrift.0 (g k) adrift.1 }) j (pairs j perm)
 
 -- a run of rows that were taken out
-record Absorbed (i : Interface) (Valid : Circuit → Type 0) (e : ℕ) (b : Bool) (g : ℕ → GapChannel) (rest : List Item) (told : List (RowEvent Item What)) : Type 0 where
+record Absorbed (i : Interface) (Valid : Circuit → Type 0) (e : ℕ) (b : Bool) (g : ℕ → GapChannel) (rest : List Item) (events : List (RowEvent Item What)) : Type 0 where
   states : ℕ → GapChannel
   pairs : Pairs i Valid states g
   silent : Silent i (observer e b states) rest
-  later : (us : List (RowEvent Item What)) → IsPart us (walk_events (x25 i) (observer e b states) rest) → IsPart us told
+  later : (us : List (RowEvent Item What)) → IsPart us (walk_events (x25 i) (observer e b states) rest) → IsPart us events
 
 absorbed : (i : Interface) (Valid : Circuit → Type 0) (Said : List What → List What → Type 0) (e : ℕ) (b : Bool) (C : ℕ → Type 0) (g : ℕ → GapChannel) → Open i C g → (run rest : List Item) (f : ℕ → GapChannel)
     → AllByRecursion (λ r. (t : Keeps i Valid Said r) × C t.channel) run → Pairs i Valid f g → Silent i (observer e b f) (run ++ rest) → Absorbed i Valid e b g rest (walk_events (x25 i) (observer e b f) (run ++ rest))
@@ -199,17 +197,19 @@ record Gapped (i : Interface) (Valid : Circuit → Type 0) (Said : List What →
   rows : AllByRecursion (λ r. (t : Keeps i Valid Said r) × IsCovered covered t.channel) run
   opened : Open i (IsCovered covered) states
   pairs : Pairs i Valid f states
-  silent : Silent i (observer e adrift states) ys → Silent i (observer e b g) (y ∷ ys)
   same : walk_events (x25 i) (observer e b g) (y ∷ ys) ≡ walk_events (x25 i) (observer e adrift states) ys
 
 all_rows : (i : Interface) (Valid : Circuit → Type 0) (Said : List What → List What → Type 0) (run : List Item) → AllByRecursion (Keeps i Valid Said) run → AllByRecursion (λ r. (t : Keeps i Valid Said r) × Unit {0}) run
 all_rows i Valid Said [] h = tt
 all_rows i Valid Said (r ∷ run) (h, rest) = ((h, tt), all_rows i Valid Said run rest)
 
-own_rows : (i : Interface) (Valid : Circuit → Type 0) (Said : List What → List What → Type 0) (c : ℕ) (run : List Item) → AllByRecursion (Keeps i Valid Said) run → AllByRecursion (λ r. packet_channel r.packet ≡ c) run
+pub same_some : {c k : ℕ} → Some c ≡ Some k → c ≡ k
+same_some e = cc
+
+own_rows : (i : Interface) (Valid : Circuit → Type 0) (Said : List What → List What → Type 0) (c : ℕ) (run : List Item) → AllByRecursion (Keeps i Valid Said) run → AllByRecursion (λ r. own_channel r.packet ≡ Some c) run
     → AllByRecursion (λ r. (t : Keeps i Valid Said r) × (t.channel ≡ c)) run
 own_rows i Valid Said c [] h same = tt
-own_rows i Valid Said c (r ∷ run) (h, rest) (same, more) = ((h, sym (ap (λ p. packet_channel p) h.on.is) ∙ same), own_rows i Valid Said c run rest more)
+own_rows i Valid Said c (r ∷ run) (h, rest) (same, more) = ((h, same_some (sym (ap (λ p. own_channel p) h.on.is) ∙ same)), own_rows i Valid Said c run rest more)
 
 gapped : (i : Interface) (Valid : Circuit → Type 0) (Said : List What → List What → Type 0) (e : ℕ) (b : Bool) (f g : ℕ → GapChannel) (nr : ℕ) (x : Side) (p : Packet) (len : ℕ) (os : List ℕ) (run ys : List Item)
     → AllByRecursion (Keeps i Valid Said) run → Covers (gap_of p) run → Pairs i Valid f g
@@ -224,7 +224,6 @@ gapped i Valid Said e b f g nr x packet.TheVariants.GapOfAll len os run ys rows 
       let p = pairs k perm in
       let w = gap_opens i k true p.whole (g k) perm p.fits in
       record { whole = p.whole; is = p.is; valid = p.valid; ordered = p.ordered; fits = open_fits i p.whole w.0 (gap_step i k true (g k)) w.1 };
-  silent = λ h. h;
   same = refl;
 }
 gapped i Valid Said e b f g nr x (packet.TheVariants.Channel c kind.TheVariants.Gap) len os run ys rows covers pairs = record {
@@ -239,7 +238,6 @@ gapped i Valid Said e b f g nr x (packet.TheVariants.Channel c kind.TheVariants.
       let w = gap_opens i c false p.whole (g c) perm p.fits in
       record { whole = p.whole; is = p.is; valid = p.valid; ordered = p.ordered; fits = open_fits i p.whole w.0 (gap_step i c false (g c)) w.1 })
       k (λ perm. pairs k perm) perm;
-  silent = λ h. h;
   same = refl;
 }
   where
@@ -252,24 +250,9 @@ gapped i Valid Said e b f g nr x p len os run ys rows covers pairs = absurd cove
 
 -- ---- the law
 
-rows_after : (P : Item → Type 0) (run rest : List Item) → AllByRecursion P (run ++ rest) → AllByRecursion P run × AllByRecursion P rest
+pub rows_after : (P : Item → Type 0) (run rest : List Item) → AllByRecursion P (run ++ rest) → AllByRecursion P run × AllByRecursion P rest
 rows_after P [] rest h = (tt, h)
 rows_after P (r ∷ run) rest (h, more) = let both = rows_after P run rest more in ((h, both.0), both.1)
-
-pub thinned : (i : Interface) (Valid : Circuit → Type 0) (Said : List What → List What → Type 0) (e d : ℕ) (b c : Bool) (ys xs : List Item) (f g : ℕ → GapChannel) → AllByRecursion (Keeps i Valid Said) xs → IsThinned xs ys → Pairs i Valid f g
-    → Silent i (observer e b f) xs → Silent i (observer d c g) ys
-thinned i Valid Said e d b c [] xs f g rows thin pairs h = refl
-thinned i Valid Said e d b c (y ∷ ys) xs f g rows (inl (rest, same, thin)) pairs h =
-    let kept = subst (λ l. AllByRecursion (Keeps i Valid Said) l) same rows in
-    let first = first_row i e b f kept.0.channel y rest kept.0.on (subst (λ l. Silent i (observer e b f) l) same h) in
-    let next = stays i Valid Said y kept.0 f g pairs first.0 in
-    row_first i d c g kept.0.channel y ys kept.0.on next.0 (thinned i Valid Said e d b c ys rest (with_state f kept.0.channel (gap_channel_step i kept.0.channel (f kept.0.channel) y).after) (with_state g kept.0.channel (gap_channel_step i kept.0.channel (g kept.0.channel) y).after)
-    kept.1 thin next.2 first.1)
-thinned i Valid Said e d b c (y ∷ ys) xs f g rows (inr (run, rest, same, covers, thin)) pairs h =
-    let parts = rows_after (Keeps i Valid Said) run rest (subst (λ l. AllByRecursion (Keeps i Valid Said) l) same rows) in
-    let gap = gapped i Valid Said d c f g y.number y.side y.packet y.length y.octets run ys parts.0 covers pairs in
-    let gone = absorbed i Valid Said e b (IsCovered gap.covered) gap.states gap.opened run rest f gap.rows gap.pairs (subst (λ l. Silent i (observer e b f) l) same h) in
-    gap.silent (thinned i Valid Said e d b gap.adrift ys rest gone.states gap.states parts.1 thin gone.pairs gone.silent)
 
 -- where each row says no more than in the whole walk, so does the recording
 pub thinned_part : (i : Interface) (Valid : Circuit → Type 0) (e : ℕ) (b c : Bool) (ys xs : List Item) (f g : ℕ → GapChannel) → AllByRecursion (Keeps i Valid (λ ws us. IsPart us ws)) xs → IsThinned xs ys → Pairs i Valid f g
@@ -315,56 +298,12 @@ starts_restarted i h =
     ap (λ j. record { epoch = 1; level = record { level = level_in_r1 (j && not i.gaps); adrift = j && i.gaps; owed_before = false }; states = fresh_at i (start_with (j && i.gaps) false) 1 }) h
 
 -- one that begins in the middle
-joined_is : (i : Interface) → i.join ≡ true → i.gaps ≡ true → start i ≡ observer 1 true (fresh_at i (Drifting false) 1)
+pub joined_is : (i : Interface) → i.join ≡ true → i.gaps ≡ true → start i ≡ observer 1 true (fresh_at i (Drifting false) 1)
 joined_is i h k =
     (λ n. record { epoch = 1; level = record { level = level_in_r1 (h n && not (k n)); adrift = h n && k n; owed_before = false }; states = fresh_at i (start_with (h n && k n) false) 1 })
 
-above : (m : ℕ) → (m ≡ 8) ⊎ (m ≡ 128) → 0 < 0 + m
-above m e = grind (arith, e)
-
-idle_ordered : (i : Interface) (y : Side) → IsOrdered i.modulus (idle transfer.TheVariants.D1) y
-idle_ordered i T = record { ordered = omega arith; within = above i.modulus (lawful_is i).eight }
-idle_ordered i N = record { ordered = omega arith; within = above i.modulus (lawful_is i).eight }
-
 fresh_is : (i : Interface) (k : ℕ) → is_permanent i k ≡ true → certain (channel_in (fresh_state false (is_permanent i k))) ≡ certain (channel_of (idle transfer.TheVariants.D1))
 fresh_is i k perm = ap (λ b. certain (channel_in (fresh_state false b))) perm
-
-pub accuses_nobody : (i : Interface) (Valid : Circuit → Type 0) (Said : List What → List What → Type 0) (xs ys : List Item) → i.join ≡ false → Valid (idle transfer.TheVariants.D1) → AllByRecursion (Keeps i Valid Said) xs → IsThinned xs ys → AccusesNobody i xs → AccusesNobody i ys
-accuses_nobody i Valid Said xs ys join valid rows thin h =
-    none_found (walk_events (x25 i) (start i) ys)
-    (subst (λ o. Silent i o ys) (sym begins)
-    (thinned i Valid Said 1 1 false false ys xs (fresh i) (fresh i) rows thin pairs
-    (subst (λ o. Silent i o xs) begins (all_silent (walk_events (x25 i) (start i) xs) h))))
-  where
-    begins : start i ≡ observer 1 false (fresh i)
-    begins = starts_restarted i join ∙ restarted_is i (ap (λ j. j && not i.gaps) join)
-
-    pairs : Pairs i Valid (fresh i) (fresh i)
-    pairs k perm = record { whole = idle transfer.TheVariants.D1; is = fresh_is i k perm; valid = valid; ordered = idle_ordered i; fits = FitsAll false (fresh_is i k perm) }
-
-pub accuses_nobody_joined : (i : Interface) (Valid : Circuit → Type 0) (Said : List What → List What → Type 0) (before rest ys : List Item) → i.join ≡ true → i.gaps ≡ true → Valid (idle transfer.TheVariants.D1) → AllByRecursion (Keeps i Valid Said) (before ++ rest) → IsThinned rest ys
-    → AccusesNobodyFromRestart i (before ++ rest) → AccusesNobody i ys
-accuses_nobody_joined i Valid Said before rest ys join gaps valid rows thin h =
-    let parts = rows_after (Keeps i Valid Said) before rest rows in
-    let gone = absorbed i Valid Said 1 false (λ k. Unit {0}) (fresh_at i (Drifting false) 1) opened before rest (fresh i) (all_rows i Valid Said before parts.0) pairs
-    (subst (λ o. Silent i o (before ++ rest)) (restarted_is i (λ n. join n && not (gaps n))) (all_silent (walk_events (x25 i) (restarted i) (before ++ rest)) h)) in
-    none_found (walk_events (x25 i) (start i) ys)
-    (subst (λ o. Silent i o ys) (sym (joined_is i join gaps)) (thinned i Valid Said 1 1 false true ys rest gone.states (fresh_at i (Drifting false) 1) parts.1 thin gone.pairs gone.silent))
-  where
-    drifting_is : (k : ℕ) → is_permanent i k ≡ true → fresh_at i (Drifting false) 1 k ≡ adrift_at transfer.TheVariants.D1 true (of_both None)
-    drifting_is k perm = ap (λ b. record { channel = channel_in (fresh_state false b); restarting = true; certainty = drifting NoIndication false }) perm
-
-    opened : Open i (λ k. Unit {0}) (fresh_at i (Drifting false) 1)
-    opened k c perm = (true, drifting_is k perm)
-
-    pairs : Pairs i Valid (fresh i) (fresh_at i (Drifting false) 1)
-    pairs k perm = record {
-      whole = idle transfer.TheVariants.D1;
-      is = fresh_is i k perm;
-      valid = valid;
-      ordered = idle_ordered i;
-      fits = open_fits i (idle transfer.TheVariants.D1) true (fresh_at i (Drifting false) 1 k) (drifting_is k perm);
-    }
 
 pub counts_recorded : (i : Interface) (Valid : Circuit → Type 0) (xs ys : List Item) → i.join ≡ false → Valid (idle transfer.TheVariants.D1) → AllByRecursion (Keeps i Valid (λ ws us. IsPart us ws)) xs → IsThinned xs ys → AccusesNobody i xs → IsPart (events i ys) (events i xs)
 counts_recorded i Valid xs ys join valid rows thin h =
@@ -377,4 +316,4 @@ counts_recorded i Valid xs ys join valid rows thin h =
     begins = starts_restarted i join ∙ restarted_is i (ap (λ j. j && not i.gaps) join)
 
     pairs : Pairs i Valid (fresh i) (fresh i)
-    pairs k perm = record { whole = idle transfer.TheVariants.D1; is = fresh_is i k perm; valid = valid; ordered = idle_ordered i; fits = FitsAll false (fresh_is i k perm) }
+    pairs k perm = record { whole = idle transfer.TheVariants.D1; is = fresh_is i k perm; valid = valid; ordered = idle_ordered i transfer.TheVariants.D1; fits = FitsAll false (fresh_is i k perm) }

@@ -1,9 +1,10 @@
--- Data, RR and RNR on permanent circuits say no more in a recording with gaps than in the whole one.
-use Rattle.std.proofs.Common.{◌≡◌, ℕ, Bool, true, refl, sym, ap, subst, List, [], ◌∷◌, Some}
+-- Data, RR, RNR and interrupts on permanent circuits say no more in a recording with gaps than in the whole one.
+use Rattle.std.proofs.Common.{◌≡◌, ℕ, Bool, true, false, refl, sym, ap, subst, List, [], ◌∷◌, Option, Some}
 use Rattle.std.specs.Prelude.{◌&&◌}
 use Rattle.std.specs.List.{AllByRecursion}
 use Rattle.std.proofs.lemmas.Bool.{false≢true}
 use Rattle.line_model.specs.declared.event.What.{What}
+use Rattle.line_model.specs.declared.gap.LastData.{LastData}
 use Rattle.line_model.specs.declared.interface.Interface.{Interface}
 use Rattle.line_model.specs.declared.packet.DataHeader.{DataHeader}
 use Rattle.line_model.specs.declared.packet.Packet.{Packet}
@@ -15,16 +16,17 @@ use Rattle.line_model.specs.declared.state.DState.{DState}
 use Rattle.line_model.specs.declared.state.DState as transfer
 use Rattle.line_model.specs.basics.Records.{Item}
 use Rattle.line_model.specs.packets.Says.{packet_channel}
-use Rattle.line_model.specs.channels.Channels.{AcceptedData, Sides, is_permanent}
+use Rattle.line_model.specs.channels.Channels.{AcceptedData, Sides, is_permanent, of_side, other, with_side}
 use Rattle.line_model.specs.channels.ChannelStep.{channel_step}
 use Rattle.line_model.specs.channels.Gaps.{GapChannel}
 use Rattle.line_model.specs.channels.Gaps.Certainty.{Certain}
 use Rattle.line_model.specs.channels.GapStep.{gap_channel_step}
-use Rattle.gap_laws.specs.Thinned.{CountingLaw, IsPart, is_numbered, is_transfer_row}
+use Rattle.gap_laws.specs.Thinned.{CountingLaw, IsPart, is_of_transfer, is_transfer_row}
 use Rattle.gap_laws.proofs.Circuits.{Circuit, IsOrdered, channel_of, silent, with_data, with_receive}
-use Rattle.gap_laws.proofs.Parts.{part_silent}
+use Rattle.gap_laws.proofs.InterruptSteps.{IsTurn, TurnStep, confirmation_turns, interrupt_turns, turn_adrift, turn_on_settled, turn_whole}
+use Rattle.gap_laws.proofs.Parts.{part_same, part_silent}
 use Rattle.gap_laws.proofs.Settled.{SideFits, in_doubt}
-use Rattle.gap_laws.proofs.Fits.{Fits, certain_at, circuit, settled_at}
+use Rattle.gap_laws.proofs.Fits.{Fits, IsResting, LastFits, Takes, adrift_at, certain_at, circuit, settled_at}
 use Rattle.gap_laws.proofs.Fits.Fits.{FitsAll, FitsAnyAfter, FitsSome}
 use Rattle.gap_laws.proofs.Entries.{row_at}
 use Rattle.gap_laws.proofs.DataSteps.{DataStep, FollowsAs, data_adrift, data_on_settled, data_whole, said_of}
@@ -48,67 +50,56 @@ by_parts P g e h = subst (λ d. P (circuit d g.accepted g.acknowledged g.unconfi
 abbrev pub InD1 : Circuit → Type 0
 InD1 q = q.state ≡ transfer.TheVariants.D1
 
-data_step_of : (i : Interface) (n nr : ℕ) (x : Side) (c : ℕ) (h : DataHeader) (len : ℕ) (os : List ℕ) → is_permanent i n ≡ true → (hs : List AcceptedData) (v : Sides ℕ) (u : Sides Bool)
-    → ((y : Side) → IsOrdered i.modulus (circuit transfer.TheVariants.D1 hs v u) y)
-    → silent (channel_step i n (channel_of (circuit transfer.TheVariants.D1 hs v u)) (row_at nr x c (kind.TheVariants.Data (Some h)) len os)).reported ≡ true
-    → Step i InD1 SaysNoMore n (row_at nr x c (kind.TheVariants.Data (Some h)) len os) (circuit transfer.TheVariants.D1 hs v u)
+-- a row that is taken, whatever is certain of the circuit
+transfer_step : (i : Interface) (n : ℕ) (r : Item) (q w : Circuit) (ws : List What) → silent ws ≡ true → InD1 w → Takes i n r q w → (channel_step i n (channel_of q) r).reported ≡ ws
+    → ((d : DState) (b : Bool) (ls : Sides (Option LastData)) → ((y : Side) → LastFits i.modulus q y (of_side y ls)) → IsResting d ls → FollowsAs i w ws (gap_channel_step i n (adrift_at d b ls) r))
+    → ((b : Bool) (ns is ss : Sides Bool) (gs : List AcceptedData) (a : Sides ℕ) (f : Sides Bool) → ((y : Side) → SideFits i (in_doubt ns is ss) q (circuit transfer.TheVariants.D1 gs a f) y)
+    → FollowsAs i w ws (gap_channel_step i n (settled_at b ns is ss (circuit transfer.TheVariants.D1 gs a f)) r))
+    → Step i InD1 SaysNoMore n r q
+transfer_step i n r q w ws quiet in_d1 takes said adrift settled = record {
+  whole = w;
+  valid = in_d1;
+  takes = takes;
+  follows = λ g f. let a = follows g f in (part_silent (gap_channel_step i n g r).reported ws quiet a.0, a.1);
+  said = λ g f. subst (λ ws. IsPart (gap_channel_step i n g r).reported ws) (sym said) (follows g f).0;
+}
+  where
+    follows : (g : GapChannel) → Fits i q g → FollowsAs i w ws (gap_channel_step i n g r)
+    follows g (FitsAll b e) = subst (λ g. FollowsAs i w ws (gap_channel_step i n g r)) (sym e) (certain_follows i n r q w b ws said takes.after (part_same ws))
+    follows g (FitsAnyAfter f) = subst (λ g. FollowsAs i w ws (gap_channel_step i n g r)) (sym f.is) (adrift f.state f.restarting f.last f.seen f.resting)
+    follows g (FitsSome f) = subst (λ g. FollowsAs i w ws (gap_channel_step i n g r)) (sym f.is)
+        (by_parts (λ a. ((y : Side) → SideFits i (in_doubt f.numbers f.interrupts f.sequences) q a y) → FollowsAs i w ws (gap_channel_step i n (settled_at f.restarting f.numbers f.interrupts f.sequences a) r)) f.settled f.in_d1
+        (settled f.restarting f.numbers f.interrupts f.sequences f.settled.accepted f.settled.acknowledged f.settled.unconfirmed) f.sides)
+
+-- the steps of a row in d1
+abbrev pub StepsInD1 : Interface → ℕ → Item → Type 0
+StepsInD1 i n r = (hs : List AcceptedData) (v : Sides ℕ) (u : Sides Bool) → ((y : Side) → IsOrdered i.modulus (circuit transfer.TheVariants.D1 hs v u) y)
+    → silent (channel_step i n (channel_of (circuit transfer.TheVariants.D1 hs v u)) r).reported ≡ true → Step i InD1 SaysNoMore n r (circuit transfer.TheVariants.D1 hs v u)
+
+pub data_step_of : (i : Interface) (n nr : ℕ) (x : Side) (c : ℕ) (h : DataHeader) (len : ℕ) (os : List ℕ) → is_permanent i n ≡ true → StepsInD1 i n (row_at nr x c (kind.TheVariants.Data (Some h)) len os)
 data_step_of i n nr x c h len os p hs v u o s =
+    let r : Item = row_at nr x c (kind.TheVariants.Data (Some h)) len os in
+    let q : Circuit = circuit transfer.TheVariants.D1 hs v u in
     let t : DataStep i n r h q = data_whole i n nr x c h len os hs v u p o s in
-    record {
-      whole = with_data i r h t.taken.upto q;
-      valid = refl;
-      takes = t.takes;
-      follows = λ g f. let a = follows t g f in (part_silent (gap_channel_step i n g r).reported (said_of i r h) refl a.0, a.1);
-      said = λ g f. subst (λ ws. IsPart (gap_channel_step i n g r).reported ws) (sym t.reported) (follows t g f).0;
-    }
-  where
-    q : Circuit
-    q = circuit transfer.TheVariants.D1 hs v u
+    transfer_step i n r q (with_data i r h t.taken.upto q) (said_of i r h) refl refl t.takes t.reported (data_adrift i n nr x c h len os hs v u p o t) (data_on_settled i n nr x c h len os hs v u p t)
 
-    r : Item
-    r = row_at nr x c (kind.TheVariants.Data (Some h)) len os
-
-    follows : (t : DataStep i n r h q) (g : GapChannel) → Fits i q g → FollowsAs i (with_data i r h t.taken.upto q) (said_of i r h) (gap_channel_step i n g r)
-    follows t g (FitsAll b e) = subst (λ g. FollowsAs i (with_data i r h t.taken.upto q) (said_of i r h) (gap_channel_step i n g r)) (sym e) (certain_follows i n r q (with_data i r h t.taken.upto q) b (said_of i r h) t.reported t.takes.after ([], [], refl, tt))
-    follows t g (FitsAnyAfter f) =
-        subst (λ g. FollowsAs i (with_data i r h t.taken.upto q) (said_of i r h) (gap_channel_step i n g r)) (sym f.is) (data_adrift i n nr x c h len os hs v u p o t f.state f.restarting f.last f.seen f.resting)
-    follows t g (FitsSome f) =
-        subst (λ g. FollowsAs i (with_data i r h t.taken.upto q) (said_of i r h) (gap_channel_step i n g r)) (sym f.is)
-        (by_parts (λ a. ((y : Side) → SideFits i (in_doubt f.numbers f.interrupts f.sequences) q a y) → FollowsAs i (with_data i r h t.taken.upto q) (said_of i r h) (gap_channel_step i n (settled_at f.restarting f.numbers f.interrupts f.sequences a) r)) f.settled f.in_d1
-        (λ sides. data_on_settled i n nr x c h len os hs v u p t f.restarting f.numbers f.interrupts f.sequences f.settled.accepted f.settled.acknowledged f.settled.unconfirmed sides) f.sides)
-
-receive_step_of : (i : Interface) (n : ℕ) (r : Item) (receive : ℕ) → IsReceive i n r receive → is_permanent i n ≡ true → (hs : List AcceptedData) (v : Sides ℕ) (u : Sides Bool)
-    → ((y : Side) → IsOrdered i.modulus (circuit transfer.TheVariants.D1 hs v u) y) → silent (channel_step i n (channel_of (circuit transfer.TheVariants.D1 hs v u)) r).reported ≡ true
-    → Step i InD1 SaysNoMore n r (circuit transfer.TheVariants.D1 hs v u)
+pub receive_step_of : (i : Interface) (n : ℕ) (r : Item) (receive : ℕ) → IsReceive i n r receive → is_permanent i n ≡ true → StepsInD1 i n r
 receive_step_of i n r receive k p hs v u o s =
+    let q : Circuit = circuit transfer.TheVariants.D1 hs v u in
     let t : ReceiveStep i n r receive q = receive_whole i n r receive k hs v u p o s in
-    record {
-      whole = with_receive r.side t.taken.upto q;
-      valid = refl;
-      takes = t.takes;
-      follows = λ g f. let a = follows t g f in (part_silent (gap_channel_step i n g r).reported [] refl a.0, a.1);
-      said = λ g f. subst (λ ws. IsPart (gap_channel_step i n g r).reported ws) (sym t.reported) (follows t g f).0;
-    }
-  where
-    q : Circuit
-    q = circuit transfer.TheVariants.D1 hs v u
+    transfer_step i n r q (with_receive r.side t.taken.upto q) [] refl refl t.takes t.reported (receive_adrift i n r receive k hs v u p o t) (receive_on_settled i n r receive k hs v u p t)
 
-    follows : (t : ReceiveStep i n r receive q) (g : GapChannel) → Fits i q g → FollowsAs i (with_receive r.side t.taken.upto q) [] (gap_channel_step i n g r)
-    follows t g (FitsAll b e) = subst (λ g. FollowsAs i (with_receive r.side t.taken.upto q) [] (gap_channel_step i n g r)) (sym e) (certain_follows i n r q (with_receive r.side t.taken.upto q) b [] t.reported t.takes.after tt)
-    follows t g (FitsAnyAfter f) =
-        subst (λ g. FollowsAs i (with_receive r.side t.taken.upto q) [] (gap_channel_step i n g r)) (sym f.is) (receive_adrift i n r receive k hs v u p o t f.state f.restarting f.last f.seen f.resting)
-    follows t g (FitsSome f) =
-        subst (λ g. FollowsAs i (with_receive r.side t.taken.upto q) [] (gap_channel_step i n g r)) (sym f.is)
-        (by_parts (λ a. ((y : Side) → SideFits i (in_doubt f.numbers f.interrupts f.sequences) q a y) → FollowsAs i (with_receive r.side t.taken.upto q) [] (gap_channel_step i n (settled_at f.restarting f.numbers f.interrupts f.sequences a) r)) f.settled f.in_d1
-        (λ sides. receive_on_settled i n r receive k hs v u p t f.restarting f.numbers f.interrupts f.sequences f.settled.accepted f.settled.acknowledged f.settled.unconfirmed sides) f.sides)
+pub turn_step_of : (i : Interface) (n : ℕ) (r : Item) (y : Side) (b : Bool) → IsTurn i n r y b → is_permanent i n ≡ true → StepsInD1 i n r
+turn_step_of i n r y b k p hs v u o s =
+    let q : Circuit = circuit transfer.TheVariants.D1 hs v u in
+    let t : TurnStep i n r y b q = turn_whole i n r y b k hs v u p o s in
+    transfer_step i n r q (circuit transfer.TheVariants.D1 hs v (with_side y b u)) [] refl refl t.takes t.reported (turn_adrift i n r y b k hs v u p t) (turn_on_settled i n r y b k hs v u p t)
 
 -- steps in d1 are steps of each circuit in d1
-in_d1 : (i : Interface) (n : ℕ) (r : Item)
-    → ((hs : List AcceptedData) (v : Sides ℕ) (u : Sides Bool) → ((y : Side) → IsOrdered i.modulus (circuit transfer.TheVariants.D1 hs v u) y) → silent (channel_step i n (channel_of (circuit transfer.TheVariants.D1 hs v u)) r).reported ≡ true → Step i InD1 SaysNoMore n r (circuit transfer.TheVariants.D1 hs v u))
-    → (q : Circuit) → InD1 q → ((y : Side) → IsOrdered i.modulus q y) → silent (channel_step i n (channel_of q) r).reported ≡ true → Step i InD1 SaysNoMore n r q
+in_d1 : (i : Interface) (n : ℕ) (r : Item) → StepsInD1 i n r → (q : Circuit) → InD1 q → ((y : Side) → IsOrdered i.modulus q y) → silent (channel_step i n (channel_of q) r).reported ≡ true → Step i InD1 SaysNoMore n r q
 in_d1 i n r f q e = by_parts (λ q. ((y : Side) → IsOrdered i.modulus q y) → silent (channel_step i n (channel_of q) r).reported ≡ true → Step i InD1 SaysNoMore n r q) q e (f q.accepted q.acknowledged q.unconfirmed)
 
-row_keeps : (i : Interface) (nr : ℕ) (x : Side) (p : Packet) (len : ℕ) (os : List ℕ) → (is_numbered p && is_permanent i (packet_channel p)) ≡ true → Keeps i InD1 SaysNoMore (record { number = nr; side = x; packet = p; length = len; octets = os })
+row_keeps : (i : Interface) (nr : ℕ) (x : Side) (p : Packet) (len : ℕ) (os : List ℕ) → (is_of_transfer p && is_permanent i (packet_channel p)) ≡ true → Keeps i InD1 SaysNoMore (record { number = nr; side = x; packet = p; length = len; octets = os })
 row_keeps i nr x (packet.TheVariants.Channel k (kind.TheVariants.Data (Some h))) len os e = record {
   channel = k;
   on = record { form = kind.TheVariants.Data (Some h); is = refl; no_gap = refl };
@@ -126,6 +117,18 @@ row_keeps i nr x (packet.TheVariants.Channel k (kind.TheVariants.Rnr (Some n))) 
   on = record { form = kind.TheVariants.Rnr (Some n); is = refl; no_gap = refl };
   permanent = e;
   steps = in_d1 i k (row_at nr x k (kind.TheVariants.Rnr (Some n)) len os) (receive_step_of i k (row_at nr x k (kind.TheVariants.Rnr (Some n)) len os) n (rnr_receives i k nr x k n len os) e);
+}
+row_keeps i nr x (packet.TheVariants.Channel k kind.TheVariants.Interrupt) len os e = record {
+  channel = k;
+  on = record { form = kind.TheVariants.Interrupt; is = refl; no_gap = refl };
+  permanent = e;
+  steps = in_d1 i k (row_at nr x k kind.TheVariants.Interrupt len os) (turn_step_of i k (row_at nr x k kind.TheVariants.Interrupt len os) x true (interrupt_turns i k nr x k len os) e);
+}
+row_keeps i nr x (packet.TheVariants.Channel k kind.TheVariants.InterruptConfirm) len os e = record {
+  channel = k;
+  on = record { form = kind.TheVariants.InterruptConfirm; is = refl; no_gap = refl };
+  permanent = e;
+  steps = in_d1 i k (row_at nr x k kind.TheVariants.InterruptConfirm len os) (turn_step_of i k (row_at nr x k kind.TheVariants.InterruptConfirm len os) (other x) false (confirmation_turns i k nr x k len os) e);
 }
 row_keeps i nr x p len os e = absurd (false≢true e)
 
