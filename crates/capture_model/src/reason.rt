@@ -40,8 +40,8 @@ pub enum Reason {
     OtherAddress(u8),
     /// This number of LAPB I frames was not recorded.
     LostFrames(u64),
-    /// The packet has this number of octets, more than 4,200 (profile).
-    LongPacket(u32),
+    /// The packet has more than 4,200 octets (profile).
+    LongPacket,
 }
 
 /// What is wrong with a file, and where.

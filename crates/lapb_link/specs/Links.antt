@@ -26,11 +26,22 @@ use Rattle.lapb_link.specs.declared.receiver.Receiver.{Receiver}
 use Rattle.lapb_link.specs.declared.receiver.Shown.{Shown}
 use Rattle.lapb_link.specs.declared.receiver.Shown.TheVariants as shown
 use Rattle.lapb_link.specs.declared.link.Link.{Link}
-use Rattle.lapb_link.specs.declared.link.LinkFrame.{LinkFrame}
+use Rattle.lapb_link.specs.declared.link.LinkFrame as declared_frame
 use Rattle.lapb_link.specs.declared.ends.Ends.{Ends}
 use Rattle.lapb_link.specs.declared.ends.Sender.{Sender}
 use Rattle.lapb_link.specs.declared.link.Taken as declared
 use Rattle.lapb_link.specs.declared.link.What as declared_what
+
+-- a frame of a link without where its octets lie in memory
+pub record LinkFrame : Type 0 where
+  pub place : Place
+  -- the number of the station that sent it
+  pub source : Option ℕ
+  pub octets : List ℕ
+  pub is_cut : Bool
+
+abbrev pub link_frame_view : declared_frame.LinkFrame → LinkFrame
+link_frame_view f = record { place = f.place; source = f.source; octets = f.octets.now; is_cut = f.is_cut }
 
 -- what a frame is, with its octets
 pub data What : Type 0 where
@@ -196,7 +207,7 @@ addressed f c a (Some s) l = by_control f s c.1 l c.0
 
 abbrev pub controlled : LinkFrame → Option (Control × List ℕ) → Link → Read
 controlled f None l = leaves_out reason.BadHeader l
-controlled f (Some c) l = let a = slice_index f.octets.now 0 in addressed f c a (command_side a) l
+controlled f (Some c) l = let a = slice_index f.octets 0 in addressed f c a (command_side a) l
 
 abbrev pub read : LinkFrame → Link → Read
-read f l = controlled f (control_of l.modulus f.octets.now) l
+read f l = controlled f (control_of l.modulus f.octets) l

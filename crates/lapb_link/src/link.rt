@@ -2,7 +2,7 @@
 
 ghost use Rattle.std.specs.Prelude.{◌≡◌, ◌<◌, ◌≤◌, ◌++◌, IfOk, OnOk, drop, vec_len};
 ghost use Rattle.std.specs.List.{list_any};
-ghost use Rattle.lapb_link.specs.Links.{is_gap, no_packet, supervisor, surely, taken_view, what_of, what_view};
+ghost use Rattle.lapb_link.specs.Links.{is_gap, link_frame_view, no_packet, supervisor, surely, taken_view, what_of, what_view};
 
 use crate::control::{
     Control, Supervisory, SupervisoryField, Unnumbered, command_side, read_control,
@@ -93,9 +93,9 @@ impl Link {
         frame: &LinkFrame<'a>,
         out: &mut Vec<Shown>,
     ) -> Result<Taken<'a>, AllocError>
-        ensures taken { IfOk result (λ taken. taken_view taken ≡ (read frame.now self.old).taken) }
-        ensures after { OnOk result (self.new ≡ (read frame.now self.old).after) }
-        ensures shown { OnOk result (out.new.items ≡ out.old.items ++ (read frame.now self.old).shown) }
+        ensures taken { IfOk result (λ taken. taken_view taken ≡ (read (link_frame_view frame.now) self.old).taken) }
+        ensures after { OnOk result (self.new ≡ (read (link_frame_view frame.now) self.old).after) }
+        ensures shown { OnOk result (out.new.items ≡ out.old.items ++ (read (link_frame_view frame.now) self.old).shown) }
     {
         let Some((control, rest)) = read_control(self.modulus, frame.octets) else {
             return Ok(left_out(None, Reason::BadHeader));
@@ -173,11 +173,11 @@ impl Link {
         out: &mut Vec<Shown>,
     ) -> Result<Taken<'a>, AllocError>
         ensures taken { IfOk result (λ taken. taken_view taken
-            ≡ (supervisory_read frame.now commander field self.old).taken) }
+            ≡ (supervisory_read (link_frame_view frame.now) commander field self.old).taken) }
         ensures after { OnOk result (self.new
-            ≡ (supervisory_read frame.now commander field self.old).after) }
+            ≡ (supervisory_read (link_frame_view frame.now) commander field self.old).after) }
         ensures shown { OnOk result (out.new.items ≡ out.old.items
-            ++ (supervisory_read frame.now commander field self.old).shown) }
+            ++ (supervisory_read (link_frame_view frame.now) commander field self.old).shown) }
     {
         let known = self.ends.known(frame.source);
         let Some(side) = supervisor(field.last, commander, known) else {
@@ -198,11 +198,11 @@ impl Link {
         out: &mut Vec<Shown>,
     ) -> Result<Taken<'a>, AllocError>
         ensures taken { IfOk result (λ taken. taken_view taken
-            ≡ (unnumbered_read frame.now commander kind self.old).taken) }
+            ≡ (unnumbered_read (link_frame_view frame.now) commander kind self.old).taken) }
         ensures after { OnOk result (self.new
-            ≡ (unnumbered_read frame.now commander kind self.old).after) }
+            ≡ (unnumbered_read (link_frame_view frame.now) commander kind self.old).after) }
         ensures shown { OnOk result (out.new.items ≡ out.old.items
-            ++ (unnumbered_read frame.now commander kind self.old).shown) }
+            ++ (unnumbered_read (link_frame_view frame.now) commander kind self.old).shown) }
     {
         let by_address = if kind.is_command() {
             commander

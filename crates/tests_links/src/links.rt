@@ -81,7 +81,7 @@ const OF_TWO_STATIONS: [Step; 5] = [
 ];
 
 #[test]
-fn stations_with_one_address_are_told_apart(rt: HostRuntime) -> Result<(), Fail> {
+fn stations_with_one_address_are_distinguished(rt: HostRuntime) -> Result<(), Fail> {
     check(&rt, rt.alloc(), &OF_TWO_STATIONS)?;
     Ok(())
 }

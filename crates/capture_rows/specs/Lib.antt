@@ -1,0 +1,4 @@
+pub mod Stations
+pub mod Choosing
+pub mod Givens
+pub mod Lines
