@@ -5,7 +5,7 @@ import pathlib
 import tempfile
 import unittest
 
-from forms import pcap
+from forms import enhanced, interface, pcap, section
 from x25tools_lib.choices import Carrier, SideBy
 from x25tools_lib.ledger import Ledger, Topic
 from x25tools_lib.sides import Side
@@ -16,6 +16,7 @@ from x25trace_lib.lapb import Lapb
 from x25trace_lib.lines import Line, Lines, preferred
 from x25trace_lib.link_ends import Ends
 from x25trace_lib.packets import Missing, Packet
+from x25trace_lib.window import Window
 
 HERE, THERE = bytes.fromhex("525400000001"), bytes.fromhex("525400000002")
 READY = b"\x10\1\x21"
@@ -99,6 +100,71 @@ class Held(unittest.TestCase):
         link.answer(0x01, 4)
         self.assertEqual(link.rows, "T?TT")
         self.assertEqual(link.ledger.lines()[-1], "missing: LAPB I frames that were not recorded: 1")
+
+
+    def test_reject_before_the_link_is_set_up_again(self):
+        """The set-up ends a reject: a frame that is held after it may have been accepted."""
+        link = Link()
+        link.send([0, 2])
+        link.answer(0x09, 1)
+        for source, octets in ((HERE, SABM), (THERE, UA)):
+            link.take(source, octets)
+        link.send([1, 0])
+        self.assertEqual(link.rows, "T?T")
+
+
+class Places(unittest.TestCase):
+    """The places of gaps and of late packets among the last rows of links."""
+
+    def setUp(self):
+        self.window, self.line = Window(), Line(Carrier.LAPB)
+        self.line.lapb = Link().lapb
+
+    def add(self, *items):
+        for item in items:
+            self.window.add(self.line, item)
+
+    def packets(self, *frames):
+        self.add(*(Packet(number, Side.T, READY) for number in frames))
+
+    def shown(self, most=0):
+        """The frames of the packets, those of gaps as negative numbers, and comments."""
+        taken = self.window.first(most)
+        return [it if isinstance(it, str) else -it[1].frame if isinstance(it[1], Missing) else it[1].frame for it in taken]
+
+    def test_late_packet(self):
+        self.packets(1, 2, 5)
+        self.window.note("of 6")
+        self.packets(7, 4)
+        self.assertEqual(self.shown(), [1, 2, 4, 5, "of 6", 7])
+
+    def test_gap_of_a_range(self):
+        """Each packet from the range on has a gap before it, and two gaps never follow each other."""
+        self.packets(1, 2, 3)
+        self.add(Missing(4, None, since=1), Missing(5, None))
+        self.packets(6)
+        self.add(Missing(7, None, since=2), Missing(7, None, channel=4))
+        self.assertEqual(self.shown(), [1, -2, 2, -3, 3, -4, 6, -7, -7])
+
+    def test_other_link(self):
+        self.packets(1, 2)
+        other = Line(Carrier.LAPB, lapb=self.line.lapb)
+        self.window.add(other, Packet(3, Side.N, READY))
+        self.add(Missing(4, None, since=0))
+        self.assertEqual(self.shown(), [-1, 1, -2, 2, 3, -4])
+
+    def test_far_back(self):
+        """Gaps and late packets reach back over so many rows, and no more are kept for them."""
+        self.packets(*range(10, 2010))
+        self.assertTrue(self.window.is_full)
+        self.assertEqual(self.shown(Window.MOST), list(range(10, 1010)))
+        self.packets(*range(2010, 2110), 5)
+        self.assertEqual(self.shown()[:102], [*range(1010, 1110), 5, 1110])
+        self.packets(*range(10, 1510))
+        self.add(Missing(1600, None, since=0))
+        shown = self.shown()
+        self.assertEqual(shown[:502], [*range(10, 510), -510, 510])
+        self.assertEqual(sum(number < 0 for number in shown), Window.MOST + 1)
 
 
 class Addresses(unittest.TestCase):
@@ -220,26 +286,87 @@ def device_frame(device, octets, kind=4, protocol=0x0805):
     return protocol.to_bytes(2, "big") + bytes(2) + device.to_bytes(4, "big") + b"\1\x0f" + bytes((kind, 0)) + bytes(8) + octets
 
 
-class Devices(unittest.TestCase):
-    """The devices of Linux part links; options read one of them."""
+def two_links():
+    """A capture of the X.25 devices 3 and 7."""
+    frames = []
+    for kind, octets in ((4, "1000FB0000"), (0, "1000FF"), (4, "10010B0000"), (0, "10010F")):
+        frames.append(device_frame(3, b"\0" + bytes.fromhex(octets), kind))
+        frames.append(device_frame(7, b"\0" + bytes.fromhex(octets), 4 - kind))
+    frames += [device_frame(3, b"\0" + long_packet(number)) for number in range(9)]
+    frames += [device_frame(7, b"\0" + long_packet(100 + number)) for number in range(8)]
+    return pcap(276, frames)
+
+
+class Reader(unittest.TestCase):
+    """Tests of what x25trace makes of a capture."""
 
     def setUp(self):
         folder = tempfile.TemporaryDirectory()
         self.addCleanup(folder.cleanup)
         self.path = pathlib.Path(folder.name, "two.pcap")
-        frames = []
-        for number, (kind, octets) in enumerate(((4, "1000FB0000"), (0, "1000FF"), (4, "10010B0000"), (0, "10010F"))):
-            frames.append(device_frame(3, b"\0" + bytes.fromhex(octets), kind))
-            frames.append(device_frame(7, b"\0" + bytes.fromhex(octets), 4 - kind))
-        frames += [device_frame(3, b"\0" + long_packet(number)) for number in range(9)]
-        frames += [device_frame(7, b"\0" + long_packet(100 + number)) for number in range(8)]
-        self.path.write_bytes(pcap(276, frames))
 
     def run_with(self, *words):
         out, errors = io.StringIO(), io.StringIO()
         with contextlib.redirect_stdout(out), contextlib.redirect_stderr(errors):
             status = command.main([*words, str(self.path)])
         return status, out.getvalue(), errors.getvalue()
+
+
+class Parts(Reader):
+    """The interfaces of a pcapng file part links where they come by turns and both ends send on one of them."""
+
+    def written(self, *frames):
+        """A file of two interfaces: the interface, the direction (1 inbound, 2 outbound) and the octets of each frame."""
+        blocks = (enhanced(octets, which, flags=flags) for which, flags, octets in frames)
+        self.path.write_bytes(section() + interface(147) * 2 + b"".join(blocks))
+
+    def packets(self, which, first=0):
+        """The beginning of a link and data of both ends."""
+        rows = [(2, "1000FB0000"), (1, "1000FF"), (2, "10010B0000"), (1, "10010F")]
+        data = [(1 + number % 2, long_packet(first + number).hex()) for number in range(6)]
+        return [(which, flags, bytes.fromhex(octets)) for flags, octets in rows + data]
+
+    def by_turns(self, one, other):
+        self.written(*(frame for pair in zip(one, other) for frame in pair))
+
+    def test_two_links(self):
+        self.by_turns(self.packets(0), self.packets(1, 100))
+        status, out, errors = self.run_with("--as", "147=x25")
+        self.assertEqual((status, out), (2, ""))
+        self.assertIn("Mixed: the capture has 2 links, and a trace is of one interface: 10 packets in x25 on interface 0: "
+                      "--only x25 --interface 0; 10 packets in x25 on interface 1: --only x25 --interface 1\n", errors)
+        status, out, _ = self.run_with("--as", "147=x25", "--interface", "1", "--win", "7", "--size", "128")
+        self.assertEqual((status, out.count("\n2 T 1000FB0000\n")), (0, 1))
+
+    def test_one_link_twice(self):
+        self.by_turns(self.packets(0), self.packets(1))
+        status, out, errors = self.run_with("--as", "147=x25", "--win", "7", "--size", "128")
+        self.assertEqual(status, 0, errors)
+        self.assertIn("10 packets in x25 on interface 0 are read; the same ones were recorded in x25 on interface 1", errors)
+        self.assertEqual(sum(line[0].isdigit() for line in out.splitlines()), 10)
+
+    def test_joined_files(self):
+        """One interface after the other is one link."""
+        frames = self.packets(0)
+        self.written(*frames[:5], *((1, *rest) for _, *rest in frames[5:]))
+        status, out, errors = self.run_with("--as", "147=x25", "--win", "7", "--size", "128")
+        self.assertEqual((status, sum(line[0].isdigit() for line in out.splitlines())), (0, 10), errors)
+
+    def test_wires(self):
+        """An interface for each wire: their LAPB is of one link."""
+        frames = [(0, 2, b"\1\0" + bytes.fromhex("1000FB0000")), (1, 2, b"\3\x20" + bytes.fromhex("1000FF")),
+                  (0, 2, b"\1\x22" + bytes.fromhex("10010B0000")), (1, 2, b"\3\x42" + bytes.fromhex("10010F"))]
+        self.written(*((which, None, octets) for which, _, octets in frames))
+        status, out, errors = self.run_with("--as", "147=lapb")
+        self.assertEqual((status, [line[:3] for line in out.splitlines() if line[0].isdigit()]), (0, ["1 T", "2 N", "3 T", "4 N"]), errors)
+
+
+class Devices(Reader):
+    """The devices of Linux part links; options read one of them."""
+
+    def setUp(self):
+        super().setUp()
+        self.path.write_bytes(two_links())
 
     def test_refused(self):
         status, out, errors = self.run_with()

@@ -29,7 +29,7 @@ NUMBERS = re.compile(r"MOD (\d+) WIN (\d+) SIZE (\d+) PVC (\d+) (?:SVC (\d+)|IN 
 OPTIONS = ("--mod", "--win", "--size", "--pvc", "--svc", "--in", "--two", "--out")
 HEAD = re.compile(
     r"X25 |# from |# estimated |# WIN |# SIZE |# connection |# \d+ packets are not of modulo |# only the D"
-    r"|.* gets no channel"
+    r"|.* gets no channel|# .* taken for the DTE and .* for the DCE: "
 )
 ENDS = "192.0.2.1 port 1025 (T) and 192.0.2.2 port 1998 (N)"
 # What is found in the followed frames as they come, and what follows at the end.

@@ -7,7 +7,8 @@ import unittest
 from x25tools_lib.header import Header
 from x25tools_lib.sides import Side
 from x25trace_lib.evidence import NONE_TRIED, Basis, Evidence, largest, ranked_first
-from x25trace_lib.packets import Packet
+from x25trace_lib.estimate import Estimator
+from x25trace_lib.packets import Missing, Packet
 from x25trace_lib.ranking import FOLLOWED, NO_SCANNER, Tried, ranking_of
 from x25trace_lib.spool import Spool
 
@@ -101,6 +102,14 @@ class Decided(unittest.TestCase):
         evidence = ranked_first(ranking, header(window=6), {"SIZE": 256}, True)
         self.assertEqual((evidence.values, evidence.why), ({"SIZE": 256}, NONE_TRIED))
 
+    def test_sizes(self):
+        """Only headers with one of some sizes count, if there are any."""
+        ranking = [tried(1, 256, 1), tried(1, 128, 1), tried(2, 128, 1)]
+        evidence = ranked_first(ranking, header(), {"WIN": 3, "SIZE": 256}, True, range(128, 200))
+        self.assertEqual((evidence.values, evidence.bases["SIZE"]), ({"WIN": 1, "SIZE": 128}, Basis.ANSWERS))
+        evidence = ranked_first(ranking, header(), {"WIN": 3, "SIZE": 256}, True, range(64, 100))
+        self.assertEqual(evidence.values["SIZE"], 256)
+
     def test_largest(self):
         for why in (NO_SCANNER, FOLLOWED):
             found = largest({"WIN": 3, "SIZE": 256}, why)
@@ -110,6 +119,49 @@ class Decided(unittest.TestCase):
 
     def test_no_data(self):
         self.assertEqual((list(Evidence().sentences()), Evidence().source("WIN")), ([], "the default: no data was seen"))
+
+
+class Lengths(unittest.TestCase):
+    """Data that the DCE calls too long shows the packet size."""
+
+    RESET, CLEAR = "10011B0527", "1001131327"
+
+    def estimator(self, *rows):
+        """What was seen of rows on channel 1: a side and its user data, or its octets."""
+        estimator = Estimator()
+        for side, what in (("T", "10010B0000"), ("N", "10010F"), *rows):
+            octets = bytes.fromhex("100100") + bytes(what) if isinstance(what, int) else bytes.fromhex(what)
+            estimator.see(1, True, Side(side), octets, True)
+        return estimator
+
+    def test_reset_and_clear(self):
+        for answer in (self.RESET, self.CLEAR):
+            estimator = self.estimator(("T", 100), ("N", 120), ("T", 200), ("T", 20), ("N", answer))
+            self.assertEqual((estimator.sizes, estimator.size, estimator.largest), (range(128, 200), 128, 200))
+
+    def test_other_answers(self):
+        """Of another cause, of another diagnostic, of the other side, and after a reset."""
+        for rows in (("N", "10011B0027"),), (("N", "10011B0501"),), (("T", self.RESET),), (("N", "10011B0500"), ("N", self.RESET)):
+            estimator = self.estimator(("T", 100), ("T", 200), *rows)
+            self.assertEqual((len(estimator.sizes), estimator.size), (0, 256), rows)
+
+    def test_data_that_others_keep(self):
+        """The same length is accepted elsewhere, or other data has no smaller size."""
+        for length in (200, 150):
+            estimator = self.estimator(("T", 200), ("N", self.RESET), ("T", "10011F"), ("T", length))
+            self.assertEqual((len(estimator.sizes), estimator.size), (0, 256))
+
+    def test_gap(self):
+        """What was sent before a gap may not be what was too long."""
+        estimator = self.estimator(("T", 200))
+        estimator.miss(Missing(9, None))
+        estimator.see(1, True, Side.N, bytes.fromhex(self.RESET), True)
+        self.assertEqual((len(estimator.sizes), estimator.size), (0, 256))
+
+    def test_agreed_size(self):
+        estimator = self.estimator(("T", "1001130000"), ("N", "100117"), ("T", "10010B0003420808"), ("N", "10010F"),
+                                   ("T", 200), ("N", self.RESET))
+        self.assertEqual((estimator.largest, len(estimator.sizes)), (0, 0))
 
 
 class Asked(unittest.TestCase):

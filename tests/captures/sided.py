@@ -1,12 +1,11 @@
 """Captures whose DTE is a guess: the reactions of the DCE decide for the other end, and options overrule that."""
-import os
 import pathlib
 import subprocess
 import tempfile
 import unittest
 
 from forms import *
-from link_cases import ACCEPTED, CALL
+from link_cases import ACCEPTED, CALL, line
 
 ROOT = pathlib.Path(__file__).resolve().parent.parent.parent
 PROGRAM = ROOT / "bin" / "x25trace"
@@ -23,18 +22,56 @@ def faults():
     return frames + [talk.a("100100AA"), talk.b("100121")]
 
 
-class Sides(unittest.TestCase):
+HERE, THERE = bytes.fromhex("020000000001"), bytes.fromhex("020000000002")
+SABM, UA = b"\1\x3f", b"\3\x73"
+RESTART, CALLED, READY = bytes.fromhex("1000FB0000"), bytes.fromhex("10010B0000"), bytes.fromhex("100121")
+
+
+def linked(*frames):
+    """LAPB in frames of Ethernet: a source each, and the octets."""
+    return pcap(1, [(THERE if source is HERE else HERE) + source + b"\x60\0" + len(octets).to_bytes(2, "little") + octets
+                    for source, octets in frames])
+
+
+def sent(number, receive, packet):
+    """An I frame; both ends have the address 01."""
+    return bytes((1, receive << 5 | number << 1)) + packet
+
+
+class Reader(unittest.TestCase):
+    """What x25trace says of a capture."""
+
     def setUp(self):
         folder = tempfile.TemporaryDirectory()
         self.addCleanup(folder.cleanup)
-        self.path = pathlib.Path(folder.name, "faults.pcap")
-        self.path.write_bytes(pcap(1, [ethernet(one) for one in faults()]))
+        self.path = pathlib.Path(folder.name, "day.pcap")
+
+    def comment(self, *words):
+        """The comment on the ends of the capture."""
+        done = subprocess.run([PROGRAM, "--scanner", SCANNER, *GIVEN, "--quiet", *words, self.path], capture_output=True, text=True,
+                              timeout=TIMEOUT, check=False)
+        return next((line for line in done.stdout.split("X25 ")[0].splitlines() if " taken for the DTE and " in line), None)
 
     def read(self, *words, stdin=None):
-        scanner = os.environ.get("X25SCAN") or SCANNER
-        done = subprocess.run([PROGRAM, "--scanner", scanner, *GIVEN, *words], stdin=stdin, capture_output=True, text=True,
+        done = subprocess.run([PROGRAM, "--scanner", SCANNER, *GIVEN, *words], stdin=stdin, capture_output=True, text=True,
                               timeout=TIMEOUT, check=False)
         return [line for line in done.stdout.splitlines() if line[0].isdigit()], done.stderr
+
+
+
+class Sides(Reader):
+    def setUp(self):
+        super().setUp()
+        self.path.write_bytes(pcap(1, [ethernet(one) for one in faults()]))
+
+    def test_comments(self):
+        """The comment before the header says on what the sides rest."""
+        for words, dte, dce, basis in (
+            ((), DCE, DTE, "the DCE answers 3 of 3 errors of the DTE, and 0 of 0 the other way"),
+            (("--dte", DTE), DTE, DCE, "--dte names it"), (("--dte", DTE, "--swap"), DCE, DTE, "--swap exchanges the ends"),
+            (("--swap",), DCE, DTE, "--swap exchanges the ends, and the DCE opened the connection"),
+        ):
+            self.assertEqual(self.comment(*words), f"# {dte} is taken for the DTE and {dce} for the DCE: {basis}")
 
     def test_reactions(self):
         rows, errors = self.read(self.path)
@@ -56,6 +93,61 @@ class Sides(unittest.TestCase):
         self.assertEqual(rows[0], "4 T 10010B0000")
         self.assertIn("with the sides exchanged, and 0 of ", errors)
         self.assertIn(": --swap exchanges them\n", errors)
+
+
+class Addresses(Reader):
+    def test_reactions(self):
+        """Where the address octets say which end is the DTE, the reactions of the DCE give a message and a comment alone."""
+        faults = [("N", "100104AA"), ("T", "10011B0501"), ("N", "10011F")] * 3
+        packets = [("T", RESTART.hex()), ("N", "1000FF"), ("T", CALL), ("N", ACCEPTED), *faults]
+        self.path.write_bytes(pcap(147, [frame for _, frame in line(packets)]))
+        rows, errors = self.read("--as", "147=lapb", self.path)
+        self.assertEqual(rows[0], "1 T 1000FB0000")
+        words = "the DCE answers 3 of 3 errors of the DTE with the sides exchanged, and 0 of 0 as they are: --swap exchanges them\n"
+        self.assertIn(words, errors)
+        self.assertNotIn(words, self.read("--as", "147=lapb", "--swap", self.path)[1])
+
+
+class Openers(Reader):
+    """Of a link whose ends have one address, the DTE is the end that opened it."""
+
+    def opened(self, dte, basis, *frames, words=()):
+        self.path.write_bytes(linked(*frames))
+        dce = HERE if dte is THERE else THERE
+        self.assertEqual(self.comment(*words), f"# {dte.hex(':')} is taken for the DTE and {dce.hex(':')} for the DCE: {basis}")
+
+    def test_link(self):
+        """The first SABM is later than the first frame."""
+        frames = (HERE, sent(0, 0, READY)), (THERE, SABM), (HERE, UA), (HERE, SABM), (THERE, UA), (HERE, sent(0, 0, RESTART))
+        self.opened(THERE, "the DTE opened the link", *frames)
+        self.opened(HERE, "--swap exchanges the ends, and the DCE opened the link", *frames, words=("--swap",))
+        self.opened(HERE, "an option names it", *frames, words=("--dte", HERE.hex(":")))
+        self.opened(THERE, "the DTE opened the link", *frames, words=("--side", "link-address"))
+
+    def test_packets(self):
+        """Without a SABM, the first restart shows it, and without that the first call."""
+        frames = (HERE, sent(0, 0, READY)), (THERE, sent(0, 1, CALLED)), (HERE, sent(1, 1, CALLED))
+        self.opened(THERE, "the DTE made the first call", *frames)
+        self.opened(HERE, "the DTE sent the first restart", *frames, (HERE, sent(2, 1, RESTART)))
+        self.opened(HERE, "it sent the first frame", (HERE, sent(0, 0, READY)), (THERE, sent(0, 0, READY)))
+
+    def test_addresses(self):
+        """Where the ends have two addresses, these decide, whoever opened the link."""
+        frames = (THERE, b"\3\x3f"), (HERE, b"\3\x73"), (HERE, sent(0, 0, RESTART))
+        self.opened(HERE, "its commands have the address 01", *frames)
+
+    def test_pipe(self):
+        self.path.write_bytes(linked((HERE, sent(0, 0, READY)), (THERE, SABM), (HERE, SABM), (HERE, sent(0, 0, RESTART))))
+        with subprocess.Popen(["cat", self.path], stdout=subprocess.PIPE) as cat:
+            _, errors = self.read("-", stdin=cat.stdout)
+        self.assertIn("02:00:00:00:00:02 opened the link, and is taken for the DCE: --swap exchanges them\n", errors)
+
+    def test_recording_host(self):
+        """Of packets without a link header, the recording host is the DTE."""
+        hosts = ["the recording host", "the other host"]
+        self.path.write_text("O\n0000 10 00 FB 00 00\nI\n0000 10 00 FF\n")
+        for words, (dte, dce), basis in (((), hosts, "it recorded the packets"), (("--swap",), hosts[::-1], "--swap exchanges the ends")):
+            self.assertEqual(self.comment("--as", "x25", *words), f"# {dte} is taken for the DTE and {dce} for the DCE: {basis}")
 
 
 SCANNER = ROOT / "crates" / "x25scan" / "out" / "x25scan"

@@ -5,18 +5,25 @@ import pathlib
 import sys
 import tempfile
 import unittest
+from dataclasses import replace
 
 from missing import FINDING, Said
 from pages import ROOT, Page, run
 
-sys.path.insert(0, str(ROOT / "tools"))
+sys.path[:0] = [str(ROOT / "tools"), str(ROOT / "tests" / "captures")]
 
+from forms import ethernet, pcap  # noqa: E402
+from sided import faults  # noqa: E402
+from x25page_lib.calls import MEMBERS  # noqa: E402
 from x25page_lib.ends import UNKNOWN, AllEnds, ends_of  # noqa: E402
 from x25page_lib.facts import Facts  # noqa: E402
+from x25page_lib.gathering import sides_of  # noqa: E402
+from x25page_lib.peaks import Peak  # noqa: E402
 from x25page_lib.verdicts import Blame  # noqa: E402
 from x25tools_lib.notes import MOST_CIRCUITS, Circuit, Head  # noqa: E402
 
 CAPTURE = ROOT / "tests" / "captures" / "files" / "xot-circuits-of-one-pair.pcap"
+CUT = ROOT / "tests" / "captures" / "files" / "tcp-end-without-a-clear.pcap"
 GAP = ROOT / "tests" / "captures" / "files" / "gaps-that-share-a-row.pcap"
 # The program that the tests ask, as the suite names it.
 SCANNER = pathlib.Path()
@@ -62,6 +69,43 @@ class Named(unittest.TestCase):
         ends = AllEnds(Head(comments=["02:00:00:00:00:01 is taken for the DTE and 02:00:00:00:00:02 for the DCE: the reactions of the DCE"]))
         self.assertEqual(ends.of(3, 9).hosts, ("02:00:00:00:00:01", "02:00:00:00:00:02"))
         self.assertEqual(ends.basis, "the reactions of the DCE")
+        for words, hosts in (
+            ("the recording host is taken for the DTE and the other host for the DCE: it recorded the packets", ("the recording host", "the other host")),
+            ("2 hosts are taken for the DTE and 192.0.2.9 for the DCE: --dte names it", (None, "192.0.2.9")),
+        ):
+            ends = AllEnds(Head(comments=[words]))
+            self.assertEqual((ends.line.hosts, ends.said, sides_of(ends)), (hosts, words, f"{words}."))
+        for words in ("the third host is taken for the DTE and b for the DCE: c", "a is taken for the DTE", f"{'a' * 65} is taken for the DTE and b for the DCE"):
+            self.assertEqual(AllEnds(Head(comments=[words])).line, UNKNOWN)
+
+
+class CutOff(unittest.TestCase):
+    """Calls whose connections ended without a clear."""
+
+    def test_peak(self):
+        peak = Peak()
+        for call in ((2, None, 10), (4, 20, None), (12, None, None), (14, 16, None), (None, None, 30), (18, None, 25)):
+            peak.add(*call)
+        # Without the first call, which was cut off, 4, 12 and 14 were up at once.
+        self.assertEqual(peak.lines([4, 14]), [3, 14, 3, 10])
+        self.assertEqual(peak.lines([2, 4]), [2, 4, 3, 10])
+        whole = Peak()
+        whole.add(2, None, None)
+        self.assertEqual(whole.lines([5, 9]), [5, 9])
+
+    def test_calls(self):
+        said = Said()
+        for channel in (1, 2, 3):
+            said.opened(channel)
+        for number in (1, 2, 3):
+            said.objects.append(dict.fromkeys(MEMBERS, 0) | {"line": "call", "call": number, "channel": number, "opened": 2 * number - 1,
+                                                             "up": 2 * number, "ended": None, "how": "open"})
+        circuits = [circuit(1, 1, 1), circuit(3, 2, 2), circuit(5, 3, 3)]
+        ended = replace(circuits[0], words=f"{circuits[0].words}; it ends in frame 3 without a clear")
+        facts = facts_of(said, ended, *circuits[1:])
+        self.assertEqual((facts.cut_off, facts.peak), ([[1, 3]], [1, 1, 1, 3]))
+        self.assertEqual([facts_of(said, *circuits).peak, facts_of(said, *circuits).cut_off], [[1, 1], []])
+        self.assertEqual(ends_of(ended.words).cut_off, 3)
 
 
 class Blamed(unittest.TestCase):
@@ -133,11 +177,29 @@ class Written(unittest.TestCase):
         self.assertTrue(self.facts("--dte", dte, CAPTURE)["sides"].endswith(": --dte names it."))
         self.assertEqual(self.facts(ROOT / "examples" / "seven-calls.trace")["sides"], "")
 
+    def test_sides_that_the_reading_exchanges(self):
+        """The reactions of the DCE decide: an option has the other host as the DTE."""
+        path = self.folder / "faults.pcap"
+        path.write_bytes(pcap(1, [ethernet(one) for one in faults()]))
+        facts = self.facts("--win", "2", "--size", "128", path)
+        dce = facts["side_hosts"][1][1][0][0]
+        self.assertEqual(facts["swapped"], f"x25page --dte {dce} --win 2 --size 128 faults.pcap")
+        self.assertTrue(facts["sides"].endswith(": the DCE answers 3 of 3 errors of the DTE, and 0 of 0 the other way."), facts["sides"])
+        self.assertEqual(self.facts("--dte", dce, path)["side_hosts"][0][1][0][0], dce)
+
     def test_summary(self):
         done = run("--scanner", SCANNER, "--summary", "--win", "7", GAP, cwd=self.folder)
         self.assertIn(b": The DTE (192.0.2.1) broke the protocol once, in what was recorded: 1 gap.\n", done.stdout)
         self.assertIn(b"\nfindings by host\n  DTE 192.0.2.1: 1 on 1 connection, first at frame ", done.stdout)
         self.assertIn(b"\n  192.0.2.1 is taken for the DTE and ", done.stdout)
+
+    def test_connection_that_ended_without_a_clear(self):
+        """The page names the frame at its call, and from where on the number of calls at once is not known."""
+        facts = self.facts("--win", "2", "--size", "128", CUT)
+        self.assertEqual((facts["cut_off"], facts["peak"]), ([[1, 8]], [1, 5, 1, 8]))
+        text = run("--scanner", SCANNER, "--summary", CUT, cwd=self.folder).stdout.decode()
+        self.assertIn("\n  not known from frame 8 on: the connections of 1 call ended without a clear\n", text)
+        self.assertIn(": their connections ended without a clear; first call 1\n", text)
 
     def test_not_proved(self):
         """What a program says of itself that is not the proved one is on the page and in the text, and nothing else is."""

@@ -246,6 +246,16 @@ class Doubts(unittest.TestCase):
         ):
             self.assertEqual(warnings(header, [], self.seen(rows)), [])
 
+    def test_sides_that_agree_better(self):
+        """A doubt about the header names --swap where the reactions of the DCE agree better with the sides exchanged."""
+        codes = [["1", "Invalid P(S)", "X.25", [3, 2], [(1, "call-1")] * 2, [0, 0]]]
+        comments = ["from day.pcap by x25trace", "the DCE answers 3 of 3 errors so, and 0 as they are: --swap exchanges them"]
+        *others, (sentence, name, values) = warnings(self.HEADER, codes, Reactions(Frames()), comments)
+        self.assertEqual((sentence, name, values), (
+            "The ends may be taken the wrong way round: the DCE answers 3 of 3 errors so, and 0 as they are. --swap exchanges them.", "", []))
+        self.assertEqual(others, warnings(self.HEADER, codes, Reactions(Frames())))
+        self.assertEqual(warnings(self.HEADER, [], Reactions(Frames()), comments), [])
+
     def test_both_sides(self):
         codes = [["39", "Packet too long", "", [5, 9], None], ["20", "", "", [5, 9], None], ["1", "", "", [9, 0], None]]
         (sentence, name, values), = warnings(self.HEADER, codes, Reactions(Frames()))

@@ -73,10 +73,12 @@ def report_complaints(page, report):
     wanted = {"packets": packets, "findings": findings, "calls": calls, "octets": octets, "segments": segments}
     pairs = [(words[1], words[3]) for words in report["F"]]
     counts = [[pairs.count((side, code)) for side in "TN"] for code, *_ in facts["codes"]]
+    # Where connections ended without a clear, fewer calls may have been up at once than the report has.
+    peak = facts["peak"]
     marks = [[str(packet), "TN"[side], code] for packet, side, _, code, *_ in facts["marks"]]
     compared = {
         "sums": (facts["sums"], wanted),
-        "peak": (words_of(facts["peak"]), report["P"][0]),
+        "peak": (words_of(peak[:2]), words_of(peak[:2]) if peak[2:] and peak[0] <= int(report["P"][0][0]) else report["P"][0]),
         "calls": ([words_of(call[:15]) for call in facts["calls"]], report["C"]),
         "settings": ([words_of(it) for it in facts["settings"]], report["S"]),
         "accounts": ([words_of(it) for it in facts["accounts"]], report["A"]),

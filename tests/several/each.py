@@ -5,11 +5,16 @@ import os
 import pathlib
 import signal
 import subprocess
+import sys
 import time
 
 import lists
 from lists import EXAMPLES, FILES, OVERLAPPING, PROGRAM, SECONDS, SEVEN, InFolder, Lists
 from pages import Page
+
+sys.path += [str(lists.ROOT / "tests" / "captures"), str(lists.ROOT / "tools")]
+
+from link_units import two_links  # noqa: E402
 
 OLD = "what stood there"
 NAMES = ("seven-calls.trace", "pad-setting.trace", "one-way-channels.trace")
@@ -54,6 +59,18 @@ class Each(InFolder):
         self.assertEqual(self.there("pages"), ["a.html", "day.html", "index.html"])
         self.assertIn(b"pages/index.html: 2 lines; 5 other files passed over, neither captures nor traces\n", done.stderr)
         self.assertEqual([line[0] for line in self.index()], ["in/mon/day.pcap", "in/tue/a.trace"])
+
+    def test_links(self):
+        """A capture with several links has a page for each, which is the one that its options give alone."""
+        (self.folder / "two.pcap").write_bytes(two_links())
+        done = self.page("--each", "two.pcap", SEVEN, "-o", "pages")
+        self.assertEqual(done.returncode, 0, done.stderr)
+        self.assertEqual(self.there("pages"), ["index.html", "seven-calls.html", "two-x25-3.html", "two-x25-7.html"])
+        self.assertEqual([line[0] for line in self.index()][:2], ["two.pcap (--only x25 --interface 3)", "two.pcap (--only x25 --interface 7)"])
+        self.assertIn(b"x25page: pages/index.html: 3 lines\n", done.stderr)
+        self.page("--only", "x25", "--interface", "7", "-o", "alone.html", "two.pcap")
+        self.assertEqual(Page(self.folder / "pages" / "two-x25-7.html").json, Page(self.folder / "alone.html").json)
+        self.assertEqual(Page(self.folder / "alone.html").facts["sums"]["packets"], 12)
 
     def test_hosts(self):
         """The index names the host of each side, or says how many there are."""

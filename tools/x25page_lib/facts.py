@@ -15,11 +15,12 @@ from .evenly import Evenly
 from .fast_path import FastPath
 from .found import Findings
 from .ladders import Flowing, Ladders
+from .peaks import Peak
 from .reactions import Reactions
 from .rows import SECOND, SIDES, Missing, Row, RowForms, in_seconds, microseconds
 from .texts import encoded
 from .unjudged import UnjudgedCalls
-from .use import UNRECORDED, Use
+from .use import CUT_OFF, UNRECORDED, Use
 from .verdicts import Verdict, of_halves, verdict_of
 
 # The bytes that a page may have, and its markup, its words and its other parts; its ladders may have the rest.
@@ -139,7 +140,10 @@ class Facts:
         self.found_channels = Budgeted(CHANNELS)
         self.not_counted: list[list[Any]] = []
         self.sums: dict[str, int] = {}
+        # The report's peak, and that of the calls where connections of some ended without a clear.
         self.peak: list[int] = []
+        self.calls_up = Peak() if self.ends.are_cut_off else None
+        self.cut_off: list[list[int]] = []
         self.last_calls: dict[int | None, LastCall] = {}
         self.channels: set[int] = set()
         self.first, self.last, self.begun_calls, self.call_text, self.frame_text = 0, 0, 0, "", ""
@@ -166,6 +170,8 @@ class Facts:
     def finish(self) -> None:
         """Ends the facts after the last object: the ladders may use the bytes that other parts of the page leave."""
         self.fast_path.settle()
+        if self.calls_up:
+            self.peak = self.calls_up.lines(self.peak)
         self.use.finish()
         self.reactions.finish()
         self.call_text = self.calls.text()
@@ -332,7 +338,13 @@ class Facts:
         is_unrecorded = bool(side and it["how"] in SIDES and it["how"] != side)
         if is_unrecorded:
             self.unrecorded_ends.append(it["call"])
-        self.use.causes.add(it | {"how": UNRECORDED} if is_unrecorded else it)
+        cut_off = self.ends.of(it["channel"], it["opened"]).cut_off if self.calls_up and it["how"] == "open" else None
+        if self.calls_up:
+            self.calls_up.add(it["up"], it["ended"], cut_off)
+        if cut_off is not None:
+            self.cut_off.append([it["call"], cut_off])
+        how = UNRECORDED if is_unrecorded else it["how"] if cut_off is None else CUT_OFF
+        self.use.causes.add(it | {"how": how})
         self.calls.add(it)
 
     def call_facts(self, it: dict[str, Any]) -> None:

@@ -12,21 +12,23 @@ from dataclasses import dataclass
 from typing import BinaryIO
 
 from x25tools_lib.ledger import Ledger
-from x25tools_lib.notes import Head
+from x25tools_lib.notes import Head, ends_text
 from x25tools_lib.streams import Waiting, title_of
 from x25trace_lib.captures import is_trace
 from x25trace_lib.passing import HEADER
 from x25trace_lib.source import first_source
 
 from . import inputs
-from .ends import AllEnds
+from .ends import OTHER, RECORDER, AllEnds
 from .facts import Facts
 from .scanner import Explained, Scanner, Watch
-from .suspicions import Again, number
+from .suspicions import Again
 from .words import line_with, of_captures, parser
 
 # The options of the numbers for which a page may suggest other values.
 OPTIONS = {"WIN": "--win", "SIZE": "--size"}
+# The options that have a host as the DTE.
+BY_DIRECTION = {RECORDER: "--side direction ", OTHER: "--side direction --swap "}
 
 
 def say(words: object) -> None:
@@ -130,26 +132,26 @@ def again(words: argparse.Namespace, arguments: Sequence[str], messages: Message
     return f"<(gzip -dc {shown_trace})" if messages.is_packed else shown_trace
 
 
-def swapped(words: argparse.Namespace, reading: Again) -> str:
+def swapped(job: Job, reading: Again, ends: AllEnds) -> str:
     """The command that reads the same captures with the sides exchanged; nothing for a trace, which has its sides."""
     if isinstance(reading, str):
         return ""
-    return f"x25page {line_with(shlex.split(reading['all']), flags=('--swap',)) if words.swap else '--swap ' + reading['all']}"
+    option = "" if "--swap" in job.arguments else "--swap "
+    if job.words.swap and option:
+        # The reading exchanged the sides by itself.
+        others = list(ends.hosts()[1])
+        if len(others) != 1:
+            return ""
+        option = BY_DIRECTION.get(others[0], f"--dte {others[0]} ")
+    return f"x25page {option}{line_with(shlex.split(reading['all']), flags=('--swap',))}"
 
 
-def sides_of(words: argparse.Namespace, ends: AllEnds, messages: Messages) -> str:
+def sides_of(ends: AllEnds) -> str:
     """Which ends are taken for the DTE and the DCE, and on what that rests, in a sentence; nothing where none is known."""
+    if ends.basis:
+        return f"{ends.said}."
     dte, dce = ends.hosts()
-    if not dte or not dce:
-        return ""
-    names = [next(iter(it)) if len(it) == 1 else f"{number(len(it), 'host')}" for it in (dte, dce)]
-    taken = f"{names[0]} {'is' if len(dte) == 1 else 'are'} taken for the DTE and {names[1]} for the DCE"
-    if ends.basis or not messages.is_capture:
-        return f"{taken}: {ends.basis}." if ends.basis else f"{taken}, as the trace says."
-    basis = "--dte names it" if words.dte else "the DTE opened the connection"
-    if words.swap:
-        basis = "--swap exchanges the ends" if words.dte else "--swap exchanges the ends, and the DCE opened the connection"
-    return f"{taken}: {basis}."
+    return f"{ends_text(list(dte), list(dce))}, as the trace says." if dte and dce else ""
 
 
 def read(job: Job, messages: Messages, watch: Watch | None = None) -> Read:
@@ -165,5 +167,5 @@ def read(job: Job, messages: Messages, watch: Watch | None = None) -> Read:
         facts.use.begin(*(int(head.numbers.get(name) or standard) for name, standard in (("WIN", 2), ("MOD", 8))))
         scanner.report(facts, trace, watch)
     words_again = again(words, job.arguments, messages)
-    return Read(title_of(words.captures), head, facts, messages, explanations, words_again, sides_of(words, facts.ends, messages),
-                swapped(words, words_again), scanner.not_proved())
+    return Read(title_of(words.captures), head, facts, messages, explanations, words_again, sides_of(facts.ends),
+                swapped(job, words_again, facts.ends), scanner.not_proved())

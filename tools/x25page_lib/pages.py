@@ -66,7 +66,7 @@ class Page:
         facts, head, codes = self.read.facts, self.read.head, self.read.facts.found.codes()
         verdict = facts.verdict()
         # Where only half was recorded, the header cannot be judged.
-        self.warnings = [] if facts.halves else warnings(head.numbers, codes, facts.reactions)
+        self.warnings = [] if facts.halves else warnings(head.numbers, codes, facts.reactions, head.comments)
         return {
             "name": self.read.name,
             "again": self.read.again,
@@ -92,6 +92,8 @@ class Page:
             "doubts": facts.doubts(),
             "unjudged": facts.unjudged.lines(),
             "unrecorded_ends": facts.unrecorded_ends,
+            # The calls whose connections ended without a clear, each with the frame.
+            "cut_off": facts.cut_off,
             "warnings": self.warnings,
             "not_counted": facts.not_counted,
             "rows": [facts.first, facts.last],

@@ -9,9 +9,10 @@ import pathlib
 import signal
 from collections.abc import Iterable, Iterator
 from dataclasses import dataclass, replace
+from itertools import chain
 
 from x25tools_lib.options import Status
-from x25tools_lib.refusals import PageWhy, Refusal, Why
+from x25tools_lib.refusals import Link, PageWhy, Refusal, Why
 from x25tools_lib.streams import Waiting, is_pipe, stem_of
 from x25trace_lib.captures import BINARY, is_trace
 from x25trace_lib.hexdump import is_dump
@@ -62,18 +63,14 @@ def without_repeats(found: Iterable[Input]) -> list[Input]:
     return list(kept.values())
 
 
-def names_of(found: Iterable[Input]) -> dict[Input, str]:
-    """The name of the page of each input; where two inputs have one name, the later page gets a number."""
-    taken, names = {INDEX}, {}
-    for one in found:
-        stem, number = stem_of(one.path), 1
-        name = f"{stem}.html"
-        while name in taken:
-            number += 1
-            name = f"{stem}-{number}.html"
-        taken.add(name)
-        names[one] = name
-    return names
+def free_name(stem: str, taken: set[str]) -> str:
+    """The name of a page; where it is taken, with a number."""
+    name, number = f"{stem}.html", 1
+    while name in taken:
+        number += 1
+        name = f"{stem}-{number}.html"
+    taken.add(name)
+    return name
 
 
 def is_foreign(one: Input, job: Job, folder: pathlib.Path) -> bool:
@@ -93,11 +90,15 @@ def is_foreign(one: Input, job: Job, folder: pathlib.Path) -> bool:
     return not start.startswith(BINARY) and not (is_kind_given and is_dump(start))
 
 
-def job_of(job: Job, path: str) -> Job:
-    """The job of one input."""
+def job_of(job: Job, path: str, link: Link | None = None) -> Job:
+    """The job of one input, or of one link in it."""
     words = copy.copy(job.words)
     words.captures = [path]
     rest = [it for it in job.arguments if it != "--each" and it not in job.words.captures]
+    if link:
+        words.only = link.carrier
+        words.interface = words.interface if link.interface is None else [link.interface]
+        rest += link.options
     return replace(job, words=words, arguments=[*rest, path], waiting=Waiting())
 
 
@@ -113,8 +114,8 @@ def line_of(page: Page, path: str, name: str) -> Line:
     return Line(path, name, facts.verdict(), sides, facts.sums, facts.gaps.seen, header, notes)
 
 
-def write_page(job: Job, one: Input, place: pathlib.Path) -> Outcome:
-    """Writes the page of an input."""
+def write_page(job: Job, path: str, place: pathlib.Path) -> Outcome:
+    """Writes the page of a job; the path is that of its line in the index."""
     waiting = job.waiting
     waiting.handle(signal.SIGINT)
     messages = Messages(None)
@@ -122,20 +123,35 @@ def write_page(job: Job, one: Input, place: pathlib.Path) -> Outcome:
     with written(place) as out:
         for part in page.parts():
             out.write(part)
-    line = line_of(page, one.path, place.name)
-    job.say(f"{one.path}: {place}: {page.summary()}")
+    line = line_of(page, path, place.name)
+    job.say(f"{path}: {place}: {page.summary()}")
     if waiting.interrupted:
         return Outcome(line, Status.INTERRUPTED)
     return Outcome(line, Status.WHOLE if messages.whole else Status.DAMAGED)
 
 
-def outcome_of(job: Job, one: Input, place: pathlib.Path) -> Outcome:
-    """Writes the page of an input, or prints why there is none."""
+def outcome_of(job: Job, one: Input, place: pathlib.Path, link: Link | None = None) -> Outcome:
+    """Writes the page of an input, or of a link in it, or prints why there is none. Raises the refusal of several links."""
+    path = one.path if link is None else f"{one.path} ({' '.join(link.options)})"
     try:
-        return write_page(job_of(job, one.path), one, checked(place, [one.path], job.words.is_forced))
+        return write_page(job_of(job, one.path, link), path, checked(place, [one.path], job.words.is_forced))
     except Refusal as refusal:
-        say(f"{one.path}: {refusal}")
-        return Outcome(Line.refused(one.path, str(refusal)), Status.REFUSED)
+        if refusal.links and link is None:
+            raise
+        say(f"{path}: {refusal}")
+        return Outcome(Line.refused(path, str(refusal)), Status.REFUSED)
+
+
+def outcomes_of(job: Job, one: Input, folder: pathlib.Path, taken: set[str]) -> Iterator[Outcome]:
+    """Writes the page of an input, or one for each link in it."""
+    stem = stem_of(one.path)
+    name = free_name(stem, taken)
+    try:
+        yield outcome_of(job, one, folder / name)
+    except Refusal as refusal:
+        taken.discard(name)
+        for link in refusal.links:
+            yield outcome_of(job, one, folder / free_name(f"{stem}-{link.name}", taken), link)
 
 
 def folder_of(words: argparse.Namespace) -> pathlib.Path:
@@ -152,11 +168,11 @@ def run(job: Job) -> Status:
     folder = folder_of(job.words)
     every = without_repeats(inputs_of(job.words.captures))
     found = [it for it in every if not it.is_in_folder or not is_foreign(it, job, folder)]
-    outcomes = []
-    for one, name in names_of(found).items():
-        outcomes.append(outcome_of(job, one, folder / name))
+    outcomes, taken = list[Outcome](), {INDEX}
+    for outcome in chain.from_iterable(outcomes_of(job, one, folder, taken) for one in found):
+        outcomes.append(outcome)
         gc.collect()
-        if outcomes[-1].status is Status.INTERRUPTED:
+        if outcome.status is Status.INTERRUPTED:
             break
     lines = [it.line for it in outcomes]
     if not any(line.page for line in lines):

@@ -5,7 +5,7 @@ import datetime
 
 from .gathering import Read
 from .suspicions import number, warnings
-from .use import UNRECORDED
+from .use import CUT_OFF, UNRECORDED
 from .verdicts import NAMES, times
 from .waits import ANSWERED, GIVEN_UP, OPEN, RESTARTED
 
@@ -16,7 +16,8 @@ MINUTE = 60
 ENDS = {ANSWERED: "answered late", GIVEN_UP: "no answer: the sender ended it", RESTARTED: "no answer: a restart ended it",
         OPEN: "no answer to the end of the trace"}
 WAYS = {"T": "cleared by the DTE", "N": "cleared by the DCE", "collision": "clear collision", "restart": "ended by a restart",
-        "gap": "a gap hides how they ended", "open": "open at the end of the trace", UNRECORDED: "how they ended was not recorded"}
+        "gap": "a gap hides how they ended", "open": "open at the end of the trace", UNRECORDED: "how they ended was not recorded",
+        CUT_OFF: "their connections ended without a clear"}
 
 
 def decimals(value: float, most: int) -> str:
@@ -71,11 +72,13 @@ class Summary:
         span = facts.times.span()
         if span:
             lines.append(f"  in {length(span[1] - span[0])}, from {moment(span[0])}")
-        many, packet = facts.peak
+        many, packet, *unknown = facts.peak
         lines += [f"  {number(many, 'call')} at once at most, first at {self.named(packet)}"] if packet else []
+        if unknown:
+            lines.append(f"  not known from frame {unknown[1]:,} on: the connections of {number(unknown[0], 'call')} ended without a clear")
         lost = sum(it[1] for it in facts.not_counted)
         lines += [f"  {number(lost, 'data packet')} not counted"] if lost else []
-        doubts = [] if facts.halves else warnings(self.head.numbers, facts.found.codes(), facts.reactions)
+        doubts = [] if facts.halves else warnings(self.head.numbers, facts.found.codes(), facts.reactions, self.head.comments)
         return lines + [f"  the header may be wrong: {sentence}" for sentence, *_ in doubts]
 
     def findings(self) -> list[str]:

@@ -1,8 +1,10 @@
 """What makes a header doubtful: errors of both sides, errors that the DCE ignored, and errors that only the DCE reports."""
 from __future__ import annotations
 
-from collections.abc import Iterator
+from collections.abc import Iterable, Iterator
 from typing import Any
+
+from x25tools_lib.notes import SWAP
 
 from .reactions import Reactions
 
@@ -90,8 +92,18 @@ def trial(again: Again) -> str:
     return f"{tried} {again}" if isinstance(again, str) else f"x25trace {again['all']} | {tried}"
 
 
-def warnings(header: Numbers, codes: list[list[Any]], reactions: Reactions) -> list[list[Any]]:
-    """Each doubt in a sentence, with the number of the header that may be wrong and values to try."""
+def of_sides(comments: Iterable[str]) -> Iterator[str]:
+    """The sentence on sides that agree better with the reactions of the DCE."""
+    for words in comments:
+        if words.endswith(SWAP):
+            yield f"The ends may be taken the wrong way round: {words.removesuffix(SWAP)}. --swap exchanges them."
+
+
+def warnings(
+    header: Numbers, codes: list[list[Any]], reactions: Reactions, comments: Iterable[str] = (),
+) -> list[list[Any]]:
+    """Each doubt in a sentence, with the number of the header that may be wrong and values to try; the last one is of the sides."""
     found = [*of_both_sides(header, codes), *of_debts(reactions)]
     doubts = [[sentence, name, greater(header, name)] for name, sentence in found]
-    return doubts + [[sentence, name, smaller(header, name)] for name, sentence in of_unseen(header, reactions)]
+    doubts += [[sentence, name, smaller(header, name)] for name, sentence in of_unseen(header, reactions)]
+    return doubts and doubts + [[sentence, "", []] for sentence in of_sides(comments)]

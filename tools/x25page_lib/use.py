@@ -15,8 +15,8 @@ SEGMENT, SMALL = 64, 32
 STEPS = (1, 5, 15, 60, 300, 900, 3600, 14_400, 86_400, 604_800)
 MOST_PARTS = 480
 # How a call ended whose last packet was not recorded.
-UNRECORDED = "not recorded"
-WAYS = ("T", "N", "collision", "restart", "gap", "open", UNRECORDED)
+UNRECORDED, CUT_OFF = "not recorded", "connection ended without a clear"
+WAYS = ("T", "N", "collision", "restart", "gap", "open", UNRECORDED, CUT_OFF)
 DATA_TRANSFER = frozenset(("data", "rr", "rnr"))
 
 

@@ -15,6 +15,8 @@ MOST_CIRCUITS = 2000
 ESTIMATED = "estimated from what was seen: "
 # How the comment with the time and the frame of the next row begins.
 RECORDED_AT = "#@ "
+# How a comment ends that says what speaks for the sides exchanged.
+SWAP = ": --swap exchanges them"
 RECORDED = {"T": "only the DTE was recorded", "N": "only the DCE was recorded"}
 # The most ranges of connections in a sentence.
 MOST_RUNS = 20
@@ -136,9 +138,21 @@ def estimates_of(words: str) -> list[Estimate]:
     return found
 
 
+def ends_text(dte: Sequence[str], dce: Sequence[str], basis: str = "") -> str:
+    """The comment on the ends of an interface: the host of each side, or the number of its hosts, and on what that rests."""
+    names = [side[0] if len(side) == 1 else f"{len(side):,} hosts" for side in (dte, dce)]
+    words = f"{names[0]} {'is' if len(dte) == 1 else 'are'} taken for the DTE and {names[1]} for the DCE"
+    return f"{words}: {basis}" if basis else words
+
+
 def circuit_text(connection: int, channel: int | None, rest: str) -> str:
     """The comment on the circuit of a connection."""
     return f"connection {connection} is channel {channel}{rest}"
+
+
+def cut_off_text(frame: int) -> str:
+    """The end of the comment on a circuit whose connection ended before its call was cleared."""
+    return f"it ends in frame {frame} without a clear"
 
 
 def channel_of_circuit(words: str) -> int | None:

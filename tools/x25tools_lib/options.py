@@ -130,7 +130,8 @@ def side_words(group: argparse._ArgumentGroup) -> None:
                        help="the side that sends the packets recorded by an interface, or from a link address; may be "
                        "repeated")
     group.add_argument("--swap", action="store_true",
-                       help="exchange the sides: the recording host is the DCE")
+                       help="exchange the sides: the recording host, or the end that opened the link or the connection, is "
+                       "the DCE")
 
 
 def header_words(group: argparse._ArgumentGroup) -> None:

@@ -1,6 +1,7 @@
 """The header of a trace, from options or from what was seen."""
 from __future__ import annotations
 
+from collections import Counter
 from dataclasses import dataclass, field
 
 from x25tools_lib.header import LARGEST_SIZE, LAST_CHANNEL, SMALLEST_SIZE, Header, Wishes
@@ -16,6 +17,8 @@ STANDARD_SIZE = 128
 STANDARD_WINDOW = 2
 # The cause of a local procedure error.
 LOCAL_ERRORS: dict[int, int] = {Type.RESET: 5, Type.CLEAR: 19}
+# The diagnostic of a packet that is too long.
+TOO_LONG = 39
 # RR, RNR and REJ, without their numbers.
 FLOW = frozenset((1, 5, 9))
 
@@ -30,6 +33,8 @@ class Seen:
     edges: dict[Side, int | None]
     flows: bool = True
     agreed: set[int] = field(default_factory=set)
+    # The longest user data of each side since data flows, where the call agreed on no packet size.
+    longest: dict[Side, int] = field(default_factory=dict)
 
 
 class Estimator:
@@ -38,7 +43,9 @@ class Estimator:
     def __init__(self) -> None:
         self.moduli: dict[int | None, int] = {8: 0, 128: 0, None: 0}
         self.seen: dict[int, Seen] = {}
-        self.largest = 0
+        # The user data of each length that may show the packet size, and those that the DCE calls too long.
+        self.lengths: Counter[int] = Counter()
+        self.refused: Counter[int] = Counter()
         self.most = 0
         self.restarted = False
         # Whether a reset or a clear says that the other side made an error.
@@ -74,7 +81,10 @@ class Estimator:
             if modulus == 8 or len(octets) >= 4:
                 seen.edges[side.other] = kind >> 5 if modulus == 8 else octets[3] >> 1
         else:
-            self.has_reactions |= len(octets) > 3 and LOCAL_ERRORS.get(kind) == octets[3]
+            if len(octets) > 3 and LOCAL_ERRORS.get(kind) == octets[3]:
+                self.has_reactions = True
+                if octets[4:5] == bytes((TOO_LONG,)) and seen.longest.get(side.other):
+                    self.refused[seen.longest[side.other]] += 1
             self.signal(seen, kind, octets)
 
     def forget(self, circuit: Circuit) -> None:
@@ -93,6 +103,7 @@ class Estimator:
         for seen in self.seen.values() if key is None else filter(None, (self.seen.get(key),)):
             seen.flows = True
             seen.edges = dict.fromkeys(Side)
+            seen.longest.clear()
 
     def restart(self, kind: int) -> None:
         if kind == Type.RESTART:
@@ -112,8 +123,10 @@ class Estimator:
         if size < 0 or not seen.flows:
             return
         seen.edges[side.other] = octets[2] >> 5 if modulus == 8 else octets[3] >> 1
-        if size > self.largest and PACKET_SIZES not in seen.agreed:
-            self.largest = size
+        if PACKET_SIZES not in seen.agreed:
+            self.lengths[size] += 1
+            if size > seen.longest.get(side, 0):
+                seen.longest[side] = size
         send = octets[2] >> 1 & 7 if modulus == 8 else octets[2] >> 1
         edge = seen.edges[side]
         if edge is not None and (send - edge) % modulus >= self.most and WINDOWS not in seen.agreed:
@@ -135,6 +148,7 @@ class Estimator:
             seen.flows = True
         if kind in (Type.CALL, Type.ACCEPTED, Type.CLEAR, Type.RESET, Type.RESET_CONFIRM):
             seen.edges = dict.fromkeys(Side, 0)
+            seen.longest.clear()
 
     @property
     def modulus(self) -> int:
@@ -145,16 +159,31 @@ class Estimator:
         return min(self.most, self.modulus - 1) or STANDARD_WINDOW
 
     @property
+    def largest(self) -> int:
+        """The largest user data."""
+        return max(self.lengths, default=0)
+
+    @property
+    def sizes(self) -> range:
+        """The packet sizes with which what the DCE calls too long is too long, and no other data; there may be none."""
+        kept = max((length for length, many in self.lengths.items() if many > self.refused[length]), default=0)
+        return range(size_for(kept), min(self.refused, default=0))
+
+    @property
     def size(self) -> int:
-        if not self.largest:
-            return STANDARD_SIZE
-        return min(max(SMALLEST_SIZE, 1 << (self.largest - 1).bit_length()), LARGEST_SIZE)
+        """The smallest packet size for all data, except for what the DCE calls too long."""
+        return self.sizes[0] if self.sizes else size_for(self.largest) if self.largest else STANDARD_SIZE
 
     @property
     def permanent(self) -> int:
         """The last channel with data after a restart and without a call, below all channels with calls."""
         first_call = min(self.with_calls, default=LAST_CHANNEL + 1)
         return max((channel for channel in self.with_data if channel < first_call), default=0)
+
+
+def size_for(length: int) -> int:
+    """The smallest packet size for user data of a length."""
+    return min(max(SMALLEST_SIZE, 1 << (length - 1).bit_length()), LARGEST_SIZE)
 
 
 def header_of(wishes: Wishes, estimator: Estimator, permanent: int, highest: int, join: bool, has_gaps: bool) -> Header:

@@ -81,14 +81,18 @@ def largest(seen: dict[str, int], why: str) -> Evidence:
     return Evidence(seen, dict.fromkeys(seen, Basis.LARGEST), why=why)
 
 
-def ranked_first(ranking: Sequence[Tried], header: Header, seen: dict[str, int], is_whole: bool) -> Evidence:
-    """The evidence of the header that ranks first of those that have the numbers that were not seen.
+def ranked_first(
+    ranking: Sequence[Tried], header: Header, seen: dict[str, int], is_whole: bool, sizes: range = range(0),
+) -> Evidence:
+    """The evidence of the header that ranks first of those that have the numbers that were not seen, and one of some sizes.
 
     A ranking of only the first rows guesses nothing: a number that it does not decide is the largest seen.
     """
     others = {"MOD": header.modulus, "WIN": header.window, "SIZE": header.size}
     fixed = {name: value for name, value in others.items() if name not in seen}
     candidates = [it for it in ranking if fixed.items() <= it.numbers.items()]
+    if "SIZE" in seen:
+        candidates = [it for it in candidates if it.numbers["SIZE"] in sizes] or candidates
     if not candidates:
         return largest(seen, NONE_TRIED)
     best, undecided = best_of(candidates, others), Basis.GUESS if is_whole else Basis.LARGEST

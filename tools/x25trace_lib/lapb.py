@@ -19,8 +19,8 @@ from x25tools_lib.ledger import Ledger, Reason, Topic
 from x25tools_lib.sides import Side
 
 from .frames import Frame
-from .link_ends import COMMAND_SIDES, RESPONSE_SIDES, Ends
-from .packets import Item, Missing, Packet, left_out
+from .link_ends import COMMAND_SIDES, RESPONSE_SIDES, Ends, Opening
+from .packets import Item, Missing, Packet, Type, left_out
 
 POLL = 0x10
 REJECT = 0x09
@@ -28,6 +28,8 @@ SUPERVISORY = (0x01, 0x05, REJECT)
 # The octets of a frame reject, modulo 8 and modulo 128.
 REJECTED = (5, 7)
 FLAG = b"\x7e"
+# The packets that show which end opened the link.
+OPENINGS = {bytes((Type.RESTART,)): Opening.RESTART, bytes((Type.CALL,)): Opening.CALL}
 
 
 class Unnumbered(enum.IntEnum):
@@ -115,6 +117,8 @@ class Way:
     """One direction of the link: the N(S) that comes next, the last N(R) for it, and the frames held."""
 
     next: int | None = None
+    # The frame that brought the last accepted N(S), or the one that showed that it was accepted.
+    last: int | None = None
     acknowledged: int | None = None
     held: dict[int, Held] = field(default_factory=dict)
     # Whether a frame of the sender was recorded, and whether some of its I frames surely were not.
@@ -199,17 +203,19 @@ class Lapb:
         side = self.side(frame, address, kind in COMMANDS)
         self.ways[side].is_seen = True
         self.ledger.report(Topic.LINK_FRAME, f"frame {frame.number}: {NAMES[kind]} of {self.named(side).name}")
+        if kind in (Unnumbered.SABM, Unnumbered.SABME):
+            self.ends.opens(Opening.LINK, side)
         if kind in (Unnumbered.SABM, Unnumbered.SABME) and self.given is None:
             self.modulus = self.circle = 8 if kind == Unnumbered.SABM else 128
         if kind not in (Unnumbered.SABM, Unnumbered.SABME, Unnumbered.UA):
             return ()
-        is_held = any(way.held for way in self.ways.values())
+        gaps = [self.gap(frame.number, frame.time, way.last) for way in self.ways.values() if way.held]
         for way in self.ways.values():
             self.drop_held(way)
-            way.next = way.acknowledged = 0
+            way.next, way.acknowledged, way.last = 0, 0, frame.number
             way.sent.clear()
-            way.is_set_up = True
-        return [self.gap(frame.number, frame.time)] if is_held else ()
+            way.is_set_up, way.is_rejected = True, False
+        return gaps
 
     def supervisory(self, frame: Frame, octets: bytes, receive: int, final: int) -> Sequence[Item]:
         """Reads an RR, RNR or REJ. Where it may be a command or a response, it proves no loss."""
@@ -264,22 +270,23 @@ class Lapb:
             else:
                 # A gap of the other side between two held frames is kept between them.
                 if is_missing or packet.gaps > before:
-                    items.append(self.gap(packet.frame, packet.time))
+                    items.append(self.gap(packet.frame, packet.time, way.last))
                 items += self.given_out(packet)
-                is_missing, before = False, packet.gaps
+                is_missing, before, way.last = False, packet.gaps, packet.frame
             way.next = (way.following + 1) % self.circle
         way.acknowledged = receive
         if lost:
             self.lose(frame, side, receive, lost)
         way.is_doubtful &= bool(way.held)
         if is_missing or is_doubtful:
-            items.append(self.gap(frame.number, frame.time))
+            items.append(self.gap(frame.number, frame.time, way.last))
+        way.last = frame.number
         return items
 
-    def gap(self, frame: int, time: int | None) -> Missing:
-        """A gap of all channels."""
+    def gap(self, frame: int, time: int | None, since: int | None = None) -> Missing:
+        """A gap of all channels, of packets that a side sent after a frame."""
         self.gaps += 1
-        return Missing(frame, time)
+        return Missing(frame, time, since=since)
 
     def lose(self, frame: Frame, side: Side, receive: int, lost: int) -> None:
         """Reports frames of a side that were not recorded."""
@@ -309,11 +316,11 @@ class Lapb:
             return packets
         if way.held:
             # The held frames were refused, or accepted, or a whole modulus of frames has passed since them.
-            packets = (*packets, self.gap(packet.frame, packet.time))
+            packets = (*packets, self.gap(packet.frame, packet.time, way.last))
             way.is_doubtful = True
             # A held one with this number and another packet is no longer waited for.
             self.ledger.left_out(Reason.UNTAKEN_FRAME, int(way.held.pop(send, None) is not None))
-        way.next = (send + 1) % self.circle
+        way.next, way.last = (send + 1) % self.circle, packet.frame
         return [*packets, *self.given_out(packet)] if packets else self.given_out(packet)
 
     def reaches(self, way: Way, send: int) -> bool:
@@ -381,6 +388,9 @@ class Lapb:
             self.ledger.damaged(Reason.CUT_PACKET, words)
             self.gaps += 1
             return (left_out(packet.frame, packet.time, packet.octets),)
+        how = OPENINGS.get(packet.octets[2:3])
+        if how and how not in self.ends.openers:
+            self.ends.opens(how, self.named(packet.side))
         return (Packet(packet.frame, packet.side, packet.octets, None, packet.time),)
 
     def end(self) -> None:

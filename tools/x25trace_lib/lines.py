@@ -7,6 +7,7 @@ from dataclasses import dataclass, field
 from itertools import combinations
 
 from x25tools_lib.choices import Carrier
+from x25tools_lib.refusals import Link
 from x25tools_lib.sides import Side
 
 from .beginning import Beginning
@@ -39,9 +40,14 @@ class Line:
     beginning: Beginning = field(default_factory=Beginning)
 
     @property
+    def link(self) -> Link:
+        """What reads this link alone."""
+        return Link(self.carrier.value, self.device)
+
+    @property
     def options(self) -> str:
         """The options that read this link alone."""
-        return f"--only {self.carrier.value}" + ("" if self.device is None else f" --interface {self.device}")
+        return " ".join(self.link.options)
 
     @property
     def place(self) -> str:

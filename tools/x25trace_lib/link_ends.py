@@ -1,6 +1,7 @@
 """Which end of a LAPB link sent a frame: by its address octet, its direction, or the source address of its link header."""
 from __future__ import annotations
 
+import enum
 from collections.abc import Mapping
 
 from x25tools_lib.choices import SideBy
@@ -17,6 +18,16 @@ Source = Direction | bytes
 
 # Of so many link addresses a refusal knows.
 MOST_SEEN = 64
+
+
+class Opening(enum.Enum):
+    """What shows which end opened a link, the strongest first."""
+
+    LINK = "opened the link"
+    RESTART = "sent the first restart"
+    CALL = "made the first call"
+
+    __hash__ = object.__hash__
 
 
 def link_text(address: bytes) -> str:
@@ -44,6 +55,8 @@ class Ends:
         if self.side_by is SideBy.DIRECTION:
             host = Side.N if swapped else Side.T
             self.sides = {Direction.SENT: host, Direction.RECEIVED: host.other}
+        # The end that opened the link, by each thing that shows it.
+        self.openers: dict[Opening, Side] = {}
         # Whether a source sent as both ends, and how many frames contradict their source.
         self.is_mixed = False
         self.contradictions = 0
@@ -51,7 +64,16 @@ class Ends:
     @property
     def is_guess(self) -> bool:
         """Whether both ends have one address, and no option says which one is the DTE."""
-        return self.by_source and self.side_by is None
+        return self.by_source and self.side_by is not SideBy.DIRECTION and not self.stations
+
+    def opens(self, how: Opening, side: Side) -> None:
+        """Notes the end that was the first to do so."""
+        self.openers.setdefault(how, side)
+
+    @property
+    def opener(self) -> tuple[str, Side] | None:
+        """What the end that opened the link did, and which one it is; None where nothing shows it."""
+        return next(((how.value, self.openers[how]) for how in Opening if how in self.openers), None)
 
     def named(self, side: Side) -> Side:
         """The side of a trace that an end has, and the end that a side of a trace is."""

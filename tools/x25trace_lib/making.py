@@ -5,13 +5,15 @@ import argparse
 import contextlib
 import tempfile
 from collections.abc import Iterator, Sequence
+from dataclasses import dataclass
 from typing import IO
 
 from x25tools_lib.ledger import Ledger, Topic
-from x25tools_lib.notes import Head
+from x25tools_lib.notes import SWAP, Head
 from x25tools_lib.options import chosen
 from x25tools_lib.refusals import Refusal
 from x25tools_lib.scanner import built
+from x25tools_lib.sides import Side
 from x25tools_lib.streams import Waiting, is_pipe, title_of
 
 from .captures import Captures
@@ -32,25 +34,33 @@ def gathered(
 ) -> Trace:
     """What the trace of the named captures is made of; the first one may be open, and looked at.
 
-    Where no option says which end is the DTE, and the reactions of the DCE decide for the other one, files are read again.
+    Where no option says which end is the DTE, and the reactions of the DCE decide for the other one, or it opened the link,
+    files are read again. Where the address octets of a link say it, the reactions give a message alone.
     """
-    if not is_guess(words):
-        return read_once(words, ledger, waiting, has_comments, first)
     say, held = ledger.say, list[str]()
     ledger.say = held.append
+
+    def again() -> bool:
+        """Forgets the first reading, where the captures can be read again."""
+        if waiting.is_over or any(name == "-" or is_pipe(name) for name in words.captures):
+            return False
+        held.clear()
+        ledger.begin_again()
+        return True
+
     try:
         trace = read_once(words, ledger, waiting, has_comments, first)
-        better = better_sides(trace)
-        if better and not waiting.is_over and all(name != "-" and not is_pipe(name) for name in words.captures):
-            held.clear()
-            ledger.begin_again()
-            words.swap = True
-            trace = read_once(words, ledger, waiting, has_comments)
-            better += ", so the sides are exchanged; --dte or --sender say otherwise"
-        elif better:
-            better += ": --swap exchanges them"
-        if better:
-            ledger.report(Topic.SIDES, better)
+        if has_parts := bool(trace.reading.parts) and again():
+            trace = read_once(words, ledger, waiting, has_comments, has_parts=True)
+        case = other_way(trace, words.swap) if is_guess(words) else None
+        if case and trace.is_guess and again():
+            words.swap = not words.swap
+            trace = read_once(words, ledger, waiting, has_comments, has_parts=has_parts)
+            trace.basis = case.basis
+            if case.after:
+                ledger.report(Topic.SIDES, f"{case.message}{case.after}")
+        elif case:
+            trace.doubt = f"{case.message}{SWAP}"
     finally:
         ledger.say = say
         for message in held:
@@ -58,25 +68,41 @@ def gathered(
     return trace
 
 
-def better_sides(trace: Trace) -> str:
-    """What speaks for the other sides, where the reactions of the DCE decide for them."""
+@dataclass(frozen=True)
+class Case:
+    """What speaks for the other sides, on what they rest then, and how the message ends where they are taken for that."""
+
+    message: str
+    basis: str
+    after: str = ""
+
+
+def other_way(trace: Trace, is_swapped: bool) -> Case | None:
+    """What speaks for the other sides: the reactions of the DCE, or the end that opened the link, which --swap exchanges."""
     try:
-        tried = trace.other_sides()
+        tried = None if is_swapped else trace.other_sides()
+        opener = trace.opener
     except Refusal:
-        return ""
-    if tried is None or not is_better(tried[1], tried[0]):
-        return ""
-    own, other = (f"{one.answered} of {one.answered + one.counts[1]}" for one in tried)
-    return f"the DCE answers {other} errors of the DTE with the sides exchanged, and {own} as they are"
+        return None
+    if tried and is_better(tried[1], tried[0]):
+        own, other = (f"{one.answered} of {one.answered + one.counts[1]}" for one in tried)
+        message = f"the DCE answers {other} errors of the DTE with the sides exchanged, and {own} as they are"
+        basis = f"the DCE answers {other} errors of the DTE, and {own} the other way"
+        return Case(message, basis, ", so the sides are exchanged; --dte or --sender say otherwise")
+    if not trace.is_guess or opener is None or (opener.side is Side.N) == is_swapped:
+        return None
+    basis = f"--swap exchanges the ends, and the DCE {opener.did}" if is_swapped else f"the DTE {opener.did}"
+    return Case(f"{opener.name} {opener.did}, and is taken for the {opener.side.title}", basis)
 
 
 def read_once(
     words: argparse.Namespace, ledger: Ledger, waiting: Waiting, has_comments: bool, first: Source | None = None,
+    has_parts: bool = False,
 ) -> Trace:
-    """Reads the named captures; the first one may be open, and looked at."""
+    """Reads the named captures; the first one may be open, and looked at. `has_parts` means a link for each interface."""
     choices, wishes = chosen(words)
     captures = Captures(words.captures, choices.kinds, ledger, waiting, first)
-    trace = Trace(ledger, Reading(ledger, choices), wishes, has_comments, ranker_of(words))
+    trace = Trace(ledger, Reading(ledger, choices, has_parts), wishes, has_comments, ranker_of(words))
     trace.gather(captures.frames())
     return trace
 

@@ -63,6 +63,8 @@ class Missing:
     channel: int | None = None
     # Whether the gap is what a circuit had before the recording began.
     is_beginning: bool = False
+    # The frame of a link after which the packets may be missing, where it is not known before which packet they are.
+    since: int | None = None
 
 
 # What a capture has, in its order.

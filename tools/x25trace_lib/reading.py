@@ -10,6 +10,7 @@ from x25tools_lib.refusals import Refusal, Why
 from x25tools_lib.sides import Side
 
 from .frames import Direction, Dropped, Frame
+from .interfaces import Interfaces
 from .internet import Internet
 from .lapb import Lapb, kind_of, unframe
 from .link_ends import Ends
@@ -28,10 +29,11 @@ CARRIERS = {
 
 
 class Reading:
-    """The packets of a capture, each with what carried it."""
+    """The packets of a capture, each with what carried it; `has_parts` means that each interface has a link of its own."""
 
-    def __init__(self, ledger: Ledger, choices: Choices) -> None:
-        self.ledger, self.choices = ledger, choices
+    def __init__(self, ledger: Ledger, choices: Choices, has_parts: bool = False) -> None:
+        self.ledger, self.choices, self.has_parts = ledger, choices, has_parts
+        self.interfaces = Interfaces()
         self.internet = Internet(ledger, choices.ports)
         self.xot = Xot(ledger, choices.ports, choices.dte, choices.swapped)
         # The links, by what carries their packets and by the devices that had them.
@@ -47,9 +49,15 @@ class Reading:
         # The kinds found by first frames for link types that --as does not name.
         self.tried: set[str] = set()
 
+    @property
+    def parts(self) -> list[int]:
+        """The interfaces that have a link each and are read as one link; none where options say which side sends on them."""
+        return [] if self.has_parts or self.choices.senders else self.interfaces.parted()
+
     def line(self, carrier: Carrier, frame: Frame) -> Line:
         """The link that had a frame."""
-        key = carrier, None if carrier is Carrier.XOT else frame.device
+        place = frame.interface if self.has_parts and frame.device is None else frame.device
+        key = carrier, None if carrier is Carrier.XOT else place
         line = self.line_of.get(key)
         if line is None:
             line = self.line_of[key] = Line(*key)
@@ -89,8 +97,10 @@ class Reading:
                 packets = take(segment) if segment else ()
             elif carrier is Carrier.LAPB:
                 frame.source = source_of(opener, frame.octets)
+                self.interfaces.see(carrier, frame, at)
                 packets = self.from_link(line, frame, carried, at)
             else:
+                self.interfaces.see(carrier, frame, at)
                 packets = self.from_packet(frame, carried, at)
             for packet in self.short_enough(packets):
                 yield line, packet

@@ -6,6 +6,7 @@ import re
 import tempfile
 from collections.abc import Iterable, Iterator
 
+from x25tools_lib.choices import SideBy
 from x25tools_lib.header import Header
 
 from .ranking import Ranker, Tried
@@ -17,9 +18,9 @@ EXCHANGED = {"T": "N", "N": "T"}
 
 
 def is_guess(words: argparse.Namespace) -> bool:
-    """Whether no option says which end is the DTE, and none says which channels calls of one side have."""
+    """Whether no option names the DTE, and none says which channels calls of one side have."""
     one_way = (words.incoming, words.two_way, words.outgoing) != (None, None, None)
-    return words.dte is None and words.side is None and not (words.swap or words.sender or one_way)
+    return words.dte is None and words.side in (None, SideBy.LINK_ADDRESS.value) and not (words.sender or one_way)
 
 
 def exchanged(text: str) -> str:

@@ -3,7 +3,7 @@ from __future__ import annotations
 
 import tempfile
 from collections.abc import Iterable, Iterator, Sequence
-from functools import partial
+from functools import cached_property, partial
 from itertools import chain
 from typing import IO
 
@@ -21,11 +21,13 @@ from .evidence import Evidence, largest, ranked_first
 from .frames import Dropped, Frame
 from .halves import halves_of
 from .lines import Line, preferred
-from .packets import Missing, Packet, channel_of
+from .packets import Item, Missing, Packet, channel_of
 from .ranking import MOST_ROWS, NO_SCANNER, Ranker, Tried
 from .reading import Reading
 from .sides_tried import tried_both
 from .spool import ALL, Spool
+from .taken import Opener, ends_words, opener_of
+from .window import Window
 from .xot import Circuit
 
 LARGEST_TEXT = 1 << 30
@@ -47,7 +49,9 @@ class Trace:
         self, ledger: Ledger, reading: Reading, wishes: Wishes, has_comments: bool, ranker: Ranker = Ranker(),
     ) -> None:
         self.ledger, self.reading, self.wishes, self.ranker = ledger, reading, wishes, ranker
-        self.spool = Spool(has_comments)
+        self.spool, self.window = Spool(has_comments), Window()
+        # On what the sides rest, where that is not what the reading itself knows, and what speaks for the other ones.
+        self.basis = self.doubt = ""
         self.lines = reading.lines
         self.is_assigned = False
         reading.xot.on_end = self.forget
@@ -55,30 +59,60 @@ class Trace:
 
     def gather(self, frames: Iterable[Frame | Dropped]) -> None:
         """Reads all packets of the frames, and the gaps between them."""
-        add, lines = self.spool.add, self.lines
-        for line, packet in self.reading.packets(frames):
-            if isinstance(packet, Missing):
-                self.miss(line, packet)
+        window = self.window
+        for line, item in self.reading.packets(frames):
+            if line and line.carrier is Carrier.XOT:
+                if window.rows:
+                    self.settle(0)
+                self.take_circuit(line, item)
                 continue
-            assert line
-            octets, circuit = packet.octets, packet.circuit
-            line.packets += 1
-            if circuit is None:
-                if line.beginning.is_open:
-                    self.begin(line, packet)
-                line.sides.add(packet.side)
-                key = channel_of(octets) if len(octets) >= 2 else 0
-                line.estimator.see(key, False, packet.side, octets, True)
-                if lines.pairs:
-                    lines.see(line, octets)
-                add(packet, -line.number)
-                continue
-            line.estimator.see(circuit.number, circuit.from_opening, packet.side, octets, False)
-            add(packet, circuit.number)
-            circuit.rows += 1
-            circuit.last_row = self.spool.rows
-            if circuit.rows == 1:
-                circuit.first_row = circuit.last_row
+            if not window.rows:
+                self.ledger.keep = window.note
+            window.add(line, item)
+            if window.is_full:
+                self.settle(window.MOST)
+        self.settle(0)
+
+    def settle(self, most: int) -> None:
+        """Keeps what comes before the last packets and gaps of links, of which so many wait for late ones."""
+        keep, self.ledger.keep = self.ledger.keep, self.spool.note
+        for entry in self.window.first(most):
+            if isinstance(entry, str):
+                self.spool.note(entry)
+            elif isinstance(entry[1], Missing):
+                self.miss(entry[0], entry[1])
+            else:
+                self.take(entry[0], entry[1])
+        self.ledger.keep = keep if most else self.spool.note
+
+    def take(self, line: Line | None, packet: Packet) -> None:
+        """Keeps a packet of a link."""
+        assert line
+        octets = packet.octets
+        line.packets += 1
+        if line.beginning.is_open:
+            self.begin(line, packet)
+        line.sides.add(packet.side)
+        key = channel_of(octets) if len(octets) >= 2 else 0
+        line.estimator.see(key, False, packet.side, octets, True)
+        if self.lines.pairs:
+            self.lines.see(line, octets)
+        self.spool.add(packet, -line.number)
+
+    def take_circuit(self, line: Line, item: Item) -> None:
+        """Keeps a packet or a gap of an XOT circuit."""
+        if isinstance(item, Missing):
+            self.miss(line, item)
+            return
+        circuit = item.circuit
+        assert circuit
+        line.packets += 1
+        line.estimator.see(circuit.number, circuit.from_opening, item.side, item.octets, False)
+        self.spool.add(item, circuit.number)
+        circuit.rows += 1
+        circuit.last_row = self.spool.rows
+        if circuit.rows == 1:
+            circuit.first_row = circuit.last_row
 
     def forget(self, circuit: Circuit) -> None:
         """Removes a circuit: it has no more packets."""
@@ -102,11 +136,15 @@ class Trace:
             one.gaps += 1
         self.spool.add_gap(missing, -line.number if line else ALL)
 
+    @cached_property
     def line(self) -> Line:
-        """The link whose packets are the rows."""
+        """The link whose packets are the rows. Raises Refusal where there is none, or more than one."""
         lines = self.lines.used()
         if not lines:
             raise self.reading.no_packet()
+        if parts := self.reading.parts:
+            numbers = " and ".join(map(str, parts))
+            raise Refusal(Why.MIXED, f"the interfaces {numbers} have a link each: --interface says which one is read")
         for line in lines:
             if line.lapb and (words := line.lapb.ends.absent()):
                 raise Refusal(Why.NO_PACKET, words)
@@ -117,7 +155,7 @@ class Trace:
             others = ", ".join(f"{other.place} ({other.options})" for other in lines if other is not line)
             self.ledger.report(Topic.SAME, f"{line.words} are read; the same ones were recorded in {others}")
             return line
-        raise Refusal(Why.MIXED, several_words(lines))
+        raise Refusal(Why.MIXED, several_words(lines), [line.link for line in lines])
 
     def header(self, line: Line) -> Header:
         """The header of the rows of a link; XOT circuits get their channels by it."""
@@ -135,10 +173,16 @@ class Trace:
             assign(used, header, self.ledger)
         return header
 
+    @property
+    def is_guess(self) -> bool:
+        """Whether the DTE of the link is a guess, as far as no option says it."""
+        lapb = self.line.lapb
+        return not lapb or lapb.ends.is_guess
+
     def other_sides(self) -> tuple[Tried, Tried] | None:
-        """The best headers with these sides and with the sides exchanged, where the sides of the link are a guess."""
-        line = self.line()
-        if line.lapb and not line.lapb.ends.is_guess or not line.estimator.has_reactions:
+        """The best headers with these sides and with the sides exchanged, where a reset or a clear reports an error."""
+        line = self.line
+        if not line.estimator.has_reactions:
             return None
         header, kept = self.header(line), (self.spool.gaps, self.spool.circuits)
         rows = self.spool.replay(self.reading.xot.circuits, MOST_ROWS, header.outgoing, -line.number)
@@ -149,6 +193,11 @@ class Trace:
         self.spool.gaps, self.spool.circuits = kept[0], []
         self.spool.replayed = 0
         return found
+
+    @property
+    def opener(self) -> Opener | None:
+        """The end that opened the link, where its sides are a guess."""
+        return opener_of(self.line.lapb.ends) if self.line.lapb and self.is_guess else None
 
     def beginning_of(self, rows: Iterator[str]) -> Iterator[str]:
         """The parts with the rows that are tried."""
@@ -165,9 +214,11 @@ class Trace:
         head.comments.append(f"from {name} by x25trace, {self.reading.frames} frames; {self.spool.numbers_text()}")
         if head.estimates:
             head.comments.append(notes.estimates_text(head.estimates))
-        for words in evidence.sentences():
+        for words in filter(None, (*evidence.sentences(), self.doubt)):
             self.ledger.say(words)
             head.comments.append(words)
+        if ends := ends_words(self.reading, line, self.basis):
+            head.comments.append(ends)
         head.comments += self.doubts(line, header)
         head.halves = halves_of(self.reading, line, line.sides)
         head.comments += [it.text for it in head.halves]
@@ -191,7 +242,7 @@ class Trace:
         beginning.seek(place)
         if not ranking:
             return largest(seen, NO_SCANNER)
-        return ranked_first(ranking, header, seen, self.spool.rows <= MOST_ROWS)
+        return ranked_first(ranking, header, seen, self.spool.rows <= MOST_ROWS, line.estimator.sizes)
 
     def doubts(self, line: Line, header: Header) -> Iterator[str]:
         """Sentences on doubts about the header."""
@@ -212,7 +263,7 @@ class Trace:
 
     def write(self, name: str, out: IO[str]) -> Head:
         """Writes the trace; returns what it has besides rows."""
-        line, size = self.line(), 0
+        line, size = self.line, 0
         header = self.header(line)
         rows = self.spool.replay(self.reading.xot.circuits, MOST_ROWS, header.outgoing, -line.number)
         with tempfile.TemporaryFile("w+", encoding="ascii", newline="\n") as beginning:

@@ -7,7 +7,7 @@ from collections.abc import Callable, Iterable, Iterator
 from dataclasses import dataclass, field
 
 from x25tools_lib.ledger import Ledger, Reason, Topic
-from x25tools_lib.notes import circuit_text
+from x25tools_lib.notes import circuit_text, cut_off_text
 from x25tools_lib.sides import Side
 
 from .internet import RST, SYN, Segment, port_of
@@ -62,6 +62,8 @@ class Circuit:
     left: bool = False
     broken: bool = False
     ended: bool = False
+    # The frame in which the connection ended without a clear of its call.
+    cut_off: int | None = None
 
     def who(self) -> str:
         """The two ends with their sides."""
@@ -71,7 +73,8 @@ class Circuit:
     def shown_words(self) -> str:
         """The comment before its first row."""
         again = ", which another one had before" if self.again else ""
-        return circuit_text(self.number, self.channel, f"{again}: {self.who()}{self.line_words()}")
+        over = "" if self.cut_off is None else f"; {cut_off_text(self.cut_off)}"
+        return circuit_text(self.number, self.channel, f"{again}: {self.who()}{self.line_words()}{over}")
 
     def line_words(self) -> str:
         """Its logical channels in the capture."""
@@ -107,13 +110,18 @@ class Circuit:
         """Whether it has packets of one side only, and octets of the other side are missing."""
         return self.side is not None and not self.both and self.lacks[self.sides.index(self.side.other)]
 
+    @property
+    def is_cut_off(self) -> bool:
+        """Whether its call was not cleared."""
+        return self.called and self.cleared_by is None and not self.permanent
+
     def end_words(self) -> str | None:
         """The message where the connection ends without a confirmed clear, or None."""
         if self.is_half:
             return None
         if self.permanent:
             return "the connection of a permanent circuit ends"
-        if self.called and self.cleared_by is None:
+        if self.is_cut_off:
             return "it ends without a clear"
         if self.called and self.cleared_by and not self.confirmed:
             return f"it ends before the clear of {self.cleared_by.name} was confirmed"
@@ -301,6 +309,7 @@ class Xot:
         words = circuit.end_words()
         if words and not circuit.broken:
             self.ledger.report(Topic.CONNECTION, f"frame {frame}: connection {circuit.number}: {words}")
+            circuit.cut_off = frame if circuit.is_cut_off else None
         circuit.rests, circuit.synchronised = [], []
         self.over.append(connection)
         if len(self.over) > MOST_OVER:

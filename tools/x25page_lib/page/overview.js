@@ -71,7 +71,8 @@ function tile(value, name, more = "") {
 function tiles() {
   const { sums, peak } = facts;
   const lost = facts.not_counted.reduce((sum, it) => sum + it[1], 0);
-  const atPeak = peak[1] ? `first at ${packetName(peak[1])}` : "no call was up";
+  const unknown = peak[2] ? `; from frame ${peak[3]} on not known: the connections of ${plural(peak[2], "call")} ended without a clear` : "";
+  const atPeak = (peak[1] ? `first at ${packetName(peak[1])}` : "no call was up") + unknown;
   const found = [
     tile(count(sums.packets), sums.packets === 1 ? "packet" : "packets", duration()),
     tile(count(sums.calls), sums.calls === 1 ? "call" : "calls"),

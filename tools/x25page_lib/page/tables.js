@@ -85,6 +85,7 @@ function leftOut(many, noun, advice) {
 
 function howEnded(call) {
   const parts = [word("end", call.how, (explained("end", call.how) || [call.how])[0])];
+  if (call.cutOff) parts.push(`, frame ${call.cutOff}`);
   const cause = causeName(call.cause);
   const diagnostic = causeName(call.diagnostic);
   if (cause) parts.push(make("small", {}, `cause ${cause}`));

@@ -181,6 +181,10 @@ const calls = facts.calls.map(callOf);
 const callsByNumber = new Map(calls.map((call) => [call.call, call]));
 // The packet that ended these calls is not in the trace.
 for (const number of facts.unrecorded_ends) Object.assign(callsByNumber.get(number) ?? {}, { how: "not recorded" });
+// The connections of these calls ended before a clear.
+for (const [number, frame] of facts.cut_off) {
+  Object.assign(callsByNumber.get(number) ?? {}, { how: "connection ended without a clear", cutOff: frame });
+}
 
 // What a ladder is of.
 function keyName(key) {
