@@ -1,21 +1,26 @@
 #!/usr/bin/env python3
 """codes_document.py [--check]: writes docs/CODES.md from the table of crates/explanations.
 
-With --check it writes nothing, and says where the document is another one, where a definition, a trace, a function, a
-proof or an edit that a row names is not there, and where a trace does not print the row's example. The last line is
-'N passed, M failed'.
+The functions that give a code are those whose bodies name its constant. With --check it writes nothing, and says where
+the document is another one, where a definition, a trace, a function, a proof or an edit that a row names is not there,
+where a row of a diagnostic code has another name than its constant, and where a trace does not print the row's example.
+The last line is 'N passed, M failed'.
 """
 from __future__ import annotations
 
+import functools
 import pathlib
 import re
 import sys
+from collections.abc import Iterator
 
 sys.dont_write_bytecode = True
 from code_proofs import PROOFS
 
 ROOT = pathlib.Path(__file__).resolve().parent.parent
-SOURCES = ROOT / "crates" / "explanations" / "src"
+CRATES = ROOT / "crates"
+SOURCES = CRATES / "explanations" / "src"
+DIAGNOSTICS = CRATES / "line_model" / "src" / "diagnostic.rt"
 DOCUMENT = ROOT / "docs" / "CODES.md"
 ROW = re.compile(r"    Explanation \{\n(.*?)    \},\n", re.DOTALL)
 FIELD = re.compile(r'^        (\w+):\s+(?:Topic::(\w+)|"((?:[^"\\]|\\.)*)"),$', re.MULTILINE)
@@ -66,7 +71,8 @@ PROOFS_HEAD = """
 
 Each row leads from a code to its rule in words, to the file of its definition, to the function that returns it (whose
 contract names the definition), to the file of the function's proof, to an edit that the prover refuses, and to a trace
-that prints the code. Where the proof is `-`, the prover proves the contract without a written proof.
+that prints the code. Where the proof is `-`, the prover proves the contract without a written proof. *Also given by* has
+all other functions whose bodies name the code, apart from those that only say what it means.
 
 The contract of `table_t` is the whole table. An edit of it lets a class of packets pass that has these codes, so several
 codes name the same edit. Three codes are of the DCE alone: `table_n` returns them where no indication is owed.
@@ -78,9 +84,13 @@ the comparison. `Flow` has the same contracts and calls the same comparisons. It
 gaps, of which [numbering.rt](../crates/channel_machine/src/gaps/numbering.rt) also compares the window where a number is in
 doubt, and for `PlainChannel`, which only tests and users of the library run.
 
-| code | rule | definition | function | proof | edit | trace |
-|---|---|---|---|---|---|---|
+| code | rule | definition | function | proof | edit | trace | also given by |
+|---|---|---|---|---|---|---|---|
 """
+# The crates that say what a code means, and give none.
+SAYING = {"descriptions", "explanations"}
+CONSTANT = re.compile(r"^/// (.*) \(\d+\)\.\npub const (\w+): u8 = (\d+);$", re.MULTILINE)
+FUNCTION = re.compile(r"^ *(?:pub(?:\(crate\))? )?(?:const )?fn (\w+)")
 
 
 def rows() -> list[Row]:
@@ -110,6 +120,33 @@ def anchor(heading: str) -> str:
     return re.sub(r"[^\w -]", "", heading.lower()).replace(" ", "-")
 
 
+def body_lines(source: pathlib.Path) -> Iterator[tuple[str, str]]:
+    """The lines of the functions of a file, each with the function's name, without imports, comments and contracts."""
+    function = ""
+    for line in source.read_text().splitlines():
+        if named := FUNCTION.match(line):
+            function = named[1]
+        elif line == "}":
+            function = ""
+        if function and not line.strip().startswith(("//", "ghost ", "requires ", "ensures ")):
+            yield function, line
+
+
+@functools.cache
+def givers() -> dict[str, list[tuple[str, str]]]:
+    """The functions that name the constant of each code: the file and the name of each, in order."""
+    numbers = {constant: number for number, (constant, _) in constants().items()}
+    found = dict[str, list[tuple[str, str]]]()
+    sources = (it for it in CRATES.glob("*/src/**/*.rt") if it != DIAGNOSTICS)
+    for source in sorted(it for it in sources if not it.relative_to(CRATES).parts[0].startswith(("tests_", *SAYING))):
+        path = str(source.relative_to(ROOT))
+        for function, line in body_lines(source):
+            for word in numbers.keys() & set(re.findall(r"\w+", line)):
+                places = found.setdefault(numbers[word], [])
+                places += [(path, function)] * ((path, function) not in places)
+    return found
+
+
 def proof_line(row: Row) -> str:
     """The row of the table that leads from a code to its proof."""
     proof = PROOFS[row["word"]]
@@ -118,6 +155,8 @@ def proof_line(row: Row) -> str:
         source += f", by [`{proof.comparison[1]}`](../{proof.comparison[0]})"
     cells = [f"`{row['word']}`", f"[{proof.rule}](RULES.md#{anchor(proof.rule)})", link(row["definition"]), source]
     cells += [f"[{'/'.join(pathlib.Path(proof.proof).parts[3:])}](../{proof.proof})" if proof.proof else "-", link(proof.edit), link(row["trace"])]
+    others = [it for it in givers().get(row["word"], []) if it not in ((proof.source, proof.function), proof.comparison)]
+    cells.append(", ".join(f"[`{function}`](../{path})" for path, function in others) or "-")
     return "| " + " | ".join(cells) + " |\n"
 
 
@@ -145,9 +184,21 @@ def printed(trace: pathlib.Path) -> list[str]:
     return (said + "".join(trace.with_suffix(it).read_text() for it in endings if trace.with_suffix(it).exists())).split("\n")
 
 
+def constants() -> dict[str, tuple[str, str]]:
+    """The constant of each diagnostic code, and the name that X.25 Annex E gives it."""
+    return {number: (constant, name) for name, constant, number in CONSTANT.findall(DIAGNOSTICS.read_text())}
+
+
+def name_complaints(row: Row) -> list[str]:
+    """Where a row of a diagnostic code has another name than its constant."""
+    constant, name = constants().get(row["word"], ("", ""))
+    spelled = re.sub(r"\W+", "_", name.replace("/", " or ")).strip("_").upper()
+    return [] if (row["name"], constant) == (name, spelled) else [f"its name is {row['name']!r}, and its constant is {constant} with {name!r}"]
+
+
 def complaints(row: Row) -> list[str]:
     """What is wrong with the files that a row names."""
-    said = []
+    said = name_complaints(row) if row["topic"] == "Code" else []
     if not (ROOT / row["definition"]).exists():
         said.append(f"there is no {row['definition']}")
     trace = ROOT / row["trace"] if row["trace"] else None
@@ -179,6 +230,8 @@ def check() -> int:
     outcomes = [("docs/CODES.md", [] if current else ["it is not what tools/codes_document.py writes"])]
     outcomes += [(f"{row['word']} ({row['topic']})", complaints(row)) for row in rows()]
     outcomes += [(f"the proof of {row['word']}", proof_complaints(row)) for row in codes()]
+    without = sorted(constants().keys() - {row["word"] for row in codes()})
+    outcomes.append(("the constants of codes", [f"no row is of {number}" for number in without]))
     for name, said in outcomes:
         passed, failed = passed + (not said), failed + bool(said)
         for it in said:

@@ -1,11 +1,7 @@
-//! The tests of the words: explanations, advice, annotations, descriptions and the command line.
+//! The tests of the words: annotations, and the program over its words.
 #![tactic(auto)]
 
 #[cfg(test)]
 mod annotations;
-#[cfg(test)]
-mod checks;
-#[cfg(test)]
-mod codes;
 #[cfg(test)]
 mod words;

@@ -5,7 +5,7 @@ use crate::scans::following::check_followed;
 use crate::scans::growing::check_growing;
 use crate::scans::runs::{Outcome, Way, scan};
 use crate::scans::worked::long::{LONG_TRACES, LongTrace};
-use crate::scans::worked::{TABLES, Worked, traces};
+use crate::scans::worked::{TRACES, Worked};
 use line_model::fault::Fault;
 use std::alloc::Global;
 use std::process::Abort;
@@ -127,10 +127,8 @@ pub fn check_all_traces<R: Threads + Wait + Clock + Sync + Abort>(
     alloc: Global,
     test: Test,
 ) {
-    for table in TABLES {
-        for worked in traces(table) {
-            check_trace(rt, alloc, test, worked);
-        }
+    for worked in &TRACES {
+        check_trace(rt, alloc, test, worked);
     }
     for long in &LONG_TRACES {
         check_long_trace(rt, alloc, test, long);

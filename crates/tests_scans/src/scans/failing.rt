@@ -2,7 +2,7 @@
 
 use crate::scans::checks::{check, check_writes};
 use crate::scans::runs::Way;
-use crate::scans::worked::{Table, Worked, trace, traces};
+use crate::scans::worked::{TRACES, Worked, trace};
 use line_model::fault::Fault;
 use std::alloc::Global;
 use std::process::Abort;
@@ -69,9 +69,8 @@ fn check_source<R: Threads + Wait + Clock + Sync + Abort>(rt: &R, alloc: Global,
 }
 
 /// Worked traces whose devices fail.
-const TRACES: [&str; 6] = [
+const WITHOUT_FAULT: [&str; 5] = [
     "pad-setting-said",
-    "pad-pairs-cut",
     "reset-drops-begun-message",
     "three-epochs",
     "call-formats",
@@ -80,7 +79,7 @@ const TRACES: [&str; 6] = [
 
 /// Has both devices fail.
 fn check_devices<R: Threads + Wait + Clock + Sync + Abort>(rt: &R, alloc: Global) {
-    for name in TRACES {
+    for name in WITHOUT_FAULT {
         let worked = trace(rt, name);
         check_source(rt, alloc, worked);
         for way in WAYS {
@@ -95,8 +94,10 @@ fn devices_of_worked_traces_fail_at_any_call(rt: HostRuntime) {
 }
 
 fn check_refused<R: Threads + Wait + Clock + Sync + Abort>(rt: &R, alloc: Global) {
-    for worked in traces(Table::Refused) {
-        check_source(rt, alloc, worked);
+    for worked in &TRACES {
+        if worked.fault.is_some() {
+            check_source(rt, alloc, worked);
+        }
     }
 }
 

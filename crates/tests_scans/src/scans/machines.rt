@@ -2,7 +2,7 @@
 
 use crate::scans::runs::{Way, outcome_of, scan_through};
 use crate::scans::worked::long::{LONG_TRACES, LongTrace};
-use crate::scans::worked::{Table, Worked, traces};
+use crate::scans::worked::{TRACES, Worked};
 use channel_machine::channel::{PackedChannel, PlainChannel};
 use channel_run::run::run_piece;
 use line_model::call::CallRecord;
@@ -131,10 +131,8 @@ fn check_long_machines<R: Threads + Wait + Clock + Sync + Abort>(
 /// Runs the pieces of all worked traces, and says how many there are.
 fn check_all_machines<R: Threads + Wait + Clock + Sync + Abort>(rt: &R, alloc: Global) -> u64 {
     let tally = Agreement::new();
-    for table in [Table::Channels, Table::Epochs, Table::Gaps, Table::Messages] {
-        for worked in traces(table) {
-            check_machines(rt, alloc, &tally, worked);
-        }
+    for worked in &TRACES {
+        check_machines(rt, alloc, &tally, worked);
     }
     for long in &LONG_TRACES {
         check_long_machines(rt, alloc, &tally, long);
@@ -145,5 +143,5 @@ fn check_all_machines<R: Threads + Wait + Clock + Sync + Abort>(rt: &R, alloc: G
 #[test]
 fn pieces_have_one_report_by_both_machines(rt: HostRuntime) {
     let pieces = check_all_machines(&rt, rt.alloc());
-    assert_eq!(rt; pieces, 100);
+    assert_eq!(rt; pieces, 28);
 }

@@ -24,7 +24,7 @@ use std::time::Clock;
 use tests_devices::scarce::Scarce;
 use tests_devices::{CutSink, Cuts};
 use trace_reading::block_queues::BlockQueues;
-use trace_reading::blocks::TraceText;
+use trace_reading::text_block::TraceText;
 use trace_scan::gate::{BlockGate, OpenGate};
 use workers::{Crew, Gate};
 

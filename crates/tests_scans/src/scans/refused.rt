@@ -114,7 +114,7 @@ pub fn check_traces<R: Threads + Wait + Clock + Sync + Abort>(rt: &R, alloc: Glo
 }
 
 fn check_long<R: Threads + Wait + Clock + Sync + Abort>(rt: &R, alloc: Global) {
-    let long = &LONG_TRACES[3];
+    let long = &LONG_TRACES[0];
     let text = long.text(rt, alloc);
     check(rt, alloc, Way::Alone, &long.worked(text.as_slice()));
 }

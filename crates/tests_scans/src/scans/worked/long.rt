@@ -84,47 +84,7 @@ impl LongTrace {
     }
 }
 
-pub const LONG_TRACES: [LongTrace; 8] = [
-    LongTrace {
-        name: "message-faults-in-order",
-        runs: &[
-            Run {
-                front: "X25 1 MOD 8 WIN 4 SIZE 2048 PVC 0 SVC 4\n1 T 10010B000001000000\n2 N 10010F\n3 N 900100",
-                repeated: "09",
-                times: 1025,
-            },
-            Run {
-                front: "\n4 N 900102",
-                repeated: "02",
-                times: 1026,
-            },
-        ],
-        end: "\n5 N 9001040002\n6 N 900106000201\n",
-        fault: None,
-        report: "F 3 N d1 X1\nF 4 N d1 XL\nF 5 N d1 X2\nF 6 N d1 X4\nC 1 1 1 out - - 1 2 - open 0 0 4 2056 36\nA - 1 36\nP 1 2\nZ 6 4 1 2056 36\n",
-    },
-    LongTrace {
-        name: "message of 1,023 octets",
-        runs: &[Run {
-            front: "X25 1 MOD 8 WIN 2 SIZE 2048 PVC 0 SVC 4\n1 T 10010B000001000000\n2 N 10010F\n3 N 900100",
-            repeated: "02",
-            times: 1023,
-        }],
-        end: "\n",
-        fault: None,
-        report: "F 3 N d1 X3\nC 1 1 1 out - - 1 2 - open 0 0 1 1023 16\nS 1 T 2 asked 2\nA - 1 16\nP 1 2\nZ 3 1 1 1023 16\n",
-    },
-    LongTrace {
-        name: "message of 1,024 octets",
-        runs: &[Run {
-            front: "X25 1 MOD 8 WIN 2 SIZE 2048 PVC 0 SVC 4\n1 T 10010B000001000000\n2 N 10010F\n3 N 900100",
-            repeated: "02",
-            times: 1024,
-        }],
-        end: "\n",
-        fault: None,
-        report: "F 3 N d1 X2\nC 1 1 1 out - - 1 2 - open 0 0 1 1024 16\nA - 1 16\nP 1 2\nZ 3 1 1 1024 16\n",
-    },
+pub const LONG_TRACES: [LongTrace; 5] = [
     LongTrace {
         name: "message of 1,025 octets",
         runs: &[Run {
