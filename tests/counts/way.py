@@ -1,4 +1,4 @@
-"""The way of a finding in docs/ARCHITECTURE.md: its functions are in the sources, and each is called by one before it."""
+"""The ways of a finding and of a block in docs/ARCHITECTURE.md: their functions are in the sources; on that of a finding each is called by one before it."""
 import subprocess
 
 from runner import ROOT
