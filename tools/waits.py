@@ -13,22 +13,29 @@ import sys
 from collections.abc import Iterator
 
 ROOT = pathlib.Path(__file__).resolve().parent.parent
-LISTED = re.compile(r"^(\w+)(?: \w+=?\w*)*?(?: may_wait=(\d+))?(?: \w+=?\w*)*:", re.MULTILINE)
-PROVED = re.compile(r"^logic=proved functions=\d+(?: may-\w+=\d+)*? ?(?:may-wait=(\d+))?")
+LISTED = re.compile(r"^(\w+)\b([^:\n#]*):", re.MULTILINE)
+PROVED = re.compile(r"^logic=proved functions=\d+")
+WAITS = re.compile(r" may[-_]wait=(\d+)")
 NAMED = re.compile(r"^rt: (\w+) proved")
+
+
+def waits(words: str) -> int:
+    """How many functions may wait, by the words of a line of crates.txt or of a check's last line."""
+    match = WAITS.search(words)
+    return int(match[1]) if match else 0
 
 
 def listed(text: str) -> dict[str, int]:
     """How many functions of each crate may wait, by crates.txt."""
-    return {name: int(count or 0) for name, count in LISTED.findall(text)}
+    return {name: waits(words) for name, words in LISTED.findall(text)}
 
 
 def proved(log: str) -> Iterator[tuple[str, int]]:
     """How many functions of each crate may wait, by the log of a gate."""
     count = 0
     for line in log.splitlines():
-        if match := PROVED.match(line):
-            count = int(match[1] or 0)
+        if PROVED.match(line):
+            count = waits(line)
         elif match := NAMED.match(line):
             yield match[1], count
 
