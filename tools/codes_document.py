@@ -16,6 +16,7 @@ from collections.abc import Iterator
 
 sys.dont_write_bytecode = True
 from code_proofs import PROOFS
+from word_definitions import definition_of
 
 ROOT = pathlib.Path(__file__).resolve().parent.parent
 CRATES = ROOT / "crates"
@@ -99,7 +100,7 @@ def rows() -> list[Row]:
     for section in SECTION.findall((SOURCES / "table.rt").read_text()):
         for body in ROW.findall((SOURCES / f"{section}.rt").read_text()):
             fields = {name: topic or text.replace('\\"', '"').replace("\\\\", "\\") for name, topic, text in FIELD.findall(body)}
-            found.append(fields)
+            found.append({**fields, "definition": definition_of(section, fields["word"])})
     return found
 
 

@@ -119,8 +119,6 @@ pub struct Explanation {
     pub when: &'static str,
     /// The clause that it rests on, or profile.
     pub clause: &'static str,
-    /// The file of the repository that decides it, which the documents of the repository link to.
-    pub definition: &'static str,
     /// What is printed where it occurs.
     pub example: &'static str,
     /// The trace that prints it, by its place in the repository and below the installed documents; empty where no small
