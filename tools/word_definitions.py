@@ -7,9 +7,11 @@ from __future__ import annotations
 SPECS = "crates/line_model/specs"
 # The file that decides most words of a section of the table.
 OF_SECTION = {
-    "fields": f"{SPECS}/observer/Report.antt",
-    "report_fields": f"{SPECS}/observer/Report.antt",
-    "states": f"{SPECS}/channels/ChannelStep.antt",
+    **dict.fromkeys(["lines", "directions", "endings", "settings"], f"{SPECS}/observer/Report.antt"),
+    **dict.fromkeys(["finding_fields", "call_fields", "call_sums", "setting_fields", "sum_fields"], f"{SPECS}/observer/Report.antt"),
+    "interface_states": f"{SPECS}/channels/RestartMachine.antt",
+    "call_states": f"{SPECS}/channels/ChannelStep.antt",
+    "data_states": f"{SPECS}/channels/ChannelStep.antt",
     "flow_codes": f"{SPECS}/channels/Tables.antt",
     "packet_codes": f"{SPECS}/channels/Tables.antt",
     "messages": f"{SPECS}/channels/Pad.antt",
@@ -28,8 +30,7 @@ OF_SECTION = {
 }
 # The other words of a section, by the file that decides them.
 OTHERS = {
-    "fields": {f"{SPECS}/channels/GapStep.antt": ["gap"]},
-    "states": {f"{SPECS}/channels/RestartMachine.antt": ["-", "r1", "r2", "r3"]},
+    "endings": {f"{SPECS}/channels/GapStep.antt": ["gap"]},
     "flow_codes": {f"{SPECS}/channels/FlowControl.antt": ["1", "2"]},
     "packet_codes": {
         f"{SPECS}/packets/Formats.antt": ["34", "38", "39"],

@@ -32,33 +32,54 @@ abbrev pub all_of : Topic → List (List ℕ) → List Key
 all_of t ws = map (λ w. record { topic = t; word = w }) ws
 
 -- the letters of the report's lines, in their order
-abbrev pub letters : List (List ℕ)
-letters = codes "F" ∷ codes "C" ∷ codes "S" ∷ codes "A" ∷ codes "P" ∷ codes "G" ∷ codes "Z" ∷ []
+abbrev pub line_keys : List Key
+line_keys = all_of topic.TheVariants.Line (codes "F" ∷ codes "C" ∷ codes "S" ∷ codes "A" ∷ codes "P" ∷ codes "G" ∷ codes "Z" ∷ [])
 
--- the letters of the report's lines, and the words of its fields
-abbrev pub field_keys : List Key
-field_keys =
-    all_of topic.TheVariants.Line letters
-    ++ all_of topic.TheVariants.Side (map side_word (T ∷ N ∷ []))
-    ++ all_of topic.TheVariants.Direction (map direction_word (true ∷ false ∷ []))
-    ++ all_of topic.TheVariants.Ending
+-- the sides, and the directions of a call
+abbrev pub direction_keys : List Key
+direction_keys = all_of topic.TheVariants.Side (map side_word (T ∷ N ∷ [])) ++ all_of topic.TheVariants.Direction (map direction_word (true ∷ false ∷ []))
+
+-- how a call ended
+abbrev pub ending_keys : List Key
+ending_keys = all_of topic.TheVariants.Ending
     (map how_word (Some how.TheVariants.T ∷ Some how.TheVariants.N ∷ Some how.TheVariants.Collision ∷ Some how.TheVariants.Restart ∷ Some how.TheVariants.Gap ∷ None ∷ []))
-    ++ all_of topic.TheVariants.Setting (codes "asked" ∷ codes "said" ∷ codes "refused" ∷ [])
-    ++ all_of topic.TheVariants.Absent (dash ∷ [])
 
--- the fields of the report's lines, in the order in which they come first
-abbrev pub report_field_keys : List Key
-report_field_keys = all_of topic.TheVariants.Field
-    (codes "packet" ∷ codes "side" ∷ codes "state" ∷ codes "code"
-    ∷ codes "call" ∷ codes "epoch" ∷ codes "channel" ∷ codes "direction" ∷ codes "called" ∷ codes "calling"
-    ∷ codes "opened" ∷ codes "up" ∷ codes "ended" ∷ codes "how" ∷ codes "data_t" ∷ codes "octets_t" ∷ codes "data_n" ∷ codes "octets_n"
-    ∷ codes "segments" ∷ codes "parameter" ∷ codes "word" ∷ codes "value" ∷ codes "address" ∷ codes "calls" ∷ codes "count"
-    ∷ codes "gaps" ∷ codes "packets" ∷ codes "findings" ∷ codes "octets" ∷ [])
+-- the words of a setting, and that of an absent value
+abbrev pub setting_keys : List Key
+setting_keys = all_of topic.TheVariants.Setting (codes "asked" ∷ codes "said" ∷ codes "refused" ∷ []) ++ all_of topic.TheVariants.Absent (dash ∷ [])
 
--- the states
-abbrev pub state_keys : List Key
-state_keys = all_of topic.TheVariants.State
-    (map state_word (Dash ∷ R1 ∷ R2 ∷ R3 ∷ P1 ∷ P2 ∷ P3 ∷ P4 ∷ P5 ∷ P6 ∷ P7 ∷ D1 ∷ D2 ∷ D3 ∷ []))
+-- the fields of the report's lines, in the order in which they come first: those of a finding
+abbrev pub finding_field_keys : List Key
+finding_field_keys = all_of topic.TheVariants.Field (codes "packet" ∷ codes "side" ∷ codes "state" ∷ codes "code" ∷ [])
+
+-- those of a call, up to the packet from which it was up
+abbrev pub call_field_keys : List Key
+call_field_keys = all_of topic.TheVariants.Field
+    (codes "call" ∷ codes "epoch" ∷ codes "channel" ∷ codes "direction" ∷ codes "called" ∷ codes "calling" ∷ codes "opened" ∷ codes "up" ∷ [])
+
+-- those of its end and of its sums
+abbrev pub call_sum_keys : List Key
+call_sum_keys = all_of topic.TheVariants.Field
+    (codes "ended" ∷ codes "how" ∷ codes "data_t" ∷ codes "octets_t" ∷ codes "data_n" ∷ codes "octets_n" ∷ codes "segments" ∷ [])
+
+-- those of a setting, and the address of an account
+abbrev pub setting_field_keys : List Key
+setting_field_keys = all_of topic.TheVariants.Field (codes "parameter" ∷ codes "word" ∷ codes "value" ∷ codes "address" ∷ [])
+
+-- those of sums
+abbrev pub sum_field_keys : List Key
+sum_field_keys = all_of topic.TheVariants.Field
+    (codes "calls" ∷ codes "count" ∷ codes "gaps" ∷ codes "packets" ∷ codes "findings" ∷ codes "octets" ∷ [])
+
+-- the states of the interface, of a call and of data transfer
+abbrev pub interface_state_keys : List Key
+interface_state_keys = all_of topic.TheVariants.State (map state_word (Dash ∷ R1 ∷ R2 ∷ R3 ∷ []))
+
+abbrev pub call_state_keys : List Key
+call_state_keys = all_of topic.TheVariants.State (map state_word (P1 ∷ P2 ∷ P3 ∷ P4 ∷ P5 ∷ P6 ∷ P7 ∷ []))
+
+abbrev pub data_state_keys : List Key
+data_state_keys = all_of topic.TheVariants.State (map state_word (D1 ∷ D2 ∷ D3 ∷ []))
 
 -- the diagnostic codes of sequence numbers and of packets that the state does not allow
 abbrev pub flow_codes : List ℕ
@@ -160,7 +181,8 @@ time_out_keys = all_of topic.TheVariants.Term
 -- all words that are explained, in the order of the table; a word may be there more than once
 abbrev pub table_keys : List Key
 table_keys =
-    field_keys ++ report_field_keys ++ state_keys ++ flow_code_keys ++ packet_code_keys ++ message_keys ++ header_word_keys
+    line_keys ++ direction_keys ++ ending_keys ++ setting_keys ++ finding_field_keys ++ call_field_keys ++ call_sum_keys ++ setting_field_keys
+    ++ sum_field_keys ++ interface_state_keys ++ call_state_keys ++ data_state_keys ++ flow_code_keys ++ packet_code_keys ++ message_keys ++ header_word_keys
     ++ kind_keys ++ refusal_keys ++ status_keys ++ clearing_cause_keys ++ resetting_cause_keys ++ restarting_cause_keys ++ term_keys
     ++ packet_term_keys ++ call_term_keys ++ time_out_keys ++ parameter_keys
 

@@ -3,24 +3,33 @@
 #![tactic(auto)]
 
 pub mod advice;
+mod call_fields;
+mod call_states;
+mod call_sums;
 mod call_terms;
 mod clearing_causes;
+mod data_states;
+mod directions;
+mod endings;
 pub mod explanation;
-mod fields;
+mod finding_fields;
 mod flow_codes;
 mod header_words;
+mod interface_states;
 mod kinds;
+mod lines;
 pub mod lookup;
 mod messages;
 mod packet_codes;
 mod packet_terms;
 mod parameters;
 mod refusals;
-mod report_fields;
 mod resetting_causes;
 mod restarting_causes;
-mod states;
+mod setting_fields;
+mod settings;
 mod statuses;
+mod sum_fields;
 pub mod table;
 mod terms;
 pub mod text;

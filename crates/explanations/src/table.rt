@@ -3,29 +3,38 @@
 ghost use Rattle.std.specs.Prelude.{◌≡◌, ◌++◌, IfOk, OnOk, map};
 ghost use Rattle.explanations.specs.Table.{explanations_of, is_of, key, of_topic, rows, table_keys};
 
+use crate::call_fields::call_fields;
+use crate::call_states::call_states;
+use crate::call_sums::call_sums;
 use crate::call_terms::call_terms;
 use crate::clearing_causes::clearing_causes;
+use crate::data_states::data_states;
+use crate::directions::directions;
+use crate::endings::endings;
 use crate::explanation::Explanation;
-use crate::fields::fields;
+use crate::finding_fields::finding_fields;
 use crate::flow_codes::flow_codes;
 use crate::header_words::header_words;
+use crate::interface_states::interface_states;
 use crate::kinds::kinds;
+use crate::lines::lines;
 use crate::messages::messages;
 use crate::packet_codes::packet_codes;
 use crate::packet_terms::packet_terms;
 use crate::parameters::parameters;
 use crate::refusals::refusals;
-use crate::report_fields::report_fields;
 use crate::resetting_causes::resetting_causes;
 use crate::restarting_causes::restarting_causes;
-use crate::states::states;
+use crate::setting_fields::setting_fields;
+use crate::settings::settings;
 use crate::statuses::statuses;
+use crate::sum_fields::sum_fields;
 use crate::terms::terms;
 use crate::time_outs::time_outs;
 use std::alloc::{AllocError, Global};
 
 /// How many sections the table has.
-pub const SECTIONS: usize = 18;
+pub const SECTIONS: usize = 27;
 
 /// Returns the table: its sections, each the words of one part of what the program prints or reads. It explains all
 /// words of the report, of a header and of the refusals, the causes and some terms, and no other.
@@ -33,9 +42,18 @@ pub fn all() -> [&'static [Explanation]; SECTIONS]
     ensures { map key (rows result) ≡ table_keys }
 {
     [
-        fields(),
-        report_fields(),
-        states(),
+        lines(),
+        directions(),
+        endings(),
+        settings(),
+        finding_fields(),
+        call_fields(),
+        call_sums(),
+        setting_fields(),
+        sum_fields(),
+        interface_states(),
+        call_states(),
+        data_states(),
         flow_codes(),
         packet_codes(),
         messages(),
