@@ -28,7 +28,7 @@ from .snoop import Snoop
 Comments = dict[int, list[str]]
 FINDING = re.compile(r"#! (F (\d+) .*)")
 CALL = re.compile(r"# (Call \d+, \w+ on logical channel (\d+): .*\bopened by packet (\d+)\b.*)")
-GAP = re.compile(r"# (a gap: .*)")
+GAP = re.compile(r"# (a gap: .* may be missing)")
 PACKET = re.compile(r"(?:\bpacket |(?<=\bup with )|(?<=\bended with ))(\d+)\b")
 # The comment on the first section of a file, by which it is known as one that --comments wrote.
 MARK = b"written by x25trace --comments"

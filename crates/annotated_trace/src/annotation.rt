@@ -54,8 +54,7 @@ impl<A: Allocator + Copy, O: TraceObserver<A>, D: Describer<A, O>> Printer<A, O>
 
     fn print(&mut self, trace: &O, line: &[u8], out: &mut Vec<u8, A>) -> Result<(), AllocError> {
         out.extend_from_slice(line)?;
-        let choice = self.describer.rows();
-        append_comments(trace, choice, &mut self.describer, &mut self.room, out)
+        append_comments(trace, line, &mut self.describer, &mut self.room, out)
     }
 
     fn close<S: LentSink>(&mut self, report: &Report<A>, sink: S) -> (S, Result<(), Fault>) {

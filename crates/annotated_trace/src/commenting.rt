@@ -49,28 +49,29 @@ fn append_marks<A: Allocator + Copy, O: TraceObserver<A>, D: Describer<A, O>>(
     Ok(())
 }
 
-/// Appends the comments after the last line. Fails only when memory is refused; a first part may have been appended
-/// then.
+/// Appends the comments after the last line; `line` is its bytes with the LF. Fails only when memory is refused; a
+/// first part may have been appended then.
 pub fn append_comments<A: Allocator + Copy, O: TraceObserver<A>, D: Describer<A, O>>(
     trace: &O,
-    choice: Rows,
+    line: &[u8],
     describer: &mut D,
     room: &mut CommentRoom<A>,
     out: &mut Vec<u8, A>,
 ) -> Result<(), AllocError>
-    ensures comments { (before : List Line) (line : Line) (text : List ℕ)
-        → D.described describer.old before → D.rows describer.old ≡ choice
-        → O.represents trace.now text → ended_lines text ≡ before ++ line ∷ []
-        → OnOk result (HasRightComments choice before line
-        (O.last_found trace.now) out.old.items out.new.items) }
-    ensures described { (before : List Line) (line : Line) (text : List ℕ)
+    ensures comments { (before : List Line) (l : Line) (text : List ℕ)
         → D.described describer.old before → O.represents trace.now text
-        → ended_lines text ≡ before ++ line ∷ []
-        → OnOk result (D.described describer.new (before ++ line ∷ [])) }
+        → ended_lines text ≡ before ++ l ∷ []
+        → OnOk result (HasRightComments (D.rows describer.old) before l
+        (O.last_found trace.now) out.old.items out.new.items) }
+    ensures described { (before : List Line) (l : Line) (text : List ℕ)
+        → D.described describer.old before → O.represents trace.now text
+        → ended_lines text ≡ before ++ l ∷ []
+        → OnOk result (D.described describer.new (before ++ l ∷ [])) }
     ensures rows { D.rows describer.new ≡ D.rows describer.old }
 {
     room.notes.clear();
-    let picked = describer.describe(trace, &mut room.notes)?;
+    let choice = describer.rows();
+    let picked = describer.describe(trace, line, &mut room.notes)?;
     match (picked, choice) {
         (true, _) => {
             room.notes.append_to(out)?;

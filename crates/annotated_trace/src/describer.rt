@@ -34,18 +34,18 @@ pub trait Describer<A: Allocator, O: TraceObserver<A>>: Drop {
         ensures rows { rows self.new ≡ rows self.old };
 
     /// Writes what the last line of the trace did, and returns whether the line is a row that is described; for such a
-    /// row it writes at least one comment. What it writes for any other line is dropped. Fails only when memory is
-    /// refused.
-    fn describe(&mut self, trace: &O, notes: &mut Notes<A>) -> Result<bool, AllocError>
-        ensures picked { (before : List Line) (line : Line) (text : List ℕ)
+    /// row it writes at least one comment. What it writes for any other line is dropped. `line` is its bytes with the
+    /// LF. Fails only when memory is refused.
+    fn describe(&mut self, trace: &O, line: &[u8], notes: &mut Notes<A>) -> Result<bool, AllocError>
+        ensures picked { (before : List Line) (l : Line) (text : List ℕ)
             → described self.old before → O.represents trace.now text
-            → ended_lines text ≡ before ++ line ∷ []
-            → IfOk result (IsPickedRightly (rows self.old) before line) }
+            → ended_lines text ≡ before ++ l ∷ []
+            → IfOk result (IsPickedRightly (rows self.old) before l) }
         ensures said { IfOk result (λ picked. picked ≡ true → IsSaid notes.new) }
-        ensures described { (before : List Line) (line : Line) (text : List ℕ)
+        ensures described { (before : List Line) (l : Line) (text : List ℕ)
             → described self.old before → O.represents trace.now text
-            → ended_lines text ≡ before ++ line ∷ []
-            → OnOk result (described self.new (before ++ line ∷ [])) }
+            → ended_lines text ≡ before ++ l ∷ []
+            → OnOk result (described self.new (before ++ l ∷ [])) }
         ensures rows { rows self.new ≡ rows self.old };
 
     /// Writes what is wrong with the row of a finding of the last line, in words that come after its mark. Fails only

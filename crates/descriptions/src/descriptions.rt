@@ -7,6 +7,7 @@ use crate::faults::{Before, fault};
 use crate::origins::Origins;
 use crate::prose::ProseWriter;
 use crate::row_words::row;
+use crate::times::Recorded;
 use annotated_trace::describer::Describer;
 use annotated_trace::notes::{NoteWords, Notes};
 use annotated_trace::page::ClosingPage;
@@ -19,7 +20,7 @@ use live_report::live::Live;
 use live_report::uncounted::Uncounted;
 use std::alloc::{AllocError, Allocator};
 
-/// What is kept of the rows before.
+/// What is kept of the lines before.
 #[derive(Drop)]
 struct Past<A: Allocator> {
     origins: Origins<A>,
@@ -27,6 +28,8 @@ struct Past<A: Allocator> {
     /// What was known before the last row with a finding.
     before: Option<Before>,
     uncounted: Uncounted,
+    /// The frame of the next row, where a comment says it.
+    frame: Option<u64>,
 }
 
 impl<A: Allocator + Copy> Past<A> {
@@ -37,6 +40,14 @@ impl<A: Allocator + Copy> Past<A> {
             course: Course::new(alloc),
             before: None,
             uncounted: Uncounted::none(),
+            frame: None,
+        }
+    }
+
+    /// Reads a line that writes no row: a comment may say the frame of the next one.
+    fn take_comment(&mut self, line: &[u8]) {
+        if let Some(recorded) = Recorded::of_comment(line) {
+            self.frame = recorded.frame;
         }
     }
 
@@ -46,6 +57,7 @@ impl<A: Allocator + Copy> Past<A> {
         trace: &Live<A, C>,
         notes: &mut Notes<A>,
     ) -> Result<(), AllocError> {
+        let frame = self.frame.take();
         let (Some(observer), Some(interface)) = (trace.observer(), trace.interface()) else {
             return Ok(());
         };
@@ -67,7 +79,7 @@ impl<A: Allocator + Copy> Past<A> {
         }
         self.uncounted = observer.uncounted();
         let mut writer = ProseWriter::new(notes);
-        row(&facts, &mut writer);
+        row(&facts, frame, &mut writer);
         writer.answer()
     }
 }
@@ -111,8 +123,14 @@ impl<A: Allocator + Copy, C: Channel<A>> Describer<A, Live<A, C>> for Descriptio
         self.past = Past::new(self.alloc);
     }
 
-    fn describe(&mut self, trace: &Live<A, C>, notes: &mut Notes<A>) -> Result<bool, AllocError> {
+    fn describe(
+        &mut self,
+        trace: &Live<A, C>,
+        line: &[u8],
+        notes: &mut Notes<A>,
+    ) -> Result<bool, AllocError> {
         let Some(picked) = self.chosen.judge_line(trace) else {
+            self.past.take_comment(line);
             return Ok(false);
         };
         self.past.say_row(trace, notes)?;

@@ -9,14 +9,17 @@ use line_model::event::What;
 use live_report::judged_row::Judge;
 use live_report::uncounted::Reason;
 
-/// Writes what a row is, and on a further line what it did.
-pub fn row<P: Page>(facts: &RowFacts<'_>, notes: &mut P) {
+/// Writes what a row is and its frame, where that is known, and on a further line what it did.
+pub fn row<P: Page>(facts: &RowFacts<'_>, frame: Option<u64>, notes: &mut P) {
     match gap_of(&facts.last.packet) {
         Some(channel) => gap(channel, notes),
         None => packet(notes, facts),
     }
     if let Some(octets) = facts.message {
         message(notes, octets);
+    }
+    if let Some(frame) = frame {
+        say_number(notes, "; frame ", frame);
     }
     notes.next_line();
     moved(facts, notes);

@@ -39,7 +39,12 @@ impl<A: Allocator + Copy, O: TraceObserver<A>> Describer<A, O> for Numbered {
 
     fn begin(&mut self) {}
 
-    fn describe(&mut self, _trace: &O, notes: &mut Notes<A>) -> Result<bool, AllocError> {
+    fn describe(
+        &mut self,
+        _trace: &O,
+        _line: &[u8],
+        notes: &mut Notes<A>,
+    ) -> Result<bool, AllocError> {
         self.lines = self.lines.wrapping_add(1);
         notes.say("line\n")?;
         notes.number(self.lines)?;

@@ -56,7 +56,12 @@ impl<A: Allocator + Copy, O: TraceObserver<A>> Describer<A, O> for Wordy {
 
     fn begin(&mut self) {}
 
-    fn describe(&mut self, _trace: &O, notes: &mut Notes<A>) -> Result<bool, AllocError> {
+    fn describe(
+        &mut self,
+        _trace: &O,
+        _line: &[u8],
+        notes: &mut Notes<A>,
+    ) -> Result<bool, AllocError> {
         notes.next()?;
         Ok(true)
     }
