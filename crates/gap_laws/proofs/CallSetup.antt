@@ -42,7 +42,7 @@ use Rattle.line_model.specs.channels.Verdicts.CallChange.{Opens, GoesUp}
 use Rattle.line_model.proofs.Effects.{IsSound}
 use Rattle.line_model.proofs.Every.{classes, every, every_class}
 use Rattle.gap_laws.specs.Thinned.{is_whole}
-use Rattle.gap_laws.proofs.Circuits.{Circuit, failing_loud, idle, silent}
+use Rattle.gap_laws.proofs.Circuits.{some_none, Circuit, failing_loud, idle, silent}
 use Rattle.gap_laws.proofs.Fits.{LastFits}
 use Rattle.gap_laws.proofs.Entries.{is_below, judged_at, quiet, quiet_whole, row_at}
 use Rattle.gap_laws.proofs.QuietSteps.{Waits, none_of_other, waiting_seen}
@@ -203,12 +203,7 @@ waits_out : (p : PState) (x : Side) → is_usual (Setup p) ≡ true → passes_o
 waits_out setup.TheVariants.P4 x u e = absurd (false≢true u)
 waits_out setup.TheVariants.P6 N u e = refl
 waits_out setup.TheVariants.P7 T u e = refl
-waits_out setup.TheVariants.P6 T u e = absurd (false≢true e)
-waits_out setup.TheVariants.P7 N u e = absurd (false≢true e)
-waits_out setup.TheVariants.P1 x u e = absurd (false≢true e)
-waits_out setup.TheVariants.P2 x u e = absurd (false≢true e)
-waits_out setup.TheVariants.P3 x u e = absurd (false≢true e)
-waits_out setup.TheVariants.P5 x u e = absurd (false≢true e)
+waits_out p x u e = absurd (false≢true e)
 
 abbrev rest_test : Side → PState → Class → Bool
 rest_test x p k = not (is_below k) || (is_error (action x (setup_name p) false k) || (quiet (action x (setup_name p) false k) && passes_out p x))
@@ -283,7 +278,7 @@ opens_call i n nr x k len os perm ch s t w e q is calm awaits =
       after = ap (λ (o : Outcome). o.after) (plain_is i n r c perm ∙ e ∙ m.1) ∙ is;
       calm = calm (no_other _ (call_fault i os) m.0);
       drifts = λ b g f. drifted i w b (gap_channel_step i n g r)
-          (by_drifts (DriftsBy i w b) i n r c b g f (adrift_is (DriftsBy i w b) i n nr x k kind.TheVariants.Call len os perm b f.hidden f.last f.channel (λ u h. absurd (apart (sym h ∙ m.0))) (opens i w b f.hidden f.last x os f.channel f.channel.opening awaits)));
+          (by_drifts (DriftsBy i w b) i n r c b g f (adrift_is (DriftsBy i w b) i n nr x k kind.TheVariants.Call len os perm b f.hidden f.last f.channel (λ u h. some_none (sym h ∙ m.0)) (opens i w b f.hidden f.last x os f.channel f.channel.opening awaits)));
       settled = λ b g f. never_settled i ch s b g f;
     }
   where
@@ -292,9 +287,6 @@ opens_call i n nr x k len os perm ch s t w e q is calm awaits =
 
     c : Channel
     c = waiting ch s
-
-    apart : {u : ℕ} → Some u ≡ None → ⊥
-    apart e = cc
 
 call_row : (i : Interface) (n nr : ℕ) (x : Side) (k len : ℕ) (os : List ℕ) → is_permanent i n ≡ false → (ch : Channel) (s : PState) → IsCalm i (waiting ch s)
     → silent (plain_step i n (row_at nr x k kind.TheVariants.Call len os) (waiting ch s)).reported ≡ true → CallStep i n (row_at nr x k kind.TheVariants.Call len os) (waiting ch s)
@@ -318,14 +310,7 @@ call_row i n nr x k len os perm ch s calm q = at x s calm q
         opens_call i n nr N k len os perm ch setup.TheVariants.P2 P5 (entering P5 false (waiting ch setup.TheVariants.P2)) refl q refl (λ f. entered i (waiting ch setup.TheVariants.P2) P5 refl calm) (λ e. absurd (false≢true e))
     at T setup.TheVariants.P7 calm q = ignored i n nr T k kind.TheVariants.Call len os perm refl refl ch setup.TheVariants.P7 refl calm refl
     at N setup.TheVariants.P6 calm q = ignored i n nr N k kind.TheVariants.Call len os perm refl refl ch setup.TheVariants.P6 refl calm refl
-    at T setup.TheVariants.P2 calm q = absurd (false≢true q)
-    at T setup.TheVariants.P4 calm q = absurd (false≢true q)
-    at T setup.TheVariants.P5 calm q = absurd (false≢true q)
-    at T setup.TheVariants.P6 calm q = absurd (false≢true q)
-    at N setup.TheVariants.P3 calm q = absurd (false≢true q)
-    at N setup.TheVariants.P4 calm q = absurd (false≢true q)
-    at N setup.TheVariants.P5 calm q = absurd (false≢true q)
-    at N setup.TheVariants.P7 calm q = absurd (false≢true q)
+    at x s calm q = absurd (false≢true q)
 
 -- a call that came up is not one that the channel adrift had up before
 known_risen : (i : Interface) (h : Bool) (c w : Channel) → is_in_transfer c ≡ false → w.state ≡ Transfer transfer.TheVariants.D1 → (o : Option Opening) (s : ChannelState) (a : Option (List ℕ)) → Known i h c o s a → Known i h w o s a
@@ -385,15 +370,7 @@ accept_row i n nr x k len os perm ch s calm sound q = at x s calm sound q
     at N setup.TheVariants.P5 calm sound q = rises N setup.TheVariants.P5 calm sound.held refl q (λ ls h. h) (λ o own a. a (outgoing o.out own)) refl
     at T setup.TheVariants.P7 calm sound q = ignored i n nr T k kind.TheVariants.Accepted len os perm refl refl ch setup.TheVariants.P7 refl calm refl
     at N setup.TheVariants.P6 calm sound q = ignored i n nr N k kind.TheVariants.Accepted len os perm refl refl ch setup.TheVariants.P6 refl calm refl
-    at T setup.TheVariants.P1 calm sound q = absurd (false≢true q)
-    at T setup.TheVariants.P2 calm sound q = absurd (false≢true q)
-    at T setup.TheVariants.P4 calm sound q = absurd (false≢true q)
-    at T setup.TheVariants.P5 calm sound q = absurd (false≢true q)
-    at T setup.TheVariants.P6 calm sound q = absurd (false≢true q)
-    at N setup.TheVariants.P1 calm sound q = absurd (false≢true q)
-    at N setup.TheVariants.P3 calm sound q = absurd (false≢true q)
-    at N setup.TheVariants.P4 calm sound q = absurd (false≢true q)
-    at N setup.TheVariants.P7 calm sound q = absurd (false≢true q)
+    at x s calm sound q = absurd (false≢true q)
 
 -- ---- clearing
 
@@ -425,12 +402,9 @@ clear_row i n nr x k len os perm ch s calm q = at x s calm q
           whole = w;
           after = ap (λ (o : Outcome). o.after) (plain_is i n (row_at nr x k kind.TheVariants.Clear len os) (waiting ch s) perm ∙ e ∙ m.1) ∙ is;
           calm = then (entered i (waiting ch s) t u calm);
-          drifts = λ b g f. clear_drifts i n nr x k len os perm (waiting ch s) w b g f (λ d u h. absurd (apart (sym h ∙ m.0)));
+          drifts = λ b g f. clear_drifts i n nr x k len os perm (waiting ch s) w b g f (λ d u h. some_none (sym h ∙ m.0));
           settled = λ b g f. never_settled i ch s b g f;
         }
-      where
-        apart : {u : ℕ} → Some u ≡ None → ⊥
-        apart e = cc
 
     cleared : (x : Side) (s : PState) (t : StateName) (h : How) → is_usual (state_named t) ≡ true → IsCalm i (waiting ch s)
         → plain_step i n (row_at nr x k kind.TheVariants.Clear len os) (waiting ch s) ≡ verdict_step i (setup_name s) (row_at nr x k kind.TheVariants.Clear len os) (verdict (judged_at (setup_name s) (Move t)) (packet_fault i n (waiting ch s) (row_at nr x k kind.TheVariants.Clear len os))) (waiting ch s)
@@ -486,29 +460,15 @@ confirm_row i n nr x k len os perm ch s calm sound q = at x s calm sound q
       after = ap (λ (o : Outcome). o.after) (plain_is i n (row_at nr x k kind.TheVariants.ClearConfirm len os) (waiting ch s) perm) ∙ e;
       calm = record { owes = refl; usual = refl; tidy = λ e. (refl, refl); granted = record { opened = tt; accepted = tt }; ordered = idle_ordered i transfer.TheVariants.D1 };
       drifts = λ b g f. by_drifts (FollowsCall i none b) i n (row_at nr x k kind.TheVariants.ClearConfirm len os) (waiting ch s) b g f
-          (adrift_is (FollowsCall i none b) i n nr x k kind.TheVariants.ClearConfirm len os perm b f.hidden f.last f.channel (λ u h. absurd (apart (sym h)))
+          (adrift_is (FollowsCall i none b) i n nr x k kind.TheVariants.ClearConfirm len os perm b f.hidden f.last f.channel (λ u h. some_none (sym h))
           (subst (λ w. FollowsCall i none b (with_certainty (adrift_call_at b f.hidden f.last f.channel) (confirmed_clear b w) (ending how.TheVariants.Gap (entering P1 false f.channel)))) (sym (confirm_owes x)) (confirms b f.hidden f.last f.channel f.channel.opening f.tidy)));
       settled = λ b g f. never_settled i ch s b g f;
     }
-      where
-        apart : {u : ℕ} → Some u ≡ None → ⊥
-        apart e = cc
 
     at : (x : Side) (s : PState) → IsCalm i (waiting ch s) → IsSound false (waiting ch s) → silent (plain_step i n (row_at nr x k kind.TheVariants.ClearConfirm len os) (waiting ch s)).reported ≡ true → CallStep i n (row_at nr x k kind.TheVariants.ClearConfirm len os) (waiting ch s)
     at T setup.TheVariants.P7 calm sound q = row T setup.TheVariants.P7 (leaves ch ch.opening calm.tidy sound.held)
     at N setup.TheVariants.P6 calm sound q = row N setup.TheVariants.P6 (leaves ch ch.opening calm.tidy sound.held)
-    at T setup.TheVariants.P1 calm sound q = absurd (false≢true q)
-    at T setup.TheVariants.P2 calm sound q = absurd (false≢true q)
-    at T setup.TheVariants.P3 calm sound q = absurd (false≢true q)
-    at T setup.TheVariants.P4 calm sound q = absurd (false≢true q)
-    at T setup.TheVariants.P5 calm sound q = absurd (false≢true q)
-    at T setup.TheVariants.P6 calm sound q = absurd (false≢true q)
-    at N setup.TheVariants.P1 calm sound q = absurd (false≢true q)
-    at N setup.TheVariants.P2 calm sound q = absurd (false≢true q)
-    at N setup.TheVariants.P3 calm sound q = absurd (false≢true q)
-    at N setup.TheVariants.P4 calm sound q = absurd (false≢true q)
-    at N setup.TheVariants.P5 calm sound q = absurd (false≢true q)
-    at N setup.TheVariants.P7 calm sound q = absurd (false≢true q)
+    at x s calm sound q = absurd (false≢true q)
 
 pub waiting_row : (i : Interface) (n nr : ℕ) (x : Side) (k : ℕ) (p : PacketKind) (len : ℕ) (os : List ℕ) → is_permanent i n ≡ false → is_whole (packet.TheVariants.Channel k p) ≡ true → (ch : Channel) (s : PState) → IsCalm i (waiting ch s) → IsSound false (waiting ch s)
     → silent (plain_step i n (row_at nr x k p len os) (waiting ch s)).reported ≡ true → CallStep i n (row_at nr x k p len os) (waiting ch s)

@@ -31,7 +31,7 @@ use Rattle.line_model.specs.channels.Gaps.{Certainty, Doubts, GapChannel, of_bot
 use Rattle.line_model.specs.channels.Gaps.Certainty.{Certain, Settled}
 use Rattle.line_model.specs.channels.GapStep.{doubts_in, gap_channel_step, is_in_d1, largest_size, receive_of, settled_outcome, settled_verdict}
 use Rattle.gap_laws.specs.Thinned.{is_whole}
-use Rattle.gap_laws.proofs.Circuits.{Circuit, IsOrdered, Terms, channel_with, circuit, idle, silent, size_of, told, with_data, with_receive}
+use Rattle.gap_laws.proofs.Circuits.{some_none, Circuit, IsOrdered, Terms, channel_with, circuit, idle, silent, size_of, told, with_data, with_receive}
 use Rattle.line_model.specs.channels.ChannelStep.{accepted_of}
 use Rattle.line_model.specs.channels.GapStep.{may_be_begun, message_in_doubt}
 use Rattle.gap_laws.proofs.Settled.{SideFits, completed_circuit, after_data, data_settled, doubts_then, said_in_doubt, receive_settled, taken_with}
@@ -43,6 +43,7 @@ use Rattle.gap_laws.proofs.ReceiveSteps.{IsReceive, ReceiveStep, receive_seen, r
 use Rattle.gap_laws.proofs.InterruptSteps.{IsTurn, TurnStep, confirmation_turns, interrupt_turns, turn_seen, turn_settles, turn_whole}
 use Rattle.gap_laws.proofs.QuietSteps.{Waiting, quiet_settles, quiet_takes, waiting_whole}
 use Rattle.gap_laws.proofs.ResetSteps.{IsReset, ResetStep, confirmation_resets, idle_ordered, reset_resets, reset_settles, reset_whole}
+use Rattle.gap_laws.proofs.CircuitRows.{d2_apart, d3_apart}
 use Rattle.gap_laws.proofs.Granted.{Agrees, allows, size_below, window_below}
 use Rattle.gap_laws.proofs.Calls.{Carried, Keeps, Drifts, DriftsBy, FollowsCall, IsCalm, SameCall, SettledCall, SettledFits, SettledIn, adrift_call_at, adrift_is, again, by_drifts, carries, circuit_in, drifted, is_usual, resets, terms_of}
 use Rattle.std.proofs.Common.{arith}
@@ -128,20 +129,17 @@ keeps_sides i c transfer.TheVariants.D1 b z s = s
 keeps_sides i c transfer.TheVariants.D2 b z s = (s.0, refl)
 keeps_sides i c transfer.TheVariants.D3 b z s = (s.0, refl)
 
--- the sides of a channel that enters a state
+neither : (y : Side) → of_side y (of_both false) ≡ false
+neither T = refl
+neither N = refl
+
+-- what stays in doubt of a channel that enters a state
 in_order : (i : Interface) (c : Channel) (d : DState) (b : Doubts) (z : Circuit) → SettledIn d i c b z → (y : Side) → of_side y b.sequences ≡ false → of_side y b.numbers ≡ false
 in_order i c transfer.TheVariants.D1 b z s y = (s y).in_order
 in_order i c transfer.TheVariants.D2 b z s y = λ e. ap (λ (b : Doubts). of_side y b.numbers) s.1 ∙ neither y
-  where
-    neither : (y : Side) → of_side y (of_both false) ≡ false
-    neither T = refl
-    neither N = refl
 in_order i c transfer.TheVariants.D3 b z s y = λ e. ap (λ (b : Doubts). of_side y b.numbers) s.1 ∙ neither y
-  where
-    neither : (y : Side) → of_side y (of_both false) ≡ false
-    neither T = refl
-    neither N = refl
 
+-- the sides of a channel that enters a state
 entered_sides : (i : Interface) (k : Terms) (b : Doubts) → ((y : Side) → of_side y b.sequences ≡ false → of_side y b.numbers ≡ false) → (d : DState) → SettledIn d i (channel_with k (idle d)) (doubts_in (Transfer d) b) (idle d)
 entered_sides i k b o transfer.TheVariants.D1 = λ y. record { numbers = numbers y; interrupts = λ e. refl; sequences = λ u e. refl; in_order = o y }
   where
@@ -164,12 +162,6 @@ is_set_up kind.TheVariants.Accepted = true
 is_set_up kind.TheVariants.ClearConfirm = true
 is_set_up p = false
 
-d2_apart : transfer.TheVariants.D2 ≡ transfer.TheVariants.D1 → ⊥
-d2_apart e = cc
-
-d3_apart : transfer.TheVariants.D3 ≡ transfer.TheVariants.D1 → ⊥
-d3_apart e = cc
-
 up_calm : (i : Interface) (k t : Terms) (q w : Circuit) → IsCalm i (channel_with k q) → is_some k.opening ≡ true → t.opening ≡ k.opening → t.accepting ≡ k.accepting → ((y : Side) → IsOrdered i.modulus w y) → IsCalm i (channel_with t w)
 up_calm i k t q w s held o a ordered = record {
   owes = refl;
@@ -184,12 +176,6 @@ up_calm i k t q w s held o a ordered = record {
 
 call_silent : (i : Interface) (n : ℕ) (r : Item) (c : Channel) → is_permanent i n ≡ false → silent (plain_step i n r c).reported ≡ true → silent (channel_step i n c r).reported ≡ true
 call_silent i n r c perm q = ap (λ (o : Outcome). silent o.reported) (plain_is i n r c perm) ∙ q
-
-some_none : {A : Type 0} {f : ℕ} → Some f ≡ None → A
-some_none e = absurd (apart e)
-  where
-    apart : {f : ℕ} → Some f ≡ None → ⊥
-    apart e = cc
 
 -- packets that do nothing
 quiet_row : (i : Interface) (n nr : ℕ) (x : Side) (j : ℕ) (p : PacketKind) (len : ℕ) (os : List ℕ) → is_permanent i n ≡ false → is_below (kind_class p) ≡ true → is_moving (kind_class p) ≡ false → is_flow (kind_class p) ≡ false → adrift_entry false (kind_class p) ≡ DoesNothing
@@ -263,10 +249,6 @@ carried_row i n nr x j p len os perm entry c w t sound b g f =
     r : Item
     r = row_at nr x j p len os
 
-twice : (x : Side) → other (other x) ≡ x
-twice T = refl
-twice N = refl
-
 data_row : (i : Interface) (n nr : ℕ) (x : Side) (j : ℕ) (h : DataHeader) (len : ℕ) (os : List ℕ) → is_permanent i n ≡ false → (k : Terms) (hs : List AcceptedData) (v : Sides ℕ) (u : Sides Bool) → IsCalm i (channel_with k (circuit transfer.TheVariants.D1 hs v u)) → is_some k.opening ≡ true
     → silent (plain_step i n (row_at nr x j (kind.TheVariants.Data (Some h)) len os) (channel_with k (circuit transfer.TheVariants.D1 hs v u))).reported ≡ true → CallStep i n (row_at nr x j (kind.TheVariants.Data (Some h)) len os) (channel_with k (circuit transfer.TheVariants.D1 hs v u))
 data_row i n nr x j h len os perm k hs v u calm held s = record {
@@ -279,7 +261,7 @@ data_row i n nr x j h len os perm k hs v u calm held s = record {
         seen = λ ls seen. data_seen i k r h (Some h.receive) hs v u ls seen t.taken;
         settles = λ ls seen l is same.
             let last : LastFits i.modulus q (other x) (Some l) = subst (λ l. LastFits i.modulus q (other x) l) is (seen (other x)) in
-            (refl, λ u. settles_by_data i k u r h q l (lawful_is i).eight below calm.ordered (last.0 ∙ same) (ap (λ y. of_side y v % i.modulus) (sym (twice x)) ∙ last.1) t.taken);
+            (refl, λ u. settles_by_data i k u r h q l (lawful_is i).eight below calm.ordered last same t.taken);
       })
       (λ d u e. some_none (sym e ∙ size_allows i (size_of i k x) largest_size len (size_below i k calm.granted x) t.no_fault));
   settled = λ b g f. by_settled i n r c w b g f transfer.TheVariants.D1 refl (λ sides.
@@ -324,7 +306,7 @@ receive_row i n nr x j p m len os perm is entry carried fault k hs v u calm held
         seen = λ ls seen. receive_seen k i.modulus x m hs v u ls seen t.taken;
         settles = λ ls seen l is same.
             let last : LastFits i.modulus q (other x) (Some l) = subst (λ l. LastFits i.modulus q (other x) l) is (seen (other x)) in
-            (refl, λ u. settles_by_receive i k u x m q l (lawful_is i).eight calm.ordered (last.0 ∙ same) (ap (λ y. of_side y v % i.modulus) (sym (twice x)) ∙ last.1) t.taken);
+            (refl, λ u. settles_by_receive i k u x m q l (lawful_is i).eight calm.ordered last same t.taken);
       }))
       (λ d u e. some_none (sym e ∙ fault d c ∙ t.no_fault));
   settled = λ b g f. by_settled i n r c w b g f transfer.TheVariants.D1 refl (λ sides.
@@ -462,10 +444,10 @@ clear_up i n nr x j len os perm k q held s = at x s
           settled = λ b g f. subst (λ g. FollowsCall i (channel_in (state_named t)) b (gap_channel_step i n g r)) (sym f.is)
               (subst (FollowsCall i (channel_in (state_named t)) b)
               (sym (
-                ap (λ p. let j : Judged = judged p x (Transfer f.settled.state) false Clear in settled_outcome (settled_with f.terms b f.doubts f.settled) (settled_verdict i j.state r (verdict j (packet_fault i n (channel_with f.terms f.settled) r)) f.doubts (channel_with f.terms f.settled))) perm
-                ∙ ap (λ (j : Judged). settled_outcome (settled_with f.terms b f.doubts f.settled) (settled_verdict i j.state r (verdict j (packet_fault i n (channel_with f.terms f.settled) r)) f.doubts (channel_with f.terms f.settled))) (judge f.settled.state)
-                ∙ ap (λ u. settled_outcome (settled_with f.terms b f.doubts f.settled) (settled_verdict i P4 r (verdict (judged_at P4 (Move t)) u) f.doubts (channel_with f.terms f.settled))) m.0
-                ∙ ap (λ o. settled_outcome (settled_with f.terms b f.doubts f.settled) (record { outcome = o; doubts = f.doubts })) (move (channel_with f.terms f.settled))
+              ap (λ p. let j : Judged = judged p x (Transfer f.settled.state) false Clear in settled_outcome (settled_with f.terms b f.doubts f.settled) (settled_verdict i j.state r (verdict j (packet_fault i n (channel_with f.terms f.settled) r)) f.doubts (channel_with f.terms f.settled))) perm
+              ∙ ap (λ (j : Judged). settled_outcome (settled_with f.terms b f.doubts f.settled) (settled_verdict i j.state r (verdict j (packet_fault i n (channel_with f.terms f.settled) r)) f.doubts (channel_with f.terms f.settled))) (judge f.settled.state)
+              ∙ ap (λ u. settled_outcome (settled_with f.terms b f.doubts f.settled) (settled_verdict i P4 r (verdict (judged_at P4 (Move t)) u) f.doubts (channel_with f.terms f.settled))) m.0
+              ∙ ap (λ o. settled_outcome (settled_with f.terms b f.doubts f.settled) (record { outcome = o; doubts = f.doubts })) (move (channel_with f.terms f.settled))
               ))
               (ended settles b f.doubts f.settled f.terms.opening f.terms.accepting f.terms.pad_messages f.held));
         }
@@ -501,8 +483,8 @@ up_row i n nr x j p len os perm whole k q calm held s = at p whole s
       where
         by : (d : DState) → IsCalm i (channel_with k (circuit d q.accepted q.acknowledged q.unconfirmed)) → Goal p (circuit d q.accepted q.acknowledged q.unconfirmed)
         by transfer.TheVariants.D1 c = in_d1 q.accepted q.acknowledged q.unconfirmed c
-        by transfer.TheVariants.D2 c = waited_row i n nr x j p len os perm below is entry k transfer.TheVariants.D2 q.accepted q.acknowledged q.unconfirmed (λ e. d2_apart e) c
-        by transfer.TheVariants.D3 c = waited_row i n nr x j p len os perm below is entry k transfer.TheVariants.D3 q.accepted q.acknowledged q.unconfirmed (λ e. d3_apart e) c
+        by transfer.TheVariants.D2 c = waited_row i n nr x j p len os perm below is entry k transfer.TheVariants.D2 q.accepted q.acknowledged q.unconfirmed d2_apart c
+        by transfer.TheVariants.D3 c = waited_row i n nr x j p len os perm below is entry k transfer.TheVariants.D3 q.accepted q.acknowledged q.unconfirmed d3_apart c
 
     loud : {A : Type 0} (x : Side) (p : PacketKind) → is_set_up p ≡ true → silent (plain_step i n (row_at nr x j p len os) (channel_with k q)).reported ≡ true → A
     loud T kind.TheVariants.Call e s = absurd (false≢true s)

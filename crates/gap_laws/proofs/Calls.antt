@@ -378,9 +378,11 @@ carries i n r c w whole b h ls perm d o t tidy seen empty rests known = subst (�
           | false ↦ adrift_received i r (drifts_with h' ls) (adrift_call_at b h ls (record d { state = Transfer e })) (receive_of r) (option_and_then (acknowledged_data (drifts_with h' ls) r.side) (receive_of r))
         ])
     carried h' e o d held rests known true u =
-        let none : ls ≡ of_both None = resting_none (other r.side) e ls u rests in
-        (refl, inl (subst (λ ls. Drifts i w b (adrift_call_at b h' ls (record d { state = Transfer e }))) (sym none)
-        (drifts_none i w b h' (record d { state = Transfer e }) (open_tidy (record d { state = Transfer e }) (ap is_some held)) (subst (λ o. Known i h' w o (Transfer e) d.accepting) (sym held) (known e)))))
+        let none : ls ≡ of_both None = resting_none (other r.side) e ls u rests in (
+          refl,
+          inl (subst (λ ls. Drifts i w b (adrift_call_at b h' ls (record d { state = Transfer e }))) (sym none)
+              (drifts_none i w b h' (record d { state = Transfer e }) (open_tidy (record d { state = Transfer e }) (ap is_some held)) (subst (λ o. Known i h' w o (Transfer e) d.accepting) (sym held) (known e)))),
+        )
     carried h' e o d held rests known false u = received i r c w whole b h h' ls (record d { state = Transfer e }) o held seen (known transfer.TheVariants.D1)
 
     at : (o : Option Opening) (t : ChannelState) → IsTidy (record d { opening = o; state = t }) → (is_some o ≡ false → ls ≡ of_both None) → Rests t ls → Known i h c o t d.accepting → AdriftBy i w b (carried_if false o t)

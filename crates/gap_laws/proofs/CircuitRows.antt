@@ -42,10 +42,10 @@ Any q = Unit {0}
 abbrev pub NothingSaid : List What → List What → Type 0
 NothingSaid ws us = Unit {0}
 
-d2_apart : transfer.TheVariants.D2 ≡ transfer.TheVariants.D1 → ⊥
+pub d2_apart : transfer.TheVariants.D2 ≡ transfer.TheVariants.D1 → ⊥
 d2_apart e = cc
 
-d3_apart : transfer.TheVariants.D3 ≡ transfer.TheVariants.D1 → ⊥
+pub d3_apart : transfer.TheVariants.D3 ≡ transfer.TheVariants.D1 → ⊥
 d3_apart e = cc
 
 -- what follows the whole walk, by what is certain

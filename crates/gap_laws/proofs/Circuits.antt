@@ -33,6 +33,12 @@ pub failing_loud : {A : Type 0} (x : Side) (s : StateName) (n : ℕ) (c : Channe
 failing_loud T s n c h = absurd (false≢true h)
 failing_loud N s n c h = absurd (false≢true h)
 
+pub some_none : {A : Type 0} {f : ℕ} → Some f ≡ None → A
+some_none e = absurd (apart e)
+  where
+    apart : {f : ℕ} → Some f ≡ None → ⊥
+    apart e = cc
+
 -- ---- sides
 
 pub of_own : {A : Type 0} (x : Side) (a : A) (v : Sides A) → of_side x (with_side x a v) ≡ a

@@ -29,7 +29,7 @@ use Rattle.line_model.specs.channels.Gaps.{Doubts, of_both}
 use Rattle.line_model.specs.channels.GapStep.{GapOutcome, adrift_received, gap_channel_step, is_resetting, largest_size, last_after, passing, settled_outcome, settled_verdict}
 use Rattle.gap_laws.specs.Thinned.{IsPart}
 use Rattle.gap_laws.proofs.SentPackets.{other_side, own_side, sent_other, sent_own}
-use Rattle.gap_laws.proofs.Circuits.{Circuit, DataTaken, IsOrdered, Terms, by_side, channel_with, circuit, data_taken, message_of, no_terms, of_back, of_other, of_own, silent, size_of, told, window_of, with_data}
+use Rattle.gap_laws.proofs.Circuits.{Circuit, DataTaken, IsOrdered, Terms, by_side, channel_with, circuit, data_taken, message_of, no_terms, of_back, of_other, of_own, silent, size_of, some_none, told, window_of, with_data}
 use Rattle.gap_laws.proofs.Settled.{Allows, DataSettled, SideFits, after_data, data_settled, doubts_then, doubts_with, in_doubt, said_in_doubt, taken_with}
 use Rattle.gap_laws.proofs.Fits.{Fits, FitsAdrift, IsResting, LastFits, adrift_at, settled_at, settled_with}
 use Rattle.gap_laws.proofs.Fits.Fits.{FitsAnyAfter, FitsSome}
@@ -198,7 +198,7 @@ pub data_adrift : (i : Interface) (n nr : ℕ) (x : Side) (c : ℕ) (h : DataHea
     → FollowsAs i (with_data i (row_at nr x c (kind.TheVariants.Data (Some h)) len os) h s.taken.upto (circuit transfer.TheVariants.D1 hs v u)) (said_of i (row_at nr x c (kind.TheVariants.Data (Some h)) len os) h) (gap_channel_step i n (adrift_at d b ls) (row_at nr x c (kind.TheVariants.Data (Some h)) len os))
 data_adrift i n nr x c h len os hs v u p o s d b ls seen rest =
     adrift_flow (FollowsAs i w (said_of i r h)) i n r d b ls p refl
-    (λ f e. absurd (some_none (sym e ∙ size_allows i i.size largest_size len (lawful_is i).size_upto s.no_fault)))
+    (λ f e. some_none (sym e ∙ size_allows i i.size largest_size len (lawful_is i).size_upto s.no_fault))
     (λ e. passing_fits i (other x) w d b ls (said_of i r h) rest e)
     (λ e. by_last (λ l. FollowsAs i w (said_of i r h) (adrift_received i r (last_seen ls) (adrift_at d b ls) (Some h.receive) l)) h.receive (of_side (other x) ls) drifts settles)
   where
@@ -210,9 +210,6 @@ data_adrift i n nr x c h len os hs v u p o s d b ls seen rest =
 
     w : Circuit
     w = with_data i (row_at nr x c (kind.TheVariants.Data (Some h)) len os) h s.taken.upto (circuit transfer.TheVariants.D1 hs v u)
-
-    some_none : {f : ℕ} → Some f ≡ None → ⊥
-    some_none e = cc
 
     drifts : FollowsAs i w (said_of i r h) (adrift_received i r (last_seen ls) (adrift_at d b ls) (Some h.receive) None)
     drifts = (([], [], refl, tt), adrift_fits i w transfer.TheVariants.D1 b (last_after i.modulus x (Some h) (Some h.receive) ls) (data_seen i no_terms r h (Some h.receive) hs v u ls seen s.taken) tt)
@@ -231,13 +228,9 @@ data_adrift i n nr x c h len os hs v u p o s d b ls seen rest =
             is = refl;
             in_d1 = refl;
             in_d1_too = refl;
-            sides = settles_by_data i no_terms false r h q l lawful.eight lawful.window_below o (last.0 ∙ same) (ap (λ y. of_side y v % i.modulus) (sym (twice x)) ∙ last.1) s.taken;
+            sides = settles_by_data i no_terms false r h q l lawful.eight lawful.window_below o last same s.taken;
           }),
         )
-      where
-        twice : (x : Side) → other (other x) ≡ x
-        twice T = refl
-        twice N = refl
 
 -- a settled channel takes it
 pub data_settles : (i : Interface) (k t : Terms) (n nr : ℕ) (x : Side) (c : ℕ) (h : DataHeader) (len : ℕ) (os : List ℕ) (hs : List AcceptedData) (v : Sides ℕ) (u : Sides Bool)

@@ -21,7 +21,7 @@ use Rattle.line_model.specs.channels.FlowControl.{Counts}
 use Rattle.line_model.specs.channels.Gaps.{Doubts}
 use Rattle.line_model.specs.channels.GapStep.{acknowledged_data, adrift_entry, adrift_fault, adrift_received, counting_in_doubt, gap_channel_step, receive_of, settled_outcome, settled_verdict, transferring_in_doubt, with_interrupt}
 use Rattle.line_model.specs.channels.Tables.{action}
-use Rattle.gap_laws.proofs.Circuits.{Circuit, IsOrdered, Terms, by_side, channel_of, channel_with, circuit, failing_loud, idle, no_terms, of_other, of_own, silent, size_of}
+use Rattle.gap_laws.proofs.Circuits.{some_none, Circuit, IsOrdered, Terms, by_side, channel_of, channel_with, circuit, failing_loud, idle, no_terms, of_other, of_own, silent, size_of}
 use Rattle.gap_laws.proofs.Settled.{SideFits, doubts_with, in_doubt, taken_with}
 use Rattle.gap_laws.proofs.Fits.{IsResting, LastFits, Takes, adrift_at, settled_at, settled_with}
 use Rattle.gap_laws.proofs.Fits.Fits.{FitsSome}
@@ -129,12 +129,9 @@ pub turn_adrift : (i : Interface) (n : ℕ) (r : Item) (y : Side) (t : Bool) (k 
 turn_adrift i n r y t k hs v u p s d b ls seen rest =
     let w : Circuit = circuit transfer.TheVariants.D1 hs v (with_side y t u) in
     adrift_flow (FollowsAs i w []) i n r d b ls p k.carries
-    (λ f e. absurd (some_none (sym e ∙ k.same_adrift (idle d) ∙ sym (k.same_fault no_terms (circuit transfer.TheVariants.D1 hs v u)) ∙ s.no_fault)))
+    (λ f e. some_none (sym e ∙ k.same_adrift (idle d) ∙ sym (k.same_fault no_terms (circuit transfer.TheVariants.D1 hs v u)) ∙ s.no_fault))
     (λ e. passing_fits i (other r.side) w d b ls [] rest e)
     (λ e. subst (FollowsAs i w []) (sym (k.received d b ls (option_and_then (acknowledged_data (last_seen ls) r.side) (receive_of r)))) (tt, adrift_fits i w transfer.TheVariants.D1 b ls (λ x. turn_seen i.modulus y t hs v u x (of_side x ls) (seen x)) tt))
-  where
-    some_none : {f : ℕ} → Some f ≡ None → ⊥
-    some_none e = cc
 
 -- the interrupt of the side, where it was in doubt
 abbrev known_before : (doubt : Bool) → Side → Bool → Sides Bool → Sides Bool

@@ -22,7 +22,7 @@ use Rattle.line_model.specs.channels.Gaps.{Doubts, of_both}
 use Rattle.line_model.specs.channels.GapStep.{GapOutcome, acknowledged_data, adrift_entry, adrift_fault, adrift_received, gap_channel_step, last_after, receive_in_doubt, receive_of, settled_outcome, settled_verdict, transferring_in_doubt}
 use Rattle.line_model.specs.channels.GapStep as gap_step
 use Rattle.line_model.specs.channels.Tables.{action}
-use Rattle.gap_laws.proofs.Circuits.{Circuit, IsOrdered, ReceiveTaken, Terms, by_side, channel_of, channel_with, circuit, idle, no_terms, of_back, of_other, of_own, receive_taken, silent, size_of, with_receive}
+use Rattle.gap_laws.proofs.Circuits.{Circuit, IsOrdered, ReceiveTaken, Terms, by_side, channel_of, channel_with, circuit, idle, no_terms, of_back, of_other, of_own, receive_taken, silent, size_of, some_none, with_receive}
 use Rattle.gap_laws.proofs.Settled.{ReceiveSettled, SideFits, doubts_with, in_doubt, receive_settled, taken_with}
 use Rattle.gap_laws.proofs.Fits.{IsResting, LastFits, Takes, adrift_at, settled_at, settled_with}
 use Rattle.gap_laws.proofs.Fits.Fits.{FitsSome}
@@ -138,10 +138,6 @@ receive_seen k m x n hs v u ls seen t = by_side (λ y. LastFits m w y (of_side y
         at None e = tt
         at (Some l) e = (e.0, ap (λ k. k % m) (of_other (other x) t.upto v) ∙ e.1)
 
-twice : (x : Side) → other (other x) ≡ x
-twice T = refl
-twice N = refl
-
 -- a circuit adrift
 pub receive_adrift : (i : Interface) (n : ℕ) (r : Item) (receive : ℕ) (k : IsReceive i n r receive) (hs : List AcceptedData) (v : Sides ℕ) (u : Sides Bool) → is_permanent i n ≡ true
     → ((y : Side) → IsOrdered i.modulus (circuit transfer.TheVariants.D1 hs v u) y) → (s : ReceiveStep i no_terms n r receive (circuit transfer.TheVariants.D1 hs v u))
@@ -149,7 +145,7 @@ pub receive_adrift : (i : Interface) (n : ℕ) (r : Item) (receive : ℕ) (k : I
     → FollowsAs i (with_receive r.side s.taken.upto (circuit transfer.TheVariants.D1 hs v u)) [] (gap_channel_step i n (adrift_at d b ls) r)
 receive_adrift i n r receive k hs v u p o s d b ls seen rest =
     adrift_flow (FollowsAs i w []) i n r d b ls p k.carries
-    (λ f e. absurd (some_none (sym e ∙ k.same_adrift (idle d) ∙ sym (k.same_fault no_terms q) ∙ s.no_fault)))
+    (λ f e. some_none (sym e ∙ k.same_adrift (idle d) ∙ sym (k.same_fault no_terms q) ∙ s.no_fault))
     (λ e. passing_fits i (other r.side) w d b ls [] rest e)
     (λ e. subst (FollowsAs i w []) (sym (k.received d b ls (option_and_then (acknowledged_data (last_seen ls) r.side) (receive_of r))))
     (subst (λ l. FollowsAs i w [] (received_by i.modulus r.side receive b ls l)) (sym (k.acknowledges ls))
@@ -160,9 +156,6 @@ receive_adrift i n r receive k hs v u p o s d b ls seen rest =
 
     w : Circuit
     w = with_receive r.side s.taken.upto (circuit transfer.TheVariants.D1 hs v u)
-
-    some_none : {f : ℕ} → Some f ≡ None → ⊥
-    some_none e = cc
 
     drifts : FollowsAs i w [] (received_by i.modulus r.side receive b ls None)
     drifts = (tt, adrift_fits i w transfer.TheVariants.D1 b (last_after i.modulus r.side None (Some receive) ls) (receive_seen no_terms i.modulus r.side receive hs v u ls seen s.taken) tt)
@@ -180,7 +173,7 @@ receive_adrift i n r receive k hs v u p o s d b ls seen rest =
             is = refl;
             in_d1 = refl;
             in_d1_too = refl;
-            sides = settles_by_receive i no_terms false r.side receive q l (lawful_is i).eight o (last.0 ∙ same) (ap (λ y. of_side y v % i.modulus) (sym (twice r.side)) ∙ last.1) s.taken;
+            sides = settles_by_receive i no_terms false r.side receive q l (lawful_is i).eight o last same s.taken;
           }),
         )
 

@@ -28,7 +28,7 @@ use Rattle.line_model.specs.channels.Gaps.{Doubts, of_both}
 use Rattle.line_model.specs.channels.GapStep.{GapOutcome, adrift_entry, adrift_fault, adrift_reset, adrift_step_by, gap_channel_step, passing, settled_outcome, settled_verdict}
 use Rattle.line_model.specs.channels.Tables.{action}
 use Rattle.line_model.proofs.Every.{classes, every, every_class, every_side, sides}
-use Rattle.gap_laws.proofs.Circuits.{Circuit, IsOrdered, Terms, channel_of, channel_with, circuit, failing_loud, idle, no_terms, silent}
+use Rattle.gap_laws.proofs.Circuits.{some_none, Circuit, IsOrdered, Terms, channel_of, channel_with, circuit, failing_loud, idle, no_terms, silent}
 use Rattle.gap_laws.proofs.Settled.{in_doubt}
 use Rattle.gap_laws.proofs.Fits.{IsResting, LastFits, Takes, adrift_at, settled_at, settled_with}
 use Rattle.gap_laws.proofs.Fits.Fits.{FitsAll}
@@ -234,11 +234,8 @@ reset_adrift i n r k q p s d b ls seen rest = at (adrift_fault i n (channel_of (
     at None e = opened
     at (Some f) e = elim s.turned [
       | inl w ↦ subst (λ w. FollowsBy i w (passing (adrift_at d b ls))) (sym w.0) (refl, adrift_fits i q d b ls seen rest)
-      | inr w ↦ absurd (some_none (sym e ∙ k.same_adrift (idle d) ∙ sym (k.same_fault no_terms q) ∙ w.3))
+      | inr w ↦ some_none (sym e ∙ k.same_adrift (idle d) ∙ sym (k.same_fault no_terms q) ∙ w.3)
     ]
-      where
-        some_none : {f : ℕ} → Some f ≡ None → ⊥
-        some_none e = cc
 
 -- a settled channel takes it, in the same state
 pub record ResetSettled (i : Interface) (t : Terms) (n : ℕ) (r : Item) (b : Bool) (d : Doubts) (q w g : Circuit) : Type 0 where

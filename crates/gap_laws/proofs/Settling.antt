@@ -18,6 +18,7 @@ use Rattle.gap_laws.proofs.Numbers.{FitsDirection, all_acknowledged, settled_ack
 use Rattle.gap_laws.proofs.SentPackets.{missed_own, missed_other, other_side, own_side, packets_apart, sent_missed, sent_other, sent_own}
 use Rattle.gap_laws.proofs.Circuits.{Circuit, DataTaken, IsOrdered, ReceiveTaken, Terms, by_side, circuit, of_back, of_other, of_own, size_of, window_of, with_data, with_receive}
 use Rattle.gap_laws.proofs.Settled.{SideFits, doubts_with, numbers_at}
+use Rattle.gap_laws.proofs.Fits.{LastIn}
 
 -- the circuit that a packet of a side settles
 abbrev pub settled_circuit : (modulus : ℕ) → Side → (receive : ℕ) → LastData → Option DataHeader → Circuit
@@ -87,10 +88,16 @@ acknowledged_side m q w x n k e s a all is =
     numbers_at m false false (sent (other x) q.accepted) (sent (other x) w.accepted) (sent (other x) q.accepted) (of_side (other x) w.acknowledged) n n n n
     refl s (a ∙ all) refl refl (settled_acknowledged m (sent (other x) q.accepted) n e is)
 
+-- what the last data packet of the other side says
+last_says : (m : ℕ) (x : Side) (n : ℕ) (q : Circuit) (l : LastData) → LastIn transfer.TheVariants.D1 m q (other x) l → l.next ≡ n → (sent (other x) q.accepted % m ≡ n) × (of_side x q.acknowledged % m ≡ l.receive)
+last_says m T n q l last same = (last.0 ∙ same, last.1)
+last_says m N n q l last same = (last.0 ∙ same, last.1)
+
 pub settles_by_data : (i : Interface) (k : Terms) (u : Bool) (r : Item) (h : DataHeader) (q : Circuit) (l : LastData) → (i.modulus ≡ 8) ⊎ (i.modulus ≡ 128) → window_of i k r.side < i.modulus → ((y : Side) → IsOrdered i.modulus q y)
-    → sent (other r.side) q.accepted % i.modulus ≡ h.receive → of_side r.side q.acknowledged % i.modulus ≡ l.receive → (t : DataTaken i k r h q)
+    → LastIn transfer.TheVariants.D1 i.modulus q (other r.side) l → l.next ≡ h.receive → (t : DataTaken i k r h q)
     → (y : Side) → SideFits i (size_of i k) (doubts_with u (numbers_then r.side (Some h)) (of_both true) (of_both true)) (with_data i r h t.upto q) (settled_circuit i.modulus r.side h.receive l (Some h)) y
-settles_by_data i k u r h q l e w o next receive t =
+settles_by_data i k u r h q l e w o last same t =
+    let (next, receive) = last_says i.modulus r.side h.receive q l last same in
     settled_sides i k u r.side h.receive l (Some h) (with_data i r h t.upto q)
     (numbers_at i.modulus false false (sent r.side q.accepted + 1) (sent r.side (q.accepted ++ accepted_of i r h ∷ [])) (of_side r.side q.acknowledged) (of_side r.side (with_side (other r.side) t.upto q.acknowledged))
     (count_settled i.modulus l.receive (Some h)) (count_settled i.modulus l.receive (Some h)) l.receive l.receive
@@ -100,9 +107,10 @@ settles_by_data i k u r h q l e w o next receive t =
     (all_acknowledged i.modulus (sent (other r.side) q.accepted) (of_side (other r.side) q.acknowledged) h.receive t.upto e (o (other r.side)).within next t.receive) next)
 
 pub settles_by_receive : (i : Interface) (k : Terms) (u : Bool) (x : Side) (n : ℕ) (q : Circuit) (l : LastData) → (i.modulus ≡ 8) ⊎ (i.modulus ≡ 128) → ((y : Side) → IsOrdered i.modulus q y)
-    → sent (other x) q.accepted % i.modulus ≡ n → of_side x q.acknowledged % i.modulus ≡ l.receive → (t : ReceiveTaken k i.modulus x n q)
+    → LastIn transfer.TheVariants.D1 i.modulus q (other x) l → l.next ≡ n → (t : ReceiveTaken k i.modulus x n q)
     → (y : Side) → SideFits i (size_of i k) (doubts_with u (numbers_then x None) (of_both true) (of_both true)) (with_receive x t.upto q) (settled_circuit i.modulus x n l None) y
-settles_by_receive i k u x n q l e o next receive t =
+settles_by_receive i k u x n q l e o last same t =
+    let (next, receive) = last_says i.modulus x n q l last same in
     settled_sides i k u x n l None (with_receive x t.upto q)
     (numbers_at i.modulus true true (sent x q.accepted) (sent x q.accepted) (of_side x q.acknowledged) (of_side x (with_side (other x) t.upto q.acknowledged)) l.receive l.receive l.receive l.receive
     refl refl (of_back x t.upto q.acknowledged) refl refl
