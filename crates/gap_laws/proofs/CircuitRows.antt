@@ -21,11 +21,11 @@ use Rattle.line_model.specs.channels.Gaps.{GapChannel}
 use Rattle.line_model.specs.channels.Gaps.Certainty.{Certain}
 use Rattle.line_model.specs.channels.GapStep.{GapOutcome, adrift_entry, adrift_fault, adrift_step_by, gap_channel_step, passing}
 use Rattle.gap_laws.specs.Thinned.{is_whole}
-use Rattle.gap_laws.proofs.Circuits.{Circuit, IsOrdered, channel_of, silent}
+use Rattle.gap_laws.proofs.Circuits.{Circuit, IsOrdered, channel_of, circuit, idle, no_terms, silent, size_of}
 use Rattle.gap_laws.proofs.Settled.{SideFits, in_doubt}
-use Rattle.gap_laws.proofs.Fits.{Fits, FitsAdrift, FitsSettled, Takes, adrift_at, circuit, idle, settled_at}
+use Rattle.gap_laws.proofs.Fits.{Fits, FitsAdrift, FitsSettled, Takes, adrift_at, settled_at}
 use Rattle.gap_laws.proofs.Fits.Fits.{FitsAll, FitsAnyAfter, FitsSome}
-use Rattle.gap_laws.proofs.Entries.{is_flow, is_moving, last_seen, quiet_entry, row_at}
+use Rattle.gap_laws.proofs.Entries.{is_flow, is_moving, last_seen, on_circuit, quiet_entry, row_at}
 use Rattle.gap_laws.proofs.DataSteps.{DriftsBy, FollowsBy, drifted, fits_adrift}
 use Rattle.gap_laws.proofs.ReceiveSteps.{rnr_receives, rr_receives}
 use Rattle.gap_laws.proofs.InterruptSteps.{confirmation_turns, interrupt_turns}
@@ -42,14 +42,14 @@ Any q = Unit {0}
 abbrev pub NothingSaid : List What → List What → Type 0
 NothingSaid ws us = Unit {0}
 
-d2_apart : transfer.TheVariants.D2 ≡ transfer.TheVariants.D1 → ⊥
+pub d2_apart : transfer.TheVariants.D2 ≡ transfer.TheVariants.D1 → ⊥
 d2_apart e = cc
 
-d3_apart : transfer.TheVariants.D3 ≡ transfer.TheVariants.D1 → ⊥
+pub d3_apart : transfer.TheVariants.D3 ≡ transfer.TheVariants.D1 → ⊥
 d3_apart e = cc
 
 -- what follows the whole walk, by what is certain
-follows : (i : Interface) (n : ℕ) (r : Item) (q w : Circuit) → silent (channel_step i n (channel_of q) r).reported ≡ true → Takes i n r q w
+follows : (i : Interface) (n : ℕ) (r : Item) (q w : Circuit) → silent (channel_step i n (channel_of q) r).reported ≡ true → Takes i no_terms n r q w
     → ((g : GapChannel) (f : FitsAdrift i q g) → FollowsBy i w (gap_channel_step i n (adrift_at f.state f.restarting f.last) r))
     → ((g : GapChannel) (f : FitsSettled i q g) → FollowsBy i w (gap_channel_step i n (settled_at f.restarting f.numbers f.interrupts f.sequences f.settled) r))
     → (g : GapChannel) → Fits i q g → FollowsBy i w (gap_channel_step i n g r)
@@ -60,11 +60,11 @@ follows i n r q w s t adrift settled g (FitsSome f) = subst (λ g. FollowsBy i w
 
 -- the same of a settled circuit by its parts
 settled_parts : (i : Interface) (n : ℕ) (r : Item) (q w : Circuit)
-    → ((b : Bool) (ns is ss : Sides Bool) (gs : List AcceptedData) (a : Sides ℕ) (u : Sides Bool) → ((y : Side) → SideFits i (in_doubt ns is ss) q (circuit transfer.TheVariants.D1 gs a u) y)
+    → ((b : Bool) (ns is ss : Sides Bool) (gs : List AcceptedData) (a : Sides ℕ) (u : Sides Bool) → ((y : Side) → SideFits i (size_of i no_terms) (in_doubt ns is ss) q (circuit transfer.TheVariants.D1 gs a u) y)
     → FollowsBy i w (gap_channel_step i n (settled_at b ns is ss (circuit transfer.TheVariants.D1 gs a u)) r))
     → (g : GapChannel) (f : FitsSettled i q g) → FollowsBy i w (gap_channel_step i n (settled_at f.restarting f.numbers f.interrupts f.sequences f.settled) r)
 settled_parts i n r q w h g f =
-    by_parts (λ a. ((y : Side) → SideFits i (in_doubt f.numbers f.interrupts f.sequences) q a y) → FollowsBy i w (gap_channel_step i n (settled_at f.restarting f.numbers f.interrupts f.sequences a) r)) f.settled f.in_d1
+    by_parts (λ a. ((y : Side) → SideFits i (size_of i no_terms) (in_doubt f.numbers f.interrupts f.sequences) q a y) → FollowsBy i w (gap_channel_step i n (settled_at f.restarting f.numbers f.interrupts f.sequences a) r)) f.settled f.in_d1
     (h f.restarting f.numbers f.interrupts f.sequences f.settled.accepted f.settled.acknowledged f.settled.unconfirmed) f.sides
 
 -- no settled circuit fits one that resets
@@ -76,7 +76,7 @@ waiting_step : (i : Interface) (n : ℕ) (r : Item) (d : DState) (hs : List Acce
     → ((y : Side) → IsOrdered i.modulus (circuit d hs v u) y) → silent (channel_step i n (channel_of (circuit d hs v u)) r).reported ≡ true → (d ≡ transfer.TheVariants.D1 → ⊥) → Step i Any NothingSaid n r (circuit d hs v u)
 waiting_step i n r d hs v u p flow carries o s otherwise =
     let q : Circuit = circuit d hs v u in
-    let t : Waiting i n r q = waiting_whole i n r d hs v u p flow o s otherwise in
+    let t : Waiting i no_terms n r q = waiting_whole i no_terms n r d hs v u (on_circuit (packet_class r.packet) (is_permanent i n) p) flow o s otherwise in
     record {
       whole = q;
       valid = tt;
@@ -103,7 +103,7 @@ flow_steps i n r p flow carries in_d1 q valid = at q.state
 
 reset_steps : (i : Interface) (n : ℕ) (r : Item) → IsReset i n r → is_permanent i n ≡ true → Steps i n r
 reset_steps i n r k p q valid o s =
-    let t : ResetStep i n r q = reset_whole i n r k q p o s in
+    let t : ResetStep i no_terms n r q = reset_whole i no_terms n r k q o s in
     record {
       whole = t.whole;
       valid = tt;
@@ -112,16 +112,16 @@ reset_steps i n r k p q valid o s =
       follows = follows i n r q t.whole s t.takes (λ g f. reset_adrift i n r k q p t f.state f.restarting f.last f.seen f.resting) (λ g f. at q.state f.in_d1_too t g f);
     }
   where
-    at : (d : DState) → d ≡ transfer.TheVariants.D1 → (t : ResetStep i n r (circuit d q.accepted q.acknowledged q.unconfirmed)) (g : GapChannel) (f : FitsSettled i (circuit d q.accepted q.acknowledged q.unconfirmed) g)
+    at : (d : DState) → d ≡ transfer.TheVariants.D1 → (t : ResetStep i no_terms n r (circuit d q.accepted q.acknowledged q.unconfirmed)) (g : GapChannel) (f : FitsSettled i (circuit d q.accepted q.acknowledged q.unconfirmed) g)
         → FollowsBy i t.whole (gap_channel_step i n (settled_at f.restarting f.numbers f.interrupts f.sequences f.settled) r)
     at transfer.TheVariants.D1 e t g f =
-        settled_parts i n r (circuit transfer.TheVariants.D1 q.accepted q.acknowledged q.unconfirmed) t.whole (λ b ns is ss gs a u sides. reset_on_settled i n r k q.accepted q.acknowledged q.unconfirmed p t b ns is ss gs a u) g f
+        settled_parts i n r (circuit transfer.TheVariants.D1 q.accepted q.acknowledged q.unconfirmed) t.whole (λ b ns is ss gs a u sides. reset_on_settled i n r k q.accepted q.acknowledged q.unconfirmed t b ns is ss gs a u) g f
     at transfer.TheVariants.D2 e t g f = absurd (d2_apart e)
     at transfer.TheVariants.D3 e t g f = absurd (d3_apart e)
 
 quiet_steps : (i : Interface) (n : ℕ) (r : Item) → is_moving (packet_class r.packet) ≡ false → is_flow (packet_class r.packet) ≡ false → is_permanent i n ≡ true → Steps i n r
 quiet_steps i n r moving flow p q valid o s =
-    let t : Takes i n r q q = quiet_takes i n r q p (quiet_entry q.state r.side (packet_class r.packet) moving flow) o s in
+    let t : Takes i no_terms n r q q = quiet_takes i no_terms n r q (on_circuit (packet_class r.packet) (is_permanent i n) p) (quiet_entry q.state r.side (packet_class r.packet) moving flow) o s in
     record {
       whole = q;
       valid = tt;

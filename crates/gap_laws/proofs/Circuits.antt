@@ -1,21 +1,22 @@
--- Permanent circuits in a walk without a finding.
+-- Data transfer in a walk without a finding: on permanent circuits, and on the terms of a call.
 use Rattle.std.proofs.Common.{◌≡◌, ◌<◌, ◌≤◌, ◌+◌, ℕ, Bool, true, false, refl, sym, ◌∙◌, ap, List, [], ◌∷◌, ◌++◌, Option, Some, None, Result, Ok, Err}
 use Rattle.std.specs.Prelude.{not, ◌&&◌}
 use Rattle.std.proofs.lemmas.Bool.{false≢true}
 use Rattle.line_model.specs.declared.diagnostic.TheConstants.{INVALID_P_R, INVALID_P_S}
 use Rattle.line_model.specs.declared.event.What.{What}
-use Rattle.line_model.specs.declared.event.What.TheVariants.{Data as DataAccepted}
 use Rattle.line_model.specs.declared.interface.Interface.{Interface}
 use Rattle.line_model.specs.declared.packet.DataHeader.{DataHeader}
 use Rattle.line_model.specs.declared.state.Side.{Side}
 use Rattle.line_model.specs.declared.state.Side.TheVariants.{T, N}
 use Rattle.line_model.specs.declared.state.DState.{DState}
+use Rattle.line_model.specs.declared.state.DState as transfer
 use Rattle.line_model.specs.declared.state.ChannelState.TheVariants.{Transfer}
 use Rattle.line_model.specs.declared.state.StateName.{StateName}
 use Rattle.line_model.specs.declared.state.StateName.TheVariants.{D1}
 use Rattle.line_model.specs.basics.Records.{Item}
-use Rattle.line_model.specs.channels.Channels.{AcceptedData, Channel, Sides, of_side, other, with_side}
-use Rattle.line_model.specs.channels.ChannelStep.{Outcome, accepted_of, counting, counts_of, data_alike, data_counted, data_step, failing}
+use Rattle.line_model.specs.channels.Channels.{AcceptedData, Channel, Opening, PadMessage, Sides, of_side, other, with_side}
+use Rattle.line_model.specs.packets.Formats.{size_in_force, window_in_force}
+use Rattle.line_model.specs.channels.ChannelStep.{Outcome, accepted_of, completed_message, counting, counts_of, data_alike, data_counted, data_reports, data_step, failing, messages_after}
 use Rattle.line_model.specs.channels.FlowControl.{Counts, count_acknowledged, count_data, count_receive, is_send_valid, sent, sent_by}
 use Rattle.line_model.specs.channels.Sequences.{begun, is_alike}
 use Rattle.line_model.specs.observer.Report.{is_finding}
@@ -31,6 +32,12 @@ silent (w ∷ ws) = not (is_finding w) && silent ws
 pub failing_loud : {A : Type 0} (x : Side) (s : StateName) (n : ℕ) (c : Channel) → silent (failing x s n c).reported ≡ true → A
 failing_loud T s n c h = absurd (false≢true h)
 failing_loud N s n c h = absurd (false≢true h)
+
+pub some_none : {A : Type 0} {f : ℕ} → Some f ≡ None → A
+some_none e = absurd (apart e)
+  where
+    apart : {f : ℕ} → Some f ≡ None → ⊥
+    apart e = cc
 
 -- ---- sides
 
@@ -116,25 +123,51 @@ count_data_is m w c x ps pr k valid h =
 
 -- ---- circuits
 
--- what changes of a permanent circuit as long as nothing on it is a finding
+-- what changes in data transfer as long as nothing is a finding
 pub record Circuit : Type 0 where
   pub state : DState
   pub accepted : List AcceptedData
   pub acknowledged : Sides ℕ
   pub unconfirmed : Sides Bool
 
--- its channel: there is no call, and no indication is owed
-abbrev pub channel_of : Circuit → Channel
-channel_of q = record {
+abbrev pub circuit : DState → List AcceptedData → Sides ℕ → Sides Bool → Circuit
+circuit d hs v u = record { state = d; accepted = hs; acknowledged = v; unconfirmed = u }
+
+-- a circuit in a state that it has just entered
+abbrev pub idle : DState → Circuit
+idle d = circuit d [] (record { of_t = 0; of_n = 0 }) (record { of_t = false; of_n = false })
+
+-- what a channel has of its call, besides; a permanent circuit has none
+pub record Terms : Type 0 where
+  pub opening : Option Opening
+  pub accepting : Option (List ℕ)
+  pub pad_messages : List PadMessage
+
+abbrev pub no_terms : Terms
+no_terms = record { opening = None; accepting = None; pad_messages = [] }
+
+-- its channel, where no indication is owed
+abbrev pub channel_with : Terms → Circuit → Channel
+channel_with k q = record {
   state = Transfer q.state;
   owed = false;
-  opening = None;
-  accepting = None;
+  opening = k.opening;
+  accepting = k.accepting;
   accepted = q.accepted;
   acknowledged = q.acknowledged;
   unconfirmed = q.unconfirmed;
-  pad_messages = [];
+  pad_messages = k.pad_messages;
 }
+
+abbrev pub channel_of : Circuit → Channel
+channel_of q = channel_with no_terms q
+
+-- the window and the packet size in force for data from a side
+abbrev pub window_of : Interface → Terms → Side → ℕ
+window_of i k x = window_in_force i (channel_with k (idle transfer.TheVariants.D1)) x
+
+abbrev pub size_of : Interface → Terms → Side → ℕ
+size_of i k = λ x. size_in_force i (channel_with k (idle transfer.TheVariants.D1)) x
 
 -- the numbers of each side lie in the window
 pub record IsOrdered (m : ℕ) (q : Circuit) (x : Side) : Type 0 where
@@ -145,77 +178,87 @@ pub record IsOrdered (m : ℕ) (q : Circuit) (x : Side) : Type 0 where
 abbrev pub with_data : Interface → Item → DataHeader → (upto : ℕ) → Circuit → Circuit
 with_data i r h k q = record q { accepted = q.accepted ++ accepted_of i r h ∷ []; acknowledged = with_side (other r.side) k q.acknowledged }
 
--- a data packet that is accepted
-pub record DataTaken (i : Interface) (r : Item) (h : DataHeader) (q : Circuit) : Type 0 where
-  pub upto : ℕ
-  pub next : IsNext i.modulus i.window (sent r.side q.accepted) (of_side r.side q.acknowledged) h.send
-  pub receive : Acknowledges i.modulus (sent (other r.side) q.accepted) (of_side (other r.side) q.acknowledged) h.receive upto
-  pub alike : is_alike (accepted_of i r h) (begun i.size r.side q.accepted) ≡ true
-  pub after : (data_step i D1 r (Some h) (channel_of q)).after ≡ channel_of (with_data i r h upto q)
-  pub reported : (data_step i D1 r (Some h) (channel_of q)).reported ≡ DataAccepted r.side (accepted_of i r h).length ∷ []
+-- the message that it completes, and the terms after it
+abbrev pub message_of : Interface → Terms → Item → DataHeader → Circuit → Option (List ℕ)
+message_of i k r h q = completed_message i r.side (channel_with k q) (accepted_of i r h)
 
-pub data_taken : (i : Interface) (r : Item) (h : DataHeader) (q : Circuit) → silent (data_step i D1 r (Some h) (channel_of q)).reported ≡ true → DataTaken i r h q
-data_taken i r h q s = at (count_data i.modulus i.window (counts_of (channel_of q)) r.side h.send h.receive) refl s
+abbrev pub told : Interface → Terms → Item → DataHeader → Circuit → Terms
+told i k r h q = record k { pad_messages = messages_after r.side k.pad_messages (message_of i k r h q) }
+
+-- a data packet that is accepted
+pub record DataTaken (i : Interface) (k : Terms) (r : Item) (h : DataHeader) (q : Circuit) : Type 0 where
+  pub upto : ℕ
+  pub next : IsNext i.modulus (window_of i k r.side) (sent r.side q.accepted) (of_side r.side q.acknowledged) h.send
+  pub receive : Acknowledges i.modulus (sent (other r.side) q.accepted) (of_side (other r.side) q.acknowledged) h.receive upto
+  pub alike : is_alike (accepted_of i r h) (begun (size_of i k r.side) r.side q.accepted) ≡ true
+  pub after : (data_step i D1 r (Some h) (channel_with k q)).after ≡ channel_with (told i k r h q) (with_data i r h upto q)
+  pub reported : (data_step i D1 r (Some h) (channel_with k q)).reported ≡ data_reports r.side (accepted_of i r h) k.pad_messages (message_of i k r h q)
+
+pub data_taken : (i : Interface) (k : Terms) (r : Item) (h : DataHeader) (q : Circuit) → silent (data_step i D1 r (Some h) (channel_with k q)).reported ≡ true → DataTaken i k r h q
+data_taken i k r h q s = at (count_data i.modulus (window_of i k r.side) (counts_of (channel_with k q)) r.side h.send h.receive) refl s
   where
+    c : Channel
+    c = channel_with k q
+
     p : AcceptedData
     p = accepted_of i r h
 
-    taken : (v : Counts) → count_data i.modulus i.window (counts_of (channel_of q)) r.side h.send h.receive ≡ Ok v
-        → is_alike p (begun i.size r.side q.accepted) ≡ true
-        → (o : Outcome) → o ≡ data_step i D1 r (Some h) (channel_of q)
-        → o.after ≡ channel_of (record q { accepted = q.accepted ++ p ∷ []; acknowledged = v.acknowledged })
-        → o.reported ≡ DataAccepted r.side p.length ∷ []
-        → DataTaken i r h q
+    taken : (v : Counts) → count_data i.modulus (window_of i k r.side) (counts_of (channel_with k q)) r.side h.send h.receive ≡ Ok v
+        → is_alike p (begun (size_of i k r.side) r.side q.accepted) ≡ true
+        → (o : Outcome) → o ≡ data_step i D1 r (Some h) (channel_with k q)
+        → o.after ≡ channel_with (told i k r h q) (record q { accepted = q.accepted ++ p ∷ []; acknowledged = v.acknowledged })
+        → o.reported ≡ data_reports r.side p k.pad_messages (message_of i k r h q)
+        → DataTaken i k r h q
     taken v e alike o is same said =
-        let f = counts_data i.modulus i.window (counts_of (channel_of q)) r.side h.send h.receive v e in
+        let f = counts_data i.modulus (window_of i k r.side) (counts_of c) r.side h.send h.receive v e in
         record {
           upto = f.upto;
-          next = next_is i.modulus i.window (sent r.side q.accepted) (of_side r.side q.acknowledged) h.send
-              (ap (λ n. is_send_valid i.modulus i.window n (of_side r.side q.acknowledged) h.send) (sym (of_sent r.side q.accepted)) ∙ f.valid);
+          next = next_is i.modulus (window_of i k r.side) (sent r.side q.accepted) (of_side r.side q.acknowledged) h.send
+              (ap (λ n. is_send_valid i.modulus (window_of i k r.side) n (of_side r.side q.acknowledged) h.send) (sym (of_sent r.side q.accepted)) ∙ f.valid);
           receive = acknowledged i.modulus (sent (other r.side) q.accepted) (of_side (other r.side) q.acknowledged) h.receive f.upto
               (ap (λ n. count_acknowledged i.modulus n (of_side (other r.side) q.acknowledged) h.receive) (sym (of_sent (other r.side) q.accepted)) ∙ f.found);
           alike = alike;
-          after = sym (ap (λ (o : Outcome). o.after) is) ∙ same ∙ ap (λ a. channel_of (record q { accepted = q.accepted ++ p ∷ []; acknowledged = a })) f.acknowledged;
+          after = sym (ap (λ (o : Outcome). o.after) is) ∙ same ∙ ap (λ a. channel_with (told i k r h q) (record q { accepted = q.accepted ++ p ∷ []; acknowledged = a })) f.acknowledged;
           reported = sym (ap (λ (o : Outcome). o.reported) is) ∙ said;
         }
 
-    by : (v : Counts) → count_data i.modulus i.window (counts_of (channel_of q)) r.side h.send h.receive ≡ Ok v
-        → (b : Bool) → is_alike p (begun i.size r.side q.accepted) ≡ b
-        → silent (data_alike i r.side D1 p v b (channel_of q)).reported ≡ true
-        → DataTaken i r h q
-    by v e false a s = failing_loud r.side D1 _ (channel_of q) s
+    by : (v : Counts) → count_data i.modulus (window_of i k r.side) (counts_of (channel_with k q)) r.side h.send h.receive ≡ Ok v
+        → (b : Bool) → is_alike p (begun (size_of i k r.side) r.side q.accepted) ≡ b
+        → silent (data_alike i r.side D1 p v b (channel_with k q)).reported ≡ true
+        → DataTaken i k r h q
+    by v e false a s = failing_loud r.side D1 _ c s
     by v e true a s =
-        taken v e a (data_alike i r.side D1 p v true (channel_of q))
-        (ap (λ b. data_alike i r.side D1 p v b (channel_of q)) (sym a) ∙ ap (λ u. data_counted i r.side D1 p u (channel_of q)) (sym e)) refl refl
+        taken v e a (data_alike i r.side D1 p v true c)
+        (ap (λ b. data_alike i r.side D1 p v b c) (sym a) ∙ ap (λ u. data_counted i r.side D1 p u c) (sym e)) refl refl
 
-    at : (v : Result Counts ℕ) → count_data i.modulus i.window (counts_of (channel_of q)) r.side h.send h.receive ≡ v
-        → silent (data_counted i r.side D1 p v (channel_of q)).reported ≡ true → DataTaken i r h q
-    at (Err n) e s = failing_loud r.side D1 n (channel_of q) s
-    at (Ok v) e s = by v e (is_alike p (begun i.size r.side q.accepted)) refl s
+    at : (v : Result Counts ℕ) → count_data i.modulus (window_of i k r.side) (counts_of (channel_with k q)) r.side h.send h.receive ≡ v
+        → silent (data_counted i r.side D1 p v (channel_with k q)).reported ≡ true → DataTaken i k r h q
+    at (Err n) e s = failing_loud r.side D1 n c s
+    at (Ok v) e s = by v e (is_alike p (begun (size_of i k r.side) r.side q.accepted)) refl s
 
 -- after an RR or RNR
 abbrev pub with_receive : Side → (upto : ℕ) → Circuit → Circuit
 with_receive x k q = record q { acknowledged = with_side (other x) k q.acknowledged }
 
 -- an RR or RNR that is accepted
-pub record ReceiveTaken (m : ℕ) (x : Side) (n : ℕ) (q : Circuit) : Type 0 where
+pub record ReceiveTaken (k : Terms) (m : ℕ) (x : Side) (n : ℕ) (q : Circuit) : Type 0 where
   pub upto : ℕ
   pub receive : Acknowledges m (sent (other x) q.accepted) (of_side (other x) q.acknowledged) n upto
-  pub after : (counting x D1 (count_receive m (counts_of (channel_of q)) x n) (channel_of q)).after ≡ channel_of (with_receive x upto q)
-  pub reported : (counting x D1 (count_receive m (counts_of (channel_of q)) x n) (channel_of q)).reported ≡ []
+  pub after : (counting x D1 (count_receive m (counts_of (channel_with k q)) x n) (channel_with k q)).after ≡ channel_with k (with_receive x upto q)
+  pub reported : (counting x D1 (count_receive m (counts_of (channel_with k q)) x n) (channel_with k q)).reported ≡ []
 
-pub receive_taken : (m : ℕ) (x : Side) (n : ℕ) (q : Circuit) → silent (counting x D1 (count_receive m (counts_of (channel_of q)) x n) (channel_of q)).reported ≡ true → ReceiveTaken m x n q
-receive_taken m x n q s = at (count_receive m (counts_of (channel_of q)) x n) refl s
+pub receive_taken : (k : Terms) (m : ℕ) (x : Side) (n : ℕ) (q : Circuit) → silent (counting x D1 (count_receive m (counts_of (channel_with k q)) x n) (channel_with k q)).reported ≡ true → ReceiveTaken k m x n q
+receive_taken k m x n q s = at (count_receive m (counts_of (channel_with k q)) x n) refl s
   where
-    at : (v : Result Counts ℕ) → count_receive m (counts_of (channel_of q)) x n ≡ v → silent (counting x D1 v (channel_of q)).reported ≡ true → ReceiveTaken m x n q
-    at (Err k) e s = failing_loud x D1 k (channel_of q) s
+    at : (v : Result Counts ℕ) → count_receive m (counts_of (channel_with k q)) x n ≡ v → silent (counting x D1 v (channel_with k q)).reported ≡ true → ReceiveTaken k m x n q
+    at (Err f) e s = failing_loud x D1 f (channel_with k q) s
     at (Ok v) e s =
-        let f = counts_receive m (counts_of (channel_of q)) x n v e in
+        let f = counts_receive m (counts_of (channel_with k q)) x n v e in
         record {
           upto = f.upto;
           receive = acknowledged m (sent (other x) q.accepted) (of_side (other x) q.acknowledged) n f.upto
               (ap (λ s. count_acknowledged m s (of_side (other x) q.acknowledged) n) (sym (of_sent (other x) q.accepted)) ∙ f.found);
-          after = ap (λ u. (counting x D1 u (channel_of q)).after) e
-              ∙ (λ j. channel_of (record q { acknowledged = f.acknowledged j; unconfirmed = f.unconfirmed j }));
-          reported = ap (λ u. (counting x D1 u (channel_of q)).reported) e;
+          after = ap (λ u. (counting x D1 u (channel_with k q)).after) e
+              ∙ (λ j. channel_with k (record q { acknowledged = f.acknowledged j; unconfirmed = f.unconfirmed j }));
+          reported = ap (λ u. (counting x D1 u (channel_with k q)).reported) e;
         }

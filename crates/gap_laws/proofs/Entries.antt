@@ -1,6 +1,6 @@
--- How a packet on a permanent circuit is judged, in the whole walk and in that of a recording with gaps.
+-- How a packet in data transfer is judged, in the whole walk and in that of a recording with gaps.
 use Rattle.std.proofs.Common.{◌≡◌, ◌⊎◌, inl, inr, ◌<◌, ◌≤◌, ◌==◌, ℕ, Bool, true, false, refl, sym, ◌∙◌, ap, subst, List, Option, Some, None, arith}
-use Rattle.std.specs.Prelude.{nat_lt, nat_le, ◌&&◌, ◌||◌, is_some, option_and_then}
+use Rattle.std.specs.Prelude.{nat_lt, nat_le, not, ◌&&◌, ◌||◌, is_some, option_and_then}
 use Rattle.std.specs.List.{list_any}
 use Rattle.std.proofs.lemmas.Bool.{false≢true, and_parts, eqb-true, ltb-true}
 use Rattle.line_model.specs.declared.gap.AdriftEntry.TheVariants.{Carries}
@@ -8,7 +8,7 @@ use Rattle.line_model.specs.declared.gap.LastData.{LastData}
 use Rattle.line_model.specs.declared.gap.Owed.TheVariants.{NoIndication}
 use Rattle.line_model.specs.declared.interface.Interface.{Interface}
 use Rattle.line_model.specs.declared.packet.Class.{Class}
-use Rattle.line_model.specs.declared.packet.Class.TheVariants.{Data, Interrupt, InterruptConfirm, Reset, ResetConfirm, Rr, Rnr}
+use Rattle.line_model.specs.declared.packet.Class.TheVariants.{Data, Interrupt, InterruptConfirm, Rej, Reset, ResetConfirm, RestartHere, Rr, Rnr, TwoOctets, Undefined}
 use Rattle.line_model.specs.declared.packet.PacketKind.{PacketKind}
 use Rattle.line_model.specs.declared.packet.Packet as packet
 use Rattle.line_model.specs.declared.state.Side.{Side}
@@ -17,7 +17,7 @@ use Rattle.line_model.specs.declared.state.DState.{DState}
 use Rattle.line_model.specs.declared.state.DState as transfer
 use Rattle.line_model.specs.declared.state.ChannelState.TheVariants.{Transfer}
 use Rattle.line_model.specs.declared.state.StateName.{StateName}
-use Rattle.line_model.specs.declared.state.StateName.TheVariants.{D1, D2, D3}
+use Rattle.line_model.specs.declared.state.StateName.TheVariants.{D1, D2, D3, P4}
 use Rattle.line_model.specs.declared.table.Action.{Action}
 use Rattle.line_model.specs.declared.table.Action.TheVariants.{Move, Normal, Error, Discard, Pass, Ends, Below, ToChannel}
 use Rattle.line_model.specs.basics.Limits.{is_numbering, is_channels, packet_sizes}
@@ -29,10 +29,9 @@ use Rattle.line_model.specs.channels.ChannelStep.{Judged, channel_step, judged, 
 use Rattle.line_model.specs.channels.Gaps.{Doubts, GapChannel, WhileAdrift}
 use Rattle.line_model.specs.channels.GapStep.{GapOutcome, acknowledged_data, adrift_carried, adrift_entry, adrift_fault, adrift_received, adrift_step_by, gap_channel_step, is_resetting, passing, receive_of, settled_outcome, settled_verdict}
 use Rattle.line_model.specs.channels.Tables.{action}
-use Rattle.line_model.proofs.Every.{every, every_class, classes}
-use Rattle.gap_laws.proofs.Circuits.{Circuit, channel_of, failing_loud, silent}
-use Rattle.gap_laws.proofs.Settled.{in_doubt}
-use Rattle.gap_laws.proofs.Fits.{adrift_at, settled_at, idle}
+use Rattle.line_model.proofs.Every.{every, every_class, every_side, classes}
+use Rattle.gap_laws.proofs.Circuits.{Circuit, Terms, channel_of, channel_with, failing_loud, idle, silent}
+use Rattle.gap_laws.proofs.Fits.{adrift_at, settled_with}
 
 -- ---- the interface
 
@@ -96,21 +95,58 @@ is_flow k = false
 abbrev pub judged_at : StateName → Action → Judged
 judged_at s a = record { state = s; entry = a }
 
--- the whole walk judges by the second table
-pub whole_is : (i : Interface) (n : ℕ) (r : Item) (q : Circuit) (a : Action) → is_permanent i n ≡ true → action r.side (transfer_name q.state) false (packet_class r.packet) ≡ a
-    → channel_step i n (channel_of q) r ≡ verdict_step i (transfer_name q.state) r (verdict (judged_at (transfer_name q.state) a) (packet_fault i n (channel_of q) r)) (channel_of q)
-whole_is i n r q a p e =
-    ap (λ b. verdict_step i (judged b r.side (Transfer q.state) false (packet_class r.packet)).state r (verdict (judged b r.side (Transfer q.state) false (packet_class r.packet)) (packet_fault i n (channel_of q) r)) (channel_of q)) p
-    ∙ ap (λ a. verdict_step i (transfer_name q.state) r (verdict (judged_at (transfer_name q.state) a) (packet_fault i n (channel_of q) r)) (channel_of q)) e
+-- the packets that the second table judges on a channel for calls, too
+abbrev pub is_below : Class → Bool
+is_below TwoOctets = true
+is_below RestartHere = true
+is_below Rej = true
+is_below Undefined = true
+is_below k = is_moving k || is_flow k
 
--- so does that of a settled circuit
-pub settled_is : (i : Interface) (n : ℕ) (r : Item) (b : Bool) (ns is ss : Sides Bool) (g : Circuit) (a : Action) → is_permanent i n ≡ true → action r.side (transfer_name g.state) false (packet_class r.packet) ≡ a
-    → gap_channel_step i n (settled_at b ns is ss g) r
-    ≡ settled_outcome (settled_at b ns is ss g) (settled_verdict i (transfer_name g.state) r (verdict (judged_at (transfer_name g.state) a) (packet_fault i n (channel_of g) r)) (in_doubt ns is ss) (channel_of g))
-settled_is i n r b ns is ss g a p e =
-    let G : GapChannel = settled_at b ns is ss g in
-    ap (λ u. settled_outcome G (settled_verdict i (judged u r.side (Transfer g.state) false (packet_class r.packet)).state r (verdict (judged u r.side (Transfer g.state) false (packet_class r.packet)) (packet_fault i n (channel_of g) r)) (in_doubt ns is ss) (channel_of g))) p
-    ∙ ap (λ a. settled_outcome G (settled_verdict i (transfer_name g.state) r (verdict (judged_at (transfer_name g.state) a) (packet_fault i n (channel_of g) r)) (in_doubt ns is ss) (channel_of g))) e
+abbrev is_below_entry : Action → Bool
+is_below_entry Below = true
+is_below_entry a = false
+
+below_entry : (a : Action) → is_below_entry a ≡ true → a ≡ Below
+below_entry Below h = refl
+below_entry a h = cc
+
+judged_below : (p : Bool) (x : Side) (d : DState) (k : Class) → (is_below k || p) ≡ true → judged p x (Transfer d) false k ≡ judged_at (transfer_name d) (action x (transfer_name d) false k)
+judged_below true x d k h = refl
+judged_below false x d k h =
+    ap (λ a. elim a as (λ _. Judged) [ Below ↦ judged_at (transfer_name d) (action x (transfer_name d) false k) | a ↦ judged_at P4 a ])
+    (below_entry (action x P4 false k) (at (is_below k) h (every_class (λ k. not (is_below k) || is_below_entry (action x P4 false k)) (every_side (λ x. every (λ k. not (is_below k) || is_below_entry (action x P4 false k)) classes) refl x) k)))
+  where
+    at : (b : Bool) → (b || false) ≡ true → (not b || is_below_entry (action x P4 false k)) ≡ true → is_below_entry (action x P4 false k) ≡ true
+    at true e h = h
+    at false e h = absurd (false≢true e)
+
+-- the whole walk judges by the second table
+pub whole_is : (i : Interface) (k : Terms) (n : ℕ) (r : Item) (q : Circuit) (a : Action) → (is_below (packet_class r.packet) || is_permanent i n) ≡ true → action r.side (transfer_name q.state) false (packet_class r.packet) ≡ a
+    → channel_step i n (channel_with k q) r ≡ verdict_step i (transfer_name q.state) r (verdict (judged_at (transfer_name q.state) a) (packet_fault i n (channel_with k q) r)) (channel_with k q)
+whole_is i k n r q a p e =
+    ap (λ (j : Judged). verdict_step i j.state r (verdict j (packet_fault i n (channel_with k q) r)) (channel_with k q)) (judged_below (is_permanent i n) r.side q.state (packet_class r.packet) p)
+    ∙ ap (λ a. verdict_step i (transfer_name q.state) r (verdict (judged_at (transfer_name q.state) a) (packet_fault i n (channel_with k q) r)) (channel_with k q)) e
+
+-- so does that of a settled channel
+pub settled_is : (i : Interface) (t : Terms) (n : ℕ) (r : Item) (b : Bool) (d : Doubts) (g : Circuit) (a : Action) → (is_below (packet_class r.packet) || is_permanent i n) ≡ true → action r.side (transfer_name g.state) false (packet_class r.packet) ≡ a
+    → gap_channel_step i n (settled_with t b d g) r
+    ≡ settled_outcome (settled_with t b d g) (settled_verdict i (transfer_name g.state) r (verdict (judged_at (transfer_name g.state) a) (packet_fault i n (channel_with t g) r)) d (channel_with t g))
+settled_is i t n r b d g a p e =
+    let G : GapChannel = settled_with t b d g in
+    ap (λ (j : Judged). settled_outcome G (settled_verdict i j.state r (verdict j (packet_fault i n (channel_with t g) r)) d (channel_with t g))) (judged_below (is_permanent i n) r.side g.state (packet_class r.packet) p)
+    ∙ ap (λ a. settled_outcome G (settled_verdict i (transfer_name g.state) r (verdict (judged_at (transfer_name g.state) a) (packet_fault i n (channel_with t g) r)) d (channel_with t g))) e
+
+-- all packets on a permanent circuit, and those below on each channel
+pub on_circuit : (k : Class) (p : Bool) → p ≡ true → (is_below k || p) ≡ true
+on_circuit k p e = at (is_below k) p e
+  where
+    at : (b p : Bool) → p ≡ true → (b || p) ≡ true
+    at true p e = refl
+    at false p e = e
+
+pub on_both : (k : Class) (p : Bool) → is_below k ≡ true → (is_below k || p) ≡ true
+on_both k p e = ap (λ b. b || p) e
 
 -- an entry that does nothing, where it is no error
 pub quiet_whole : (i : Interface) (s : StateName) (r : Item) (a : Action) (f : Option ℕ) (c : Channel) → quiet a ≡ true → silent (verdict_step i s r (verdict (judged_at s a) f) c).reported ≡ true

@@ -1,5 +1,5 @@
 -- The order between a channel of the whole walk and the same channel of a recording with gaps: what is certain there is true.
-use Rattle.std.proofs.Common.{◌≡◌, ◌%◌, ℕ, Bool, true, false, List, [], Option, Some, None}
+use Rattle.std.proofs.Common.{◌≡◌, ◌%◌, ℕ, Bool, true, false, Option, Some, None}
 use Rattle.line_model.specs.declared.gap.LastData.{LastData}
 use Rattle.line_model.specs.declared.gap.Owed.TheVariants.{NoIndication}
 use Rattle.line_model.specs.declared.interface.Interface.{Interface}
@@ -8,21 +8,14 @@ use Rattle.line_model.specs.declared.state.Side.TheVariants.{T, N}
 use Rattle.line_model.specs.declared.state.DState.{DState}
 use Rattle.line_model.specs.declared.state.DState as transfer
 use Rattle.line_model.specs.basics.Records.{Item}
-use Rattle.line_model.specs.channels.Channels.{AcceptedData, Sides, of_side, other}
+use Rattle.line_model.specs.channels.Channels.{Sides, of_side, other}
 use Rattle.line_model.specs.channels.ChannelStep.{channel_step}
 use Rattle.line_model.specs.channels.FlowControl.{sent}
-use Rattle.line_model.specs.channels.Gaps.{GapChannel, of_both}
+use Rattle.line_model.specs.channels.Gaps.{Doubts, GapChannel, of_both}
 use Rattle.line_model.specs.channels.Gaps.Certainty.{Adrift, Certain, Settled}
 use Rattle.line_model.specs.channels.GapStep.{gap_channel_step}
-use Rattle.gap_laws.proofs.Circuits.{Circuit, IsOrdered, channel_of, silent}
+use Rattle.gap_laws.proofs.Circuits.{Circuit, IsOrdered, Terms, channel_of, channel_with, idle, no_terms, silent, size_of}
 use Rattle.gap_laws.proofs.Settled.{SideFits, in_doubt}
-
-abbrev pub circuit : DState → List AcceptedData → Sides ℕ → Sides Bool → Circuit
-circuit d hs v u = record { state = d; accepted = hs; acknowledged = v; unconfirmed = u }
-
--- a circuit in a state that it has just entered
-abbrev pub idle : DState → Circuit
-idle d = circuit d [] (record { of_t = 0; of_n = 0 }) (record { of_t = false; of_n = false })
 
 -- the circuits of a recording with gaps
 abbrev pub certain_at : (restarting : Bool) → Circuit → GapChannel
@@ -31,8 +24,11 @@ certain_at b q = record { channel = channel_of q; restarting = b; certainty = Ce
 abbrev pub adrift_at : DState → (restarting : Bool) → Sides (Option LastData) → GapChannel
 adrift_at d b ls = record { channel = channel_of (idle d); restarting = b; certainty = Adrift (record { owed = NoIndication; hidden = false; last = ls }) }
 
+abbrev pub settled_with : Terms → (restarting : Bool) → Doubts → Circuit → GapChannel
+settled_with t b d g = record { channel = channel_with t g; restarting = b; certainty = Settled d }
+
 abbrev pub settled_at : (restarting : Bool) → (numbers interrupts sequences : Sides Bool) → Circuit → GapChannel
-settled_at b ns is ss g = record { channel = channel_of g; restarting = b; certainty = Settled (in_doubt ns is ss) }
+settled_at b ns is ss g = settled_with no_terms b (in_doubt ns is ss) g
 
 -- the last data packet of a side since the gap: in d1 it is the last one that was accepted, and its side has not acknowledged
 -- more since; while a side resets, the other side alone sends any
@@ -67,7 +63,7 @@ pub record FitsSettled (i : Interface) (q : Circuit) (g : GapChannel) : Type 0 w
   pub is : g ≡ settled_at restarting numbers interrupts sequences settled
   pub in_d1 : settled.state ≡ transfer.TheVariants.D1
   pub in_d1_too : q.state ≡ transfer.TheVariants.D1
-  pub sides : (y : Side) → SideFits i (in_doubt numbers interrupts sequences) q settled y
+  pub sides : (y : Side) → SideFits i (size_of i no_terms) (in_doubt numbers interrupts sequences) q settled y
 
 pub data Fits (i : Interface) (q : Circuit) (g : GapChannel) : Type 0 where
   FitsAll : (b : Bool) → g ≡ certain_at b q → Fits i q g
@@ -75,8 +71,8 @@ pub data Fits (i : Interface) (q : Circuit) (g : GapChannel) : Type 0 where
   FitsSome : FitsSettled i q g → Fits i q g
 
 -- the whole walk after a row
-pub record Takes (i : Interface) (n : ℕ) (r : Item) (q : Circuit) (w : Circuit) : Type 0 where
-  pub after : (channel_step i n (channel_of q) r).after ≡ channel_of w
+pub record Takes (i : Interface) (k : Terms) (n : ℕ) (r : Item) (q : Circuit) (w : Circuit) : Type 0 where
+  pub after : (channel_step i n (channel_with k q) r).after ≡ channel_with k w
   pub ordered : (y : Side) → IsOrdered i.modulus w y
 
 -- the other walk after the same row

@@ -1,53 +1,28 @@
--- Nobody is accused by what was not recorded, where no call has data.
+-- Nobody is accused by what was not recorded.
 use Rattle.std.proofs.Common.{◌≡◌, ℕ, Bool, true, false, refl, sym, ap, subst, List, [], ◌∷◌, ◌++◌}
-use Rattle.std.specs.Prelude.{not, ◌&&◌, ◌||◌}
+use Rattle.std.specs.Prelude.{not, ◌&&◌}
 use Rattle.std.specs.List.{AllByRecursion}
-use Rattle.std.proofs.lemmas.Bool.{false≢true, and_parts}
+use Rattle.std.proofs.lemmas.Bool.{false≢true}
 use Rattle.line_model.specs.declared.interface.Interface.{Interface}
 use Rattle.line_model.specs.declared.packet.Packet.{Packet}
 use Rattle.line_model.specs.declared.packet.Packet as packet
-use Rattle.line_model.specs.declared.packet.PacketKind.{PacketKind}
-use Rattle.line_model.specs.declared.packet.PacketKind as kind
 use Rattle.line_model.specs.declared.state.Side.{Side}
 use Rattle.line_model.specs.basics.Records.{Item}
-use Rattle.line_model.specs.packets.Says.{packet_channel}
-use Rattle.line_model.specs.channels.Channels.{is_permanent}
 use Rattle.line_model.specs.observer.MachineEvents.{walk_events}
 use Rattle.line_model.specs.observer.Observer.{start, x25}
-use Rattle.gap_laws.specs.Thinned.{JoinedLaw, ThinningLaw, is_data, is_lawful_row, is_whole, restarted}
+use Rattle.gap_laws.specs.Thinned.{JoinedLaw, ThinningLaw, is_whole, restarted}
 use Rattle.gap_laws.proofs.Levels.{level_item}
 use Rattle.gap_laws.proofs.Observers.{Silent, all_silent, none_found}
-use Rattle.gap_laws.proofs.Order.{channel_row, is_kept}
+use Rattle.gap_laws.proofs.Order.{channel_row}
 use Rattle.gap_laws.proofs.Restarts.{IsRow, OnChannel, OnNone, level_packet, thinned_joined, thinned_restarted}
 use Rattle.gap_laws.proofs.Thinning.{joined_is, starts_restarted}
 
-kept_by : (b : Bool) (c : ℕ) (k : PacketKind) → is_whole (packet.TheVariants.Channel c k) ≡ true → (not (is_data (packet.TheVariants.Channel c k)) || b) ≡ true → is_kept b c k ≡ true
-kept_by true c k w d = w
-kept_by false c (kind.TheVariants.Data h) w d = absurd (false≢true d)
-kept_by false c kind.TheVariants.Gap w d = absurd (false≢true w)
-kept_by false c (kind.TheVariants.Rr n) w d = w
-kept_by false c (kind.TheVariants.Rnr n) w d = w
-kept_by false c kind.TheVariants.TwoOctets w d = refl
-kept_by false c kind.TheVariants.RestartHere w d = refl
-kept_by false c kind.TheVariants.Call w d = refl
-kept_by false c kind.TheVariants.Accepted w d = refl
-kept_by false c kind.TheVariants.Clear w d = refl
-kept_by false c kind.TheVariants.ClearConfirm w d = refl
-kept_by false c kind.TheVariants.Interrupt w d = refl
-kept_by false c kind.TheVariants.InterruptConfirm w d = refl
-kept_by false c kind.TheVariants.Reset w d = refl
-kept_by false c kind.TheVariants.ResetConfirm w d = refl
-kept_by false c kind.TheVariants.Rej w d = refl
-kept_by false c kind.TheVariants.Undefined w d = refl
-
-row_is : (i : Interface) (nr : ℕ) (x : Side) (p : Packet) (len : ℕ) (os : List ℕ) → (is_whole p && (not (is_data p) || is_permanent i (packet_channel p))) ≡ true → IsRow i (level_item nr x p len os)
-row_is i nr x (packet.TheVariants.Channel c k) len os h =
-    let both = and_parts (is_whole (packet.TheVariants.Channel c k)) (not (is_data (packet.TheVariants.Channel c k)) || is_permanent i c) h in
-    OnChannel (channel_row i nr x c k len os both.0 (kept_by (is_permanent i c) c k both.0 both.1))
+row_is : (i : Interface) (nr : ℕ) (x : Side) (p : Packet) (len : ℕ) (os : List ℕ) → is_whole p ≡ true → IsRow i (level_item nr x p len os)
+row_is i nr x (packet.TheVariants.Channel c k) len os h = OnChannel (channel_row i nr x c k len os h)
 row_is i nr x packet.TheVariants.GapOfAll len os h = absurd (false≢true h)
 row_is i nr x p len os h = OnNone (level_packet i nr x p len os refl)
 
-rows_are : (i : Interface) (rs : List Item) → AllByRecursion (λ r. is_lawful_row i r ≡ true) rs → AllByRecursion (IsRow i) rs
+rows_are : (i : Interface) (rs : List Item) → AllByRecursion (λ r. is_whole r.packet ≡ true) rs → AllByRecursion (IsRow i) rs
 rows_are i [] h = tt
 rows_are i (r ∷ rs) (h, rest) = (row_is i r.number r.side r.packet r.length r.octets h, rows_are i rs rest)
 

@@ -15,7 +15,10 @@ pub mod InterruptSteps
 pub mod QuietSteps
 pub mod ResetSteps
 pub mod CircuitRows
+pub mod Granted
 pub mod Calls
+pub mod CallSetup
+pub mod CallTransfer
 pub mod WholeCalls
 pub mod Levels
 pub mod Order

@@ -12,12 +12,12 @@ use Rattle.line_model.specs.declared.state.DState as transfer
 use Rattle.line_model.specs.declared.state.PState as setup
 use Rattle.line_model.specs.declared.state.ChannelState.TheVariants.{Setup}
 use Rattle.line_model.specs.basics.Records.{Item}
-use Rattle.line_model.specs.channels.Channels.{channel_in, fresh_state, is_joined, is_permanent, other}
+use Rattle.line_model.specs.channels.Channels.{Channel, channel_in, fresh_state, is_joined, is_permanent, other}
 use Rattle.line_model.specs.channels.Gaps.{GapChannel, certain, drifting, fresh_at, gap_step, of_both}
 use Rattle.line_model.specs.channels.GapStep.{gap_channel_step}
 use Rattle.gap_laws.specs.Thinned.{is_whole}
-use Rattle.gap_laws.proofs.Circuits.{Circuit, IsOrdered, channel_of, silent}
-use Rattle.gap_laws.proofs.Fits.{FitsAdrift, adrift_at, idle}
+use Rattle.gap_laws.proofs.Circuits.{Circuit, IsOrdered, channel_of, idle, silent}
+use Rattle.gap_laws.proofs.Fits.{FitsAdrift, adrift_at}
 use Rattle.gap_laws.proofs.Fits.Fits.{FitsAll, FitsAnyAfter}
 use Rattle.gap_laws.proofs.Entries.{row_at}
 use Rattle.gap_laws.proofs.DataSteps.{DriftsBy, fits_adrift, none_seen}
@@ -25,8 +25,8 @@ use Rattle.gap_laws.proofs.Observers.{IsOn}
 use Rattle.gap_laws.proofs.Thinning.{Pair, Step, gap_opens, open_fits, whole_after, whole_silent}
 use Rattle.gap_laws.proofs.ResetSteps.{idle_ordered}
 use Rattle.gap_laws.proofs.CircuitRows.{Any, NothingSaid, circuit_waits, kind_steps, none_gap, passing_state}
-use Rattle.gap_laws.proofs.Calls.{Drifts, is_of_call}
-use Rattle.gap_laws.proofs.WholeCalls.{AnyCall, FitsCall, SameCall, WholeCall, call_gap, call_stays, call_waits, call_whole, gap_drift}
+use Rattle.gap_laws.proofs.Calls.{AnyCall, Drifts, SameCall, drifts_none}
+use Rattle.gap_laws.proofs.WholeCalls.{NearCall, WholeCall, call_gap, call_stays, call_waits, call_whole, clearing, drift_gap}
 
 -- ---- relations, by whether the channel is a permanent circuit
 
@@ -38,22 +38,22 @@ pub record WholeCircuit (i : Interface) (a : GapChannel) : Type 0 where
 
 abbrev pub WholeBy : (permanent : Bool) → Interface → GapChannel → Type 0
 WholeBy true i a = WholeCircuit i a
-WholeBy false i a = WholeCall a
+WholeBy false i a = WholeCall i a
 
 -- a channel of the whole walk, and one of the other that knows no more
 abbrev pub NearBy : (permanent : Bool) → Interface → GapChannel → GapChannel → Type 0
 NearBy true i a g = Pair i Any a g
-NearBy false i a g = WholeCall a × FitsCall a g
+NearBy false i a g = NearCall i a g
 
 -- a channel adrift while a side restarts the interface
 abbrev pub MeanwhileBy : (permanent : Bool) → Interface → Side → GapChannel → Type 0
 MeanwhileBy true i y g = FitsAdrift i (idle (passing_state (other y))) g
-MeanwhileBy false i y g = Drifts true g
+MeanwhileBy false i y g = Drifts i (clearing y) true g
 
 -- a channel right after a gap
-abbrev pub OpenedBy : (permanent : Bool) → (all : Bool) → GapChannel → Type 0
-OpenedBy true all g = (b : Bool) × (g ≡ adrift_at transfer.TheVariants.D1 b (of_both None))
-OpenedBy false all g = (b : Bool) × Drifts (b || all) g
+abbrev pub OpenedBy : (permanent : Bool) → Interface → (all : Bool) → GapChannel → Type 0
+OpenedBy true i all g = (b : Bool) × (g ≡ adrift_at transfer.TheVariants.D1 b (of_both None))
+OpenedBy false i all g = (b : Bool) × ((c : Channel) → Drifts i c (b || all) g)
 
 abbrev pub Whole : Interface → ℕ → GapChannel → Type 0
 Whole i k = WholeBy (is_permanent i k) i
@@ -65,7 +65,7 @@ abbrev pub Meanwhile : Interface → Side → ℕ → GapChannel → Type 0
 Meanwhile i y k = MeanwhileBy (is_permanent i k) i y
 
 abbrev pub Opened : Interface → (all : Bool) → ℕ → GapChannel → Type 0
-Opened i all k = OpenedBy (is_permanent i k) all
+Opened i all k = OpenedBy (is_permanent i k) i all
 
 -- ---- what follows from what
 
@@ -79,35 +79,35 @@ near_whole i k a g = at (is_permanent i k)
 pub open_near : (i : Interface) (all : Bool) (k : ℕ) (a g : GapChannel) → Whole i k a → Opened i all k g → Near i k a g
 open_near i all k a g = at (is_permanent i k)
   where
-    at : (p : Bool) → WholeBy p i a → OpenedBy p all g → NearBy p i a g
+    at : (p : Bool) → WholeBy p i a → OpenedBy p i all g → NearBy p i a g
     at true w o = record { whole = w.circuit; is = w.is; valid = tt; ordered = w.ordered; fits = open_fits i w.circuit o.0 g o.1 }
-    at false w o = (w, AnyCall (o.0 || all) o.1)
+    at false w o = (w, o.0 || all, AnyCall (o.1 w.channel))
 
 pub open_meanwhile : (i : Interface) (y : Side) (k : ℕ) (g : GapChannel) → Opened i true k g → Meanwhile i y k g
 open_meanwhile i y k g = at (is_permanent i k)
   where
-    at : (p : Bool) → OpenedBy p true g → MeanwhileBy p i y g
+    at : (p : Bool) → OpenedBy p i true g → MeanwhileBy p i y g
     at true o =
         let q : Circuit = idle (passing_state (other y)) in
         subst (FitsAdrift i q) (sym o.1) (fits_adrift i q transfer.TheVariants.D1 o.0 (of_both None) (none_seen i.modulus q (of_both None) refl) tt)
-    at false (true, d) = d
-    at false (false, d) = d
+    at false (true, d) = d (clearing y)
+    at false (false, d) = d (clearing y)
 
 -- ---- gaps
 
 pub near_open : (i : Interface) (all : Bool) (k : ℕ) (a g : GapChannel) → Near i k a g → Opened i all k (gap_step i k all g)
 near_open i all k a g = at (is_permanent i k) refl
   where
-    at : (p : Bool) → is_permanent i k ≡ p → NearBy p i a g → OpenedBy p all (gap_step i k all g)
+    at : (p : Bool) → is_permanent i k ≡ p → NearBy p i a g → OpenedBy p i all (gap_step i k all g)
     at true e n = gap_opens i k all n.whole g e n.fits
-    at false e n = call_gap i k all a g n.0 n.1
+    at false e n = call_gap i k all e a g n
 
 pub meanwhile_open : (i : Interface) (y : Side) (k : ℕ) (g : GapChannel) → Meanwhile i y k g → Opened i true k (gap_step i k true g)
 meanwhile_open i y k g = at (is_permanent i k) refl
   where
-    at : (p : Bool) → is_permanent i k ≡ p → MeanwhileBy p i y g → OpenedBy p true (gap_step i k true g)
+    at : (p : Bool) → is_permanent i k ≡ p → MeanwhileBy p i y g → OpenedBy p i true (gap_step i k true g)
     at true e m = gap_opens i k true (idle (passing_state (other y))) g e (FitsAnyAfter m)
-    at false e m = (true, gap_drift i k true true g m)
+    at false e m = (true, drift_gap i k true e true (clearing y) g m)
 
 pub meanwhile_gap : (i : Interface) (y : Side) (k : ℕ) (g : GapChannel) → Meanwhile i y k g → Meanwhile i y k (gap_step i k false g)
 meanwhile_gap i y k g = at (is_permanent i k) refl
@@ -117,7 +117,7 @@ meanwhile_gap i y k g = at (is_permanent i k) refl
         let q : Circuit = idle (passing_state (other y)) in
         let o = gap_opens i k false q g e (FitsAnyAfter m) in
         subst (FitsAdrift i q) (sym o.1) (fits_adrift i q transfer.TheVariants.D1 o.0 (of_both None) (none_seen i.modulus q (of_both None) refl) tt)
-    at false e m = gap_drift i k false true g m
+    at false e m = drift_gap i k false e true (clearing y) g m (clearing y)
 
 -- ---- channels as an epoch begins
 
@@ -141,8 +141,14 @@ fresh_near i e d k h = at (is_permanent i k) (is_joined i e) (is_joined i d) (un
     at p false true e f = absurd (false≢true (sym f))
     at true false false e f = record { whole = idle transfer.TheVariants.D1; is = refl; valid = tt; ordered = idle_ordered i transfer.TheVariants.D1; fits = FitsAll false refl }
     at false false false e f = (
-      record { channel = channel_in (Setup setup.TheVariants.P1); is = refl; sound = record { suits = refl; held = refl }; calm = record { owes = refl; known = refl; tidy = λ e. (refl, refl) } },
-      SameCall false refl,
+      record {
+        channel = channel_in (Setup setup.TheVariants.P1);
+        is = refl;
+        sound = record { suits = refl; held = refl };
+        calm = record { owes = refl; usual = refl; tidy = λ e. (refl, refl); granted = record { opened = tt; accepted = tt }; ordered = idle_ordered i transfer.TheVariants.D1 };
+      },
+      false,
+      SameCall refl,
     )
 
 pub fresh_whole : (i : Interface) (e k : ℕ) → BeginsKnown i → Whole i k (fresh_at i Restarted e k)
@@ -151,9 +157,9 @@ fresh_whole i e k h = near_whole i k (fresh_at i Restarted e k) (fresh_at i Rest
 pub fresh_open : (i : Interface) (d k : ℕ) → Opened i true k (fresh_at i (Drifting false) d k)
 fresh_open i d k = at (is_permanent i k)
   where
-    at : (p : Bool) → OpenedBy p true (record { channel = channel_in (fresh_state false p); restarting = true; certainty = drifting NoIndication false })
+    at : (p : Bool) → OpenedBy p i true (record { channel = channel_in (fresh_state false p); restarting = true; certainty = drifting NoIndication false })
     at true = (true, refl)
-    at false = (true, record { channel = channel_in (Setup setup.TheVariants.P1); hidden = false; is = refl; tidy = λ e. (refl, refl) })
+    at false = (true, λ c. drifts_none i c true false (channel_in (Setup setup.TheVariants.P1)) (λ e. (refl, refl)) tt)
 
 -- ---- packets on channels
 
@@ -166,40 +172,33 @@ pub record ChannelRow (i : Interface) (r : Item) : Type 0 where
   pub whole : (a : GapChannel) → Whole i channel a → silent (gap_channel_step i channel a r).reported ≡ true → Whole i channel (gap_channel_step i channel a r).after
   pub waits : (y : Side) (g : GapChannel) → r.side ≡ other y → Meanwhile i y channel g → (silent (gap_channel_step i channel g r).reported ≡ true) × Meanwhile i y channel (gap_channel_step i channel g r).after
 
--- data on permanent circuits alone
-abbrev pub is_kept : (permanent : Bool) → ℕ → PacketKind → Bool
-is_kept true c k = is_whole (packet.TheVariants.Channel c k)
-is_kept false c k = is_of_call k
-
-pub channel_row : (i : Interface) (nr : ℕ) (x : Side) (c : ℕ) (k : PacketKind) (len : ℕ) (os : List ℕ) → is_whole (packet.TheVariants.Channel c k) ≡ true → is_kept (is_permanent i c) c k ≡ true → ChannelRow i (row_at nr x c k len os)
-channel_row i nr x c k len os w kept = record {
+pub channel_row : (i : Interface) (nr : ℕ) (x : Side) (c : ℕ) (k : PacketKind) (len : ℕ) (os : List ℕ) → is_whole (packet.TheVariants.Channel c k) ≡ true → ChannelRow i (row_at nr x c k len os)
+channel_row i nr x c k len os w = record {
   channel = c;
   on = record { form = k; is = refl; no_gap = none_gap c k w };
-  stays = λ a g. stays a g (is_permanent i c) refl kept;
-  whole = λ a. whole a (is_permanent i c) refl kept;
-  waits = λ y g e. waits y g e (is_permanent i c) refl kept;
+  stays = λ a g. stays a g (is_permanent i c) refl;
+  whole = λ a. whole a (is_permanent i c) refl;
+  waits = λ y g e. waits y g e (is_permanent i c) refl;
 }
   where
     r : Item
     r = row_at nr x c k len os
 
-    stays : (a g : GapChannel) (p : Bool) → is_permanent i c ≡ p → is_kept p c k ≡ true → NearBy p i a g → silent (gap_channel_step i c a r).reported ≡ true
+    stays : (a g : GapChannel) (p : Bool) → is_permanent i c ≡ p → NearBy p i a g → silent (gap_channel_step i c a r).reported ≡ true
         → (silent (gap_channel_step i c g r).reported ≡ true) × NearBy p i (gap_channel_step i c a r).after (gap_channel_step i c g r).after
-    stays a g true e kept n h =
-        let s : Step i Any NothingSaid c r n.whole = kind_steps i c nr x c k len os kept e n.whole tt n.ordered (whole_silent i c r a n.whole n.is h) in
+    stays a g true e n h =
+        let s : Step i Any NothingSaid c r n.whole = kind_steps i c nr x c k len os w e n.whole tt n.ordered (whole_silent i c r a n.whole n.is h) in
         let o = s.follows g n.fits in
         (o.0, record { whole = s.whole; is = whole_after i c r a n.whole s.whole n.is s.takes.after; valid = tt; ordered = s.takes.ordered; fits = o.1 })
-    stays a g false e kept n h =
-        let s = call_stays i c nr x c k len os e kept a g n.0 n.1 h in
-        (s.0, (call_whole i c nr x c k len os e kept a n.0 h, s.1))
+    stays a g false e n h = call_stays i c nr x c k len os e w a g n h
 
-    whole : (a : GapChannel) (p : Bool) → is_permanent i c ≡ p → is_kept p c k ≡ true → WholeBy p i a → silent (gap_channel_step i c a r).reported ≡ true → WholeBy p i (gap_channel_step i c a r).after
-    whole a true e kept w h =
-        let s : Step i Any NothingSaid c r w.circuit = kind_steps i c nr x c k len os kept e w.circuit tt w.ordered (whole_silent i c r a w.circuit w.is h) in
-        record { circuit = s.whole; is = whole_after i c r a w.circuit s.whole w.is s.takes.after; ordered = s.takes.ordered }
-    whole a false e kept w h = call_whole i c nr x c k len os e kept a w h
+    whole : (a : GapChannel) (p : Bool) → is_permanent i c ≡ p → WholeBy p i a → silent (gap_channel_step i c a r).reported ≡ true → WholeBy p i (gap_channel_step i c a r).after
+    whole a true e n h =
+        let s : Step i Any NothingSaid c r n.circuit = kind_steps i c nr x c k len os w e n.circuit tt n.ordered (whole_silent i c r a n.circuit n.is h) in
+        record { circuit = s.whole; is = whole_after i c r a n.circuit s.whole n.is s.takes.after; ordered = s.takes.ordered }
+    whole a false e n h = call_whole i c nr x c k len os e w a n h
 
-    waits : (y : Side) (g : GapChannel) → x ≡ other y → (p : Bool) → is_permanent i c ≡ p → is_kept p c k ≡ true → MeanwhileBy p i y g → (silent (gap_channel_step i c g r).reported ≡ true) × MeanwhileBy p i y (gap_channel_step i c g r).after
-    waits y g side true e kept m =
-        subst (λ y. FitsAdrift i (idle (passing_state y)) g → DriftsBy i (idle (passing_state y)) (gap_channel_step i c g r)) side (circuit_waits i c nr x c k len os kept e g) m
-    waits y g side false e kept m = call_waits i c nr x c k len os e kept g m
+    waits : (y : Side) (g : GapChannel) → x ≡ other y → (p : Bool) → is_permanent i c ≡ p → MeanwhileBy p i y g → (silent (gap_channel_step i c g r).reported ≡ true) × MeanwhileBy p i y (gap_channel_step i c g r).after
+    waits y g side true e m =
+        subst (λ y. FitsAdrift i (idle (passing_state y)) g → DriftsBy i (idle (passing_state y)) (gap_channel_step i c g r)) side (circuit_waits i c nr x c k len os w e g) m
+    waits y g side false e m = call_waits i c nr x c k len os e w y side g m

@@ -22,40 +22,51 @@ use Rattle.line_model.specs.packets.Formats.{packet_fault}
 use Rattle.line_model.specs.packets.Says.{header_in}
 use Rattle.line_model.specs.channels.Channels.{AcceptedData, Channel, Sides, is_permanent, of_side, other, with_side}
 use Rattle.line_model.specs.channels.ChannelStep.{Outcome, channel_step, report_nothing, transfer_name, verdict, verdict_step}
-use Rattle.line_model.specs.channels.GapStep.{GapOutcome, acknowledged_data, adrift_entry, adrift_fault, adrift_received, adrift_step_by, data_reported, gap_channel_step, last_after, passing, receive_of, settled_outcome, with_receive}
+use Rattle.line_model.specs.channels.Gaps.{Doubts}
+use Rattle.line_model.specs.channels.GapStep.{GapOutcome, acknowledged_data, adrift_entry, adrift_fault, adrift_received, adrift_step_by, data_reported, gap_channel_step, last_after, passing, receive_of, settled_outcome, settled_verdict, with_receive}
 use Rattle.line_model.specs.channels.Tables.{action}
 use Rattle.line_model.proofs.Every.{every, every_class, classes}
-use Rattle.gap_laws.proofs.Circuits.{Circuit, IsOrdered, by_side, channel_of, failing_loud, of_other, of_own, silent}
+use Rattle.gap_laws.proofs.Circuits.{Circuit, IsOrdered, Terms, by_side, channel_of, channel_with, circuit, failing_loud, idle, no_terms, of_other, of_own, silent, size_of}
 use Rattle.gap_laws.proofs.Settled.{SideFits, in_doubt}
-use Rattle.gap_laws.proofs.Fits.{IsResting, LastFits, LastIn, Takes, adrift_at, circuit, idle, settled_at}
+use Rattle.gap_laws.proofs.Fits.{IsResting, LastFits, LastIn, Takes, adrift_at, settled_at, settled_with}
 use Rattle.gap_laws.proofs.Fits.Fits.{FitsSome}
-use Rattle.gap_laws.proofs.Entries.{adrift_flow, is_flow, is_moving, judged_at, last_seen, quiet, quiet_settled, quiet_whole, settled_is, whole_is}
+use Rattle.gap_laws.proofs.Entries.{adrift_flow, is_below, is_flow, is_moving, judged_at, last_seen, on_circuit, quiet, quiet_settled, quiet_whole, settled_is, whole_is}
 use Rattle.gap_laws.proofs.DataSteps.{DriftsBy, FollowsBy, by_last, fits_adrift}
 
 -- ---- packets of no circuit
 
 -- nothing happens in the whole walk
-pub quiet_takes : (i : Interface) (n : ℕ) (r : Item) (q : Circuit) → is_permanent i n ≡ true → quiet (action r.side (transfer_name q.state) false (packet_class r.packet)) ≡ true → ((y : Side) → IsOrdered i.modulus q y)
-    → silent (channel_step i n (channel_of q) r).reported ≡ true → Takes i n r q q
-quiet_takes i n r q p h o s =
-    let e = whole_is i n r q (action r.side (transfer_name q.state) false (packet_class r.packet)) p refl in
-    let same = quiet_whole i (transfer_name q.state) r (action r.side (transfer_name q.state) false (packet_class r.packet)) (packet_fault i n (channel_of q) r) (channel_of q) h (ap (λ (o : Outcome). silent o.reported) (sym e) ∙ s) in
+pub quiet_takes : (i : Interface) (k : Terms) (n : ℕ) (r : Item) (q : Circuit) → (is_below (packet_class r.packet) || is_permanent i n) ≡ true → quiet (action r.side (transfer_name q.state) false (packet_class r.packet)) ≡ true → ((y : Side) → IsOrdered i.modulus q y)
+    → silent (channel_step i n (channel_with k q) r).reported ≡ true → Takes i k n r q q
+quiet_takes i k n r q p h o s =
+    let e = whole_is i k n r q (action r.side (transfer_name q.state) false (packet_class r.packet)) p refl in
+    let same = quiet_whole i (transfer_name q.state) r (action r.side (transfer_name q.state) false (packet_class r.packet)) (packet_fault i n (channel_with k q) r) (channel_with k q) h (ap (λ (o : Outcome). silent o.reported) (sym e) ∙ s) in
     record { after = ap (λ (o : Outcome). o.after) (e ∙ same); ordered = o }
 
--- nor on a settled circuit
+-- nor on a settled channel
+pub quiet_settles : (i : Interface) (k t : Terms) (n : ℕ) (r : Item) (q g : Circuit) → (is_below (packet_class r.packet) || is_permanent i n) ≡ true → quiet (action r.side (transfer_name q.state) false (packet_class r.packet)) ≡ true
+    → silent (channel_step i n (channel_with k q) r).reported ≡ true → (b : Bool) (d : Doubts) → g.state ≡ q.state
+    → gap_channel_step i n (settled_with t b d g) r ≡ settled_outcome (settled_with t b d g) (record { outcome = report_nothing (channel_with t g); doubts = d })
+quiet_settles i k t n r q g p h s b d same =
+    let a : Action = action r.side (transfer_name q.state) false (packet_class r.packet) in
+    let e = whole_is i k n r q a p refl in
+    settled_is i t n r b d g a p (ap (λ d. action r.side (transfer_name d) false (packet_class r.packet)) same)
+    ∙ ap (λ o. settled_outcome (settled_with t b d g) o)
+    (ap (λ d. settled_verdict i (transfer_name d) r (verdict (judged_at (transfer_name d) a) (packet_fault i n (channel_with t g) r)) D (channel_with t g)) same
+    ∙ quiet_settled i (transfer_name q.state) r a (packet_fault i n (channel_with k q) r) (packet_fault i n (channel_with t g) r) (channel_with k q) (channel_with t g) d h (ap (λ (o : Outcome). silent o.reported) (sym e) ∙ s))
+  where
+    D : Doubts
+    D = d
+
 pub quiet_on_settled : (i : Interface) (n : ℕ) (r : Item) (hs : List AcceptedData) (v : Sides ℕ) (u : Sides Bool) → is_permanent i n ≡ true → quiet (action r.side D1 false (packet_class r.packet)) ≡ true
     → silent (channel_step i n (channel_of (circuit transfer.TheVariants.D1 hs v u)) r).reported ≡ true
-    → (b : Bool) (ns is ss : Sides Bool) (gs : List AcceptedData) (a : Sides ℕ) (f : Sides Bool) → ((y : Side) → SideFits i (in_doubt ns is ss) (circuit transfer.TheVariants.D1 hs v u) (circuit transfer.TheVariants.D1 gs a f) y)
+    → (b : Bool) (ns is ss : Sides Bool) (gs : List AcceptedData) (a : Sides ℕ) (f : Sides Bool) → ((y : Side) → SideFits i (size_of i no_terms) (in_doubt ns is ss) (circuit transfer.TheVariants.D1 hs v u) (circuit transfer.TheVariants.D1 gs a f) y)
     → FollowsBy i (circuit transfer.TheVariants.D1 hs v u) (gap_channel_step i n (settled_at b ns is ss (circuit transfer.TheVariants.D1 gs a f)) r)
 quiet_on_settled i n r hs v u p h s b ns is ss gs a f sides =
     let q : Circuit = circuit transfer.TheVariants.D1 hs v u in
     let g : Circuit = circuit transfer.TheVariants.D1 gs a f in
-    let e = whole_is i n r q (action r.side D1 false (packet_class r.packet)) p refl in
-    let same : gap_channel_step i n (settled_at b ns is ss g) r ≡ settled_outcome (settled_at b ns is ss g) (record { outcome = report_nothing (channel_of g); doubts = in_doubt ns is ss }) =
-    settled_is i n r b ns is ss g (action r.side D1 false (packet_class r.packet)) p refl
-    ∙ ap (λ o. settled_outcome (settled_at b ns is ss g) o)
-    (quiet_settled i D1 r (action r.side D1 false (packet_class r.packet)) (packet_fault i n (channel_of q) r) (packet_fault i n (channel_of g) r) (channel_of q) (channel_of g) (in_doubt ns is ss) h (ap (λ (o : Outcome). silent o.reported) (sym e) ∙ s)) in
-    subst (FollowsBy i q) (sym same) (refl, FitsSome (record { restarting = b; numbers = ns; interrupts = is; sequences = ss; settled = g; is = refl; in_d1 = refl; in_d1_too = refl; sides = sides }))
+    subst (FollowsBy i q) (sym (quiet_settles i no_terms no_terms n r q g (on_circuit (packet_class r.packet) (is_permanent i n) p) h s b (in_doubt ns is ss) refl))
+    (refl, FitsSome (record { restarting = b; numbers = ns; interrupts = is; sequences = ss; settled = g; is = refl; in_d1 = refl; in_d1_too = refl; sides = sides }))
 
 -- an entry that does nothing on a circuit adrift
 abbrev is_nothing : AdriftEntry → Bool
@@ -88,7 +99,7 @@ quiet_adrift i n r q entry d b ls seen rest = at (is_some (adrift_fault i n (cha
 
 -- ---- packets of data transfer while a side resets
 
-abbrev is_error : Action → Bool
+abbrev pub is_error : Action → Bool
 is_error (Error n) = true
 is_error a = false
 
@@ -98,7 +109,7 @@ Waits transfer.TheVariants.D1 x = ⊥
 Waits transfer.TheVariants.D2 x = x ≡ N
 Waits transfer.TheVariants.D3 x = x ≡ T
 
-error_loud : {A : Type 0} (i : Interface) (s : StateName) (r : Item) (a : Action) (f : Option ℕ) (c : Channel) → is_error a ≡ true → silent (verdict_step i s r (verdict (judged_at s a) f) c).reported ≡ true → A
+pub error_loud : {A : Type 0} (i : Interface) (s : StateName) (r : Item) (a : Action) (f : Option ℕ) (c : Channel) → is_error a ≡ true → silent (verdict_step i s r (verdict (judged_at s a) f) c).reported ≡ true → A
 error_loud i s r (Error n) f c e h = failing_loud r.side s n c h
 error_loud i s r a f c e h = absurd (false≢true e)
 
@@ -109,43 +120,42 @@ flow_test t h k f = at (is_flow k) f (every_class (λ k. not (is_flow k) || t k)
     at true e h = h
     at false e h = absurd (false≢true e)
 
-pub record Waiting (i : Interface) (n : ℕ) (r : Item) (q : Circuit) : Type 0 where
+pub record Waiting (i : Interface) (k : Terms) (n : ℕ) (r : Item) (q : Circuit) : Type 0 where
   pub waits : Waits q.state r.side
-  pub takes : Takes i n r q q
+  pub still : quiet (action r.side (transfer_name q.state) false (packet_class r.packet)) ≡ true
+  pub takes : Takes i k n r q q
 
-pub waiting_whole : (i : Interface) (n : ℕ) (r : Item) (d : DState) (hs : List AcceptedData) (v : Sides ℕ) (u : Sides Bool) → is_permanent i n ≡ true → is_flow (packet_class r.packet) ≡ true
-    → ((y : Side) → IsOrdered i.modulus (circuit d hs v u) y) → silent (channel_step i n (channel_of (circuit d hs v u)) r).reported ≡ true
-    → (d ≡ transfer.TheVariants.D1 → ⊥) → Waiting i n r (circuit d hs v u)
-waiting_whole i n r transfer.TheVariants.D1 hs v u p f o s otherwise = absurd (otherwise refl)
-waiting_whole i n r transfer.TheVariants.D2 hs v u p f o s otherwise = at r.side refl
+pub waiting_whole : (i : Interface) (k : Terms) (n : ℕ) (r : Item) (d : DState) (hs : List AcceptedData) (v : Sides ℕ) (u : Sides Bool) → (is_below (packet_class r.packet) || is_permanent i n) ≡ true → is_flow (packet_class r.packet) ≡ true
+    → ((y : Side) → IsOrdered i.modulus (circuit d hs v u) y) → silent (channel_step i n (channel_with k (circuit d hs v u)) r).reported ≡ true
+    → (d ≡ transfer.TheVariants.D1 → ⊥) → Waiting i k n r (circuit d hs v u)
+waiting_whole i k n r transfer.TheVariants.D1 hs v u p f o s otherwise = absurd (otherwise refl)
+waiting_whole i k n r transfer.TheVariants.D2 hs v u p f o s otherwise = at r.side refl
   where
     q : Circuit
     q = circuit transfer.TheVariants.D2 hs v u
 
-    at : (x : Side) → r.side ≡ x → Waiting i n r (circuit transfer.TheVariants.D2 hs v u)
+    at : (x : Side) → r.side ≡ x → Waiting i k n r (circuit transfer.TheVariants.D2 hs v u)
     at T e =
-        error_loud i D2 r (action T D2 false (packet_class r.packet)) (packet_fault i n (channel_of q) r) (channel_of q) (flow_test (λ k. is_error (action T D2 false k)) refl (packet_class r.packet) f)
-        (ap (λ (o : Outcome). silent o.reported) (sym (whole_is i n r q (action T D2 false (packet_class r.packet)) p (ap (λ x. action x D2 false (packet_class r.packet)) e))) ∙ s)
-    at N e = record {
-      waits = e;
-      takes = quiet_takes i n r q p (ap (λ x. quiet (action x D2 false (packet_class r.packet))) e ∙ flow_test (λ k. quiet (action N D2 false k)) refl (packet_class r.packet) f) o s;
-    }
-waiting_whole i n r transfer.TheVariants.D3 hs v u p f o s otherwise = at r.side refl
+        error_loud i D2 r (action T D2 false (packet_class r.packet)) (packet_fault i n (channel_with k q) r) (channel_with k q) (flow_test (λ c. is_error (action T D2 false c)) refl (packet_class r.packet) f)
+        (ap (λ (o : Outcome). silent o.reported) (sym (whole_is i k n r q (action T D2 false (packet_class r.packet)) p (ap (λ x. action x D2 false (packet_class r.packet)) e))) ∙ s)
+    at N e =
+        let still = ap (λ x. quiet (action x D2 false (packet_class r.packet))) e ∙ flow_test (λ c. quiet (action N D2 false c)) refl (packet_class r.packet) f in
+        record { waits = e; still = still; takes = quiet_takes i k n r q p still o s }
+waiting_whole i k n r transfer.TheVariants.D3 hs v u p f o s otherwise = at r.side refl
   where
     q : Circuit
     q = circuit transfer.TheVariants.D3 hs v u
 
-    at : (x : Side) → r.side ≡ x → Waiting i n r (circuit transfer.TheVariants.D3 hs v u)
+    at : (x : Side) → r.side ≡ x → Waiting i k n r (circuit transfer.TheVariants.D3 hs v u)
     at N e =
-        error_loud i D3 r (action N D3 false (packet_class r.packet)) (packet_fault i n (channel_of q) r) (channel_of q) (flow_test (λ k. is_error (action N D3 false k)) refl (packet_class r.packet) f)
-        (ap (λ (o : Outcome). silent o.reported) (sym (whole_is i n r q (action N D3 false (packet_class r.packet)) p (ap (λ x. action x D3 false (packet_class r.packet)) e))) ∙ s)
-    at T e = record {
-      waits = e;
-      takes = quiet_takes i n r q p (ap (λ x. quiet (action x D3 false (packet_class r.packet))) e ∙ flow_test (λ k. quiet (action T D3 false k)) refl (packet_class r.packet) f) o s;
-    }
+        error_loud i D3 r (action N D3 false (packet_class r.packet)) (packet_fault i n (channel_with k q) r) (channel_with k q) (flow_test (λ c. is_error (action N D3 false c)) refl (packet_class r.packet) f)
+        (ap (λ (o : Outcome). silent o.reported) (sym (whole_is i k n r q (action N D3 false (packet_class r.packet)) p (ap (λ x. action x D3 false (packet_class r.packet)) e))) ∙ s)
+    at T e =
+        let still = ap (λ x. quiet (action x D3 false (packet_class r.packet))) e ∙ flow_test (λ c. quiet (action T D3 false c)) refl (packet_class r.packet) f in
+        record { waits = e; still = still; takes = quiet_takes i k n r q p still o s }
 
 -- the other side sent no data since
-none_of_other : (m : ℕ) (q : Circuit) (x : Side) (l : LastData) → Waits q.state x → LastIn q.state m q (other x) l → ⊥
+pub none_of_other : (m : ℕ) (q : Circuit) (x : Side) (l : LastData) → Waits q.state x → LastIn q.state m q (other x) l → ⊥
 none_of_other m q x l w h = at q.state x w h
   where
     at : (d : DState) (x : Side) → Waits d x → LastIn d m q (other x) l → ⊥
@@ -164,7 +174,7 @@ own_fits m q x (Some l) w = at q.state w
     at transfer.TheVariants.D2 w = w
     at transfer.TheVariants.D3 w = w
 
-waiting_seen : (m : ℕ) (q : Circuit) (x : Side) (h : Option DataHeader) (o : Option ℕ) (ls : Sides (Option LastData)) → Waits q.state x → ((y : Side) → LastFits m q y (of_side y ls)) → (y : Side) → LastFits m q y (of_side y (last_after m x h o ls))
+pub waiting_seen : (m : ℕ) (q : Circuit) (x : Side) (h : Option DataHeader) (o : Option ℕ) (ls : Sides (Option LastData)) → Waits q.state x → ((y : Side) → LastFits m q y (of_side y ls)) → (y : Side) → LastFits m q y (of_side y (last_after m x h o ls))
 waiting_seen m q x (Some h) o ls w seen =
     let l : Option LastData = Some (record { next = (h.send + 1) % m; receive = h.receive }) in
     by_side (λ y. LastFits m q y (of_side y (with_side x l ls))) x (subst (LastFits m q x) (sym (of_own x l ls)) (own_fits m q x l w)) (subst (LastFits m q (other x)) (sym (of_other x l ls)) (seen (other x)))
@@ -173,7 +183,7 @@ waiting_seen m q x None (Some n) ls w seen =
     by_side (λ y. LastFits m q y (of_side y (with_side x l ls))) x (subst (LastFits m q x) (sym (of_own x l ls)) (own_fits m q x l w)) (subst (LastFits m q (other x)) (sym (of_other x l ls)) (seen (other x)))
 waiting_seen m q x None None ls w seen = seen
 
-data_silent : (i : Interface) (r : Item) (h : Option DataHeader) → silent (data_reported i r h) ≡ true
+pub data_silent : (i : Interface) (r : Item) (h : Option DataHeader) → silent (data_reported i r h) ≡ true
 data_silent i r None = refl
 data_silent i r (Some h) = refl
 

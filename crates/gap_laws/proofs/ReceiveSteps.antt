@@ -22,12 +22,12 @@ use Rattle.line_model.specs.channels.Gaps.{Doubts, of_both}
 use Rattle.line_model.specs.channels.GapStep.{GapOutcome, acknowledged_data, adrift_entry, adrift_fault, adrift_received, gap_channel_step, last_after, receive_in_doubt, receive_of, settled_outcome, settled_verdict, transferring_in_doubt}
 use Rattle.line_model.specs.channels.GapStep as gap_step
 use Rattle.line_model.specs.channels.Tables.{action}
-use Rattle.gap_laws.proofs.Circuits.{Circuit, IsOrdered, ReceiveTaken, by_side, channel_of, of_back, of_other, of_own, receive_taken, silent, with_receive}
-use Rattle.gap_laws.proofs.Settled.{ReceiveSettled, SideFits, in_doubt, receive_settled, taken_with}
-use Rattle.gap_laws.proofs.Fits.{IsResting, LastFits, Takes, adrift_at, circuit, idle, settled_at}
+use Rattle.gap_laws.proofs.Circuits.{Circuit, IsOrdered, ReceiveTaken, Terms, by_side, channel_of, channel_with, circuit, idle, no_terms, of_back, of_other, of_own, receive_taken, silent, size_of, some_none, with_receive}
+use Rattle.gap_laws.proofs.Settled.{ReceiveSettled, SideFits, doubts_with, in_doubt, receive_settled, taken_with}
+use Rattle.gap_laws.proofs.Fits.{IsResting, LastFits, Takes, adrift_at, settled_at, settled_with}
 use Rattle.gap_laws.proofs.Fits.Fits.{FitsSome}
 use Rattle.gap_laws.proofs.Settling.{numbers_then, settled_circuit, settles_by_receive}
-use Rattle.gap_laws.proofs.Entries.{adrift_flow, flow_class, judged_at, last_seen, lawful_is, normal_whole, row_at, settled_is, whole_is}
+use Rattle.gap_laws.proofs.Entries.{adrift_flow, flow_class, is_below, judged_at, last_seen, lawful_is, normal_whole, on_both, row_at, settled_is, whole_is}
 use Rattle.gap_laws.proofs.DataSteps.{FollowsAs, acknowledged_last, adrift_fits, by_last, passing_fits}
 
 -- what a P(R) alone comes to on a circuit adrift
@@ -40,7 +40,8 @@ pub record IsReceive (i : Interface) (n : ℕ) (r : Item) (receive : ℕ) : Type
   pub entry : action r.side D1 false (packet_class r.packet) ≡ Normal
   pub carries : adrift_entry (is_permanent i n) (packet_class r.packet) ≡ Carries
   pub fault : Option ℕ
-  pub same_fault : (q : Circuit) → packet_fault i n (channel_of q) r ≡ fault
+  pub below : is_below (packet_class r.packet) ≡ true
+  pub same_fault : (k : Terms) (q : Circuit) → packet_fault i n (channel_with k q) r ≡ fault
   pub same_adrift : (q : Circuit) → adrift_fault i n (channel_of q) r ≡ fault
   pub counts : (c : Channel) → transferring i D1 (packet_class r.packet) r c ≡ counting r.side D1 (count_receive i.modulus (counts_of c) r.side receive) c
   pub counts_in_doubt : (b : Doubts) (c : Channel) → transferring_in_doubt i D1 (packet_class r.packet) r b c ≡ receive_in_doubt i.modulus r.side D1 (Some receive) b c
@@ -52,7 +53,8 @@ rr_receives i n nr x c receive len os = record {
   entry = flow_class x Rr refl;
   carries = refl;
   fault = packet_fault i n (channel_of (idle transfer.TheVariants.D1)) (row_at nr x c (kind.TheVariants.Rr (Some receive)) len os);
-  same_fault = λ q. refl;
+  below = refl;
+  same_fault = λ k q. refl;
   same_adrift = λ q. refl;
   counts = λ c. refl;
   counts_in_doubt = λ b c. refl;
@@ -65,7 +67,8 @@ rnr_receives i n nr x c receive len os = record {
   entry = flow_class x Rnr refl;
   carries = refl;
   fault = packet_fault i n (channel_of (idle transfer.TheVariants.D1)) (row_at nr x c (kind.TheVariants.Rnr (Some receive)) len os);
-  same_fault = λ q. refl;
+  below = refl;
+  same_fault = λ k q. refl;
   same_adrift = λ q. refl;
   counts = λ c. refl;
   counts_in_doubt = λ b c. refl;
@@ -74,14 +77,14 @@ rnr_receives i n nr x c receive len os = record {
 }
 
 -- the whole walk accepts it
-pub record ReceiveStep (i : Interface) (n : ℕ) (r : Item) (receive : ℕ) (q : Circuit) : Type 0 where
-  pub no_fault : packet_fault i n (channel_of q) r ≡ None
-  pub taken : ReceiveTaken i.modulus r.side receive q
-  pub takes : Takes i n r q (with_receive r.side taken.upto q)
-  pub reported : (channel_step i n (channel_of q) r).reported ≡ []
+pub record ReceiveStep (i : Interface) (t : Terms) (n : ℕ) (r : Item) (receive : ℕ) (q : Circuit) : Type 0 where
+  pub no_fault : packet_fault i n (channel_with t q) r ≡ None
+  pub taken : ReceiveTaken t i.modulus r.side receive q
+  pub takes : Takes i t n r q (with_receive r.side taken.upto q)
+  pub reported : (channel_step i n (channel_with t q) r).reported ≡ []
 
-receive_ordered : (m : ℕ) (x : Side) (n : ℕ) (q : Circuit) → ((y : Side) → IsOrdered m q y) → (t : ReceiveTaken m x n q) → (y : Side) → IsOrdered m (with_receive x t.upto q) y
-receive_ordered m x n q o t = by_side (λ y. IsOrdered m (with_receive x t.upto q) y) x own apart
+receive_ordered : (k : Terms) (m : ℕ) (x : Side) (n : ℕ) (q : Circuit) → ((y : Side) → IsOrdered m q y) → (t : ReceiveTaken k m x n q) → (y : Side) → IsOrdered m (with_receive x t.upto q) y
+receive_ordered k m x n q o t = by_side (λ y. IsOrdered m (with_receive x t.upto q) y) x own apart
   where
     own : IsOrdered m (with_receive x t.upto q) x
     own =
@@ -93,24 +96,27 @@ receive_ordered m x n q o t = by_side (λ y. IsOrdered m (with_receive x t.upto 
         let a : of_side (other x) (with_side (other x) t.upto q.acknowledged) ≡ t.upto = of_own (other x) t.upto q.acknowledged in
         record { ordered = omega (arith, a, t.receive.upto); within = omega (arith, a, t.receive.from, (o (other x)).within) }
 
-pub receive_whole : (i : Interface) (n : ℕ) (r : Item) (receive : ℕ) → IsReceive i n r receive → (hs : List AcceptedData) (v : Sides ℕ) (u : Sides Bool) → is_permanent i n ≡ true
+pub receive_whole : (i : Interface) (t : Terms) (n : ℕ) (r : Item) (receive : ℕ) → IsReceive i n r receive → (hs : List AcceptedData) (v : Sides ℕ) (u : Sides Bool)
     → ((y : Side) → IsOrdered i.modulus (circuit transfer.TheVariants.D1 hs v u) y)
-    → silent (channel_step i n (channel_of (circuit transfer.TheVariants.D1 hs v u)) r).reported ≡ true → ReceiveStep i n r receive (circuit transfer.TheVariants.D1 hs v u)
-receive_whole i n r receive k hs v u p o s =
-    let e = whole_is i n r q Normal p k.entry in
-    let (none, is) = normal_whole i r (packet_fault i n (channel_of q) r) (channel_of q) (ap (λ (o : Outcome). silent o.reported) (sym e) ∙ s) in
-    let same : channel_step i n (channel_of q) r ≡ counting r.side D1 (count_receive i.modulus (counts_of (channel_of q)) r.side receive) (channel_of q) = e ∙ is ∙ k.counts (channel_of q) in
-    let t : ReceiveTaken i.modulus r.side receive q = receive_taken i.modulus r.side receive q (ap (λ (o : Outcome). silent o.reported) (sym same) ∙ s) in
-    record { no_fault = none; taken = t; takes = record { after = ap (λ (o : Outcome). o.after) same ∙ t.after; ordered = receive_ordered i.modulus r.side receive q o t }; reported = ap (λ (o : Outcome). o.reported) same ∙ t.reported }
+    → silent (channel_step i n (channel_with t (circuit transfer.TheVariants.D1 hs v u)) r).reported ≡ true → ReceiveStep i t n r receive (circuit transfer.TheVariants.D1 hs v u)
+receive_whole i t n r receive k hs v u o s =
+    let e = whole_is i t n r q Normal (on_both (packet_class r.packet) (is_permanent i n) k.below) k.entry in
+    let (none, is) = normal_whole i r (packet_fault i n c r) c (ap (λ (o : Outcome). silent o.reported) (sym e) ∙ s) in
+    let same : channel_step i n c r ≡ counting r.side D1 (count_receive i.modulus (counts_of c) r.side receive) c = e ∙ is ∙ k.counts c in
+    let w : ReceiveTaken t i.modulus r.side receive q = receive_taken t i.modulus r.side receive q (ap (λ (o : Outcome). silent o.reported) (sym same) ∙ s) in
+    record { no_fault = none; taken = w; takes = record { after = ap (λ (o : Outcome). o.after) same ∙ w.after; ordered = receive_ordered t i.modulus r.side receive q o w }; reported = ap (λ (o : Outcome). o.reported) same ∙ w.reported }
   where
     q : Circuit
     q = circuit transfer.TheVariants.D1 hs v u
 
+    c : Channel
+    c = channel_with t (circuit transfer.TheVariants.D1 hs v u)
+
 -- the last data packets of a circuit adrift after it
-receive_seen : (m : ℕ) (x : Side) (n : ℕ) (hs : List AcceptedData) (v : Sides ℕ) (u : Sides Bool) (ls : Sides (Option LastData)) → ((y : Side) → LastFits m (circuit transfer.TheVariants.D1 hs v u) y (of_side y ls))
-    → (t : ReceiveTaken m x n (circuit transfer.TheVariants.D1 hs v u)) → (y : Side)
+pub receive_seen : (k : Terms) (m : ℕ) (x : Side) (n : ℕ) (hs : List AcceptedData) (v : Sides ℕ) (u : Sides Bool) (ls : Sides (Option LastData)) → ((y : Side) → LastFits m (circuit transfer.TheVariants.D1 hs v u) y (of_side y ls))
+    → (t : ReceiveTaken k m x n (circuit transfer.TheVariants.D1 hs v u)) → (y : Side)
     → LastFits m (with_receive x t.upto (circuit transfer.TheVariants.D1 hs v u)) y (of_side y (last_after m x None (Some n) ls))
-receive_seen m x n hs v u ls seen t = by_side (λ y. LastFits m w y (of_side y (last_after m x None (Some n) ls))) x own apart
+receive_seen k m x n hs v u ls seen t = by_side (λ y. LastFits m w y (of_side y (last_after m x None (Some n) ls))) x own apart
   where
     q : Circuit
     q = circuit transfer.TheVariants.D1 hs v u
@@ -132,18 +138,14 @@ receive_seen m x n hs v u ls seen t = by_side (λ y. LastFits m w y (of_side y (
         at None e = tt
         at (Some l) e = (e.0, ap (λ k. k % m) (of_other (other x) t.upto v) ∙ e.1)
 
-twice : (x : Side) → other (other x) ≡ x
-twice T = refl
-twice N = refl
-
 -- a circuit adrift
 pub receive_adrift : (i : Interface) (n : ℕ) (r : Item) (receive : ℕ) (k : IsReceive i n r receive) (hs : List AcceptedData) (v : Sides ℕ) (u : Sides Bool) → is_permanent i n ≡ true
-    → ((y : Side) → IsOrdered i.modulus (circuit transfer.TheVariants.D1 hs v u) y) → (s : ReceiveStep i n r receive (circuit transfer.TheVariants.D1 hs v u))
+    → ((y : Side) → IsOrdered i.modulus (circuit transfer.TheVariants.D1 hs v u) y) → (s : ReceiveStep i no_terms n r receive (circuit transfer.TheVariants.D1 hs v u))
     → (d : DState) (b : Bool) (ls : Sides (Option LastData)) → ((y : Side) → LastFits i.modulus (circuit transfer.TheVariants.D1 hs v u) y (of_side y ls)) → IsResting d ls
     → FollowsAs i (with_receive r.side s.taken.upto (circuit transfer.TheVariants.D1 hs v u)) [] (gap_channel_step i n (adrift_at d b ls) r)
 receive_adrift i n r receive k hs v u p o s d b ls seen rest =
     adrift_flow (FollowsAs i w []) i n r d b ls p k.carries
-    (λ f e. absurd (some_none (sym e ∙ k.same_adrift (idle d) ∙ sym (k.same_fault q) ∙ s.no_fault)))
+    (λ f e. some_none (sym e ∙ k.same_adrift (idle d) ∙ sym (k.same_fault no_terms q) ∙ s.no_fault))
     (λ e. passing_fits i (other r.side) w d b ls [] rest e)
     (λ e. subst (FollowsAs i w []) (sym (k.received d b ls (option_and_then (acknowledged_data (last_seen ls) r.side) (receive_of r))))
     (subst (λ l. FollowsAs i w [] (received_by i.modulus r.side receive b ls l)) (sym (k.acknowledges ls))
@@ -155,11 +157,8 @@ receive_adrift i n r receive k hs v u p o s d b ls seen rest =
     w : Circuit
     w = with_receive r.side s.taken.upto (circuit transfer.TheVariants.D1 hs v u)
 
-    some_none : {f : ℕ} → Some f ≡ None → ⊥
-    some_none e = cc
-
     drifts : FollowsAs i w [] (received_by i.modulus r.side receive b ls None)
-    drifts = (tt, adrift_fits i w transfer.TheVariants.D1 b (last_after i.modulus r.side None (Some receive) ls) (receive_seen i.modulus r.side receive hs v u ls seen s.taken) tt)
+    drifts = (tt, adrift_fits i w transfer.TheVariants.D1 b (last_after i.modulus r.side None (Some receive) ls) (receive_seen no_terms i.modulus r.side receive hs v u ls seen s.taken) tt)
 
     settles : (l : LastData) → of_side (other r.side) ls ≡ Some l → l.next ≡ receive → FollowsAs i w [] (received_by i.modulus r.side receive b ls (Some l))
     settles l is same =
@@ -174,17 +173,34 @@ receive_adrift i n r receive k hs v u p o s d b ls seen rest =
             is = refl;
             in_d1 = refl;
             in_d1_too = refl;
-            sides = settles_by_receive i r.side receive q l (lawful_is i).eight o (last.0 ∙ same) (ap (λ y. of_side y v % i.modulus) (sym (twice r.side)) ∙ last.1) s.taken;
+            sides = settles_by_receive i no_terms false r.side receive q l (lawful_is i).eight o last same s.taken;
           }),
         )
 
+-- a settled channel takes it
+pub receive_settles : (i : Interface) (k t : Terms) (n : ℕ) (r : Item) (receive : ℕ) → IsReceive i n r receive → (q : Circuit) → (s : ReceiveStep i k n r receive q)
+    → (b e : Bool) (ns is ss : Sides Bool) (gs : List AcceptedData) (a : Sides ℕ) (f : Sides Bool)
+    → (w : ReceiveSettled i k t (doubts_with e ns is ss) r.side receive q (circuit transfer.TheVariants.D1 gs a f) s.taken.upto)
+    → gap_channel_step i n (settled_with t b (doubts_with e ns is ss) (circuit transfer.TheVariants.D1 gs a f)) r
+    ≡ settled_outcome (settled_with t b (doubts_with e ns is ss) (circuit transfer.TheVariants.D1 gs a f)) (taken_with t [] (doubts_with e ns is ss) w.settled)
+receive_settles i k t n r receive p q s b e ns is ss gs a f w =
+    settled_is i t n r b d g Normal (on_both (packet_class r.packet) (is_permanent i n) p.below) p.entry
+    ∙ ap (λ f. settled_outcome (settled_with t b d g) (settled_verdict i D1 r (verdict (judged_at D1 Normal) f) d (channel_with t g))) (p.same_fault t g ∙ sym (p.same_fault k q) ∙ s.no_fault)
+    ∙ ap (λ o. settled_outcome (settled_with t b d g) o) (p.counts_in_doubt d (channel_with t g) ∙ w.is)
+  where
+    g : Circuit
+    g = circuit transfer.TheVariants.D1 gs a f
+
+    d : Doubts
+    d = doubts_with e ns is ss
+
 -- a settled circuit
-pub receive_on_settled : (i : Interface) (n : ℕ) (r : Item) (receive : ℕ) (k : IsReceive i n r receive) (hs : List AcceptedData) (v : Sides ℕ) (u : Sides Bool) → is_permanent i n ≡ true
-    → (s : ReceiveStep i n r receive (circuit transfer.TheVariants.D1 hs v u))
-    → (b : Bool) (ns is ss : Sides Bool) (gs : List AcceptedData) (a : Sides ℕ) (f : Sides Bool) → ((y : Side) → SideFits i (in_doubt ns is ss) (circuit transfer.TheVariants.D1 hs v u) (circuit transfer.TheVariants.D1 gs a f) y)
+pub receive_on_settled : (i : Interface) (n : ℕ) (r : Item) (receive : ℕ) (k : IsReceive i n r receive) (hs : List AcceptedData) (v : Sides ℕ) (u : Sides Bool)
+    → (s : ReceiveStep i no_terms n r receive (circuit transfer.TheVariants.D1 hs v u))
+    → (b : Bool) (ns is ss : Sides Bool) (gs : List AcceptedData) (a : Sides ℕ) (f : Sides Bool) → ((y : Side) → SideFits i (size_of i no_terms) (in_doubt ns is ss) (circuit transfer.TheVariants.D1 hs v u) (circuit transfer.TheVariants.D1 gs a f) y)
     → FollowsAs i (with_receive r.side s.taken.upto (circuit transfer.TheVariants.D1 hs v u)) [] (gap_channel_step i n (settled_at b ns is ss (circuit transfer.TheVariants.D1 gs a f)) r)
-receive_on_settled i n r receive k hs v u p s b ns is ss gs a f sides =
-    subst (FollowsAs i w []) (sym same) (subst (λ c. FollowsAs i w [] (settled_outcome (settled_at b ns is ss g) (taken_with [] (in_doubt ns is ss) c))) (sym as_d1) (
+receive_on_settled i n r receive k hs v u s b ns is ss gs a f sides =
+    subst (FollowsAs i w []) (sym (receive_settles i no_terms no_terms n r receive k q s b false ns is ss gs a f t)) (subst (λ c. FollowsAs i w [] (settled_outcome (settled_at b ns is ss g) (taken_with no_terms [] (in_doubt ns is ss) c))) (sym as_d1) (
       tt,
       FitsSome (record {
         restarting = b;
@@ -195,7 +211,7 @@ receive_on_settled i n r receive k hs v u p s b ns is ss gs a f sides =
         is = refl;
         in_d1 = refl;
         in_d1_too = refl;
-        sides = subst (λ c. (y : Side) → SideFits i (in_doubt ns is ss) w c y) as_d1 t.fits;
+        sides = subst (λ c. (y : Side) → SideFits i (size_of i no_terms) (in_doubt ns is ss) w c y) as_d1 t.fits;
       }),
     ))
   where
@@ -208,14 +224,8 @@ receive_on_settled i n r receive k hs v u p s b ns is ss gs a f sides =
     w : Circuit
     w = with_receive r.side s.taken.upto (circuit transfer.TheVariants.D1 hs v u)
 
-    t : ReceiveSettled i (in_doubt ns is ss) r.side receive (circuit transfer.TheVariants.D1 hs v u) (circuit transfer.TheVariants.D1 gs a f) s.taken.upto
-    t = receive_settled i ns is ss r.side receive q g (lawful_is i).eight sides s.taken
+    t : ReceiveSettled i no_terms no_terms (in_doubt ns is ss) r.side receive (circuit transfer.TheVariants.D1 hs v u) (circuit transfer.TheVariants.D1 gs a f) s.taken.upto
+    t = receive_settled i no_terms no_terms false ns is ss r.side receive q g (lawful_is i).eight sides s.taken
 
     as_d1 : t.settled ≡ circuit transfer.TheVariants.D1 t.settled.accepted t.settled.acknowledged t.settled.unconfirmed
     as_d1 = ap (λ d. circuit d t.settled.accepted t.settled.acknowledged t.settled.unconfirmed) t.in_d1
-
-    same : gap_channel_step i n (settled_at b ns is ss g) r ≡ settled_outcome (settled_at b ns is ss g) (taken_with [] (in_doubt ns is ss) t.settled)
-    same =
-        settled_is i n r b ns is ss g Normal p k.entry
-        ∙ ap (λ e. settled_outcome (settled_at b ns is ss g) (settled_verdict i D1 r (verdict (judged_at D1 Normal) e) (in_doubt ns is ss) (channel_of g))) (k.same_fault g ∙ sym (k.same_fault q) ∙ s.no_fault)
-        ∙ ap (λ e. settled_outcome (settled_at b ns is ss g) e) (k.counts_in_doubt (in_doubt ns is ss) (channel_of g) ∙ t.is)

@@ -23,8 +23,8 @@ use Rattle.line_model.specs.observer.Machine.{after, with_state}
 use Rattle.line_model.specs.observer.MachineEvents.{RowEvent, stamp, walk_events}
 use Rattle.line_model.specs.observer.Observer.{event_of, events, start, x25}
 use Rattle.gap_laws.specs.Thinned.{AccusesNobody, Covers, IsPart, IsThinned, RestartedLaw, own_channel, restarted}
-use Rattle.gap_laws.proofs.Circuits.{Circuit, IsOrdered, channel_of, silent}
-use Rattle.gap_laws.proofs.Fits.{Fits, Takes, adrift_at, certain_at, idle, settled_at}
+use Rattle.gap_laws.proofs.Circuits.{Circuit, IsOrdered, channel_of, idle, no_terms, silent}
+use Rattle.gap_laws.proofs.Fits.{Fits, Takes, adrift_at, certain_at, settled_at}
 use Rattle.gap_laws.proofs.Fits.Fits.{FitsAll, FitsAnyAfter, FitsSome}
 use Rattle.gap_laws.proofs.Parts.{part_after, part_append, part_map}
 use Rattle.gap_laws.proofs.DataSteps.{FollowsBy, adrift_fits, none_seen}
@@ -49,7 +49,7 @@ Pairs i Valid f g = (k : ℕ) → is_permanent i k ≡ true → Pair i Valid (f 
 pub record Step (i : Interface) (Valid : Circuit → Type 0) (Said : List What → List What → Type 0) (k : ℕ) (r : Item) (q : Circuit) : Type 0 where
   pub whole : Circuit
   pub valid : Valid whole
-  pub takes : Takes i k r q whole
+  pub takes : Takes i no_terms k r q whole
   pub follows : (g : GapChannel) → Fits i q g → FollowsBy i whole (gap_channel_step i k g r)
   pub said : (g : GapChannel) → Fits i q g → Said (channel_step i k (channel_of q) r).reported (gap_channel_step i k g r).reported
 

@@ -22,13 +22,13 @@ use Rattle.line_model.specs.channels.Gaps.{GapChannel}
 use Rattle.line_model.specs.channels.Gaps.Certainty.{Certain}
 use Rattle.line_model.specs.channels.GapStep.{gap_channel_step}
 use Rattle.gap_laws.specs.Thinned.{CountingLaw, IsPart, is_of_transfer, is_transfer_row}
-use Rattle.gap_laws.proofs.Circuits.{Circuit, IsOrdered, channel_of, silent, with_data, with_receive}
+use Rattle.gap_laws.proofs.Circuits.{Circuit, IsOrdered, channel_of, circuit, no_terms, silent, size_of, with_data, with_receive}
 use Rattle.gap_laws.proofs.InterruptSteps.{IsTurn, TurnStep, confirmation_turns, interrupt_turns, turn_adrift, turn_on_settled, turn_whole}
 use Rattle.gap_laws.proofs.Parts.{part_same, part_silent}
 use Rattle.gap_laws.proofs.Settled.{SideFits, in_doubt}
-use Rattle.gap_laws.proofs.Fits.{Fits, IsResting, LastFits, Takes, adrift_at, certain_at, circuit, settled_at}
+use Rattle.gap_laws.proofs.Fits.{Fits, IsResting, LastFits, Takes, adrift_at, certain_at, settled_at}
 use Rattle.gap_laws.proofs.Fits.Fits.{FitsAll, FitsAnyAfter, FitsSome}
-use Rattle.gap_laws.proofs.Entries.{row_at}
+use Rattle.gap_laws.proofs.Entries.{lawful_is, row_at}
 use Rattle.gap_laws.proofs.DataSteps.{DataStep, FollowsAs, data_adrift, data_on_settled, data_whole, said_of}
 use Rattle.gap_laws.proofs.ReceiveSteps.{IsReceive, ReceiveStep, receive_adrift, receive_on_settled, receive_whole, rnr_receives, rr_receives}
 use Rattle.gap_laws.proofs.Thinning.{Keeps, Step, counts_recorded}
@@ -51,9 +51,9 @@ abbrev pub InD1 : Circuit → Type 0
 InD1 q = q.state ≡ transfer.TheVariants.D1
 
 -- a row that is taken, whatever is certain of the circuit
-transfer_step : (i : Interface) (n : ℕ) (r : Item) (q w : Circuit) (ws : List What) → silent ws ≡ true → InD1 w → Takes i n r q w → (channel_step i n (channel_of q) r).reported ≡ ws
+transfer_step : (i : Interface) (n : ℕ) (r : Item) (q w : Circuit) (ws : List What) → silent ws ≡ true → InD1 w → Takes i no_terms n r q w → (channel_step i n (channel_of q) r).reported ≡ ws
     → ((d : DState) (b : Bool) (ls : Sides (Option LastData)) → ((y : Side) → LastFits i.modulus q y (of_side y ls)) → IsResting d ls → FollowsAs i w ws (gap_channel_step i n (adrift_at d b ls) r))
-    → ((b : Bool) (ns is ss : Sides Bool) (gs : List AcceptedData) (a : Sides ℕ) (f : Sides Bool) → ((y : Side) → SideFits i (in_doubt ns is ss) q (circuit transfer.TheVariants.D1 gs a f) y)
+    → ((b : Bool) (ns is ss : Sides Bool) (gs : List AcceptedData) (a : Sides ℕ) (f : Sides Bool) → ((y : Side) → SideFits i (size_of i no_terms) (in_doubt ns is ss) q (circuit transfer.TheVariants.D1 gs a f) y)
     → FollowsAs i w ws (gap_channel_step i n (settled_at b ns is ss (circuit transfer.TheVariants.D1 gs a f)) r))
     → Step i InD1 SaysNoMore n r q
 transfer_step i n r q w ws quiet in_d1 takes said adrift settled = record {
@@ -68,7 +68,7 @@ transfer_step i n r q w ws quiet in_d1 takes said adrift settled = record {
     follows g (FitsAll b e) = subst (λ g. FollowsAs i w ws (gap_channel_step i n g r)) (sym e) (certain_follows i n r q w b ws said takes.after (part_same ws))
     follows g (FitsAnyAfter f) = subst (λ g. FollowsAs i w ws (gap_channel_step i n g r)) (sym f.is) (adrift f.state f.restarting f.last f.seen f.resting)
     follows g (FitsSome f) = subst (λ g. FollowsAs i w ws (gap_channel_step i n g r)) (sym f.is)
-        (by_parts (λ a. ((y : Side) → SideFits i (in_doubt f.numbers f.interrupts f.sequences) q a y) → FollowsAs i w ws (gap_channel_step i n (settled_at f.restarting f.numbers f.interrupts f.sequences a) r)) f.settled f.in_d1
+        (by_parts (λ a. ((y : Side) → SideFits i (size_of i no_terms) (in_doubt f.numbers f.interrupts f.sequences) q a y) → FollowsAs i w ws (gap_channel_step i n (settled_at f.restarting f.numbers f.interrupts f.sequences a) r)) f.settled f.in_d1
         (settled f.restarting f.numbers f.interrupts f.sequences f.settled.accepted f.settled.acknowledged f.settled.unconfirmed) f.sides)
 
 -- the steps of a row in d1
@@ -80,20 +80,20 @@ pub data_step_of : (i : Interface) (n nr : ℕ) (x : Side) (c : ℕ) (h : DataHe
 data_step_of i n nr x c h len os p hs v u o s =
     let r : Item = row_at nr x c (kind.TheVariants.Data (Some h)) len os in
     let q : Circuit = circuit transfer.TheVariants.D1 hs v u in
-    let t : DataStep i n r h q = data_whole i n nr x c h len os hs v u p o s in
-    transfer_step i n r q (with_data i r h t.taken.upto q) (said_of i r h) refl refl t.takes t.reported (data_adrift i n nr x c h len os hs v u p o t) (data_on_settled i n nr x c h len os hs v u p t)
+    let t : DataStep i no_terms n r h q = data_whole i no_terms n nr x c h len os hs v u (lawful_is i).window_below o s in
+    transfer_step i n r q (with_data i r h t.taken.upto q) (said_of i r h) refl refl (record { after = t.after; ordered = t.ordered }) t.reported (data_adrift i n nr x c h len os hs v u p o t) (data_on_settled i n nr x c h len os hs v u t)
 
 pub receive_step_of : (i : Interface) (n : ℕ) (r : Item) (receive : ℕ) → IsReceive i n r receive → is_permanent i n ≡ true → StepsInD1 i n r
 receive_step_of i n r receive k p hs v u o s =
     let q : Circuit = circuit transfer.TheVariants.D1 hs v u in
-    let t : ReceiveStep i n r receive q = receive_whole i n r receive k hs v u p o s in
-    transfer_step i n r q (with_receive r.side t.taken.upto q) [] refl refl t.takes t.reported (receive_adrift i n r receive k hs v u p o t) (receive_on_settled i n r receive k hs v u p t)
+    let t : ReceiveStep i no_terms n r receive q = receive_whole i no_terms n r receive k hs v u o s in
+    transfer_step i n r q (with_receive r.side t.taken.upto q) [] refl refl t.takes t.reported (receive_adrift i n r receive k hs v u p o t) (receive_on_settled i n r receive k hs v u t)
 
 pub turn_step_of : (i : Interface) (n : ℕ) (r : Item) (y : Side) (b : Bool) → IsTurn i n r y b → is_permanent i n ≡ true → StepsInD1 i n r
 turn_step_of i n r y b k p hs v u o s =
     let q : Circuit = circuit transfer.TheVariants.D1 hs v u in
-    let t : TurnStep i n r y b q = turn_whole i n r y b k hs v u p o s in
-    transfer_step i n r q (circuit transfer.TheVariants.D1 hs v (with_side y b u)) [] refl refl t.takes t.reported (turn_adrift i n r y b k hs v u p t) (turn_on_settled i n r y b k hs v u p t)
+    let t : TurnStep i no_terms n r y b q = turn_whole i no_terms n r y b k hs v u o s in
+    transfer_step i n r q (circuit transfer.TheVariants.D1 hs v (with_side y b u)) [] refl refl t.takes t.reported (turn_adrift i n r y b k hs v u p t) (turn_on_settled i n r y b k hs v u t)
 
 -- steps in d1 are steps of each circuit in d1
 in_d1 : (i : Interface) (n : ℕ) (r : Item) → StepsInD1 i n r → (q : Circuit) → InD1 q → ((y : Side) → IsOrdered i.modulus q y) → silent (channel_step i n (channel_of q) r).reported ≡ true → Step i InD1 SaysNoMore n r q

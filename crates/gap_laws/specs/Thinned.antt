@@ -70,14 +70,6 @@ is_whole (packet.TheVariants.Channel k kind.TheVariants.Gap) = false
 is_whole packet.TheVariants.GapOfAll = false
 is_whole p = true
 
-abbrev pub is_data : Packet → Bool
-is_data (packet.TheVariants.Channel k (kind.TheVariants.Data h)) = true
-is_data p = false
-
--- a packet that is not data of a call
-abbrev pub is_lawful_row : Interface → Item → Bool
-is_lawful_row i r = is_whole r.packet && (not (is_data r.packet) || is_permanent i (packet_channel r.packet))
-
 -- the walk over some rows has no finding
 abbrev pub AccusesNobody : Interface → List Item → Type 0
 AccusesNobody i rs = findings_of (events i rs) ≡ []
@@ -92,9 +84,9 @@ abbrev pub CountingLaw : Type 0
 CountingLaw = (i : Interface) (xs ys : List Item) → i.join ≡ false → AllByRecursion (λ r. is_transfer_row i r ≡ true) xs
     → IsThinned xs ys → AccusesNobody i xs → IsPart (events i ys) (events i xs)
 
--- where no call has data, nobody is accused by what was not recorded
+-- nobody is accused by what was not recorded
 abbrev pub ThinningLaw : Type 0
-ThinningLaw = (i : Interface) (xs ys : List Item) → i.join ≡ false → AllByRecursion (λ r. is_lawful_row i r ≡ true) xs
+ThinningLaw = (i : Interface) (xs ys : List Item) → i.join ≡ false → AllByRecursion (λ r. is_whole r.packet ≡ true) xs
     → IsThinned xs ys → AccusesNobody i xs → AccusesNobody i ys
 
 -- the observer of an interface that has just restarted: where the recording doesn't begin in the middle, it starts so
@@ -107,7 +99,7 @@ AccusesNobodyFromRestart i rs = findings_of (map event_of (walk_events (x25 i) (
 
 -- nor where the recording begins in the middle of some rows
 abbrev pub JoinedLaw : Type 0
-JoinedLaw = (i : Interface) (before rest ys : List Item) → i.join ≡ true → i.gaps ≡ true → AllByRecursion (λ r. is_lawful_row i r ≡ true) (before ++ rest)
+JoinedLaw = (i : Interface) (before rest ys : List Item) → i.join ≡ true → i.gaps ≡ true → AllByRecursion (λ r. is_whole r.packet ≡ true) (before ++ rest)
     → IsThinned rest ys → AccusesNobodyFromRestart i (before ++ rest) → AccusesNobody i ys
 
 -- without JOIN the observer starts as after a restart

@@ -3,14 +3,10 @@
 
 ghost use Rattle.gap_laws.specs.Thinned.{BoundLaw, CountingLaw, JoinedLaw, RestartedLaw, SameEventsLaw, ThinningLaw, ThinsAgain};
 
-/// Nobody is accused by what was not recorded, where no call has data.
-pub fn accuses_nobody_without_call_data()
-    ensures { ThinningLaw }
-{}
-
-/// Nor is anybody where the recording begins in the middle.
-pub fn accuses_nobody_joined()
-    ensures law { JoinedLaw }
+/// Nobody is accused by what was not recorded, also where the recording begins in the middle.
+pub fn accuses_nobody()
+    ensures law { ThinningLaw }
+    ensures joined { JoinedLaw }
     ensures whole { RestartedLaw }
 {}
 

@@ -1,9 +1,0 @@
-use Rattle.gap_laws.proofs.Laws.{joined_law}
-use Rattle.gap_laws.proofs.Thinning.{starts_restarted}
-use Rattle.gap_laws.proofs.accuses_nobody_joined.Goals as goal
-
-pub returns-clause-law : goal.returns-clause-law
-returns-clause-law c = joined_law
-
-pub returns-clause-whole : goal.returns-clause-whole
-returns-clause-whole c = starts_restarted
