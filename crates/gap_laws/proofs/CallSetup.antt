@@ -31,7 +31,7 @@ use Rattle.line_model.specs.packets.Formats.{packet_fault, was_fast}
 use Rattle.line_model.specs.packets.Facilities.{call_fault}
 use Rattle.line_model.specs.packets.Says.{header_in}
 use Rattle.line_model.specs.channels.Channels.{Channel, Opening, Sides, channel_in, is_in_transfer, is_open, is_permanent, of_side, other}
-use Rattle.line_model.specs.channels.ChannelStep.{Judged, Outcome, call_change, changing, channel_step, ending, ending_open, entering, judged, moving, opening, setup_name, state_named, verdict, verdict_step}
+use Rattle.line_model.specs.channels.ChannelStep.{Judged, Outcome, call_change, changing, channel_step, ending, ending_open, entering, judged, moving, setup_name, state_named, verdict, verdict_step}
 use Rattle.line_model.specs.channels.FlowControl.{is_side}
 use Rattle.line_model.specs.channels.Gaps.{GapChannel, drifting, of_both}
 use Rattle.line_model.specs.channels.Gaps.Certainty.{Certain}
@@ -41,7 +41,7 @@ use Rattle.line_model.specs.channels.Tables.{action}
 use Rattle.line_model.specs.channels.Verdicts.CallChange.{Opens, GoesUp}
 use Rattle.line_model.proofs.Effects.{IsSound}
 use Rattle.line_model.proofs.Every.{classes, every, every_class}
-use Rattle.gap_laws.specs.Thinned.{is_whole}
+use Rattle.gap_laws.proofs.Read.{is_read}
 use Rattle.gap_laws.proofs.Circuits.{some_none, Circuit, failing_loud, idle, silent}
 use Rattle.gap_laws.proofs.Fits.{LastFits}
 use Rattle.gap_laws.proofs.Entries.{is_below, judged_at, quiet, quiet_whole, row_at}
@@ -129,7 +129,7 @@ drift_only i ch p b o (q, inl h) = (q, h)
 drift_only i ch p b o (q, inr h) = never_settled i ch p b o.after h
 
 -- no packet but a clear confirmation ends the wait, nor does that one where the interface may restart
-pub waits : (i : Interface) (n nr : ℕ) (x : Side) (k : ℕ) (p : PacketKind) (len : ℕ) (os : List ℕ) → is_permanent i n ≡ false → is_whole (packet.TheVariants.Channel k p) ≡ true → (ch : Channel) (s : PState) → WaitsOut s x
+pub waits : (i : Interface) (n nr : ℕ) (x : Side) (k : ℕ) (p : PacketKind) (len : ℕ) (os : List ℕ) → is_permanent i n ≡ false → is_read i (packet.TheVariants.Channel k p) len ≡ true → (ch : Channel) (s : PState) → WaitsOut s x
     → (b : Bool) → (not (is_clear_confirm p) || b) ≡ true → (g : GapChannel) → Drifts i (waiting ch s) b g → DriftsBy i (waiting ch s) b (gap_channel_step i n g (row_at nr x k p len os))
 waits i n nr x k p len os perm whole ch s w b still g f = by_drifts (DriftsBy i c b) i n (row_at nr x k p len os) c b g f (at x p w whole still)
   where
@@ -156,7 +156,7 @@ waits i n nr x k p len os perm whole ch s w b still g f = by_drifts (DriftsBy i 
         (subst (λ o. DriftsBy i (waiting ch s) true (with_certainty (adrift_call_at true f.hidden f.last f.channel) (drifting o false) (ending how.TheVariants.Gap (entering P1 false f.channel)))) (sym (confirm_owes x))
         (clears i c true f.hidden f.last how.TheVariants.Gap d d.opening f.tidy))
 
-    at : (x : Side) (p : PacketKind) → WaitsOut s x → is_whole (packet.TheVariants.Channel k p) ≡ true → (not (is_clear_confirm p) || b) ≡ true → Goal x p
+    at : (x : Side) (p : PacketKind) → WaitsOut s x → is_read i (packet.TheVariants.Channel k p) len ≡ true → (not (is_clear_confirm p) || b) ≡ true → Goal x p
     at x kind.TheVariants.Call w e h = by x kind.TheVariants.Call (opens i c b f.hidden f.last x os d d.opening (awaits_cleared ch s x os w))
     at x kind.TheVariants.Accepted w e h =
         by x kind.TheVariants.Accepted (accepts i n (row_at nr x k kind.TheVariants.Accepted len os) c c b f.hidden f.last d d.opening d.state (λ o own a. none_accepted ch s x o w own a) f.seen f.known same.1)
@@ -183,7 +183,7 @@ waits i n nr x k p len os perm whole ch s w b still g f = by_drifts (DriftsBy i 
 abbrev pub plain_step : Interface → ℕ → Item → Channel → Outcome
 plain_step i n r c = let j : Judged = judged false r.side c.state c.owed (packet_class r.packet) in verdict_step i j.state r (verdict j (packet_fault i n c r)) c
 
-ignored : (i : Interface) (n nr : ℕ) (x : Side) (k : ℕ) (p : PacketKind) (len : ℕ) (os : List ℕ) → is_permanent i n ≡ false → is_whole (packet.TheVariants.Channel k p) ≡ true → is_clear_confirm p ≡ false → (ch : Channel) (s : PState) → WaitsOut s x
+ignored : (i : Interface) (n nr : ℕ) (x : Side) (k : ℕ) (p : PacketKind) (len : ℕ) (os : List ℕ) → is_permanent i n ≡ false → is_read i (packet.TheVariants.Channel k p) len ≡ true → is_clear_confirm p ≡ false → (ch : Channel) (s : PState) → WaitsOut s x
     → IsCalm i (waiting ch s) → (plain_step i n (row_at nr x k p len os) (waiting ch s)).after ≡ waiting ch s → CallStep i n (row_at nr x k p len os) (waiting ch s)
 ignored i n nr x k p len os perm whole apart ch s w calm e = record {
   whole = waiting ch s;
@@ -225,7 +225,7 @@ rest_all N setup.TheVariants.P6 = refl
 rest_all N setup.TheVariants.P7 = refl
 
 -- packets of data transfer and of no use
-below_ignored : (i : Interface) (n nr : ℕ) (x : Side) (k : ℕ) (p : PacketKind) (len : ℕ) (os : List ℕ) → is_permanent i n ≡ false → is_whole (packet.TheVariants.Channel k p) ≡ true → is_clear_confirm p ≡ false → is_below (kind_class p) ≡ true → (ch : Channel) (s : PState)
+below_ignored : (i : Interface) (n nr : ℕ) (x : Side) (k : ℕ) (p : PacketKind) (len : ℕ) (os : List ℕ) → is_permanent i n ≡ false → is_read i (packet.TheVariants.Channel k p) len ≡ true → is_clear_confirm p ≡ false → is_below (kind_class p) ≡ true → (ch : Channel) (s : PState)
     → IsCalm i (waiting ch s) → silent (plain_step i n (row_at nr x k p len os) (waiting ch s)).reported ≡ true → CallStep i n (row_at nr x k p len os) (waiting ch s)
 below_ignored i n nr x k p len os perm whole apart below ch s calm q =
     at (is_below (kind_class p)) (is_error a) refl (quiet a) refl (passes_out s x) refl below (every_class (rest_test x s) (rest_all x s) (kind_class p))
@@ -470,12 +470,12 @@ confirm_row i n nr x k len os perm ch s calm sound q = at x s calm sound q
     at N setup.TheVariants.P6 calm sound q = row N setup.TheVariants.P6 (leaves ch ch.opening calm.tidy sound.held)
     at x s calm sound q = absurd (false≢true q)
 
-pub waiting_row : (i : Interface) (n nr : ℕ) (x : Side) (k : ℕ) (p : PacketKind) (len : ℕ) (os : List ℕ) → is_permanent i n ≡ false → is_whole (packet.TheVariants.Channel k p) ≡ true → (ch : Channel) (s : PState) → IsCalm i (waiting ch s) → IsSound false (waiting ch s)
+pub waiting_row : (i : Interface) (n nr : ℕ) (x : Side) (k : ℕ) (p : PacketKind) (len : ℕ) (os : List ℕ) → is_permanent i n ≡ false → is_read i (packet.TheVariants.Channel k p) len ≡ true → (ch : Channel) (s : PState) → IsCalm i (waiting ch s) → IsSound false (waiting ch s)
     → silent (plain_step i n (row_at nr x k p len os) (waiting ch s)).reported ≡ true → CallStep i n (row_at nr x k p len os) (waiting ch s)
 waiting_row i n nr x k p len os perm whole ch s calm sound q = at p whole q
   where
     Goal : PacketKind → Type 0
-    Goal p = is_whole (packet.TheVariants.Channel k p) ≡ true → silent (plain_step i n (row_at nr x k p len os) (waiting ch s)).reported ≡ true → CallStep i n (row_at nr x k p len os) (waiting ch s)
+    Goal p = is_read i (packet.TheVariants.Channel k p) len ≡ true → silent (plain_step i n (row_at nr x k p len os) (waiting ch s)).reported ≡ true → CallStep i n (row_at nr x k p len os) (waiting ch s)
 
     below : (p : PacketKind) → is_clear_confirm p ≡ false → is_below (kind_class p) ≡ true → Goal p
     below p a b w q = below_ignored i n nr x k p len os perm w a b ch s calm q

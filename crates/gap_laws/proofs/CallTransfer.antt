@@ -1,5 +1,5 @@
 -- What a packet does to a channel for calls while its call is up, and to each channel that fits it.
-use Rattle.std.proofs.Common.{◌≡◌, ◌⊎◌, inl, inr, ◌<◌, ◌%◌, ◌==◌, ℕ, Bool, true, false, refl, sym, ◌∙◌, ap, subst, List, [], ◌∷◌, Option, Some, None}
+use Rattle.std.proofs.Common.{◌≡◌, ◌⊎◌, inl, inr, ◌<◌, ◌==◌, ℕ, Bool, true, false, refl, sym, ◌∙◌, ap, subst, List, [], ◌∷◌, Option, Some, None}
 use Rattle.std.specs.Prelude.{not, ◌&&◌, ◌||◌, is_some}
 use Rattle.std.proofs.lemmas.Bool.{false≢true}
 use Rattle.line_model.specs.declared.event.How.{How}
@@ -7,7 +7,8 @@ use Rattle.line_model.specs.declared.event.How as how
 use Rattle.line_model.specs.declared.event.What.{What}
 use Rattle.line_model.specs.declared.gap.Owed.TheVariants.{NoIndication}
 use Rattle.line_model.specs.declared.interface.Interface.{Interface}
-use Rattle.line_model.specs.declared.packet.Class.TheVariants.{Clear}
+use Rattle.line_model.specs.declared.diagnostic.TheConstants.{PACKET_TOO_SHORT}
+use Rattle.line_model.specs.declared.packet.Class.TheVariants.{Clear, Data, Rr, Rnr}
 use Rattle.line_model.specs.declared.packet.DataHeader.{DataHeader}
 use Rattle.line_model.specs.declared.packet.Packet as packet
 use Rattle.line_model.specs.declared.packet.PacketKind.{PacketKind}
@@ -25,19 +26,19 @@ use Rattle.line_model.specs.packets.Classes.{kind_class}
 use Rattle.line_model.specs.packets.Formats.{packet_fault}
 use Rattle.line_model.specs.packets.Says.{header_in}
 use Rattle.line_model.specs.channels.Channels.{AcceptedData, Channel, Opening, PadMessage, Sides, channel_in, is_permanent, of_side, other}
-use Rattle.line_model.specs.channels.ChannelStep.{Judged, Outcome, channel_step, ending, entering, judged, moving, opening, report_nothing, state_named, transfer_name, verdict, verdict_step}
+use Rattle.line_model.specs.channels.ChannelStep.{Judged, Outcome, channel_step, ending, entering, judged, moving, report_nothing, state_named, transfer_name, verdict, verdict_step}
 use Rattle.line_model.specs.channels.FlowControl.{sent}
 use Rattle.line_model.specs.channels.Gaps.{Certainty, Doubts, GapChannel, of_both}
 use Rattle.line_model.specs.channels.Gaps.Certainty.{Certain, Settled}
 use Rattle.line_model.specs.channels.GapStep.{doubts_in, gap_channel_step, is_in_d1, largest_size, receive_of, settled_outcome, settled_verdict}
-use Rattle.gap_laws.specs.Thinned.{is_whole}
+use Rattle.gap_laws.proofs.Read.{is_read}
 use Rattle.gap_laws.proofs.Circuits.{some_none, Circuit, IsOrdered, Terms, channel_with, circuit, idle, silent, size_of, told, with_data, with_receive}
 use Rattle.line_model.specs.channels.ChannelStep.{accepted_of}
 use Rattle.line_model.specs.channels.GapStep.{may_be_begun, message_in_doubt}
 use Rattle.gap_laws.proofs.Settled.{SideFits, completed_circuit, after_data, data_settled, doubts_then, said_in_doubt, receive_settled, taken_with}
 use Rattle.gap_laws.proofs.Fits.{LastFits, Takes, settled_with}
 use Rattle.gap_laws.proofs.Settling.{settles_by_data, settles_by_receive}
-use Rattle.gap_laws.proofs.Entries.{is_below, is_flow, is_moving, judged_at, lawful_is, on_both, quiet, quiet_entry, row_at}
+use Rattle.gap_laws.proofs.Entries.{cut_data, cut_loud, cut_rnr, cut_rr, flow_class, is_below, is_flow, is_moving, judged_at, lawful_is, on_both, quiet, quiet_entry, row_at}
 use Rattle.gap_laws.proofs.DataSteps.{DataStep, data_seen, data_settles, data_whole, size_allows}
 use Rattle.gap_laws.proofs.ReceiveSteps.{IsReceive, ReceiveStep, receive_seen, receive_settles, receive_whole, rnr_receives, rr_receives}
 use Rattle.gap_laws.proofs.InterruptSteps.{IsTurn, TurnStep, confirmation_turns, interrupt_turns, turn_seen, turn_settles, turn_whole}
@@ -59,7 +60,7 @@ use Rattle.gap_laws.proofs.Numbers.{FitsDirection}
 use Rattle.gap_laws.proofs.Settled.{doubts_with}
 use Rattle.gap_laws.proofs.Granted.{GrantedBy, packet_in}
 use Rattle.gap_laws.proofs.Calls.{AdriftBy, CarriedRow, drifts_with, followed}
-use Rattle.gap_laws.proofs.CallSetup.{CallStep, clear_drifts, moved, plain_is, plain_step, waits, waits_carried}
+use Rattle.gap_laws.proofs.CallSetup.{CallStep, clear_drifts, moved, plain_is, plain_step, waits_carried}
 
 -- ---- settled channels
 
@@ -469,7 +470,7 @@ clear_up i n nr x j len os perm k q held s = at x s
     at T s = to T P6 how.TheVariants.T refl (λ d. refl) (λ c. refl) (λ o e m b d g z. (refl, SameCall refl)) s
     at N s = to N P7 how.TheVariants.N refl (λ d. refl) (λ c. refl) (λ o e m b d g z. (refl, SameCall refl)) s
 
-pub up_row : (i : Interface) (n nr : ℕ) (x : Side) (j : ℕ) (p : PacketKind) (len : ℕ) (os : List ℕ) → is_permanent i n ≡ false → is_whole (packet.TheVariants.Channel j p) ≡ true → (k : Terms) (q : Circuit) → IsCalm i (channel_with k q) → is_some k.opening ≡ true
+pub up_row : (i : Interface) (n nr : ℕ) (x : Side) (j : ℕ) (p : PacketKind) (len : ℕ) (os : List ℕ) → is_permanent i n ≡ false → is_read i (packet.TheVariants.Channel j p) len ≡ true → (k : Terms) (q : Circuit) → IsCalm i (channel_with k q) → is_some k.opening ≡ true
     → silent (plain_step i n (row_at nr x j p len os) (channel_with k q)).reported ≡ true → CallStep i n (row_at nr x j p len os) (channel_with k q)
 up_row i n nr x j p len os perm whole k q calm held s = at p whole s
   where
@@ -506,7 +507,7 @@ up_row i n nr x j p len os perm whole k q calm held s = at p whole s
     confirmed T = resetting transfer.TheVariants.D1
     confirmed N = resetting transfer.TheVariants.D1
 
-    at : (p : PacketKind) → is_whole (packet.TheVariants.Channel j p) ≡ true → Goal p q
+    at : (p : PacketKind) → is_read i (packet.TheVariants.Channel j p) len ≡ true → Goal p q
     at kind.TheVariants.Call w s = loud x kind.TheVariants.Call refl s
     at kind.TheVariants.Accepted w s = loud x kind.TheVariants.Accepted refl s
     at kind.TheVariants.ClearConfirm w s = loud x kind.TheVariants.ClearConfirm refl s
@@ -526,7 +527,13 @@ up_row i n nr x j p len os perm whole k q calm held s = at p whole s
         flow kind.TheVariants.Interrupt refl refl refl (λ hs v u c s. turn_row i n nr x j kind.TheVariants.Interrupt len os x true perm (interrupt_turns i n nr x j len os) refl (λ c w t. t) (λ d e. refl) k hs v u c held s) s
     at kind.TheVariants.InterruptConfirm w s =
         flow kind.TheVariants.InterruptConfirm refl refl refl (λ hs v u c s. turn_row i n nr x j kind.TheVariants.InterruptConfirm len os (other x) false perm (confirmation_turns i n nr x j len os) refl (λ c w t. t) (λ d e. refl) k hs v u c held s) s
-    at (kind.TheVariants.Data None) w s = absurd (false≢true w)
-    at (kind.TheVariants.Rr None) w s = absurd (false≢true w)
-    at (kind.TheVariants.Rnr None) w s = absurd (false≢true w)
+    at (kind.TheVariants.Data None) w s =
+        flow (kind.TheVariants.Data None) refl refl refl (λ hs v u c s. cut_loud i k n (row_at nr x j (kind.TheVariants.Data None) len os) hs v u PACKET_TOO_SHORT refl (flow_class x Data refl) (cut_data i n nr x j len os (channel_with k (circuit transfer.TheVariants.D1 hs v u)) w)
+        (call_silent i n (row_at nr x j (kind.TheVariants.Data None) len os) (channel_with k (circuit transfer.TheVariants.D1 hs v u)) perm s)) s
+    at (kind.TheVariants.Rr None) w s =
+        flow (kind.TheVariants.Rr None) refl refl refl (λ hs v u c s. cut_loud i k n (row_at nr x j (kind.TheVariants.Rr None) len os) hs v u PACKET_TOO_SHORT refl (flow_class x Rr refl) (cut_rr i n nr x j len os (channel_with k (circuit transfer.TheVariants.D1 hs v u)) w)
+        (call_silent i n (row_at nr x j (kind.TheVariants.Rr None) len os) (channel_with k (circuit transfer.TheVariants.D1 hs v u)) perm s)) s
+    at (kind.TheVariants.Rnr None) w s =
+        flow (kind.TheVariants.Rnr None) refl refl refl (λ hs v u c s. cut_loud i k n (row_at nr x j (kind.TheVariants.Rnr None) len os) hs v u PACKET_TOO_SHORT refl (flow_class x Rnr refl) (cut_rnr i n nr x j len os (channel_with k (circuit transfer.TheVariants.D1 hs v u)) w)
+        (call_silent i n (row_at nr x j (kind.TheVariants.Rnr None) len os) (channel_with k (circuit transfer.TheVariants.D1 hs v u)) perm s)) s
     at kind.TheVariants.Gap w s = absurd (false≢true w)

@@ -1,13 +1,10 @@
 -- A channel for calls of the whole walk, and the same channel of a recording with gaps: what is certain there is true. A channel adrift stays so, or it settles.
-use Rattle.std.proofs.Common.{◌≡◌, ◌⊎◌, inl, inr, ◌==◌, ℕ, Bool, true, false, refl, sym, ◌∙◌, ap, subst, List, [], ◌∷◌, ◌++◌, Option, Some, None}
-use Rattle.std.specs.Prelude.{not, ◌&&◌, ◌||◌, is_some, option_and_then}
+use Rattle.std.proofs.Common.{◌≡◌, ◌⊎◌, inl, inr, ℕ, Bool, true, false, refl, sym, ◌∙◌, ap, subst, List, [], ◌++◌, Option, Some, None}
+use Rattle.std.specs.Prelude.{◌||◌, is_some, option_and_then}
 use Rattle.std.proofs.lemmas.Bool.{false≢true}
 use Rattle.line_model.specs.declared.event.How.{How}
-use Rattle.line_model.specs.declared.event.How as how
-use Rattle.line_model.specs.declared.gap.AdriftEntry.{AdriftEntry}
 use Rattle.line_model.specs.declared.gap.AdriftEntry.TheVariants.{Accepts}
 use Rattle.line_model.specs.declared.gap.LastData.{LastData}
-use Rattle.line_model.specs.declared.gap.Owed.{Owed}
 use Rattle.line_model.specs.declared.gap.Owed.TheVariants.{NoIndication}
 use Rattle.line_model.specs.declared.interface.Interface.{Interface}
 use Rattle.line_model.specs.declared.packet.DataHeader.{DataHeader}
@@ -19,7 +16,6 @@ use Rattle.line_model.specs.declared.state.DState as transfer
 use Rattle.line_model.specs.declared.state.PState as setup
 use Rattle.line_model.specs.declared.state.ChannelState.{ChannelState}
 use Rattle.line_model.specs.declared.state.ChannelState.TheVariants.{Setup, Transfer, Unknown}
-use Rattle.line_model.specs.declared.state.StateName.{StateName}
 use Rattle.line_model.specs.declared.state.StateName.TheVariants.{D1, D2, D3, P1, P4}
 use Rattle.line_model.specs.basics.Records.{Item}
 use Rattle.line_model.specs.packets.Classes.{kind_class}
@@ -27,17 +23,16 @@ use Rattle.line_model.specs.packets.Says.{header_in}
 use Rattle.line_model.specs.channels.Channels.{Channel, Opening, Sides, is_in_transfer, is_open, is_permanent, of_side, other}
 use Rattle.line_model.specs.channels.ChannelStep.{ending, entering, transfer_name}
 use Rattle.line_model.specs.channels.FlowControl.{is_side}
-use Rattle.line_model.specs.channels.Gaps.{Certainty, Doubts, GapChannel, WhileAdrift, drifting, gap_step, idle_name, is_hidden_by_gap, largest_terms, left_by_gap, no_doubts, of_both, owed_at_gap, with_largest_terms}
+use Rattle.line_model.specs.channels.Gaps.{Certainty, Doubts, GapChannel, WhileAdrift, drifting, largest_terms, no_doubts, of_both}
 use Rattle.line_model.specs.channels.Gaps.Certainty.{Adrift}
-use Rattle.line_model.specs.channels.GapStep.{GapOutcome, acknowledged_data, adrift_acceptance, adrift_call, adrift_carried, adrift_entry, adrift_fault, adrift_received, adrift_reset, adrift_step_by, adrift_transfer, brought_up, gap_channel_step, hidden_when_up, in_state, is_own_acceptance, is_resetting, last_after, passing, receive_of, settled_doubts, terms_of_acceptance, with_certainty}
-use Rattle.line_model.specs.channels.Sequences.{eq_bool}
-use Rattle.gap_laws.proofs.Circuits.{Circuit, IsOrdered, Terms, channel_with, circuit, idle, silent, size_of}
+use Rattle.line_model.specs.channels.GapStep.{GapOutcome, acknowledged_data, adrift_call, adrift_carried, adrift_entry, adrift_fault, adrift_received, adrift_reset, adrift_step_by, adrift_transfer, brought_up, gap_channel_step, hidden_when_up, in_state, is_own_acceptance, is_resetting, last_after, passing, receive_of, settled_doubts, terms_of_acceptance, with_certainty}
+use Rattle.gap_laws.proofs.Circuits.{Circuit, IsOrdered, Terms, circuit, idle, silent, size_of}
 use Rattle.gap_laws.proofs.Settled.{SideFits}
 use Rattle.gap_laws.proofs.Fits.{IsResting, LastFits, settled_with}
 use Rattle.gap_laws.proofs.Settling.{settled_circuit}
 use Rattle.gap_laws.proofs.Entries.{row_at}
 use Rattle.gap_laws.proofs.DataSteps.{by_last, none_seen, resting_none}
-use Rattle.gap_laws.proofs.QuietSteps.{Waits, data_silent, none_of_other, waiting_seen}
+use Rattle.gap_laws.proofs.QuietSteps.{data_silent}
 use Rattle.gap_laws.proofs.Granted.{Agrees, HasGranted}
 
 -- ---- the order

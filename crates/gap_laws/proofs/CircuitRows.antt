@@ -6,6 +6,8 @@ use Rattle.line_model.specs.declared.gap.AdriftEntry.TheVariants.{Carries}
 use Rattle.line_model.specs.declared.event.What.{What}
 use Rattle.line_model.specs.declared.interface.Interface.{Interface}
 use Rattle.line_model.specs.declared.packet.Packet as packet
+use Rattle.line_model.specs.declared.diagnostic.TheConstants.{PACKET_TOO_SHORT}
+use Rattle.line_model.specs.declared.packet.Class.TheVariants.{Data, Rr, Rnr}
 use Rattle.line_model.specs.declared.packet.PacketKind.{PacketKind}
 use Rattle.line_model.specs.declared.packet.PacketKind as kind
 use Rattle.line_model.specs.declared.state.Side.{Side}
@@ -20,12 +22,12 @@ use Rattle.line_model.specs.channels.ChannelStep.{channel_step}
 use Rattle.line_model.specs.channels.Gaps.{GapChannel}
 use Rattle.line_model.specs.channels.Gaps.Certainty.{Certain}
 use Rattle.line_model.specs.channels.GapStep.{GapOutcome, adrift_entry, adrift_fault, adrift_step_by, gap_channel_step, passing}
-use Rattle.gap_laws.specs.Thinned.{is_whole}
+use Rattle.gap_laws.proofs.Read.{is_read}
 use Rattle.gap_laws.proofs.Circuits.{Circuit, IsOrdered, channel_of, circuit, idle, no_terms, silent, size_of}
 use Rattle.gap_laws.proofs.Settled.{SideFits, in_doubt}
 use Rattle.gap_laws.proofs.Fits.{Fits, FitsAdrift, FitsSettled, Takes, adrift_at, settled_at}
 use Rattle.gap_laws.proofs.Fits.Fits.{FitsAll, FitsAnyAfter, FitsSome}
-use Rattle.gap_laws.proofs.Entries.{is_flow, is_moving, last_seen, on_circuit, quiet_entry, row_at}
+use Rattle.gap_laws.proofs.Entries.{cut_data, cut_loud, cut_rnr, cut_rr, flow_class, is_flow, is_moving, last_seen, on_circuit, quiet_entry, row_at}
 use Rattle.gap_laws.proofs.DataSteps.{DriftsBy, FollowsBy, drifted, fits_adrift}
 use Rattle.gap_laws.proofs.ReceiveSteps.{rnr_receives, rr_receives}
 use Rattle.gap_laws.proofs.InterruptSteps.{confirmation_turns, interrupt_turns}
@@ -139,7 +141,7 @@ quiet_steps i n r moving flow p q valid o s =
     at transfer.TheVariants.D3 e s g f = absurd (d3_apart e)
 
 -- the steps of each packet
-pub kind_steps : (i : Interface) (n nr : ℕ) (x : Side) (c : ℕ) (k : PacketKind) (len : ℕ) (os : List ℕ) → is_whole (packet.TheVariants.Channel c k) ≡ true → is_permanent i n ≡ true → Steps i n (row_at nr x c k len os)
+pub kind_steps : (i : Interface) (n nr : ℕ) (x : Side) (c : ℕ) (k : PacketKind) (len : ℕ) (os : List ℕ) → is_read i (packet.TheVariants.Channel c k) len ≡ true → is_permanent i n ≡ true → Steps i n (row_at nr x c k len os)
 kind_steps i n nr x c (kind.TheVariants.Data (Some h)) len os e p = flow_steps i n (row_at nr x c (kind.TheVariants.Data (Some h)) len os) p refl refl (data_step_of i n nr x c h len os p)
 kind_steps i n nr x c (kind.TheVariants.Rr (Some m)) len os e p =
     flow_steps i n (row_at nr x c (kind.TheVariants.Rr (Some m)) len os) p refl refl (receive_step_of i n (row_at nr x c (kind.TheVariants.Rr (Some m)) len os) m (rr_receives i n nr x c m len os) p)
@@ -151,9 +153,15 @@ kind_steps i n nr x c kind.TheVariants.InterruptConfirm len os e p =
     flow_steps i n (row_at nr x c kind.TheVariants.InterruptConfirm len os) p refl refl (turn_step_of i n (row_at nr x c kind.TheVariants.InterruptConfirm len os) (other x) false (confirmation_turns i n nr x c len os) p)
 kind_steps i n nr x c kind.TheVariants.Reset len os e p = reset_steps i n (row_at nr x c kind.TheVariants.Reset len os) (reset_resets i n nr x c len os) p
 kind_steps i n nr x c kind.TheVariants.ResetConfirm len os e p = reset_steps i n (row_at nr x c kind.TheVariants.ResetConfirm len os) (confirmation_resets i n nr x c len os) p
-kind_steps i n nr x c (kind.TheVariants.Data None) len os e p = absurd (false≢true e)
-kind_steps i n nr x c (kind.TheVariants.Rr None) len os e p = absurd (false≢true e)
-kind_steps i n nr x c (kind.TheVariants.Rnr None) len os e p = absurd (false≢true e)
+kind_steps i n nr x c (kind.TheVariants.Data None) len os e p =
+    let r : Item = row_at nr x c (kind.TheVariants.Data None) len os in
+    flow_steps i n r p refl refl (λ hs v u o s. cut_loud i no_terms n r hs v u PACKET_TOO_SHORT refl (flow_class x Data refl) (cut_data i n nr x c len os (channel_of (circuit transfer.TheVariants.D1 hs v u)) e) s)
+kind_steps i n nr x c (kind.TheVariants.Rr None) len os e p =
+    let r : Item = row_at nr x c (kind.TheVariants.Rr None) len os in
+    flow_steps i n r p refl refl (λ hs v u o s. cut_loud i no_terms n r hs v u PACKET_TOO_SHORT refl (flow_class x Rr refl) (cut_rr i n nr x c len os (channel_of (circuit transfer.TheVariants.D1 hs v u)) e) s)
+kind_steps i n nr x c (kind.TheVariants.Rnr None) len os e p =
+    let r : Item = row_at nr x c (kind.TheVariants.Rnr None) len os in
+    flow_steps i n r p refl refl (λ hs v u o s. cut_loud i no_terms n r hs v u PACKET_TOO_SHORT refl (flow_class x Rnr refl) (cut_rnr i n nr x c len os (channel_of (circuit transfer.TheVariants.D1 hs v u)) e) s)
 kind_steps i n nr x c kind.TheVariants.Gap len os e p = absurd (false≢true e)
 kind_steps i n nr x c k len os e p = quiet_steps i n (row_at nr x c k len os) refl refl p
 
@@ -169,7 +177,7 @@ waits_there T = refl
 waits_there N = refl
 
 -- a packet of that side leaves a circuit adrift as it is
-pub circuit_waits : (i : Interface) (n nr : ℕ) (x : Side) (c : ℕ) (k : PacketKind) (len : ℕ) (os : List ℕ) → is_whole (packet.TheVariants.Channel c k) ≡ true → is_permanent i n ≡ true
+pub circuit_waits : (i : Interface) (n nr : ℕ) (x : Side) (c : ℕ) (k : PacketKind) (len : ℕ) (os : List ℕ) → is_read i (packet.TheVariants.Channel c k) len ≡ true → is_permanent i n ≡ true
     → (g : GapChannel) → FitsAdrift i (idle (passing_state x)) g → DriftsBy i (idle (passing_state x)) (gap_channel_step i n g (row_at nr x c k len os))
 circuit_waits i n nr x c k len os e p g f = subst (λ g. DriftsBy i q (gap_channel_step i n g (row_at nr x c k len os))) (sym f.is) (at k e)
   where
@@ -192,20 +200,17 @@ circuit_waits i n nr x c k len os e p g f = subst (λ g. DriftsBy i q (gap_chann
     flows : (k : PacketKind) → adrift_entry (is_permanent i n) (kind_class k) ≡ Carries → DriftsBy i q (gap_channel_step i n (adrift_at f.state f.restarting f.last) (row_at nr x c k len os))
     flows k carries = waiting_adrift i n (row_at nr x c k len os) q p carries (waits_there x) f.state f.restarting f.last f.seen f.resting
 
-    at : (k : PacketKind) → is_whole (packet.TheVariants.Channel c k) ≡ true → DriftsBy i q (gap_channel_step i n (adrift_at f.state f.restarting f.last) (row_at nr x c k len os))
-    at (kind.TheVariants.Data (Some h)) e = flows (kind.TheVariants.Data (Some h)) refl
-    at (kind.TheVariants.Rr (Some m)) e = flows (kind.TheVariants.Rr (Some m)) refl
-    at (kind.TheVariants.Rnr (Some m)) e = flows (kind.TheVariants.Rnr (Some m)) refl
+    at : (k : PacketKind) → is_read i (packet.TheVariants.Channel c k) len ≡ true → DriftsBy i q (gap_channel_step i n (adrift_at f.state f.restarting f.last) (row_at nr x c k len os))
+    at (kind.TheVariants.Data o) e = flows (kind.TheVariants.Data o) refl
+    at (kind.TheVariants.Rr o) e = flows (kind.TheVariants.Rr o) refl
+    at (kind.TheVariants.Rnr o) e = flows (kind.TheVariants.Rnr o) refl
     at kind.TheVariants.Interrupt e = flows kind.TheVariants.Interrupt refl
     at kind.TheVariants.InterruptConfirm e = flows kind.TheVariants.InterruptConfirm refl
     at kind.TheVariants.Reset e = resets kind.TheVariants.Reset (reset_resets i n nr x c len os)
     at kind.TheVariants.ResetConfirm e = resets kind.TheVariants.ResetConfirm (confirmation_resets i n nr x c len os)
-    at (kind.TheVariants.Data None) e = absurd (false≢true e)
-    at (kind.TheVariants.Rr None) e = absurd (false≢true e)
-    at (kind.TheVariants.Rnr None) e = absurd (false≢true e)
     at kind.TheVariants.Gap e = absurd (false≢true e)
     at k e = quiet_adrift i n (row_at nr x c k len os) q (nothing_adrift (is_permanent i n) (kind_class k) p refl refl) f.state f.restarting f.last f.seen f.resting
 
-pub none_gap : (c : ℕ) (k : PacketKind) → is_whole (packet.TheVariants.Channel c k) ≡ true → gap_of (packet.TheVariants.Channel c k) ≡ None
-none_gap c kind.TheVariants.Gap e = absurd (false≢true e)
-none_gap c k e = refl
+pub none_gap : (i : Interface) (c : ℕ) (k : PacketKind) (len : ℕ) → is_read i (packet.TheVariants.Channel c k) len ≡ true → gap_of (packet.TheVariants.Channel c k) ≡ None
+none_gap i c kind.TheVariants.Gap len e = absurd (false≢true e)
+none_gap i c k len e = refl

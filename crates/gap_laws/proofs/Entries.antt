@@ -1,5 +1,5 @@
 -- How a packet in data transfer is judged, in the whole walk and in that of a recording with gaps.
-use Rattle.std.proofs.Common.{◌≡◌, ◌⊎◌, inl, inr, ◌<◌, ◌≤◌, ◌==◌, ℕ, Bool, true, false, refl, sym, ◌∙◌, ap, subst, List, Option, Some, None, arith}
+use Rattle.std.proofs.Common.{◌≡◌, ◌⊎◌, inl, inr, ◌<◌, ◌≤◌, ◌==◌, ℕ, Bool, true, false, refl, sym, ◌∙◌, ap, subst, ◌+◌, List, [], ◌∷◌, Option, Some, None, arith}
 use Rattle.std.specs.Prelude.{nat_lt, nat_le, not, ◌&&◌, ◌||◌, is_some, option_and_then}
 use Rattle.std.specs.List.{list_any}
 use Rattle.std.proofs.lemmas.Bool.{false≢true, and_parts, eqb-true, ltb-true}
@@ -11,6 +11,7 @@ use Rattle.line_model.specs.declared.packet.Class.{Class}
 use Rattle.line_model.specs.declared.packet.Class.TheVariants.{Data, Interrupt, InterruptConfirm, Rej, Reset, ResetConfirm, RestartHere, Rr, Rnr, TwoOctets, Undefined}
 use Rattle.line_model.specs.declared.packet.PacketKind.{PacketKind}
 use Rattle.line_model.specs.declared.packet.Packet as packet
+use Rattle.line_model.specs.declared.packet.PacketKind as kind
 use Rattle.line_model.specs.declared.state.Side.{Side}
 use Rattle.line_model.specs.declared.state.Side.TheVariants.{T, N}
 use Rattle.line_model.specs.declared.state.DState.{DState}
@@ -20,17 +21,19 @@ use Rattle.line_model.specs.declared.state.StateName.{StateName}
 use Rattle.line_model.specs.declared.state.StateName.TheVariants.{D1, D2, D3, P4}
 use Rattle.line_model.specs.declared.table.Action.{Action}
 use Rattle.line_model.specs.declared.table.Action.TheVariants.{Move, Normal, Error, Discard, Pass, Ends, Below, ToChannel}
+use Rattle.line_model.specs.declared.diagnostic.TheConstants.{PACKET_TOO_LONG, PACKET_TOO_SHORT}
+use Rattle.line_model.specs.basics.Choice.{first_fault}
 use Rattle.line_model.specs.basics.Limits.{is_numbering, is_channels, packet_sizes}
 use Rattle.line_model.specs.basics.Records.{Item}
-use Rattle.line_model.specs.packets.Classes.{packet_class}
-use Rattle.line_model.specs.packets.Formats.{packet_fault}
-use Rattle.line_model.specs.channels.Channels.{Channel, Sides, is_permanent, other}
-use Rattle.line_model.specs.channels.ChannelStep.{Judged, channel_step, judged, report_nothing, transfer_name, transferring, verdict, verdict_step}
+use Rattle.line_model.specs.packets.Classes.{header_length, packet_class}
+use Rattle.line_model.specs.packets.Formats.{packet_fault, size_in_force}
+use Rattle.line_model.specs.channels.Channels.{AcceptedData, Channel, Sides, is_permanent, other}
+use Rattle.line_model.specs.channels.ChannelStep.{Judged, Outcome, channel_step, judged, report_nothing, transfer_name, transferring, verdict, verdict_step}
 use Rattle.line_model.specs.channels.Gaps.{Doubts, GapChannel, WhileAdrift}
 use Rattle.line_model.specs.channels.GapStep.{GapOutcome, acknowledged_data, adrift_carried, adrift_entry, adrift_fault, adrift_received, adrift_step_by, gap_channel_step, is_resetting, passing, receive_of, settled_outcome, settled_verdict}
 use Rattle.line_model.specs.channels.Tables.{action}
 use Rattle.line_model.proofs.Every.{every, every_class, every_side, classes}
-use Rattle.gap_laws.proofs.Circuits.{Circuit, Terms, channel_of, channel_with, failing_loud, idle, silent}
+use Rattle.gap_laws.proofs.Circuits.{Circuit, Terms, channel_of, channel_with, circuit, failing_loud, idle, silent, some_none}
 use Rattle.gap_laws.proofs.Fits.{adrift_at, settled_with}
 
 -- ---- the interface
@@ -244,3 +247,22 @@ adrift_flow P i n r d b ls p entry faulty resets received = at (adrift_fault i n
         → P (elim (is_some f) as (λ _. GapOutcome) [ true ↦ passing g | false ↦ adrift_step_by (adrift_entry (is_permanent i n) (packet_class r.packet)) i n r a g ])
     at (Some f) e = faulty f e
     at None e = subst P (sym carries) (carried e (is_resetting (other r.side) (Transfer d)) refl)
+
+-- ---- packets whose header is cut
+
+-- in d1 they are findings
+pub cut_loud : {A : Type 0} (i : Interface) (k : Terms) (n : ℕ) (r : Item) (hs : List AcceptedData) (v : Sides ℕ) (u : Sides Bool) (f : ℕ) → is_below (packet_class r.packet) ≡ true → action r.side D1 false (packet_class r.packet) ≡ Normal
+    → packet_fault i n (channel_with k (circuit transfer.TheVariants.D1 hs v u)) r ≡ Some f → silent (channel_step i n (channel_with k (circuit transfer.TheVariants.D1 hs v u)) r).reported ≡ true → A
+cut_loud i k n r hs v u f below entry fault s =
+    let c : Channel = channel_with k (circuit transfer.TheVariants.D1 hs v u) in
+    let e = whole_is i k n r (circuit transfer.TheVariants.D1 hs v u) Normal (on_both (packet_class r.packet) (is_permanent i n) below) entry in
+    some_none (sym fault ∙ (normal_whole i r (packet_fault i n c r) c (ap (λ (o : Outcome). silent o.reported) (sym e) ∙ s)).0)
+
+pub cut_data : (i : Interface) (n nr : ℕ) (x : Side) (j len : ℕ) (os : List ℕ) (c : Channel) → nat_lt len (header_length i) ≡ true → packet_fault i n c (row_at nr x j (kind.TheVariants.Data None) len os) ≡ Some PACKET_TOO_SHORT
+cut_data i n nr x j len os c e = ap (λ b. first_fault ((b, PACKET_TOO_SHORT) ∷ (nat_lt (header_length i + size_in_force i c x) len, PACKET_TOO_LONG) ∷ [])) e
+
+pub cut_rr : (i : Interface) (n nr : ℕ) (x : Side) (j len : ℕ) (os : List ℕ) (c : Channel) → nat_lt len (header_length i) ≡ true → packet_fault i n c (row_at nr x j (kind.TheVariants.Rr None) len os) ≡ Some PACKET_TOO_SHORT
+cut_rr i n nr x j len os c e = ap (λ b. first_fault ((b, PACKET_TOO_SHORT) ∷ (nat_lt (header_length i) len, PACKET_TOO_LONG) ∷ [])) e
+
+pub cut_rnr : (i : Interface) (n nr : ℕ) (x : Side) (j len : ℕ) (os : List ℕ) (c : Channel) → nat_lt len (header_length i) ≡ true → packet_fault i n c (row_at nr x j (kind.TheVariants.Rnr None) len os) ≡ Some PACKET_TOO_SHORT
+cut_rnr i n nr x j len os c e = ap (λ b. first_fault ((b, PACKET_TOO_SHORT) ∷ (nat_lt (header_length i) len, PACKET_TOO_LONG) ∷ [])) e

@@ -1,6 +1,6 @@
 -- The packet sizes and windows of a call in a walk without a finding: none is larger than an interface may have.
 use Rattle.std.proofs.Common.{◌≡◌, ◌⊎◌, inl, inr, ◌<◌, ◌≤◌, ◌-◌, ◌==◌, ◌^◌, ℕ, zero, suc, Bool, true, false, cond, refl, sym, ◌∙◌, ap, subst, List, [], ◌∷◌, get_or, Option, Some, None, arith}
-use Rattle.std.specs.Prelude.{length, nat_lt, nat_le, not, ◌&&◌, ◌||◌, ◌+◌, find, reverse, is_none, is_some, option_map, option_and_then}
+use Rattle.std.specs.Prelude.{length, nat_lt, nat_le, ◌&&◌, ◌||◌, ◌+◌, find, reverse, is_none, option_map, option_and_then}
 use Rattle.std.specs.List.{list_any}
 use Rattle.std.specs.Option.{option_map_or}
 use Rattle.std.proofs.Math.Pow.{pow_mono}
@@ -17,7 +17,7 @@ use Rattle.line_model.specs.packets.Facilities.{CallFields, Facility, accepted_f
 use Rattle.line_model.specs.packets.Formats.{for_side, is_out, or_other}
 use Rattle.line_model.specs.channels.Channels.{Opening}
 use Rattle.line_model.specs.channels.Gaps.{largest_terms}
-use Rattle.gap_laws.proofs.Circuits.{Terms, channel_of, channel_with, idle, size_of, window_of}
+use Rattle.gap_laws.proofs.Circuits.{Terms, channel_with, idle, size_of, window_of}
 use Rattle.gap_laws.proofs.Entries.{lawful_is}
 use Rattle.gap_laws.proofs.Settled.{Allows}
 

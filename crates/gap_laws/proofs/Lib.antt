@@ -1,3 +1,4 @@
+pub mod Read
 pub mod Numbers
 pub mod SentPackets
 pub mod Circuits

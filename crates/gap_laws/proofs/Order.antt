@@ -15,7 +15,7 @@ use Rattle.line_model.specs.basics.Records.{Item}
 use Rattle.line_model.specs.channels.Channels.{Channel, channel_in, fresh_state, is_joined, is_permanent, other}
 use Rattle.line_model.specs.channels.Gaps.{GapChannel, certain, drifting, fresh_at, gap_step, of_both}
 use Rattle.line_model.specs.channels.GapStep.{gap_channel_step}
-use Rattle.gap_laws.specs.Thinned.{is_whole}
+use Rattle.gap_laws.proofs.Read.{is_read}
 use Rattle.gap_laws.proofs.Circuits.{Circuit, IsOrdered, channel_of, idle, silent}
 use Rattle.gap_laws.proofs.Fits.{FitsAdrift, adrift_at}
 use Rattle.gap_laws.proofs.Fits.Fits.{FitsAll, FitsAnyAfter}
@@ -172,10 +172,10 @@ pub record ChannelRow (i : Interface) (r : Item) : Type 0 where
   pub whole : (a : GapChannel) → Whole i channel a → silent (gap_channel_step i channel a r).reported ≡ true → Whole i channel (gap_channel_step i channel a r).after
   pub waits : (y : Side) (g : GapChannel) → r.side ≡ other y → Meanwhile i y channel g → (silent (gap_channel_step i channel g r).reported ≡ true) × Meanwhile i y channel (gap_channel_step i channel g r).after
 
-pub channel_row : (i : Interface) (nr : ℕ) (x : Side) (c : ℕ) (k : PacketKind) (len : ℕ) (os : List ℕ) → is_whole (packet.TheVariants.Channel c k) ≡ true → ChannelRow i (row_at nr x c k len os)
+pub channel_row : (i : Interface) (nr : ℕ) (x : Side) (c : ℕ) (k : PacketKind) (len : ℕ) (os : List ℕ) → is_read i (packet.TheVariants.Channel c k) len ≡ true → ChannelRow i (row_at nr x c k len os)
 channel_row i nr x c k len os w = record {
   channel = c;
-  on = record { form = k; is = refl; no_gap = none_gap c k w };
+  on = record { form = k; is = refl; no_gap = none_gap i c k len w };
   stays = λ a g. stays a g (is_permanent i c) refl;
   whole = λ a. whole a (is_permanent i c) refl;
   waits = λ y g e. waits y g e (is_permanent i c) refl;

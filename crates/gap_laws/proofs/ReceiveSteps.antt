@@ -7,7 +7,6 @@ use Rattle.line_model.specs.declared.interface.Interface.{Interface}
 use Rattle.line_model.specs.declared.packet.Class.TheVariants.{Rr, Rnr}
 use Rattle.line_model.specs.declared.packet.PacketKind as kind
 use Rattle.line_model.specs.declared.state.Side.{Side}
-use Rattle.line_model.specs.declared.state.Side.TheVariants.{T, N}
 use Rattle.line_model.specs.declared.state.DState.{DState}
 use Rattle.line_model.specs.declared.state.DState as transfer
 use Rattle.line_model.specs.declared.state.StateName.TheVariants.{D1}

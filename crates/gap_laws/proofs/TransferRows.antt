@@ -1,11 +1,13 @@
 -- Data, RR, RNR and interrupts on permanent circuits say no more in a recording with gaps than in the whole one.
-use Rattle.std.proofs.Common.{◌≡◌, ℕ, Bool, true, false, refl, sym, ap, subst, List, [], ◌∷◌, Option, Some}
+use Rattle.std.proofs.Common.{◌≡◌, ℕ, Bool, true, false, refl, sym, ap, subst, List, [], ◌∷◌, Option, Some, None}
 use Rattle.std.specs.Prelude.{◌&&◌}
 use Rattle.std.specs.List.{AllByRecursion}
 use Rattle.std.proofs.lemmas.Bool.{false≢true}
 use Rattle.line_model.specs.declared.event.What.{What}
 use Rattle.line_model.specs.declared.gap.LastData.{LastData}
 use Rattle.line_model.specs.declared.interface.Interface.{Interface}
+use Rattle.line_model.specs.declared.diagnostic.TheConstants.{PACKET_TOO_SHORT}
+use Rattle.line_model.specs.declared.packet.Class.TheVariants.{Data, Rr, Rnr}
 use Rattle.line_model.specs.declared.packet.DataHeader.{DataHeader}
 use Rattle.line_model.specs.declared.packet.Packet.{Packet}
 use Rattle.line_model.specs.declared.packet.Packet as packet
@@ -15,20 +17,21 @@ use Rattle.line_model.specs.declared.state.Side.{Side}
 use Rattle.line_model.specs.declared.state.DState.{DState}
 use Rattle.line_model.specs.declared.state.DState as transfer
 use Rattle.line_model.specs.basics.Records.{Item}
-use Rattle.line_model.specs.packets.Says.{packet_channel}
+use Rattle.line_model.specs.packets.Says.{gap_of, packet_channel}
 use Rattle.line_model.specs.channels.Channels.{AcceptedData, Sides, is_permanent, of_side, other, with_side}
 use Rattle.line_model.specs.channels.ChannelStep.{channel_step}
 use Rattle.line_model.specs.channels.Gaps.{GapChannel}
 use Rattle.line_model.specs.channels.Gaps.Certainty.{Certain}
 use Rattle.line_model.specs.channels.GapStep.{gap_channel_step}
-use Rattle.gap_laws.specs.Thinned.{CountingLaw, IsPart, is_of_transfer, is_transfer_row}
+use Rattle.gap_laws.specs.Thinned.{CountingLaw, IsPart, IsSaid, is_of_transfer, is_transfer_row}
+use Rattle.gap_laws.proofs.Read.{is_read, said_read}
 use Rattle.gap_laws.proofs.Circuits.{Circuit, IsOrdered, channel_of, circuit, no_terms, silent, size_of, with_data, with_receive}
 use Rattle.gap_laws.proofs.InterruptSteps.{IsTurn, TurnStep, confirmation_turns, interrupt_turns, turn_adrift, turn_on_settled, turn_whole}
 use Rattle.gap_laws.proofs.Parts.{part_same, part_silent}
 use Rattle.gap_laws.proofs.Settled.{SideFits, in_doubt}
 use Rattle.gap_laws.proofs.Fits.{Fits, IsResting, LastFits, Takes, adrift_at, certain_at, settled_at}
 use Rattle.gap_laws.proofs.Fits.Fits.{FitsAll, FitsAnyAfter, FitsSome}
-use Rattle.gap_laws.proofs.Entries.{lawful_is, row_at}
+use Rattle.gap_laws.proofs.Entries.{cut_data, cut_loud, cut_rnr, cut_rr, flow_class, lawful_is, row_at}
 use Rattle.gap_laws.proofs.DataSteps.{DataStep, FollowsAs, data_adrift, data_on_settled, data_whole, said_of}
 use Rattle.gap_laws.proofs.ReceiveSteps.{IsReceive, ReceiveStep, receive_adrift, receive_on_settled, receive_whole, rnr_receives, rr_receives}
 use Rattle.gap_laws.proofs.Thinning.{Keeps, Step, counts_recorded}
@@ -99,42 +102,49 @@ turn_step_of i n r y b k p hs v u o s =
 in_d1 : (i : Interface) (n : ℕ) (r : Item) → StepsInD1 i n r → (q : Circuit) → InD1 q → ((y : Side) → IsOrdered i.modulus q y) → silent (channel_step i n (channel_of q) r).reported ≡ true → Step i InD1 SaysNoMore n r q
 in_d1 i n r f q e = by_parts (λ q. ((y : Side) → IsOrdered i.modulus q y) → silent (channel_step i n (channel_of q) r).reported ≡ true → Step i InD1 SaysNoMore n r q) q e (f q.accepted q.acknowledged q.unconfirmed)
 
-row_keeps : (i : Interface) (nr : ℕ) (x : Side) (p : Packet) (len : ℕ) (os : List ℕ) → (is_of_transfer p && is_permanent i (packet_channel p)) ≡ true → Keeps i InD1 SaysNoMore (record { number = nr; side = x; packet = p; length = len; octets = os })
-row_keeps i nr x (packet.TheVariants.Channel k (kind.TheVariants.Data (Some h))) len os e = record {
+-- one whose header is cut is a finding
+cut_keeps : (i : Interface) (nr : ℕ) (x : Side) (k : ℕ) (p : PacketKind) (len : ℕ) (os : List ℕ) → gap_of (packet.TheVariants.Channel k p) ≡ None → is_permanent i k ≡ true → StepsInD1 i k (row_at nr x k p len os) → Keeps i InD1 SaysNoMore (row_at nr x k p len os)
+cut_keeps i nr x k p len os none e steps = record { channel = k; on = record { form = p; is = refl; no_gap = none }; permanent = e; steps = in_d1 i k (row_at nr x k p len os) steps }
+
+row_keeps : (i : Interface) (nr : ℕ) (x : Side) (p : Packet) (len : ℕ) (os : List ℕ) → is_read i p len ≡ true → (is_of_transfer p && is_permanent i (packet_channel p)) ≡ true → Keeps i InD1 SaysNoMore (record { number = nr; side = x; packet = p; length = len; octets = os })
+row_keeps i nr x (packet.TheVariants.Channel k (kind.TheVariants.Data (Some h))) len os said e = record {
   channel = k;
   on = record { form = kind.TheVariants.Data (Some h); is = refl; no_gap = refl };
   permanent = e;
   steps = in_d1 i k (row_at nr x k (kind.TheVariants.Data (Some h)) len os) (data_step_of i k nr x k h len os e);
 }
-row_keeps i nr x (packet.TheVariants.Channel k (kind.TheVariants.Rr (Some n))) len os e = record {
+row_keeps i nr x (packet.TheVariants.Channel k (kind.TheVariants.Rr (Some n))) len os said e = record {
   channel = k;
   on = record { form = kind.TheVariants.Rr (Some n); is = refl; no_gap = refl };
   permanent = e;
   steps = in_d1 i k (row_at nr x k (kind.TheVariants.Rr (Some n)) len os) (receive_step_of i k (row_at nr x k (kind.TheVariants.Rr (Some n)) len os) n (rr_receives i k nr x k n len os) e);
 }
-row_keeps i nr x (packet.TheVariants.Channel k (kind.TheVariants.Rnr (Some n))) len os e = record {
+row_keeps i nr x (packet.TheVariants.Channel k (kind.TheVariants.Rnr (Some n))) len os said e = record {
   channel = k;
   on = record { form = kind.TheVariants.Rnr (Some n); is = refl; no_gap = refl };
   permanent = e;
   steps = in_d1 i k (row_at nr x k (kind.TheVariants.Rnr (Some n)) len os) (receive_step_of i k (row_at nr x k (kind.TheVariants.Rnr (Some n)) len os) n (rnr_receives i k nr x k n len os) e);
 }
-row_keeps i nr x (packet.TheVariants.Channel k kind.TheVariants.Interrupt) len os e = record {
+row_keeps i nr x (packet.TheVariants.Channel k kind.TheVariants.Interrupt) len os said e = record {
   channel = k;
   on = record { form = kind.TheVariants.Interrupt; is = refl; no_gap = refl };
   permanent = e;
   steps = in_d1 i k (row_at nr x k kind.TheVariants.Interrupt len os) (turn_step_of i k (row_at nr x k kind.TheVariants.Interrupt len os) x true (interrupt_turns i k nr x k len os) e);
 }
-row_keeps i nr x (packet.TheVariants.Channel k kind.TheVariants.InterruptConfirm) len os e = record {
+row_keeps i nr x (packet.TheVariants.Channel k kind.TheVariants.InterruptConfirm) len os said e = record {
   channel = k;
   on = record { form = kind.TheVariants.InterruptConfirm; is = refl; no_gap = refl };
   permanent = e;
   steps = in_d1 i k (row_at nr x k kind.TheVariants.InterruptConfirm len os) (turn_step_of i k (row_at nr x k kind.TheVariants.InterruptConfirm len os) (other x) false (confirmation_turns i k nr x k len os) e);
 }
-row_keeps i nr x p len os e = absurd (false≢true e)
+row_keeps i nr x (packet.TheVariants.Channel k (kind.TheVariants.Data None)) len os said e = cut_keeps i nr x k (kind.TheVariants.Data None) len os refl e (λ hs v u o s. cut_loud i no_terms k (row_at nr x k (kind.TheVariants.Data None) len os) hs v u PACKET_TOO_SHORT refl (flow_class x Data refl) (cut_data i k nr x k len os (channel_of (circuit transfer.TheVariants.D1 hs v u)) said) s)
+row_keeps i nr x (packet.TheVariants.Channel k (kind.TheVariants.Rr None)) len os said e = cut_keeps i nr x k (kind.TheVariants.Rr None) len os refl e (λ hs v u o s. cut_loud i no_terms k (row_at nr x k (kind.TheVariants.Rr None) len os) hs v u PACKET_TOO_SHORT refl (flow_class x Rr refl) (cut_rr i k nr x k len os (channel_of (circuit transfer.TheVariants.D1 hs v u)) said) s)
+row_keeps i nr x (packet.TheVariants.Channel k (kind.TheVariants.Rnr None)) len os said e = cut_keeps i nr x k (kind.TheVariants.Rnr None) len os refl e (λ hs v u o s. cut_loud i no_terms k (row_at nr x k (kind.TheVariants.Rnr None) len os) hs v u PACKET_TOO_SHORT refl (flow_class x Rnr refl) (cut_rnr i k nr x k len os (channel_of (circuit transfer.TheVariants.D1 hs v u)) said) s)
+row_keeps i nr x p len os said e = absurd (false≢true e)
 
-rows_keep : (i : Interface) (rs : List Item) → AllByRecursion (λ r. is_transfer_row i r ≡ true) rs → AllByRecursion (Keeps i InD1 SaysNoMore) rs
-rows_keep i [] h = tt
-rows_keep i (r ∷ rs) (h, rest) = (row_keeps i r.number r.side r.packet r.length r.octets h, rows_keep i rs rest)
+rows_keep : (i : Interface) (rs : List Item) → AllByRecursion (IsSaid i) rs → AllByRecursion (λ r. is_transfer_row i r ≡ true) rs → AllByRecursion (Keeps i InD1 SaysNoMore) rs
+rows_keep i [] said h = tt
+rows_keep i (r ∷ rs) (said, more) (h, rest) = (row_keeps i r.number r.side r.packet r.length r.octets (said_read i r said) h, rows_keep i rs more rest)
 
 pub counting_law : CountingLaw
-counting_law i xs ys join rows thin h = counts_recorded i InD1 xs ys join refl (rows_keep i xs rows) thin h
+counting_law i xs ys join said rows thin h = counts_recorded i InD1 xs ys join refl (rows_keep i xs said rows) thin h

@@ -13,12 +13,12 @@ use Rattle.line_model.specs.declared.state.ChannelState.{ChannelState}
 use Rattle.line_model.specs.declared.state.ChannelState.TheVariants.{Setup, Transfer, Unknown}
 use Rattle.line_model.specs.basics.Records.{Item}
 use Rattle.line_model.specs.channels.Channels.{Channel, Opening, channel_in, is_in_transfer, is_permanent, other}
-use Rattle.line_model.specs.channels.ChannelStep.{Outcome, channel_step, entering, opening}
+use Rattle.line_model.specs.channels.ChannelStep.{Outcome, channel_step, entering}
 use Rattle.line_model.specs.channels.Gaps.{Certainty, GapChannel, certain, drifting, gap_step, idle_name, owed_at_gap, with_largest_terms}
 use Rattle.line_model.specs.channels.Gaps.Certainty.{Certain, Settled}
 use Rattle.line_model.specs.channels.GapStep.{gap_channel_step}
 use Rattle.line_model.proofs.Effects.{Effects, IsSound, step_effects}
-use Rattle.gap_laws.specs.Thinned.{is_whole}
+use Rattle.gap_laws.proofs.Read.{is_read}
 use Rattle.gap_laws.proofs.Circuits.{channel_with, silent}
 use Rattle.gap_laws.proofs.Entries.{row_at}
 use Rattle.gap_laws.proofs.Calls.{AnyCall, Drifts, FitsCall, IsCalm, IsTidy, SameCall, SettledCall, circuit_in, drifts_none, terms_of}
@@ -40,7 +40,7 @@ pub record WholeCall (i : Interface) (a : GapChannel) : Type 0 where
 abbrev pub NearCall : Interface → (a g : GapChannel) → Type 0
 NearCall i a g = (w : WholeCall i a) × (b : Bool) × FitsCall i w.channel b g
 
-call_step : (i : Interface) (n nr : ℕ) (x : Side) (k : ℕ) (p : PacketKind) (len : ℕ) (os : List ℕ) → is_permanent i n ≡ false → is_whole (packet.TheVariants.Channel k p) ≡ true → (c : Channel) → IsSound false c → IsCalm i c
+call_step : (i : Interface) (n nr : ℕ) (x : Side) (k : ℕ) (p : PacketKind) (len : ℕ) (os : List ℕ) → is_permanent i n ≡ false → is_read i (packet.TheVariants.Channel k p) len ≡ true → (c : Channel) → IsSound false c → IsCalm i c
     → silent (channel_step i n c (row_at nr x k p len os)).reported ≡ true → CallStep i n (row_at nr x k p len os) c
 call_step i n nr x k p len os perm whole c sound calm q =
     subst (λ w. CallStep i n r (record c { owed = w })) (sym calm.owes)
@@ -61,7 +61,7 @@ whole_call i n r perm c sound s =
     let e : Effects false c (channel_step i n c r) = subst (λ p. Effects p c (channel_step i n c r)) perm (step_effects i n c r (subst (λ p. IsSound p c) (sym perm) sound)) in
     record { channel = (channel_step i n c r).after; is = refl; sound = e.sound; calm = subst (IsCalm i) (sym s.after) s.calm }
 
-pub call_whole : (i : Interface) (n nr : ℕ) (x : Side) (k : ℕ) (p : PacketKind) (len : ℕ) (os : List ℕ) → is_permanent i n ≡ false → is_whole (packet.TheVariants.Channel k p) ≡ true → (a : GapChannel) → WholeCall i a
+pub call_whole : (i : Interface) (n nr : ℕ) (x : Side) (k : ℕ) (p : PacketKind) (len : ℕ) (os : List ℕ) → is_permanent i n ≡ false → is_read i (packet.TheVariants.Channel k p) len ≡ true → (a : GapChannel) → WholeCall i a
     → silent (gap_channel_step i n a (row_at nr x k p len os)).reported ≡ true → WholeCall i (gap_channel_step i n a (row_at nr x k p len os)).after
 call_whole i n nr x k p len os perm whole a w q =
     subst (λ a. silent (gap_channel_step i n a r).reported ≡ true → WholeCall i (gap_channel_step i n a r).after) (sym w.is)
@@ -71,7 +71,7 @@ call_whole i n nr x k p len os perm whole a w q =
     r = row_at nr x k p len os
 
 -- the packet that stays keeps the order
-pub call_stays : (i : Interface) (n nr : ℕ) (x : Side) (k : ℕ) (p : PacketKind) (len : ℕ) (os : List ℕ) → is_permanent i n ≡ false → is_whole (packet.TheVariants.Channel k p) ≡ true → (a g : GapChannel) → NearCall i a g
+pub call_stays : (i : Interface) (n nr : ℕ) (x : Side) (k : ℕ) (p : PacketKind) (len : ℕ) (os : List ℕ) → is_permanent i n ≡ false → is_read i (packet.TheVariants.Channel k p) len ≡ true → (a g : GapChannel) → NearCall i a g
     → silent (gap_channel_step i n a (row_at nr x k p len os)).reported ≡ true
     → (silent (gap_channel_step i n g (row_at nr x k p len os)).reported ≡ true) × NearCall i (gap_channel_step i n a (row_at nr x k p len os)).after (gap_channel_step i n g (row_at nr x k p len os)).after
 unfolding whole_call
@@ -101,7 +101,7 @@ either_true : (b : Bool) → (b || true) ≡ true
 either_true true = refl
 either_true false = refl
 
-pub call_waits : (i : Interface) (n nr : ℕ) (x : Side) (k : ℕ) (p : PacketKind) (len : ℕ) (os : List ℕ) → is_permanent i n ≡ false → is_whole (packet.TheVariants.Channel k p) ≡ true → (y : Side) → x ≡ other y → (g : GapChannel) → Drifts i (clearing y) true g
+pub call_waits : (i : Interface) (n nr : ℕ) (x : Side) (k : ℕ) (p : PacketKind) (len : ℕ) (os : List ℕ) → is_permanent i n ≡ false → is_read i (packet.TheVariants.Channel k p) len ≡ true → (y : Side) → x ≡ other y → (g : GapChannel) → Drifts i (clearing y) true g
     → (silent (gap_channel_step i n g (row_at nr x k p len os)).reported ≡ true) × Drifts i (clearing y) true (gap_channel_step i n g (row_at nr x k p len os)).after
 call_waits i n nr x k p len os perm whole T e g f = waits i n nr x k p len os perm whole (clearing T) setup.TheVariants.P6 e true (either_true (not (is_clear_confirm p))) g f
 call_waits i n nr x k p len os perm whole N e g f = waits i n nr x k p len os perm whole (clearing N) setup.TheVariants.P7 e true (either_true (not (is_clear_confirm p))) g f

@@ -1,5 +1,5 @@
 -- Recordings from which rows are missing.
-use Rattle.std.specs.Prelude.{◌≡◌, ◌⊎◌, ◌==◌, not, ◌&&◌, ◌||◌, ◌++◌, ◌∷◌, [], filter, map, ℕ, Bool, true, false, List, Option, Some, None, is_some}
+use Rattle.std.specs.Prelude.{◌≡◌, ◌⊎◌, ◌==◌, ◌&&◌, ◌++◌, ◌∷◌, [], filter, map, ℕ, Bool, true, false, List, Option, Some, None}
 use Rattle.std.specs.List.{AllByRecursion, flat_map}
 use Rattle.line_model.specs.declared.event.Event.{Event}
 use Rattle.line_model.specs.declared.event.What.{What}
@@ -11,10 +11,10 @@ use Rattle.line_model.specs.declared.packet.Packet.{Packet}
 use Rattle.line_model.specs.declared.packet.Packet as packet
 use Rattle.line_model.specs.declared.packet.PacketKind as kind
 use Rattle.line_model.specs.declared.state.Side.TheVariants.{T}
-use Rattle.line_model.specs.basics.Records.{Item}
+use Rattle.line_model.specs.basics.Records.{Item, Row}
 use Rattle.line_model.specs.packets.Classes.{packet_class}
 use Rattle.line_model.specs.packets.Facilities.{fields_of}
-use Rattle.line_model.specs.packets.Says.{gap_of, header_in, packet_channel}
+use Rattle.line_model.specs.packets.Says.{gap_of, header_in, item_of, packet_channel}
 use Rattle.line_model.specs.channels.Channels.{is_permanent}
 use Rattle.line_model.specs.channels.FlowControl.{is_side}
 use Rattle.line_model.specs.declared.gap.EpochStart.TheVariants.{Restarted}
@@ -48,11 +48,15 @@ IsThinned xs (y ∷ ys) =
 abbrev pub ThinsAgain : Type 0
 ThinsAgain = (xs ys zs : List Item) → IsThinned xs ys → IsThinned ys zs → IsThinned xs zs
 
--- a packet of data transfer; of data, RR and RNR the header is not cut
+-- what a row says that is no gap
+abbrev pub IsSaid : Interface → Item → Type 0
+IsSaid i x = (r : Row) × (r.gap ≡ None) × (x ≡ item_of i r)
+
+-- a packet of data transfer
 abbrev pub is_of_transfer : Packet → Bool
-is_of_transfer (packet.TheVariants.Channel k (kind.TheVariants.Data h)) = is_some h
-is_of_transfer (packet.TheVariants.Channel k (kind.TheVariants.Rr n)) = is_some n
-is_of_transfer (packet.TheVariants.Channel k (kind.TheVariants.Rnr n)) = is_some n
+is_of_transfer (packet.TheVariants.Channel k (kind.TheVariants.Data h)) = true
+is_of_transfer (packet.TheVariants.Channel k (kind.TheVariants.Rr n)) = true
+is_of_transfer (packet.TheVariants.Channel k (kind.TheVariants.Rnr n)) = true
 is_of_transfer (packet.TheVariants.Channel k kind.TheVariants.Interrupt) = true
 is_of_transfer (packet.TheVariants.Channel k kind.TheVariants.InterruptConfirm) = true
 is_of_transfer p = false
@@ -60,15 +64,6 @@ is_of_transfer p = false
 -- one on a permanent circuit
 abbrev pub is_transfer_row : Interface → Item → Bool
 is_transfer_row i r = is_of_transfer r.packet && is_permanent i (packet_channel r.packet)
-
--- a packet; of data, RR and RNR the header is not cut
-abbrev pub is_whole : Packet → Bool
-is_whole (packet.TheVariants.Channel k (kind.TheVariants.Data h)) = is_some h
-is_whole (packet.TheVariants.Channel k (kind.TheVariants.Rr n)) = is_some n
-is_whole (packet.TheVariants.Channel k (kind.TheVariants.Rnr n)) = is_some n
-is_whole (packet.TheVariants.Channel k kind.TheVariants.Gap) = false
-is_whole packet.TheVariants.GapOfAll = false
-is_whole p = true
 
 -- the walk over some rows has no finding
 abbrev pub AccusesNobody : Interface → List Item → Type 0
@@ -81,12 +76,12 @@ IsPart {A} (a ∷ rest) bs = (front back : List A) × (bs ≡ front ++ a ∷ bac
 
 -- in data transfer the recording with gaps says nothing that the whole one doesn't say, and so counts no more
 abbrev pub CountingLaw : Type 0
-CountingLaw = (i : Interface) (xs ys : List Item) → i.join ≡ false → AllByRecursion (λ r. is_transfer_row i r ≡ true) xs
+CountingLaw = (i : Interface) (xs ys : List Item) → i.join ≡ false → AllByRecursion (IsSaid i) xs → AllByRecursion (λ r. is_transfer_row i r ≡ true) xs
     → IsThinned xs ys → AccusesNobody i xs → IsPart (events i ys) (events i xs)
 
 -- nobody is accused by what was not recorded
 abbrev pub ThinningLaw : Type 0
-ThinningLaw = (i : Interface) (xs ys : List Item) → i.join ≡ false → AllByRecursion (λ r. is_whole r.packet ≡ true) xs
+ThinningLaw = (i : Interface) (xs ys : List Item) → i.join ≡ false → AllByRecursion (IsSaid i) xs
     → IsThinned xs ys → AccusesNobody i xs → AccusesNobody i ys
 
 -- the observer of an interface that has just restarted: where the recording doesn't begin in the middle, it starts so
@@ -99,7 +94,7 @@ AccusesNobodyFromRestart i rs = findings_of (map event_of (walk_events (x25 i) (
 
 -- nor where the recording begins in the middle of some rows
 abbrev pub JoinedLaw : Type 0
-JoinedLaw = (i : Interface) (before rest ys : List Item) → i.join ≡ true → i.gaps ≡ true → AllByRecursion (λ r. is_whole r.packet ≡ true) (before ++ rest)
+JoinedLaw = (i : Interface) (before rest ys : List Item) → i.join ≡ true → i.gaps ≡ true → AllByRecursion (IsSaid i) (before ++ rest)
     → IsThinned rest ys → AccusesNobodyFromRestart i (before ++ rest) → AccusesNobody i ys
 
 -- without JOIN the observer starts as after a restart
