@@ -3,13 +3,12 @@ use Rattle.std.proofs.Common.{◌≡◌, ◌⊎◌, inl, inr, ◌<◌, ◌≤◌
 use Rattle.std.specs.Prelude.{cond}
 use Rattle.std.proofs.lemmas.Nat.{pow-add, pow_pos, shr_split, shr_high, shr_below, mod_low, mod_below, mul-add-lt, shl_whole, one_shl}
 use Rattle.std.proofs.Math.Nat.{mul-le-mul_right, mod-eq_of_lt}
-use Rattle.data_transfer.specs.FlowResidues.{FlowResidues, AreFlowResidues, IsDirection, DirectionRepresents, ResiduesRepresent, bit, word_of}
+use Rattle.data_transfer.specs.FlowResidues.{FlowResidues, AreFlowResidues, IsDirection, bit, word_of}
 use Rattle.line_model.specs.declared.state.Side.{Side}
 use Rattle.line_model.specs.declared.state.Side.TheVariants.{T, N}
 use Rattle.line_model.specs.channels.Channels.{of_side}
-use Rattle.line_model.specs.channels.FlowControl.{no_counts}
 use Rattle.data_transfer.specs.declared.direction.Direction.{Direction}
-use Rattle.data_transfer.specs.Directions.{direction_of, with_direction}
+use Rattle.data_transfer.specs.Directions.{direction_of}
 use Rattle.data_transfer.specs.declared.flow.Flow.TheInside.{Inside}
 use Rattle.data_transfer.specs.FlowFields.{kept}
 use Rattle.data_transfer.specs.PackedLaw.{cut, bit_read, packed_word-packed_in}
