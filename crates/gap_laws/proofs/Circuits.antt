@@ -94,9 +94,6 @@ pub record CountsData (m w : ℕ) (c : Counts) (x : Side) (ps pr : ℕ) (v : Cou
   pub found : count_acknowledged m (of_side (other x) c.sent) (of_side (other x) c.acknowledged) pr ≡ Some upto
   pub acknowledged : v.acknowledged ≡ with_side (other x) upto c.acknowledged
 
-one_more : Side → Counts → Counts
-one_more x c = record c { sent = with_side x (of_side x c.sent + 1) c.sent }
-
 pub counts_data : (m w : ℕ) (c : Counts) (x : Side) (ps pr : ℕ) (v : Counts) → count_data m w c x ps pr ≡ Ok v → CountsData m w c x ps pr v
 counts_data m w c x ps pr v h = at (is_send_valid m w (of_side x c.sent) (of_side x c.acknowledged) ps) refl h
   where

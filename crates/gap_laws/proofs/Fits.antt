@@ -1,5 +1,5 @@
 -- The order between a channel of the whole walk and the same channel of a recording with gaps: what is certain there is true.
-use Rattle.std.proofs.Common.{◌≡◌, ◌%◌, ℕ, Bool, true, false, Option, Some, None}
+use Rattle.std.proofs.Common.{◌≡◌, ◌%◌, ℕ, Bool, false, Option, Some, None}
 use Rattle.line_model.specs.declared.gap.LastData.{LastData}
 use Rattle.line_model.specs.declared.gap.Owed.TheVariants.{NoIndication}
 use Rattle.line_model.specs.declared.interface.Interface.{Interface}
@@ -13,8 +13,7 @@ use Rattle.line_model.specs.channels.ChannelStep.{channel_step}
 use Rattle.line_model.specs.channels.FlowControl.{sent}
 use Rattle.line_model.specs.channels.Gaps.{Doubts, GapChannel, of_both}
 use Rattle.line_model.specs.channels.Gaps.Certainty.{Adrift, Certain, Settled}
-use Rattle.line_model.specs.channels.GapStep.{gap_channel_step}
-use Rattle.gap_laws.proofs.Circuits.{Circuit, IsOrdered, Terms, channel_of, channel_with, idle, no_terms, silent, size_of}
+use Rattle.gap_laws.proofs.Circuits.{Circuit, IsOrdered, Terms, channel_of, channel_with, idle, no_terms, size_of}
 use Rattle.gap_laws.proofs.Settled.{SideFits, in_doubt}
 
 -- the circuits of a recording with gaps
@@ -74,8 +73,3 @@ pub data Fits (i : Interface) (q : Circuit) (g : GapChannel) : Type 0 where
 pub record Takes (i : Interface) (k : Terms) (n : ℕ) (r : Item) (q : Circuit) (w : Circuit) : Type 0 where
   pub after : (channel_step i n (channel_with k q) r).after ≡ channel_with k w
   pub ordered : (y : Side) → IsOrdered i.modulus w y
-
--- the other walk after the same row
-pub record Follows (i : Interface) (n : ℕ) (r : Item) (w : Circuit) (g : GapChannel) : Type 0 where
-  pub silent : silent (gap_channel_step i n g r).reported ≡ true
-  pub fits : Fits i w (gap_channel_step i n g r).after

@@ -78,6 +78,3 @@ begun_own size x hs p e =
 
 pub begun_other : (size : ℕ) (x : Side) (hs : List AcceptedData) (p : AcceptedData) → is_side x p.side ≡ false → begun size x (hs ++ p ∷ []) ≡ begun size x hs
 begun_other size x hs p e = ap (λ l. reverse (take_while (is_category_a size) (reverse l))) (packets_other x hs p e)
-
-pub begun_apart : (size : ℕ) (x : Side) (hs : List AcceptedData) (k : ℕ) → begun size (other x) (hs ++ replicate k (missed x)) ≡ begun size (other x) hs
-begun_apart size x hs k = ap (λ l. reverse (take_while (is_category_a size) (reverse l))) (packets_apart x hs k)
