@@ -10,14 +10,14 @@ use Rattle.capture_rows.specs.declared.given.Given as declared
 pub data Given : Type 0 where
   Packet : Side → List ℕ → Given
   Gap : (channel : Option ℕ) → Reason → Given
-  Held : Given
+  Held : Side → List ℕ → (cut : Bool) → Given
   OfLink : Unnumbered → Given
   LeftOut : Reason → Given
 
 abbrev pub given_view : declared.Given → Given
 given_view (declared.TheVariants.Packet s p) = Packet s p.now
 given_view (declared.TheVariants.Gap c r) = Gap c r
-given_view declared.TheVariants.Held = Held
+given_view (declared.TheVariants.Held s p c) = Held s p.now c
 given_view (declared.TheVariants.Unnumbered k) = OfLink k
 given_view (declared.TheVariants.LeftOut r) = LeftOut r
 

@@ -55,7 +55,8 @@ shortened most octets = if nat_lt most (length octets) then take most octets els
 abbrev pub as_given : Option Sender → (cut : Bool) → links.What → Given
 as_given (Some s) cut (links.Packet p) = packet_or_gap s.side p cut
 as_given None cut (links.Packet p) = lost p reason.NoSide
-as_given s cut links.Held = given.Held
+as_given (Some s) cut (links.Held p) = given.Held s.side p cut
+as_given None cut (links.Held p) = lost p reason.NoSide
 as_given s cut (links.OfLink k) = given.OfLink k
 as_given s cut (links.LeftOut r) = given.LeftOut r
 

@@ -19,7 +19,14 @@ pub enum Given<'a> {
     /// A packet that is left out for a reason: a gap of this channel, or of all channels.
     Gap(Option<u16>, Reason),
     /// A LAPB I frame that is held: a later frame shows whether its packet was accepted.
-    Held,
+    Held {
+        /// The side that sent it.
+        side: Side,
+        /// Its packet, or the part of it that was recorded.
+        octets: &'a [u8],
+        /// Whether the recorder cut it.
+        is_cut: bool,
+    },
     /// A LAPB frame that sets up, ends or rejects the link.
     Unnumbered(Unnumbered),
     /// It carries no packet, or is left out for a reason.
@@ -47,7 +54,7 @@ pub(crate) fn lost<'a>(octets: &[u8], reason: Reason) -> Given<'a>
 }
 
 /// Returns a packet, or its gap where the recorder cut it, or it is longer than a row of a trace may be.
-pub(crate) fn packet_or_gap<'a>(side: Side, octets: &'a [u8], is_cut: bool) -> Given<'a>
+pub fn packet_or_gap<'a>(side: Side, octets: &'a [u8], is_cut: bool) -> Given<'a>
     ensures { given_view result ≡ packet_or_gap side octets.now is_cut }
 {
     if is_cut {

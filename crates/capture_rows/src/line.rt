@@ -7,6 +7,7 @@ ghost use Rattle.capture_model.specs.Frames.{frame_view};
 ghost use Rattle.lapb_link.specs.Links.{link_frame_view, new_link, what_view};
 ghost use Rattle.lapb_link.specs.Receiving.{held_shown};
 ghost use Rattle.std.specs.Option.{option_map};
+ghost use Rattle.capture_rows.specs.Choosing.{is_on};
 ghost use Rattle.capture_rows.specs.Givens as given;
 ghost use Rattle.capture_rows.specs.Givens.{given_view};
 ghost use Rattle.capture_rows.specs.Lines.{alone, as_given, carried_read, frame_read, lapb_read, link_frame, packet_read, read_view, shortened, side_of, unframed_whole};
@@ -63,6 +64,13 @@ impl Line {
             link: Link::new(alloc, modulus, ends)?,
             may_miss: false,
         })
+    }
+
+    /// Returns whether frames of an interface are read.
+    pub fn is_on(&self, interface: u32) -> bool
+        ensures { result ≡ is_on self.now.choices interface }
+    {
+        self.choices.is_on(interface)
     }
 
     /// Notes that frames may be missing before the next one, as the file shows.
@@ -254,7 +262,14 @@ fn as_given<'a>(sender: Option<Sender>, is_cut: bool, what: What<'a>) -> Given<'
             Some(sender) => packet_or_gap(sender.side, octets, is_cut),
             None => lost(octets, Reason::NoSide),
         },
-        What::Held => Given::Held,
+        What::Held(octets) => match sender {
+            Some(sender) => Given::Held {
+                side: sender.side,
+                octets,
+                is_cut,
+            },
+            None => lost(octets, Reason::NoSide),
+        },
         What::Unnumbered(kind) => Given::Unnumbered(kind),
         What::LeftOut(reason) => Given::LeftOut(reason),
     }

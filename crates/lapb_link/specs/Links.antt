@@ -46,7 +46,7 @@ link_frame_view f = record { place = f.place; source = f.source; octets = f.octe
 -- what a frame is, with its octets
 pub data What : Type 0 where
   Packet : List ℕ → What
-  Held : What
+  Held : List ℕ → What
   OfLink : Unnumbered → What
   LeftOut : Reason → What
 
@@ -56,7 +56,7 @@ pub record Taken : Type 0 where
 
 abbrev pub what_view : declared_what.What → What
 what_view (declared_what.TheVariants.Packet p) = Packet p.now
-what_view declared_what.TheVariants.Held = Held
+what_view (declared_what.TheVariants.Held p) = Held p.now
 what_view (declared_what.TheVariants.Unnumbered k) = OfLink k
 what_view (declared_what.TheVariants.LeftOut r) = LeftOut r
 
@@ -132,7 +132,7 @@ is_accepted f = false
 -- what becomes of an I frame
 abbrev pub what_of : Fate → List ℕ → What
 what_of fate.Accepted packet = Packet packet
-what_of fate.Held packet = Held
+what_of fate.Held packet = Held packet
 what_of fate.Repeated packet = LeftOut reason.RepeatedFrame
 
 abbrev pub cut_marked : Bool → ℕ → Link → Link

@@ -33,8 +33,8 @@ pub struct LinkFrame<'a> {
 pub enum What<'a> {
     /// An I frame that was accepted, with its packet.
     Packet(&'a [u8]),
-    /// An I frame that is held.
-    Held,
+    /// An I frame that is held, with its packet.
+    Held(&'a [u8]),
     /// A frame that sets up, ends or rejects the link.
     Unnumbered(Unnumbered),
     /// No packet comes of it.
@@ -388,7 +388,7 @@ fn what_of<'a>(fate: Fate, packet: &'a [u8]) -> What<'a>
 {
     match fate {
         Fate::Accepted => What::Packet(packet),
-        Fate::Held => What::Held,
+        Fate::Held => What::Held(packet),
         Fate::Repeated => What::LeftOut(Reason::RepeatedFrame),
     }
 }

@@ -1,4 +1,4 @@
-//! The tests of link headers, of LAPB links and of lines.
+//! The tests of link headers, of LAPB links and of lines and of their traces.
 #![tactic(auto)]
 
 #[cfg(test)]
@@ -7,3 +7,5 @@ mod headers;
 mod lines;
 #[cfg(test)]
 mod links;
+#[cfg(test)]
+mod traces;

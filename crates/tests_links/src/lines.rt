@@ -36,7 +36,7 @@ fn add(out: &mut Vec<u8>, read: &FrameRead<'_>) -> Result<(), AllocError> {
         Given::Packet(Side::T, _) => b'T',
         Given::Packet(Side::N, _) => b'N',
         Given::Gap(..) => b'x',
-        Given::Held | Given::Unnumbered(_) | Given::LeftOut(_) => b'-',
+        Given::Held { .. } | Given::Unnumbered(_) | Given::LeftOut(_) => b'-',
     })?;
     Ok(())
 }

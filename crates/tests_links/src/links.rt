@@ -43,7 +43,7 @@ fn check(rt: &impl Abort, alloc: Global, steps: &[Step]) -> Result<(), AllocErro
         add(&mut found, &shown)?;
         found.push(match taken.what {
             What::Packet(_) => b'p',
-            What::Held => b'h',
+            What::Held(_) => b'h',
             What::Unnumbered(_) | What::LeftOut(_) => b'-',
         })?;
         assert!(rt; found.as_slice() == *expected);

@@ -1,0 +1,5 @@
+mod GapLemmas
+mod GivingLemmas
+mod ReadingLemmas
+mod SearchLemmas
+mod TextLemmas

@@ -1,0 +1,9 @@
+pub mod Records
+pub mod Entries
+pub mod Gaps
+pub mod Plans
+pub mod Contents
+pub mod Rows
+pub mod Texts
+pub mod Readings
+pub mod Traces

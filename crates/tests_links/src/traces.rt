@@ -1,0 +1,80 @@
+//! Traces of captures.
+
+use capture_report::file_frames::FileFrames;
+use capture_report::plan::Plan;
+use capture_report::print::Page;
+use capture_report::reader::{Order, Reader};
+use capture_report::trace::CaptureTrace;
+use capture_rows::choices::Choices;
+use capture_rows::line::Line;
+use capture_rows::station::StationBy;
+use lapb_link::ends::Ends;
+use line_model::device::{SliceSource, Source};
+use line_model::state::Side;
+use std::alloc::Global;
+use std::test::Fail;
+
+/// A pcap file of link type 207: a frame of the DTE, one of the DCE, and one of the DCE that acknowledges a frame of the DTE
+/// that was not recorded.
+const FILE: &[u8] = b"\xD4\xC3\xB2\xA1\x02\0\x04\0\0\0\0\0\0\0\0\0\xFF\xFF\0\0\xCF\0\0\0\
+    \0\0\0\0\0\0\0\0\x06\0\0\0\x06\0\0\0\x01\x01\x00\x10\x01\x01\
+    \x01\0\0\0\0\0\0\0\x06\0\0\0\x06\0\0\0\x00\x03\x20\x10\x01\x01\
+    \x02\0\0\0\0\0\0\0\x06\0\0\0\x06\0\0\0\x00\x03\x42\x10\x01\x21";
+
+/// The lost frame may have been before each packet of the DCE.
+const PLACED: &[u8] =
+    b"#@ 0 1\n1 T 100101\n#@ 1 2\n2 ? *\n#@ 1 2\n3 N 100101\n#@ 2 3\n4 ? *\n#@ 2 3\n5 N 100121\n";
+
+/// The gap where it is noticed.
+const NOTICED: &[u8] =
+    b"#@ 0 1\n1 T 100101\n#@ 1 2\n2 N 100101\n#@ 2 3\n3 ? *\n#@ 2 3\n4 N 100121\n";
+
+/// A line of which nothing was read.
+fn line(alloc: Global) -> Result<Line, Fail> {
+    let choices = Choices {
+        unknown: None,
+        carrier: None,
+        interface: None,
+        station_by: StationBy::Either,
+        host: Side::T,
+    };
+    Ok(Line::new(alloc, choices, None, Ends::by_address())?)
+}
+
+/// The frames of the file.
+fn frames(alloc: Global) -> Result<FileFrames<SliceSource<'static>>, Fail> {
+    match FileFrames::open(alloc, SliceSource::new(FILE), true, 0) {
+        Ok(frames) => Ok(frames),
+        Err(_) => Err(Fail::from("no capture")),
+    }
+}
+
+/// Returns the text of the trace.
+fn text(alloc: Global, order: Order) -> Result<Vec<u8>, Fail> {
+    let reader = Reader::new(line(alloc)?, order, Page::new(Vec::new(alloc), true));
+    let mut trace = CaptureTrace::new(alloc, frames(alloc)?, reader);
+    let mut text = Vec::new(alloc);
+    for _ in 0..9 {
+        if trace.read().is_err() {
+            return Err(Fail::from("no read"));
+        }
+        text.extend_from_slice(trace.latest())?;
+    }
+    Ok(text)
+}
+
+#[test]
+fn a_gap_is_before_each_packet_that_may_follow_lost_ones(rt: HostRuntime) -> Result<(), Fail> {
+    let alloc = rt.alloc();
+    let Ok(plan) = Plan::read(alloc, line(alloc)?, &mut frames(alloc)?) else {
+        return Err(Fail::from("no plan"));
+    };
+    assert!(rt; text(alloc, Order::Placed(plan))?.as_slice() == PLACED);
+    Ok(())
+}
+
+#[test]
+fn a_gap_is_where_it_is_noticed(rt: HostRuntime) -> Result<(), Fail> {
+    assert!(rt; text(rt.alloc(), Order::Noticed)?.as_slice() == NOTICED);
+    Ok(())
+}
