@@ -27,7 +27,7 @@ fn lapb<'a>(carried: Carried<'a>) -> Option<Payload<'a>> {
 }
 
 #[test]
-fn tags_and_a_length_come_before_lapb_over_ethernet(rt: HostRuntime) {
+fn lapb_comes_after_tags_and_a_length_and_after_a_cooked_header(rt: HostRuntime) {
     let octets =
         b"\x02\0\0\0\0\x01\x02\0\0\0\0\x02\x81\0\0\x05\x88\xA8\0\x06\x60\0\x02\0\x01\x3F\0\0";
     let header = read_header(LinkKind::Ethernet, &frame(octets.as_slice(), 28));
@@ -36,10 +36,6 @@ fn tags_and_a_length_come_before_lapb_over_ethernet(rt: HostRuntime) {
     assert!(rt;
         payload.is_some_and(|payload| payload.octets == b"\x01\x3F".as_slice() && !payload.is_cut())
     );
-}
-
-#[test]
-fn cooked_header_has_direction_and_index(rt: HostRuntime) {
     let octets = b"\0\x19\0\0\0\0\0\x07\x03\x06\x04\x02\xAA\xBB\0\0\0\0\0\0\x03\x73";
     let header = read_header(LinkKind::Cooked2, &frame(octets.as_slice(), 22));
     assert!(rt; header.direction == Direction::Sent);

@@ -64,17 +64,14 @@ fn text(alloc: Global, order: Order) -> Result<Vec<u8>, Fail> {
 }
 
 #[test]
-fn a_gap_is_before_each_packet_that_may_follow_lost_ones(rt: HostRuntime) -> Result<(), Fail> {
+fn gaps_are_placed_after_a_first_reading_and_noticed_without_one(
+    rt: HostRuntime,
+) -> Result<(), Fail> {
     let alloc = rt.alloc();
     let Ok(plan) = Plan::read(alloc, line(alloc)?, &mut frames(alloc)?) else {
         return Err(Fail::from("no plan"));
     };
     assert!(rt; text(alloc, Order::Placed(plan))?.as_slice() == PLACED);
-    Ok(())
-}
-
-#[test]
-fn a_gap_is_where_it_is_noticed(rt: HostRuntime) -> Result<(), Fail> {
-    assert!(rt; text(rt.alloc(), Order::Noticed)?.as_slice() == NOTICED);
+    assert!(rt; text(alloc, Order::Noticed)?.as_slice() == NOTICED);
     Ok(())
 }
