@@ -58,7 +58,3 @@ bits_then value v false false = Member (codes "more") (codes "false") _ refl ref
 bits_then value v false true = Member (codes "more") (codes "false") _ refl refl False (Member (codes "qualified") (codes "false") _ refl refl False (Member (codes "delivery") (codes "true") _ refl refl True (octets_member value v)))
 bits_then value v true false = Member (codes "more") (codes "true") _ refl refl True (Member (codes "qualified") (codes "false") _ refl refl False (Member (codes "delivery") (codes "false") _ refl refl False (octets_member value v)))
 bits_then value v true true = Member (codes "more") (codes "true") _ refl refl True (Member (codes "qualified") (codes "false") _ refl refl False (Member (codes "delivery") (codes "true") _ refl refl True (octets_member value v)))
-
--- its call
-pub call_member : (value : List ℕ) → IsValue value → IsFurther (codes ",\"call\":" ++ value)
-call_member value v = value_then (codes "call") value refl refl v

@@ -24,6 +24,7 @@ use Rattle.restart_epochs.proofs.LevelFindings.{events_append}
 use Rattle.channel_run.specs.Run.{row_events}
 use Rattle.annotated_trace.specs.Rows.{has_open, is_of_call, is_of_call_by}
 use Rattle.descriptions.specs.CallRows.{Follows, IsAfter, is_at, is_in}
+use Rattle.descriptions.specs.RowCalls.{AreQuiet}
 use Rattle.descriptions.specs.declared.call_rows.CallRows.{CallRows}
 use Rattle.descriptions.specs.declared.call_rows.Place.{Place}
 use Rattle.descriptions.proofs.Anywhere.{open_in}
@@ -58,7 +59,7 @@ pub of_epoch : (e k : ℕ) (r : Item) (ws : List What) → AllByRecursion (λ f.
 of_epoch e k r [] = tt
 of_epoch e k r (w ∷ ws) = (refl, of_epoch e k r ws)
 
-ready_at : (i : Interface) (l : GapInterfaceState) (r : Item) (k : ℕ) → routed (x25 i) l r ≡ Some k → is_ready l ≡ true
+pub ready_at : (i : Interface) (l : GapInterfaceState) (r : Item) (k : ℕ) → routed (x25 i) l r ≡ Some k → is_ready l ≡ true
 ready_at i l r k h = by (is_ready l) refl
   where
     by : (b : Bool) → is_ready l ≡ b → is_ready l ≡ true
@@ -114,21 +115,17 @@ channel_follows i rs r k w h applied =
 abbrev NoOpening : List Event → Type 0
 NoOpening fs = AllByRecursion (λ f. is_opening f ≡ false) fs
 
--- and end none
-abbrev Quiet : List Event → Type 0
-Quiet fs = AllByRecursion (λ f. (is_opening f ≡ false) × (is_end f ≡ false)) fs
-
 count_with : (es fs : List Event) → NoOpening fs → length (calls_of (es ++ fs)) ≡ length (calls_of es)
 count_with es [] h = ap (λ l. length (calls_of l)) (append-nil es)
 count_with es (f ∷ fs) h =
     ap (λ l. length (calls_of l)) (sym (append_assoc es (f ∷ []) fs)) ∙ count_with (es ++ f ∷ []) fs h.1
     ∙ omega (arith, count_more es f ∙ ap (λ b. length (calls_of es) + cond b 1 0) h.0)
 
-quiet_with : (e : ℕ) (es fs : List Event) (w : CallRows) → Quiet fs → IsAfter e es w → IsAfter e (es ++ fs) w
+quiet_with : (e : ℕ) (es fs : List Event) (w : CallRows) → AreQuiet fs → IsAfter e es w → IsAfter e (es ++ fs) w
 quiet_with e es [] w q h = subst (λ l. IsAfter e l w) (sym (append-nil es)) h
 quiet_with e es (f ∷ fs) w q h = subst (λ l. IsAfter e l w) (append_assoc es (f ∷ []) fs) (quiet_with e (es ++ f ∷ []) fs w q.1 (passed e es f w q.0.0 q.0.1 h))
 
-found_quiet : (e : ℕ) (r : Item) (route : Route) → Quiet (map event_of (stamp e None r (route_found r route)))
+found_quiet : (e : ℕ) (r : Item) (route : Route) → AreQuiet (map event_of (stamp e None r (route_found r route)))
 found_quiet e r (Found s n) = ((refl, refl), tt)
 found_quiet e r (Leave (Some n)) = ((refl, refl), tt)
 found_quiet e r (Leave None) = tt
@@ -137,7 +134,7 @@ found_quiet e r Enter = tt
 found_quiet e r Renew = tt
 found_quiet e r ToChannel = tt
 
-no_opening : (fs : List Event) → Quiet fs → NoOpening fs
+no_opening : (fs : List Event) → AreQuiet fs → NoOpening fs
 no_opening [] q = tt
 no_opening (f ∷ fs) q = (q.0.0, no_opening fs q.1)
 
@@ -213,7 +210,7 @@ walk_up i o [] = omega arith
 walk_up i o (r ∷ rs) = omega (arith, after_up i o r, walk_up i (after (x25 i) o r) rs)
 
 -- events of no later epoch
-abbrev UpTo : ℕ → List Event → Type 0
+abbrev pub UpTo : ℕ → List Event → Type 0
 UpTo e fs = AllByRecursion (λ f. f.epoch ≤ e) fs
 
 up_with : (e : ℕ) (es fs : List Event) → UpTo e es → UpTo e fs → UpTo e (es ++ fs)
@@ -320,18 +317,24 @@ level_after_row : (i : Interface) (o : Observer GapInterfaceState GapChannel) (r
 level_after_row i o r true = refl
 level_after_row i o r false = stepped_level i o r (renewed (x25 i) o.level r)
 
-pub level_follows : (i : Interface) (rs : List Item) (r : Item) (w : CallRows) → routed (x25 i) (observer i rs).level r ≡ None → Follows i rs w → Follows i (rs ++ r ∷ []) w
-level_follows i rs r w h f = record {
-  to_come = f.to_come ∙ ap (λ n. w.number - n) (sym (ap (λ l. length (calls_of l)) same ∙ count_with (events i rs) _ none));
-  place = λ ready k. by (level_next i o r all refl (sym (ap is_ready (ap (λ q. q.level) moved ∙ level_after_row i o r all)) ∙ ready)) k;
-  known = known_up w.place o.epoch now.epoch (subst (λ q. o.epoch ≤ q.epoch) (sym (observer_more i rs r)) (after_up i o r)) f.known;
-}
+-- the epoch goes on, with no events of calls
+pub record LevelStays (i : Interface) (rs : List Item) (r : Item) : Type 0 where
+  pub ready : is_ready (observer i rs).level ≡ true
+  pub epoch : (observer i (rs ++ r ∷ [])).epoch ≡ (observer i rs).epoch
+  pub own : List Event
+  pub quiet : AreQuiet own
+  pub only : events i (rs ++ r ∷ []) ≡ events i rs ++ own
+
+-- or the next one begins
+pub record LevelBegins (i : Interface) (rs : List Item) (r : Item) : Type 0 where
+  pub epoch : (observer i (rs ++ r ∷ [])).epoch ≡ (observer i rs).epoch + 1
+  pub up : UpTo (observer i rs).epoch (events i (rs ++ r ∷ []))
+
+pub level_case : (i : Interface) (rs : List Item) (r : Item) → routed (x25 i) (observer i rs).level r ≡ None → is_ready (observer i (rs ++ r ∷ [])).level ≡ true → LevelStays i rs r ⊎ LevelBegins i rs r
+level_case i rs r h ready = by (level_next i o r all refl (sym (ap is_ready (ap (λ q. q.level) moved ∙ level_after_row i o r all)) ∙ ready))
   where
     o : Observer GapInterfaceState GapChannel
     o = observer i rs
-
-    now : Observer GapInterfaceState GapChannel
-    now = observer i (rs ++ r ∷ [])
 
     all : Bool
     all = steps_all (x25 i) (observer i rs).level r
@@ -345,23 +348,45 @@ level_follows i rs r w h f = record {
     same : events i (rs ++ r ∷ []) ≡ events i rs ++ (level_events_of i rs r ++ ends)
     same = events_on_level i rs r h
 
-    none : NoOpening (level_events_of i rs r ++ ends)
-    none = both_no_opening _ _ (no_opening _ (found_quiet (observer i rs).epoch r (routing (observer i rs).level r).route)) (ends_open_nothing i (observer i rs) r (steps_all (x25 i) (observer i rs).level r))
+    by : IsNext i (observer i rs) (after_by (x25 i) (observer i rs) r (steps_all (x25 i) (observer i rs).level r) None) (ends_of i (observer i rs) r (steps_all (x25 i) (observer i rs).level r)) → LevelStays i rs r ⊎ LevelBegins i rs r
+    by (inl on) = inl (record {
+      ready = on.ready;
+      epoch = ap (λ q. q.epoch) moved ∙ on.epoch;
+      own = level_events_of i rs r;
+      quiet = found_quiet (observer i rs).epoch r (routing (observer i rs).level r).route;
+      only = same ∙ ap (λ es. events i rs ++ (level_events_of i rs r ++ map event_of es)) on.none ∙ ap (λ x. events i rs ++ x) (append-nil (level_events_of i rs r));
+    })
+    by (inr next) =
+        let e = (observer i rs).epoch in
+        inr (record {
+          epoch = ap (λ q. q.epoch) moved ∙ next;
+          up = subst (UpTo e) (sym same)
+              (up_with e (events i rs) _ (walked_up i (start i) rs)
+              (up_with e (level_events_of i rs r) _ (stamped_up e e None r (route_found r (routing (observer i rs).level r).route) (omega arith)) (ends_of_up i (observer i rs) e r (steps_all (x25 i) (observer i rs).level r) (omega arith))));
+        })
 
-    by : IsNext i (observer i rs) (after_by (x25 i) (observer i rs) r (steps_all (x25 i) (observer i rs).level r) None) (ends_of i (observer i rs) r (steps_all (x25 i) (observer i rs).level r))
-        → (k : ℕ) → has_open w.number (observer i (rs ++ r ∷ [])).epoch k (calls_of (events i (rs ++ r ∷ []))) ≡ is_at (observer i (rs ++ r ∷ [])).epoch k w.place
+-- how many calls there are
+pub level_count : (i : Interface) (rs : List Item) (r : Item) → routed (x25 i) (observer i rs).level r ≡ None → length (calls_of (events i (rs ++ r ∷ []))) ≡ length (calls_of (events i rs))
+level_count i rs r h =
+    let all = steps_all (x25 i) (observer i rs).level r in
+    ap (λ l. length (calls_of l)) (events_on_level i rs r h)
+    ∙ count_with (events i rs) _ (both_no_opening _ _ (no_opening _ (found_quiet (observer i rs).epoch r (routing (observer i rs).level r).route)) (ends_open_nothing i (observer i rs) r all))
+
+pub epoch_up : (i : Interface) (rs : List Item) (r : Item) → (observer i rs).epoch ≤ (observer i (rs ++ r ∷ [])).epoch
+epoch_up i rs r = subst (λ q. (observer i rs).epoch ≤ q.epoch) (sym (observer_more i rs r)) (after_up i (observer i rs) r)
+
+pub level_follows : (i : Interface) (rs : List Item) (r : Item) (w : CallRows) → routed (x25 i) (observer i rs).level r ≡ None → Follows i rs w → Follows i (rs ++ r ∷ []) w
+level_follows i rs r w h f = record {
+  to_come = f.to_come ∙ ap (λ n. w.number - n) (sym (level_count i rs r h));
+  place = λ ready. by (level_case i rs r h ready);
+  known = known_up w.place (observer i rs).epoch (observer i (rs ++ r ∷ [])).epoch (epoch_up i rs r) f.known;
+}
+  where
+    by : LevelStays i rs r ⊎ LevelBegins i rs r → (k : ℕ) → has_open w.number (observer i (rs ++ r ∷ [])).epoch k (calls_of (events i (rs ++ r ∷ []))) ≡ is_at (observer i (rs ++ r ∷ [])).epoch k w.place
     by (inl on) k =
-        let epoch : (observer i (rs ++ r ∷ [])).epoch ≡ (observer i rs).epoch = ap (λ q. q.epoch) moved ∙ on.epoch in
-        let more = quiet_with (observer i rs).epoch (events i rs) (level_events_of i rs r) w (found_quiet (observer i rs).epoch r (routing (observer i rs).level r).route) (record { to_come = f.to_come; place = f.place on.ready; known = f.known }) in
-        let only : events i (rs ++ r ∷ []) ≡ events i rs ++ level_events_of i rs r =
-        same ∙ ap (λ es. events i rs ++ (level_events_of i rs r ++ map event_of es)) on.none ∙ ap (λ x. events i rs ++ x) (append-nil (level_events_of i rs r)) in
-        (λ t. has_open w.number (epoch t) k (calls_of (only t))) ∙ more.place k ∙ ap (λ e. is_at e k w.place) (sym epoch)
+        let more = quiet_with (observer i rs).epoch (events i rs) on.own w on.quiet (record { to_come = f.to_come; place = f.place on.ready; known = f.known }) in
+        (λ t. has_open w.number (on.epoch t) k (calls_of (on.only t))) ∙ more.place k ∙ ap (λ e. is_at e k w.place) (sym on.epoch)
     by (inr next) k =
         let e = (observer i rs).epoch in
-        let epoch : (observer i (rs ++ r ∷ [])).epoch ≡ e + 1 = ap (λ q. q.epoch) moved ∙ next in
-        let up : UpTo e (events i (rs ++ r ∷ [])) =
-        subst (UpTo e) (sym same)
-        (up_with e (events i rs) _ (walked_up i (start i) rs)
-        (up_with e (level_events_of i rs r) _ (stamped_up e e None r (route_found r (routing (observer i rs).level r).route) (omega arith)) (ends_of_up i (observer i rs) e r (steps_all (x25 i) (observer i rs).level r) (omega arith)))) in
-        ap (λ d. has_open w.number d k (calls_of (events i (rs ++ r ∷ [])))) epoch ∙ none_later 1 w.number e (e + 1) k (events i (rs ++ r ∷ [])) (omega arith) up
-        ∙ sym (ap (λ d. is_at d k w.place) epoch ∙ not_at w.place e (e + 1) k (omega arith) f.known)
+        ap (λ d. has_open w.number d k (calls_of (events i (rs ++ r ∷ [])))) next.epoch ∙ none_later 1 w.number e (e + 1) k (events i (rs ++ r ∷ [])) (omega arith) next.up
+        ∙ sym (ap (λ d. is_at d k w.place) next.epoch ∙ not_at w.place e (e + 1) k (omega arith) f.known)

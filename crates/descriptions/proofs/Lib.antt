@@ -1,6 +1,8 @@
 pub mod OpenCalls
 pub mod CallLemmas
 pub mod FollowLemmas
+pub mod RowCallLemmas
+pub mod FewCalls
 pub mod ChoiceLemmas
 pub mod ObjectLemmas
 pub mod LineLemmas

@@ -20,15 +20,20 @@ use Rattle.line_model.specs.packets.Says.{gap_of}
 use Rattle.restart_epochs.specs.Cutting.{observer}
 use Rattle.data_transfer.specs.Packed.{Packed}
 use Rattle.channel_run.specs.StatusWord.{view_in}
-use Rattle.live_report.specs.JudgedRows.{IsJudge, IsJudgedRow}
+use Rattle.live_report.specs.JudgedRows.{IsJudge, IsJudgedRow, taker}
 use Rattle.live_report.specs.declared.judged_row.Judge.{Judge}
 use Rattle.live_report.specs.declared.judged_row.Judge.TheVariants as judge
 use Rattle.live_report.specs.declared.judged_row.JudgedRow.{JudgedRow}
 use Rattle.annotated_trace.specs.Printed.{HasAppended}
 use Rattle.descriptions.specs.Facts.{IsFateOf}
 use Rattle.descriptions.specs.Lines.{Puts, PutsForm}
-use Rattle.descriptions.specs.Members.{IsFurther, IsText, IsValue}
-use Rattle.descriptions.specs.RowObjects.{IsObjectWhere, IsRest, IsRowObject, channel_word, counted_word, events_at, finding_word, head_by, known_word, named_channel, owed_after, owed_at, place_members, row_head, state_at, state_members, word_after, word_before}
+use Rattle.descriptions.specs.Members.{IsFurther, IsText}
+use Rattle.line_model.specs.observer.Observer as Walk
+use Rattle.restart_epochs.specs.ChannelTables.{value_at}
+use Rattle.live_report.proofs.LastLemmas.{taker_is}
+use Rattle.descriptions.specs.RowCalls.{AreFewCalls, AreQuiet, call_of, number_at}
+use Rattle.descriptions.proofs.RowCallLemmas.{quiet_call}
+use Rattle.descriptions.specs.RowObjects.{IsObjectWhere, IsOfCall, IsRest, IsRowObject, call_member, channel_word, counted_word, events_at, finding_word, head_by, known_word, named_channel, owed_after, owed_at, place_members, row_head, state_at, state_members, word_after, word_before}
 use Rattle.descriptions.specs.CommonObjects.{IsCommonObject, amount_word, is_d1, is_quiet, is_settled, leaves_settled, common_head}
 use Rattle.descriptions.specs.declared.facts.Fate.TheVariants.{Counted}
 use Rattle.descriptions.proofs.FollowLemmas.{same_epoch}
@@ -92,20 +97,22 @@ place_end epoch = ap (λ xs. codes ",\"epoch\":" ++ xs) (sym (append_assoc (deci
 
 -- ---- a whole line
 
-pub common_line : (row : JudgedRow) (epoch : ℕ) (events : List Event) (a b c d : Option (List ℕ)) (bytes : List ℕ) → is_quiet row ≡ true → gap_of row.packet ≡ None → is_renewing row.packet ≡ false → a ≡ Some [] → Puts (codes "}\n") a b → PutsForm IsFurther b c
-    → Puts (common_head row epoch (all_lengths events)) c d → d ≡ Some bytes → IsCommonObject row epoch events bytes
-common_line row epoch events a b c d bytes quiet gap renews empty end plain head is =
+pub common_line : (row : JudgedRow) (epoch call : ℕ) (events : List Event) (a b c k d : Option (List ℕ)) (bytes : List ℕ) → is_quiet row ≡ true → gap_of row.packet ≡ None → is_renewing row.packet ≡ false → AreQuiet events → a ≡ Some [] → Puts (codes "}\n") a b → PutsForm IsFurther b c → Puts (call_member call) c k
+    → Puts (common_head row epoch (all_lengths events)) k d → d ≡ Some bytes → IsCommonObject row epoch call events bytes
+common_line row epoch call events a b c k d bytes quiet gap renews steady empty end plain called head is =
     let h = head.whole bytes is in
-    let p = plain.whole h.0 h.1 in
+    let m = called.whole h.0 h.1 in
+    let p = plain.whole m.0 m.1 in
     let e = end.whole p.0 p.2 in
     let none : e.0 ≡ [] = same_line e.0 [] (sym e.1 ∙ empty) in
     record {
       quiet = quiet;
       packet = gap;
       renews = renews;
-      rest = p.1;
-      members = p.4;
-      written = h.2 ∙ ap (λ xs. common_head row epoch (all_lengths events) ++ xs) (p.3 ∙ ap (λ xs. p.1 ++ xs) (e.2 ∙ ap (λ xs. codes "}\n" ++ xs) none));
+      steady = steady;
+      rest = call_member call ++ p.1;
+      members = (p.1, refl, p.4);
+      written = h.2 ∙ ap (λ xs. common_head row epoch (all_lengths events) ++ xs) (m.2 ∙ ap (λ xs. call_member call ++ xs) (p.3 ∙ ap (λ xs. p.1 ++ xs) (e.2 ∙ ap (λ xs. codes "}\n" ++ xs) none)) ∙ sym (append_assoc (call_member call) p.1 (codes "}\n")));
     }
 
 -- a line that was lent
@@ -160,11 +167,24 @@ taker_of i None o more (judge.Restart before after) h settled = absurd (let bad 
 taker_of i None o more (judge.Channel k before after accepted) h settled = absurd h
 taker_of i (Some n) o more j h settled = (n, refl)
 
-further_rest : (read packet : Packet) → read ≡ packet → gap_of packet ≡ None → (rest : List ℕ) → IsFurther rest → IsRest (gap_of read) None rest
-further_rest read packet same none rest h = subst (λ g. IsRest g None rest) (sym (ap gap_of same ∙ none)) h
+further_rest : (read packet : Packet) → read ≡ packet → gap_of packet ≡ None → (call known : ℕ) → call ≡ known → (rest : List ℕ) → IsOfCall call rest → IsRest (gap_of read) None known rest
+further_rest read packet same none call known is rest h = subst (λ g. IsRest g None known rest) (sym (ap gap_of same ∙ none)) (subst (λ n. IsOfCall n rest) is h)
 
-common_object : (i : Interface) (earlier : List Item) (r : Item) (row : JudgedRow) (epoch : ℕ) (events : List Event) (bytes : List ℕ) → IsJudgedRow i earlier r row events → epoch ≡ (observer i (earlier ++ r ∷ [])).epoch → IsCommonObject row epoch events bytes → IsRowObject i earlier r bytes
-common_object i earlier r row epoch events bytes l at line =
+-- the call that is open on the channel of a row, as it is kept
+abbrev pub IsCallOf : {A : Type 0} → Origins A → JudgedRow → (call : ℕ) → Type 0
+IsCallOf kept row call = IfSome (taker row.judge) (λ k. call ≡ number_at kept.epoch (value_at kept.calls.table k))
+
+-- such a row is of the call that is open before it
+common_call : {A : Type 0} (i : Interface) (earlier : List Item) (r : Item) (row : JudgedRow) (events : List Event) (call : ℕ) (kept : Origins A) → IsJudgedRow i earlier r row events → AreQuiet events → KeepsOrigins i earlier kept → IsCallOf kept row call
+    → AreFewCalls (Walk.events i (earlier ++ r ∷ [])) → (n : ℕ) → routed (x25 i) (observer i earlier).level r ≡ Some n → call ≡ call_of i earlier r
+common_call i earlier r row events call kept l quiet h of_call few n to =
+    let known : call ≡ number_at kept.epoch (value_at kept.calls.table n) =
+    subst (λ q. IfSome q (λ k. call ≡ number_at kept.epoch (value_at kept.calls.table k))) (taker_is i _ (observer i earlier) (observer i (earlier ++ r ∷ [])) row.judge l.judge ∙ to) of_call in
+    known ∙ ap (λ e. number_at e (value_at kept.calls.table n)) h.epoch ∙ quiet_call i earlier r n kept.calls to (subst AreQuiet (l.came n to) quiet) h.calls few
+
+common_object : {A : Type 0} (i : Interface) (earlier : List Item) (r : Item) (row : JudgedRow) (epoch call : ℕ) (events : List Event) (bytes : List ℕ) (kept : Origins A) → IsJudgedRow i earlier r row events → epoch ≡ (observer i (earlier ++ r ∷ [])).epoch → KeepsOrigins i earlier kept → IsCallOf kept row call
+    → AreFewCalls (Walk.events i (earlier ++ r ∷ [])) → IsCommonObject row epoch call events bytes → IsRowObject i earlier r bytes
+common_object i earlier r row epoch call events bytes kept l at h of_call few line =
     let o : Observer GapInterfaceState GapChannel = observer i earlier in
     let more : Observer GapInterfaceState GapChannel = observer i (earlier ++ r ∷ []) in
     let taker : Option ℕ = routed (x25 i) o.level r in
@@ -189,29 +209,30 @@ common_object i earlier r row epoch events bytes l at line =
       found = None;
       came = subst (λ f. (report_of i (earlier ++ r ∷ [])).findings ≡ (report_of i earlier).findings ++ option_to_list f) none l.finding;
       rest = line.rest;
-      one = rest_one None None line.rest line.members;
-      members = further_rest r.packet row.packet (sym l.packet) line.packet line.rest line.members;
+      one = rest_one None None call line.rest line.members;
+      members = further_rest r.packet row.packet (sym l.packet) line.packet call (call_of i earlier r) (common_call i earlier r row events call kept l line.steady h of_call few on.0 on.1) line.rest line.members;
       written = line.written ∙ ap (λ xs. xs ++ (line.rest ++ codes "}\n")) head;
     }
 
 pub picked_object : (picked : Bool) (i : Interface) (earlier : List Item) (r : Item) (bytes : List ℕ) → picked ≡ true → IsRowObject i earlier r bytes → IsObjectWhere picked i earlier r bytes
 picked_object picked i earlier r bytes is h = subst (λ b. IsObjectWhere b i earlier r bytes) (sym is) h
 
-pub lent_object : {X : Type 0} (f : X → List ℕ) (o : Option X) (picked : Bool) (i : Interface) (earlier : List Item) (r : Item) (row : JudgedRow) (epoch : ℕ) (events : List Event) (digits : List ℕ) → picked ≡ true
-    → IsJudgedRow i earlier r row events → epoch ≡ (observer i (earlier ++ r ∷ [])).epoch → IsText digits → IfSome o (λ x. IsText digits → IsCommonObject row epoch events (f x)) → IfSome o (λ x. IsObjectWhere picked i earlier r (f x))
-lent_object f None picked i earlier r row epoch events digits is l at text h = tt
-lent_object f (Some x) picked i earlier r row epoch events digits is l at text h = picked_object picked i earlier r (f x) is (common_object i earlier r row epoch events (f x) l at (h text))
+pub lent_object : {X A : Type 0} (f : X → List ℕ) (o : Option X) (picked : Bool) (i : Interface) (earlier : List Item) (r : Item) (row : JudgedRow) (epoch call : ℕ) (events : List Event) (digits : List ℕ) (kept : Origins A) → picked ≡ true
+    → IsJudgedRow i earlier r row events → epoch ≡ (observer i (earlier ++ r ∷ [])).epoch → KeepsOrigins i earlier kept → IsCallOf kept row call → AreFewCalls (Walk.events i (earlier ++ r ∷ [])) → IsText digits
+    → IfSome o (λ x. IsText digits → IsCommonObject row epoch call events (f x)) → IfSome o (λ x. IsObjectWhere picked i earlier r (f x))
+lent_object f None picked i earlier r row epoch call events digits kept is l at past of_call few text h = tt
+lent_object f (Some x) picked i earlier r row epoch call events digits kept is l at past of_call few text h = picked_object picked i earlier r (f x) is (common_object i earlier r row epoch call events (f x) kept l at past of_call few (h text))
 
 -- such a row leaves what is kept of the rows before it as it is
-common_kept : {A : Type 0} (i : Interface) (earlier : List Item) (r : Item) (row : JudgedRow) (epoch : ℕ) (events : List Event) (bytes : List ℕ) (kept : Origins A) → IsJudgedRow i earlier r row events → IsCommonObject row epoch events bytes → KeepsOrigins i earlier kept → KeepsOrigins i (earlier ++ r ∷ []) kept
-common_kept i earlier r row epoch events bytes kept l line h =
+common_kept : {A : Type 0} (i : Interface) (earlier : List Item) (r : Item) (row : JudgedRow) (epoch call : ℕ) (events : List Event) (bytes : List ℕ) (kept : Origins A) → IsJudgedRow i earlier r row events → IsCommonObject row epoch call events bytes → KeepsOrigins i earlier kept → KeepsOrigins i (earlier ++ r ∷ []) kept
+common_kept i earlier r row epoch call events bytes kept l line h =
     let on = taker_of i (routed (x25 i) (observer i earlier).level r) (observer i earlier) (observer i (earlier ++ r ∷ [])) row.judge l.judge (both_right (is_none row.finding) (leaves_settled row.judge) line.quiet) in
-    kept_quiet i earlier r row events on.0 kept l on.1 (no_finding row.finding (both_left (is_none row.finding) (leaves_settled row.judge) line.quiet)) line.renews h
+    kept_quiet i earlier r row events on.0 kept l on.1 (no_finding row.finding (both_left (is_none row.finding) (leaves_settled row.judge) line.quiet)) line.renews line.steady h
 
-pub lent_kept : {X A : Type 0} (f : X → List ℕ) (o : Option X) (i : Interface) (earlier : List Item) (r : Item) (row : JudgedRow) (epoch : ℕ) (events : List Event) (digits : List ℕ) (kept : Origins A)
-    → IsJudgedRow i earlier r row events → IsText digits → IfSome o (λ x. IsText digits → IsCommonObject row epoch events (f x)) → IfSome o (λ x. KeepsOrigins i earlier kept → KeepsOrigins i (earlier ++ r ∷ []) kept)
-lent_kept f None i earlier r row epoch events digits kept l text h = tt
-lent_kept f (Some x) i earlier r row epoch events digits kept l text h = common_kept i earlier r row epoch events (f x) kept l (h text)
+pub lent_kept : {X A : Type 0} (f : X → List ℕ) (o : Option X) (i : Interface) (earlier : List Item) (r : Item) (row : JudgedRow) (epoch call : ℕ) (events : List Event) (digits : List ℕ) (kept : Origins A)
+    → IsJudgedRow i earlier r row events → IsText digits → IfSome o (λ x. IsText digits → IsCommonObject row epoch call events (f x)) → IfSome o (λ x. KeepsOrigins i earlier kept → KeepsOrigins i (earlier ++ r ∷ []) kept)
+lent_kept f None i earlier r row epoch call events digits kept l text h = tt
+lent_kept f (Some x) i earlier r row epoch call events digits kept l text h = common_kept i earlier r row epoch call events (f x) kept l (h text)
 
 -- ---- it is appended
 

@@ -23,6 +23,7 @@ use Rattle.annotated_trace.specs.declared.rows.Rows.{Rows}
 use Rattle.descriptions.specs.Choosing.{picked_where}
 use Rattle.descriptions.specs.Facts.{AreFactsOf}
 use Rattle.descriptions.specs.Follows.{follows_at}
+use Rattle.descriptions.specs.RowCalls.{call_of, row_call}
 use Rattle.descriptions.specs.RowObjects.{IsObjectOf, IsObjectWhere, IsRest, IsRowObject, counted_word, events_at, finding_word, gap_head, head_by, joined, known_word, named_channel, owed_after, owed_at, packet_head, place_members, row_head, state_at, state_members, word_after, word_before}
 use Rattle.descriptions.specs.declared.facts.RowFacts.{RowFacts}
 use Rattle.descriptions.proofs.OneLine.{rest_one}
@@ -86,13 +87,13 @@ packet_is i earlier r facts h none = sym (ap (λ g. head_by g i earlier r facts.
 
 -- ---- an object
 
-pub object_put : (i : Interface) (earlier : List Item) (r : Item) (facts : RowFacts) (members out o1 o2 o3 : List ℕ) → AreFactsOf i earlier r facts → IsRest (gap_of facts.last.now.packet) facts.last.now.finding members
+pub object_put : (i : Interface) (earlier : List Item) (r : Item) (facts : RowFacts) (members out o1 o2 o3 : List ℕ) → AreFactsOf i earlier r facts → IsRest (gap_of facts.last.now.packet) facts.last.now.finding (row_call facts.calls) members
     → o1 ≡ out ++ row_head i earlier r facts.last.now.finding → o2 ≡ o1 ++ members → o3 ≡ o2 ++ codes "}\n" → HasAppended (IsRowObject i earlier r) out o3
 object_put i earlier r facts members out o1 o2 o3 h is e1 e2 e3 = record {
   bytes = row_head i earlier r facts.last.now.finding ++ (members ++ codes "}\n");
   appended = e3 ∙ ap (λ xs. xs ++ codes "}\n") (e2 ∙ ap (λ xs. xs ++ members) e1)
       ∙ append_assoc (out ++ row_head i earlier r facts.last.now.finding) members (codes "}\n") ∙ append_assoc out (row_head i earlier r facts.last.now.finding) (members ++ codes "}\n");
-  formed = record { found = facts.last.now.finding; came = h.finding; rest = members; one = rest_one (gap_of facts.last.now.packet) facts.last.now.finding members is; members = subst (λ packet. IsRest (gap_of packet) facts.last.now.finding members) h.packet is; written = refl };
+  formed = record { found = facts.last.now.finding; came = h.finding; rest = members; one = rest_one (gap_of facts.last.now.packet) facts.last.now.finding (row_call facts.calls) members is; members = subst (λ packet. IsRest (gap_of packet) facts.last.now.finding (call_of i earlier r) members) h.packet (subst (λ call. IsRest (gap_of facts.last.now.packet) facts.last.now.finding call members) h.call is); written = refl };
 }
 
 -- ---- which rows have one

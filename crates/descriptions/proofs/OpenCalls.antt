@@ -100,7 +100,7 @@ still_open x f later e k false b n h l = refl
 still_open x f later e k true false n h l = refl
 still_open x f later e k true true n h l = ap (λ c. n && not c) (alongside_on x f e k (eqb-true x.epoch e h) (eqb-true x.channel k l))
 
-open_more : (x f : Event) (later : List Event) (e k : ℕ) → (now : OpensFirst x later) (next : OpensFirst x (later ++ f ∷ [])) → is_open_on e k next.call ≡ (is_open_on e k now.call && not (is_end f && on e k f))
+pub open_more : (x f : Event) (later : List Event) (e k : ℕ) → (now : OpensFirst x later) (next : OpensFirst x (later ++ f ∷ [])) → is_open_on e k next.call ≡ (is_open_on e k now.call && not (is_end f && on e k f))
 open_more x f later e k now next =
     (λ t. eqb (next.epoch t) e && (eqb (next.channel t) k && is_none (next.ended t)))
     ∙ ap (λ b. eqb x.epoch e && (eqb x.channel k && b)) (end_more x f later)

@@ -29,7 +29,9 @@ use Rattle.live_report.proofs.LastLemmas.{taker_is}
 use Rattle.descriptions.specs.Follows.{KeepsOrigins, after_packet, after_row, first_in, follows_at, follows_from, follows_on, is_of_course, is_renewing, is_taken_by, origin_at, origin_from, origin_of, seen_by, unless_settled}
 use Rattle.descriptions.specs.declared.origins.Origin.{Origin}
 use Rattle.descriptions.specs.declared.origins.Origins.{Origins}
+use Rattle.descriptions.specs.RowCalls.{AreQuiet, KeepsCalls}
 use Rattle.descriptions.proofs.FollowLemmas.{events_on_channel, same_epoch}
+use Rattle.descriptions.proofs.RowCallLemmas.{kept_calls_quiet}
 
 -- ---- one more row
 
@@ -75,15 +77,17 @@ at_other i rs r k q h =
 -- ---- what is kept
 
 pub kept_off : {A : Type 0} (i : Interface) (rs : List Item) (r : Item) (old new : Origins A) → routed (x25 i) (observer i rs).level r ≡ None → KeepsOrigins i rs old → ((k : ℕ) → value_at new.table k ≡ value_at old.table k)
-    → new.epoch ≡ (observer i (rs ++ r ∷ [])).epoch → KeepsOrigins i (rs ++ r ∷ []) new
-kept_off i rs r old new to h same epoch = record {
+    → new.epoch ≡ (observer i (rs ++ r ∷ [])).epoch → KeepsCalls i (rs ++ r ∷ []) new.calls → KeepsOrigins i (rs ++ r ∷ []) new
+kept_off i rs r old new to h same epoch calls = record {
+  calls = calls;
   epoch = epoch;
   values = λ k. same k ∙ h.values k ∙ sym (at_other i rs r k (origin_of i rs k) (ap (is_taken_by k) to)) ∙ sym (origin_more i rs r k);
 }
 
 pub kept_on : {A : Type 0} (i : Interface) (rs : List Item) (r : Item) (row : JudgedRow) (seen : List Event) (n : ℕ) (old new : Origins A) → IsJudgedRow i rs r row seen → routed (x25 i) (observer i rs).level r ≡ Some n → KeepsOrigins i rs old
-    → value_at new.table n ≡ on_taker i rs r row.finding n (value_at old.table n) → ((k : ℕ) → k ≢ n → value_at new.table k ≡ value_at old.table k) → new.epoch ≡ (observer i (rs ++ r ∷ [])).epoch → KeepsOrigins i (rs ++ r ∷ []) new
-kept_on i rs r row seen n old new l to h own others epoch = record { epoch = epoch; values = λ k. by k (n == k) refl }
+    → value_at new.table n ≡ on_taker i rs r row.finding n (value_at old.table n) → ((k : ℕ) → k ≢ n → value_at new.table k ≡ value_at old.table k) → new.epoch ≡ (observer i (rs ++ r ∷ [])).epoch
+    → KeepsCalls i (rs ++ r ∷ []) new.calls → KeepsOrigins i (rs ++ r ∷ []) new
+kept_on i rs r row seen n old new l to h own others epoch calls = record { epoch = epoch; values = λ k. by k (n == k) refl; calls = calls }
   where
     by : (k : ℕ) (b : Bool) → (n == k) ≡ b → value_at new.table k ≡ origin_of i (rs ++ r ∷ []) k
     by k true is =
@@ -100,12 +104,12 @@ quiet_same e r c None h = refl
 quiet_same e r c (Some q) h = sym (ap (λ b. cond (b && not c.owed) (unless_settled c.state (seen_by r.side q)) (Some q)) h)
 
 pub kept_quiet : {A : Type 0} (i : Interface) (rs : List Item) (r : Item) (row : JudgedRow) (seen : List Event) (n : ℕ) (kept : Origins A) → IsJudgedRow i rs r row seen → routed (x25 i) (observer i rs).level r ≡ Some n
-    → row.finding ≡ None → is_renewing row.packet ≡ false → KeepsOrigins i rs kept → KeepsOrigins i (rs ++ r ∷ []) kept
-kept_quiet i rs r row seen n kept l to none other h =
+    → row.finding ≡ None → is_renewing row.packet ≡ false → AreQuiet seen → KeepsOrigins i rs kept → KeepsOrigins i (rs ++ r ∷ []) kept
+kept_quiet i rs r row seen n kept l to none other quiet h =
     let o = observer i rs in
     kept_on i rs r row seen n kept kept l to h
     (quiet_same o.epoch r ((after (x25 i) o r).states n).channel (value_at kept.table n) (ap is_renewing (sym l.packet) ∙ other) ∙ (λ t. on_taker i rs r (sym none t) n (value_at kept.table n)))
-    (λ k not_here. refl) (h.epoch ∙ sym (same_epoch i rs r n to))
+    (λ k not_here. refl) (h.epoch ∙ sym (same_epoch i rs r n to)) (kept_calls_quiet i rs r n kept.calls to (subst AreQuiet (l.came n to) quiet) h.calls)
 
 -- ---- a row as it was judged
 

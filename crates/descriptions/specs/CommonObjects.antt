@@ -14,8 +14,8 @@ use Rattle.live_report.specs.declared.judged_row.Judge.{Judge}
 use Rattle.live_report.specs.declared.judged_row.Judge.TheVariants as judge
 use Rattle.live_report.specs.declared.judged_row.JudgedRow.{JudgedRow}
 use Rattle.descriptions.specs.Follows.{is_renewing}
-use Rattle.descriptions.specs.Members.{IsFurther}
-use Rattle.descriptions.specs.RowObjects.{counted_word, finding_word, joined, named_channel, place_members, state_members}
+use Rattle.descriptions.specs.RowCalls.{AreQuiet}
+use Rattle.descriptions.specs.RowObjects.{IsOfCall, counted_word, finding_word, joined, named_channel, place_members, state_members}
 
 -- whether a state of data transfer is d1
 abbrev pub is_first : DState → Bool
@@ -50,11 +50,12 @@ common_head row epoch lengths =
     state_members row.number row.side (named_channel row.packet) (codes "d1") (codes "d1")
     ++ (counted_word lengths ++ (place_members epoch false ++ finding_word None None))
 
--- its object on a line of its own: that beginning, and members with other names
-pub record IsCommonObject (row : JudgedRow) (epoch : ℕ) (events : List Event) (bytes : List ℕ) : Type 0 where
+-- its object on a line of its own: that beginning, its call, and members with other names
+pub record IsCommonObject (row : JudgedRow) (epoch call : ℕ) (events : List Event) (bytes : List ℕ) : Type 0 where
   pub quiet : is_quiet row ≡ true
   pub packet : gap_of row.packet ≡ None
   pub renews : is_renewing row.packet ≡ false
+  pub steady : AreQuiet events
   pub rest : List ℕ
-  pub members : IsFurther rest
+  pub members : IsOfCall call rest
   pub written : bytes ≡ common_head row epoch (all_lengths events) ++ (rest ++ codes "}\n")

@@ -11,6 +11,7 @@ use Rattle.live_report.specs.JudgedRows.{IsJudge}
 use Rattle.live_report.specs.Uncounted.{reason_at}
 use Rattle.live_report.specs.declared.uncounted.Reason.{Reason}
 use Rattle.descriptions.specs.Follows.{follows_at}
+use Rattle.descriptions.specs.RowCalls.{call_of, row_call}
 use Rattle.descriptions.specs.RowObjects.{events_at}
 use Rattle.descriptions.specs.declared.facts.Fate.{Fate}
 use Rattle.descriptions.specs.declared.facts.Fate.TheVariants.{Counted, NotCounted}
@@ -28,7 +29,7 @@ abbrev pub reason_in : Fate → Option Reason
 reason_in (NotCounted reason) = Some reason
 reason_in _ = None
 
--- a row after others, the machine that judged it, what it found, what it counted, why it did not, its epoch, and the finding that its own may follow from
+-- a row after others, the machine that judged it, what it found, what it counted, why it did not, its epoch, the finding that its own may follow from, and its call
 pub record AreFactsOf (i : Interface) (earlier : List Item) (r : Item) (facts : RowFacts) : Type 0 where
   pub number : facts.last.now.number ≡ r.number
   pub side : facts.last.now.side ≡ r.side
@@ -39,3 +40,4 @@ pub record AreFactsOf (i : Interface) (earlier : List Item) (r : Item) (facts : 
   pub reason : reason_in facts.fate ≡ reason_at i (observer i earlier) r
   pub epoch : facts.earlier.epoch ≡ (observer i earlier).epoch
   pub follows : facts.earlier.follows ≡ follows_at i earlier r facts.last.now.finding
+  pub call : row_call facts.calls ≡ call_of i earlier r

@@ -28,6 +28,7 @@ use Rattle.line_model.specs.observer.Report.{findings_of}
 use Rattle.channel_run.specs.Run.{row_events}
 use Rattle.restart_epochs.specs.ChannelTables.{value_at}
 use Rattle.restart_epochs.specs.Cutting.{observer}
+use Rattle.descriptions.specs.RowCalls.{KeepsCalls}
 use Rattle.descriptions.specs.declared.origins.Origin.{Origin}
 use Rattle.descriptions.specs.declared.origins.Origins.{Origins}
 
@@ -115,7 +116,8 @@ follows_on i earlier (Some k) found = follows_from (observer i earlier).epoch (o
 abbrev pub follows_at : Interface → (earlier : List Item) → Item → Option Finding → Option ℕ
 follows_at i earlier r found = follows_on i earlier (routed (x25 i) (observer i earlier).level r) found
 
--- it keeps, of these rows, the epoch of the next one, and where the findings of each channel began
+-- it keeps, of these rows, the epoch of the next one, where the findings of each channel began, and the call that is open there
 pub record KeepsOrigins {A : Type 0} (i : Interface) (rs : List Item) (o : Origins A) : Type 0 where
   pub epoch : o.epoch ≡ (observer i rs).epoch
   pub values : (k : ℕ) → value_at o.table k ≡ origin_of i rs k
+  pub calls : KeepsCalls i rs o.calls

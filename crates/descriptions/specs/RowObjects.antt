@@ -1,5 +1,5 @@
 -- The object of a row: its first members say what the definitions' walk does; others come after them.
-use Rattle.std.specs.Prelude.{◌≡◌, ℕ, Bool, true, false, List, [], ◌∷◌, ◌++◌, Option, None, Some, IfSome, OnOk, Result, option_to_list, codes, decimal, flat_map, length}
+use Rattle.std.specs.Prelude.{◌≡◌, ℕ, zero, suc, Bool, true, false, List, [], ◌∷◌, ◌++◌, Option, None, Some, IfSome, OnOk, Result, option_to_list, codes, decimal, flat_map, length}
 use Rattle.json_lines.specs.Json.{json_text}
 use Rattle.line_model.specs.basics.Records.{Item, Report, Row}
 use Rattle.line_model.specs.channels.Gaps.{GapChannel}
@@ -36,6 +36,7 @@ use Rattle.annotated_trace.specs.declared.rows.Rows.{Rows}
 use Rattle.descriptions.specs.Closing.{AreClosingObjects}
 use Rattle.descriptions.specs.Follows.{KeepsOrigins, follows_at}
 use Rattle.descriptions.specs.Members.{IsFurther}
+use Rattle.descriptions.specs.RowCalls.{call_of}
 use Rattle.descriptions.specs.declared.origins.Origins.{Origins}
 
 -- all words, one after the other
@@ -139,18 +140,32 @@ head_by (Some channel) i earlier r found = gap_head r.number channel
 abbrev pub row_head : Interface → (earlier : List Item) → Item → Option Finding → List ℕ
 row_head i earlier r found = head_by (gap_of r.packet) i earlier r found
 
--- what comes after that beginning: where the row found something, the rest of the object of the finding; then further members of the row's
-abbrev pub IsRest : (gap : Option (Option ℕ)) → Option Finding → List ℕ → Type 0
-IsRest None (Some f) rest = (own : List ℕ) × (further : List ℕ) × (rest ≡ own ++ (codes "}" ++ further)) × IsFurther own × IsFurther further
-IsRest _ _ rest = IsFurther rest
+-- the number of a call, or null for 0
+abbrev pub call_word : ℕ → List ℕ
+call_word zero = codes "null"
+call_word (suc n) = decimal (suc n)
 
--- the object of a row after others on a line of its own: that beginning, with what the row found, and members with other names
+abbrev pub call_member : ℕ → List ℕ
+call_member n = codes ",\"call\":" ++ call_word n
+
+-- members that begin with a call
+abbrev pub IsOfCall : (call : ℕ) → List ℕ → Type 0
+IsOfCall call bytes = (others : List ℕ) × (bytes ≡ call_member call ++ others) × IsFurther others
+
+-- what comes after that beginning: where the row found something, the rest of the object of the finding; then the row's call and further
+-- members; of a gap further members alone
+abbrev pub IsRest : (gap : Option (Option ℕ)) → Option Finding → (call : ℕ) → List ℕ → Type 0
+IsRest None (Some f) call rest = (own : List ℕ) × (further : List ℕ) × (rest ≡ own ++ (codes "}" ++ further)) × IsFurther own × IsOfCall call further
+IsRest None None call rest = IsOfCall call rest
+IsRest (Some channel) found call rest = IsFurther rest
+
+-- the object of a row after others on a line of its own: that beginning, with what the row found, its call, and members with other names
 pub record IsRowObject (i : Interface) (earlier : List Item) (r : Item) (bytes : List ℕ) : Type 0 where
   pub found : Option Finding
   pub came : (report_of i (earlier ++ r ∷ [])).findings ≡ (report_of i earlier).findings ++ option_to_list found
   pub rest : List ℕ
   pub one : IsOneLine rest
-  pub members : IsRest (gap_of r.packet) found rest
+  pub members : IsRest (gap_of r.packet) found (call_of i earlier r) rest
   pub written : bytes ≡ row_head i earlier r found ++ (rest ++ codes "}\n")
 
 -- the object of a row that is printed, and nothing for another

@@ -1,7 +1,8 @@
 //! What is kept of each call for the objects after the report.
 
 use crate::causes::Causes;
-use crate::facts::{EndedCall, RowFacts, gap_of};
+use crate::facts::{RowFacts, gap_of};
+use crate::open_calls::EndedCall;
 use crate::times::Recorded;
 use line_model::event::{Event, What};
 use line_model::finding::Code;

@@ -1,6 +1,6 @@
 //! Fast path: the objects of data with Q 0 and of receive ready, in d1 and without a finding.
 
-ghost use Rattle.std.specs.Prelude.{◌≡◌, ℕ, ◌++◌, List, IfSome, None, Some, codes, false};
+ghost use Rattle.std.specs.Prelude.{◌≡◌, ℕ, ◌++◌, ◌∷◌, [], List, IfSome, None, Some, codes, false};
 ghost use Rattle.std.specs.Bool.{OnTrue};
 ghost use Rattle.line_model.specs.observer.Calls.{all_lengths};
 ghost use Rattle.line_model.specs.observer.Report.{side_word};
@@ -10,14 +10,16 @@ ghost use Rattle.descriptions.specs.Facts.{IsFateOf};
 ghost use Rattle.descriptions.specs.Follows.{is_renewing};
 ghost use Rattle.descriptions.specs.Lines.{Puts, PutsForm};
 ghost use Rattle.descriptions.specs.Members.{IsFurther, IsText, IsValue};
-ghost use Rattle.descriptions.specs.RowObjects.{counted_word, named_channel};
+ghost use Rattle.descriptions.specs.RowObjects.{call_member, call_word, counted_word, named_channel};
+ghost use Rattle.descriptions.specs.RowCalls.{AreQuiet};
 ghost use Rattle.descriptions.specs.CommonObjects.{IsCommonObject, amount_word, is_quiet, is_settled, common_head};
 
-use crate::facts::{Fate, counted_in, is_adrift};
+use crate::facts::{Fate, is_adrift};
 use crate::line_room::LineRoom;
+use call_accounts::so_far::segments_in;
 use channel_run::status_word::{bit, state_in};
 use data_transfer::packed::FlowWord;
-use line_model::event::Event;
+use line_model::event::{Event, What};
 use line_model::packet::{DataHeader, Packet, PacketKind};
 use line_model::state::{ChannelState, DState, Side};
 use live_report::judged_row::{Judge, JudgedRow};
@@ -130,18 +132,17 @@ fn put_packet(line: &mut LineRoom, kind: &PacketKind, fate: Fate, digits: &[u8])
 
 /// Puts the number of a call, or null.
 fn put_call(line: &mut LineRoom, call: u32)
-    ensures { PutsForm IsValue line.old line.new }
+    ensures { Puts (call_word call) line.old line.new }
 {
-    if call == 0 {
-        line.put(b"null");
-        return;
+    match call {
+        0 => line.put(b"null"),
+        call => line.number(u64::from(call)),
     }
-    line.number(u64::from(call));
 }
 
 /// Puts the member of a call.
 fn put_call_member(line: &mut LineRoom, call: u32)
-    ensures { PutsForm IsFurther line.old line.new }
+    ensures { Puts (call_member call) line.old line.new }
 {
     put_call(line, call);
     line.put(b",\"call\":");
@@ -196,13 +197,29 @@ fn put_head(line: &mut LineRoom, common: &CommonRow<'_>, channel: u16, fate: Fat
     line.put(b"{\"line\":\"row\",\"packet\":");
 }
 
-/// What became of the data of a row that found nothing and has these events.
-fn common_fate(events: &[Event]) -> Fate
-    ensures { IsFateOf (all_lengths events.now) result }
+/// What became of the data of a row that found nothing and has these events; none where one of them is no data.
+fn common_fate(events: &[Event]) -> Option<Fate>
+    ensures counted { IfSome result (λ fate. IsFateOf (all_lengths events.now) fate) }
+    ensures quiet { IfSome result (λ fate. AreQuiet events.now) }
 {
-    match counted_in(events) {
-        Some(fate) => fate,
-        None => Fate::NoData,
+    match events {
+        [] => Some(Fate::NoData),
+        [event] => data_fate(event),
+        _ => None,
+    }
+}
+
+/// The fate of the data of an event.
+fn data_fate(event: &Event) -> Option<Fate>
+    ensures counted { IfSome result (λ fate. IsFateOf (all_lengths (event.now ∷ [])) fate) }
+    ensures quiet { IfSome result (λ fate. AreQuiet (event.now ∷ [])) }
+{
+    match event.what {
+        What::Data { octets, .. } => Some(Fate::Counted {
+            octets,
+            segments: segments_in(event),
+        }),
+        _ => None,
     }
 }
 
@@ -211,15 +228,18 @@ fn common_fate(events: &[Event]) -> Fate
 #[inline(always)]
 pub fn common_object<'r>(room: &'r mut LineRoom, common: &CommonRow<'_>) -> Option<&'r [u8]>
     ensures { IfSome result (λ object. IsText common.now.digits.now
-        → IsCommonObject common.now.row.now common.now.epoch common.now.events.now object.now) }
+        → IsCommonObject common.now.row.now common.now.epoch common.now.call
+        common.now.events.now object.now) }
 {
     let Packet::Channel { channel, kind } = &common.row.packet else {
         return None;
     };
-    if !is_quiet(common.row) || common.events.len() > 1 {
+    if !is_quiet(common.row) {
         return None;
     }
-    let fate = common_fate(common.events);
+    let Some(fate) = common_fate(common.events) else {
+        return None;
+    };
     room.clear();
     room.put(b"}\n");
     let is_common = put_packet(room, kind, fate, common.digits);

@@ -1,4 +1,4 @@
-//! What is kept of the rows before: the calls, and the sequences of data that PAD calls have begun.
+//! What is kept of the rows before: the sequences of data that PAD calls have begun.
 
 ghost use Rattle.std.specs.Prelude.{◌≡◌, ◌<◌, [], ℕ, List, None, OnOk, Some, length};
 ghost use Rattle.line_model.specs.basics.Records.{Item};
@@ -9,19 +9,18 @@ ghost use Rattle.live_report.specs.JudgedRows.{IsJudgedRow, taker};
 ghost use Rattle.live_report.specs.Uncounted.{reason_at};
 ghost use Rattle.descriptions.specs.Facts.{AreFactsOf, IsFateOf, reason_in};
 ghost use Rattle.descriptions.specs.Follows.{follows_at};
+ghost use Rattle.descriptions.specs.RowCalls.{call_of, row_call};
 
-use crate::facts::{
-    CallMove, EndedCall, Fate, RowFacts, counted_in, data_header, is_adrift, is_clear, user_data,
-};
+use crate::facts::{Fate, RowFacts, counted_in, data_header, is_adrift, user_data};
+use crate::open_calls::leaves_ready;
 use crate::origins::Earlier;
 use channel_run::run::Channel;
 use channel_run::status_word::{state_in, view_in};
 use data_transfer::assembler::Assembler;
 use data_transfer::packed::FlowWord;
 use data_transfer::sequence::{DataField, Put, UserData};
-use line_model::event::{Event, How, What};
+use line_model::event::Event;
 use line_model::interface::Interface;
-use line_model::packet::Packet;
 use line_model::row::ReadRow;
 use line_model::state::{ChannelState, DState, RState, Side};
 use live_report::judged_row::{Judge, JudgedRow};
@@ -34,10 +33,6 @@ use std::boxed::Box;
 /// What is kept of a logical channel.
 #[derive(Drop)]
 struct KnownChannel<A: Allocator> {
-    /// The number of its call that is open, or 0.
-    call: u32,
-    /// The number of its last call, where the clear indication of the DCE is still to come, or 0.
-    uncleared: u32,
     /// Whether it was adrift since its call was opened.
     had_gap: bool,
     /// The sequences of data packets that its PAD call has begun.
@@ -48,8 +43,6 @@ impl<A: Allocator + Copy> KnownChannel<A> {
     /// Returns a channel without a row, with this packet size in force.
     fn fresh(alloc: A, size: u16) -> Self {
         KnownChannel {
-            call: 0,
-            uncleared: 0,
             had_gap: false,
             sequences: Assembler::new(alloc, size, size),
         }
@@ -116,67 +109,10 @@ fn is_d1(word: &FlowWord) -> bool {
     state_in(word.owner_bits()) == ChannelState::Transfer(DState::D1) && !is_adrift(word)
 }
 
-/// How many calls were opened, and which of them the last row ended.
-#[derive(Drop)]
-struct CallCount<A: Allocator> {
-    opened: u32,
-    ended: Vec<EndedCall, A>,
-}
-
-impl<A: Allocator + Copy> CallCount<A> {
-    /// Applies a row and its events, and returns what it did to the calls of its channel.
-    fn take(
-        &mut self,
-        known: &mut KnownChannel<A>,
-        last: &JudgedRow,
-        events: &[Event],
-    ) -> Result<CallMove, AllocError> {
-        let mut calls = CallMove::none();
-        calls.before = known.call;
-        for event in events {
-            match event.what {
-                What::Open { .. } => calls.opened = self.open(known),
-                What::End(how) => self.end(known, how)?,
-                _ => {}
-            }
-        }
-        calls.after = known.call;
-        if is_clear(&last.packet) && (last.side == Side::N || !self.ended.is_empty()) {
-            calls.cleared = known.uncleared;
-            known.uncleared = 0;
-        }
-        Ok(calls)
-    }
-
-    /// Opens a call on a channel, and returns its number.
-    fn open(&mut self, known: &mut KnownChannel<A>) -> u32 {
-        self.opened = self.opened.saturating_add(1);
-        known.call = self.opened;
-        known.uncleared = 0;
-        self.opened
-    }
-
-    /// Ends the call of a channel. Fails only when memory is refused.
-    fn end(&mut self, known: &mut KnownChannel<A>, how: How) -> Result<(), AllocError> {
-        self.ended.push(EndedCall {
-            call: known.call,
-            how,
-        })?;
-        if how == How::T || how == How::N {
-            known.uncleared = known.call;
-        }
-        known.call = 0;
-        Ok(())
-    }
-}
-
 /// What is kept of the rows so far.
 #[derive(Drop)]
 pub struct Course<A: Allocator> {
     alloc: A,
-    calls: CallCount<A>,
-    /// What the last row did to the calls of its channel.
-    moved: CallMove,
     /// The channel of the last row had a gap in its call.
     had_gap: bool,
     /// The PAD message that the last row completed.
@@ -191,11 +127,6 @@ impl<A: Allocator + Copy> Course<A> {
     pub fn new(alloc: A) -> Self {
         Course {
             alloc,
-            calls: CallCount {
-                opened: 0,
-                ended: Vec::new(alloc),
-            },
-            moved: CallMove::none(),
             had_gap: false,
             message: None,
             renews: false,
@@ -203,26 +134,23 @@ impl<A: Allocator + Copy> Course<A> {
         }
     }
 
-    /// Applies the last row of an observer, which is of this epoch. Fails only when memory is refused.
+    /// Applies the last row of an observer, with what it has of those before it. Fails only when memory is refused.
     pub fn take<C: Channel<A>>(
         &mut self,
         interface: &Interface,
         octets: &[u8],
         last: &JudgedRow,
         observer: &Observer<A, C>,
-        epoch: u32,
+        earlier: &Earlier,
     ) -> Result<(), AllocError> {
-        self.renews = epoch != observer.epoch() && is_in_r1(last);
-        self.calls.ended.clear();
-        self.moved = CallMove::none();
+        self.renews = earlier.epoch != observer.epoch() && is_in_r1(last);
         self.had_gap = false;
         self.message = None;
         match last.channel() {
             Some(channel) => {
                 let mut known = self.take_known(channel, interface.size)?;
                 let events = observer.events();
-                self.moved = self.calls.take(&mut known, last, events)?;
-                known.note_gap(last, self.moved.opened != 0);
+                known.note_gap(last, earlier.calls.opened != 0);
                 self.had_gap = known.had_gap;
                 let data = pad_data(interface, octets, last, events);
                 self.message = known.message(self.alloc, last.side, data)?;
@@ -230,7 +158,12 @@ impl<A: Allocator + Copy> Course<A> {
                 self.known_channels.put(channel, known);
                 Ok(())
             }
-            None => self.on_interface(last),
+            None => {
+                if self.renews || leaves_ready(last) {
+                    self.forget_all();
+                }
+                Ok(())
+            }
         }
     }
 
@@ -247,6 +180,7 @@ impl<A: Allocator + Copy> Course<A> {
             → IsJudgedRow i rows r last.now observer.now.events.items
             → earlier.epoch ≡ (observer_of i rows).epoch
             → earlier.follows ≡ follows_at i rows r last.now.finding
+            → row_call earlier.calls ≡ call_of i rows r
             → AreFactsOf i rows r result }
         ensures length { result.length ≡ row.now.length }
     {
@@ -258,7 +192,7 @@ impl<A: Allocator + Copy> Course<A> {
             last,
             earlier,
             events,
-            calls: self.moved,
+            calls: earlier.calls,
             fate: fate(last, events),
             message: self.message(),
             renews: self.renews,
@@ -271,31 +205,6 @@ impl<A: Allocator + Copy> Course<A> {
         match &self.message {
             Some(octets) => Some(octets.as_slice()),
             None => None,
-        }
-    }
-
-    /// Returns the calls that the last row ended.
-    pub fn ended(&self) -> &[EndedCall] {
-        self.calls.ended.as_slice()
-    }
-
-    /// Returns the number of the call that is open on a channel, or 0.
-    pub fn call_on(&self, channel: u16) -> u32 {
-        match self.known_channels.get(channel) {
-            Some(known) => known.call,
-            None => 0,
-        }
-    }
-
-    /// Applies a row that the restart machine judged. A confirmation that renews the epoch shows a restart that was
-    /// missed.
-    fn on_interface(&mut self, last: &JudgedRow) -> Result<(), AllocError> {
-        if self.renews && last.packet == Packet::RestartConfirm {
-            self.end_all(How::Gap)
-        } else if self.renews || leaves_ready(last) {
-            self.end_all(How::Restart)
-        } else {
-            Ok(())
         }
     }
 
@@ -312,20 +221,9 @@ impl<A: Allocator + Copy> Course<A> {
         }
     }
 
-    /// Ends all calls, and forgets all channels.
-    fn end_all(&mut self, how: How) -> Result<(), AllocError> {
-        while let Some((_, known)) = self.known_channels.pop_first() {
-            match known {
-                Some(known) if known.call != 0 => {
-                    self.calls.ended.push(EndedCall {
-                        call: known.call,
-                        how,
-                    })?;
-                }
-                _ => {}
-            }
-        }
-        Ok(())
+    /// Forgets all channels.
+    fn forget_all(&mut self) {
+        while self.known_channels.pop_first().is_some() {}
     }
 }
 
@@ -366,14 +264,6 @@ fn passed_over(last: &JudgedRow, events: &[Event]) -> Fate
     match reason_of(last, events) {
         Some(reason) => Fate::NotCounted(reason),
         None => Fate::NoData,
-    }
-}
-
-/// Whether a row moved the restart machine out of r1, so all calls end.
-fn leaves_ready(last: &JudgedRow) -> bool {
-    match last.judge {
-        Judge::Restart { before, after } => before == RState::R1 && after != RState::R1,
-        Judge::Channel { .. } => false,
     }
 }
 

@@ -65,14 +65,10 @@ impl<A: Allocator + Copy> Past<A> {
         let Some(last) = observer.last_row() else {
             return Ok(());
         };
-        let earlier = self.origins.take(last, observer.epoch())?;
-        self.course.take(
-            &interface,
-            read.octets.as_slice(),
-            last,
-            observer,
-            earlier.epoch,
-        )?;
+        let earlier = self
+            .origins
+            .take(last, observer.events(), observer.epoch())?;
+        self.course.take(&interface, read.octets.as_slice(), last, observer, &earlier)?;
         let facts = self.course.facts(&interface, read, last, observer, earlier);
         if facts.last.finding.is_some() {
             self.before = Some(Before::of_row(&facts));

@@ -8,12 +8,13 @@ ghost use Rattle.line_model.specs.packets.Says.{gap_of};
 ghost use Rattle.live_report.specs.Uncounted.{counts_data};
 ghost use Rattle.descriptions.specs.Facts.{IsFateOf, reason_in};
 
+use crate::open_calls::CallMove;
 use crate::origins::Earlier;
 use call_accounts::so_far::segments_in;
 use channel_run::run::View;
 use channel_run::status_word::{bit, view_in};
 use data_transfer::packed::FlowWord;
-use line_model::event::{Event, How, What};
+use line_model::event::{Event, What};
 use line_model::interface::Interface;
 use line_model::packet::{Class, DataHeader, Packet, PacketKind};
 use live_report::judged_row::{Judge, JudgedRow};
@@ -43,52 +44,6 @@ pub enum Fate {
     Counted { octets: u32, segments: u64 },
     /// They were not counted.
     NotCounted(Reason),
-}
-
-/// The calls of the logical channel that a row went to, by their numbers in the report; 0 where there is none.
-#[derive(Clone, Copy)]
-pub struct CallMove {
-    /// The call that was open before.
-    pub before: u32,
-    /// The call that the row opened.
-    pub opened: u32,
-    /// The call that is open after it.
-    pub after: u32,
-    /// The call that the row's clear request or indication cleared.
-    pub cleared: u32,
-}
-
-impl CallMove {
-    /// Returns no call.
-    pub fn none() -> Self {
-        CallMove {
-            before: 0,
-            opened: 0,
-            after: 0,
-            cleared: 0,
-        }
-    }
-
-    /// Returns the call that a row belongs to: the one that is open after it, otherwise the one that was open before
-    /// it.
-    pub fn of_row(&self) -> u32 {
-        if self.after != 0 {
-            self.after
-        } else if self.opened != 0 {
-            self.opened
-        } else {
-            self.before
-        }
-    }
-}
-
-/// A call that a row ended.
-#[derive(Clone, Copy)]
-pub struct EndedCall {
-    /// Its number in the report.
-    pub call: u32,
-    /// How it ended.
-    pub how: How,
 }
 
 /// What a row is and did.
@@ -181,17 +136,6 @@ pub fn user_data<'a>(interface: &Interface, octets: &'a [u8]) -> &'a [u8] {
 /// Returns how many octets of user data a data packet of `length` octets has.
 pub fn user_octets(interface: &Interface, length: usize) -> u64 {
     length.saturating_sub(header_length(interface)) as u64
-}
-
-/// Returns whether a packet is a clear request or indication.
-pub fn is_clear(packet: &Packet) -> bool {
-    matches!(
-        packet,
-        Packet::Channel {
-            kind: PacketKind::Clear,
-            ..
-        }
-    )
 }
 
 /// Returns the header of a data packet.

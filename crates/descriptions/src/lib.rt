@@ -23,6 +23,7 @@ mod line_room;
 mod message_faults;
 mod messages;
 mod names;
+mod open_calls;
 mod origins;
 mod packet_members;
 mod packet_names;

@@ -1,22 +1,26 @@
-//! Which finding another one may follow from.
+//! What a row has of those before it: its call, and the finding that its own may follow from.
 
 ghost use Rattle.std.specs.Prelude.{◌≡◌, ◌≢◌, ℕ, ◌++◌, ◌∷◌, [], List, IfOk, OnOk};
 ghost use Rattle.std.specs.Option.{option_to_list};
 ghost use Rattle.line_model.specs.channels.Channels.{Channel as AnyChannel};
 ghost use Rattle.line_model.specs.basics.Records.{Item};
-ghost use Rattle.line_model.specs.declared.event.Event.{Event};
+ghost use Rattle.line_model.specs.declared.event.Event.{Event as AnyEvent};
 ghost use Rattle.line_model.specs.declared.interface.Interface.{Interface};
 ghost use Rattle.restart_epochs.specs.ChannelTables.{value_at};
 ghost use Rattle.restart_epochs.specs.Cutting.{observer};
 ghost use Rattle.live_report.specs.JudgedRows.{IsJudgedRow};
+ghost use Rattle.line_model.specs.observer.Observer.{events as events_of};
+ghost use Rattle.descriptions.specs.RowCalls.{AreFewCalls, call_of, number_at, row_call};
 ghost use Rattle.descriptions.specs.Follows.{KeepsOrigins, after_finding, after_packet, after_row, first_in, follows_at, is_at_rest, is_of_course, is_renewing, seen_by, unless_settled};
 
+use crate::open_calls::{CallMove, OpenCalls};
 use channel_run::run::View;
 use channel_run::status_word::view_in;
 use line_model::diagnostic::{
     INCONSISTENT_Q_BIT_SETTING, PACKET_TYPE_INVALID_FOR_STATE_D3, UNAUTHORIZED_INTERRUPT,
     UNAUTHORIZED_INTERRUPT_CONFIRMATION,
 };
+use line_model::event::Event;
 use line_model::finding::Code;
 use line_model::packet::{Packet, PacketKind};
 use line_model::state::{ChannelState, DState, PState, Side};
@@ -170,15 +174,19 @@ pub struct Earlier {
     pub epoch: u32,
     /// The number of that finding; none where the row has none, or where its own follows from none.
     pub follows: Option<u32>,
+    /// The calls of the logical channel that it went to.
+    pub calls: CallMove,
 }
 
-/// Where the findings of each logical channel began.
+/// Where the findings of each logical channel began, and its calls.
 #[derive(Drop)]
 pub struct Origins<A: Allocator> {
     alloc: A,
     /// The epoch of the next row.
     epoch: u32,
     table: ChannelTable<Origin, A>,
+    /// Which call is open on each logical channel.
+    pub(crate) calls: OpenCalls<A>,
 }
 
 impl<A: Allocator + Copy> Origins<A> {
@@ -190,7 +198,15 @@ impl<A: Allocator + Copy> Origins<A> {
             alloc,
             epoch: 1,
             table: ChannelTable::new(alloc),
+            calls: OpenCalls::new(alloc),
         }
+    }
+
+    /// The number of the call that is open on a channel before the next row, or 0.
+    pub fn call_on(&self, channel: u16) -> u32
+        ensures { result ≡ number_at self.now.epoch (value_at self.now.calls.table channel) }
+    {
+        self.calls.call_on(self.epoch, channel)
     }
 
     /// Where the findings of a channel began, if it has any.
@@ -205,7 +221,7 @@ impl<A: Allocator + Copy> Origins<A> {
 
     /// The finding that one of a row may follow from, by its number.
     fn follows(&self, row: &JudgedRow) -> Option<u32>
-        ensures { (i : Interface) (earlier : List Item) (r : Item) (events : List Event)
+        ensures { (i : Interface) (earlier : List Item) (r : Item) (events : List AnyEvent)
             → KeepsOrigins i earlier self.now → IsJudgedRow i earlier r row.now events
             → result ≡ follows_at i earlier r row.now.finding }
     {
@@ -224,6 +240,7 @@ impl<A: Allocator + Copy> Origins<A> {
         ensures others { OnOk result ((k : ℕ) → k ≢ channel
             → value_at self.new.table k ≡ value_at self.old.table k) }
         ensures epoch { self.new.epoch ≡ self.old.epoch }
+        ensures calls { self.new.calls ≡ self.old.calls }
     {
         let _ = self.table.take(channel);
         let Some(origin) = origin else {
@@ -235,22 +252,34 @@ impl<A: Allocator + Copy> Origins<A> {
         Ok(())
     }
 
-    /// Takes the next row, after which the epoch is this one, and returns what it has of the rows before. Fails only when
-    /// memory is refused.
-    pub fn take(&mut self, row: &JudgedRow, epoch: u32) -> Result<Earlier, AllocError>
+    /// Takes the next row, with the events of the channel that it went to, after which the epoch is this one, and returns
+    /// what it has of the rows before. Fails only when memory is refused.
+    pub fn take(
+        &mut self,
+        row: &JudgedRow,
+        events: &[Event],
+        epoch: u32,
+    ) -> Result<Earlier, AllocError>
         ensures epoch { (i : Interface) (earlier : List Item) → KeepsOrigins i earlier self.old
             → IfOk result (λ past. past.epoch ≡ (observer i earlier).epoch) }
-        ensures follows { (i : Interface) (earlier : List Item) (r : Item) (events : List Event)
-            → KeepsOrigins i earlier self.old → IsJudgedRow i earlier r row.now events
+        ensures follows { (i : Interface) (earlier : List Item) (r : Item)
+            → KeepsOrigins i earlier self.old → IsJudgedRow i earlier r row.now events.now
             → IfOk result (λ past. past.follows ≡ follows_at i earlier r row.now.finding) }
-        ensures kept { (i : Interface) (earlier : List Item) (r : Item) (events : List Event)
-            → KeepsOrigins i earlier self.old → IsJudgedRow i earlier r row.now events
+        ensures call { (i : Interface) (earlier : List Item) (r : Item)
+            → KeepsOrigins i earlier self.old → IsJudgedRow i earlier r row.now events.now
+            → AreFewCalls (events_of i (earlier ++ r ∷ []))
+            → IfOk result (λ past. row_call past.calls ≡ call_of i earlier r) }
+        ensures kept { (i : Interface) (earlier : List Item) (r : Item)
+            → KeepsOrigins i earlier self.old → IsJudgedRow i earlier r row.now events.now
             → epoch ≡ (observer i (earlier ++ r ∷ [])).epoch
             → OnOk result (KeepsOrigins i (earlier ++ r ∷ []) self.new) }
     {
+        let follows = self.follows(row);
+        let calls = self.calls.take(self.epoch, epoch, row, events)?;
         let earlier = Earlier {
             epoch: self.epoch,
-            follows: self.follows(row),
+            follows,
+            calls,
         };
         self.epoch = epoch;
         let Judge::Channel { channel, after, .. } = &row.judge else {

@@ -1,15 +1,19 @@
 //! What a row did, as members of an object.
 #![tactic(auto, using(crate::proofs::MemberLemmas::further_then, crate::proofs::MemberLemmas::member_put, crate::proofs::MemberLemmas::no_member))]
 
-ghost use Rattle.std.specs.Prelude.{None};
+ghost use Rattle.std.specs.Prelude.{◌≡◌, None};
 ghost use Rattle.line_model.specs.packets.Says.{gap_of};
+ghost use Rattle.descriptions.specs.CallTable.{cell_text};
+ghost use Rattle.descriptions.specs.declared.call_columns.TableForm.TheVariants.{Objects};
 ghost use Rattle.descriptions.specs.Members.{IsFurther, IsValue};
-ghost use Rattle.descriptions.specs.RowObjects.{IsRest};
-ghost use Rattle.descriptions.specs.Writing.{Adds};
+ghost use Rattle.descriptions.specs.RowCalls.{row_call};
+ghost use Rattle.descriptions.specs.RowObjects.{IsOfCall, IsRest, call_member, call_word};
+ghost use Rattle.descriptions.specs.Writing.{Adds, These};
 
-use crate::facts::{EndedCall, Fate, RowFacts, gap_of};
+use crate::facts::{Fate, RowFacts, gap_of};
 use crate::faults::{Before, consequence, wrong};
 use crate::json::{Element, Json, Out};
+use crate::open_calls::EndedCall;
 use crate::packet_members::{packet_members, settings_member};
 use crate::packet_names::packet_type;
 use crate::sentence::Sentence;
@@ -31,8 +35,8 @@ pub fn row_members<O: Out>(
     recorded: Recorded,
     digits: Option<&[u8]>,
 )
-    ensures { Adds O.has (IsRest (gap_of facts.now.last.now.packet) facts.now.last.now.finding)
-        json.old.out json.new.out }
+    ensures { Adds O.has (IsRest (gap_of facts.now.last.now.packet) facts.now.last.now.finding
+        (row_call facts.now.calls)) json.old.out json.new.out }
 {
     match gap_of(&facts.last.packet) {
         Some(_) => {
@@ -51,7 +55,8 @@ fn members_of_packet<O: Out>(
     recorded: Recorded,
     digits: Option<&[u8]>,
 )
-    ensures { Adds O.has (IsRest None facts.now.last.now.finding) json.old.out json.new.out }
+    ensures { Adds O.has (IsRest None facts.now.last.now.finding (row_call facts.now.calls))
+        json.old.out json.new.out }
 {
     match &facts.last.finding {
         Some(finding) => {
@@ -72,9 +77,22 @@ fn further_members<O: Out>(
     recorded: Recorded,
     digits: Option<&[u8]>,
 )
+    ensures { Adds O.has (IsOfCall (row_call facts.now.calls)) json.old.out json.new.out }
+{
+    call_member(json, facts.calls.of_row());
+    other_members(json, facts, ended, recorded, digits);
+}
+
+/// The members of a packet's object after its call.
+fn other_members<O: Out>(
+    json: &mut Json<O>,
+    facts: &RowFacts<'_>,
+    ended: &[EndedCall],
+    recorded: Recorded,
+    digits: Option<&[u8]>,
+)
     ensures { Adds O.has IsFurther json.old.out json.new.out }
 {
-    json.member(",\"call\":", call_value(facts.calls.of_row()));
     json.flag_member(",\"begins\":", facts.calls.opened != 0);
     json.flag_member(",\"up\":", is_up(facts.events));
     json.begin(",\"ends\":");
@@ -123,8 +141,18 @@ fn state_value(state: StateName) -> Value<'static> {
     }
 }
 
+/// Writes the member of a call by its number, null for 0.
+fn call_member<O: Out>(json: &mut Json<O>, call: u32)
+    ensures { Adds O.has (These (call_member call)) json.old.out json.new.out }
+{
+    json.raw(b",\"call\":");
+    json.value(call_value(call));
+}
+
 /// The number of a call, null for 0.
-fn call_value(call: u32) -> Value<'static> {
+fn call_value(call: u32) -> Value<'static>
+    ensures { cell_text Objects result ≡ call_word call }
+{
     match call {
         0 => Value::Null,
         call => Value::Number(u64::from(call)),

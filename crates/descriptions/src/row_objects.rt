@@ -10,6 +10,7 @@ ghost use Rattle.annotated_trace.specs.Printed.{HasAppended};
 ghost use Rattle.descriptions.specs.Facts.{AreFactsOf};
 ghost use Rattle.descriptions.specs.Members.{IsText};
 ghost use Rattle.descriptions.specs.Follows.{KeepsOrigins};
+ghost use Rattle.descriptions.specs.RowCalls.{row_call};
 ghost use Rattle.descriptions.specs.RowObjects.{AppendsObject, IsObjectWhere, IsRest, IsRowObject, KeepsLast, OfLastRow};
 ghost use Rattle.descriptions.specs.Writing.{Holds};
 
@@ -18,9 +19,10 @@ use crate::chosen::Chosen;
 use crate::closing_objects::{Rest, write_rest};
 use crate::common_objects::{CommonRow, common_object};
 use crate::course::Course;
-use crate::facts::{EndedCall, RowFacts};
+use crate::facts::RowFacts;
 use crate::json::{Growing, Json, Out};
 use crate::line_room::LineRoom;
+use crate::open_calls::EndedCall;
 use crate::origins::Origins;
 use crate::report_objects::write_report_objects;
 use crate::row_head::append_head;
@@ -43,7 +45,8 @@ fn append_object<A: Allocator>(
     out: &mut Vec<u8, A>,
 ) -> Result<(), AllocError>
     ensures { (i : Interface) (earlier : List Item) (r : Item) → AreFactsOf i earlier r facts.now
-        → IsRest (gap_of facts.now.last.now.packet) facts.now.last.now.finding members.now
+        → IsRest (gap_of facts.now.last.now.packet) facts.now.last.now.finding
+        (row_call facts.now.calls) members.now
         → OnOk result (HasAppended (IsRowObject i earlier r) out.old.items out.new.items) }
 {
     append_head(facts, out)?;
@@ -94,8 +97,9 @@ impl<A: Allocator + Copy> PastRows<A> {
         is_picked: bool,
         room: &'r mut LineRoom,
     ) -> Option<&'r [u8]>
-        ensures object { OfLastRow C.Channel trace.now line.now
-            (λ i earlier r. IfSome result (λ object. IsObjectWhere is_picked i earlier r object.now)) }
+        ensures object { OfLastRow C.Channel trace.now line.now (λ i earlier r.
+            KeepsOrigins i earlier self.now.origins
+            → IfSome result (λ object. IsObjectWhere is_picked i earlier r object.now)) }
         ensures unpicked { is_picked ≡ false → result ≡ None }
         ensures kept { OfLastRow C.Channel trace.now line.now (λ i earlier r. IfSome result
             (λ object. KeepsOrigins i earlier self.now.origins
@@ -123,7 +127,7 @@ impl<A: Allocator + Copy> PastRows<A> {
             row,
             events: observer.events(),
             epoch: observer.epoch(),
-            call: self.course.call_on(channel),
+            call: self.origins.call_on(channel),
             digits,
         };
         common_object(room, &common)
@@ -153,22 +157,20 @@ impl<A: Allocator + Copy> PastRows<A> {
         let Some(last) = observer.last_row() else {
             return Ok(());
         };
-        let earlier = self.origins.take(last, observer.epoch())?;
-        self.course.take(
-            &interface,
-            row.octets.as_slice(),
-            last,
-            observer,
-            earlier.epoch,
-        )?;
+        let earlier = self
+            .origins
+            .take(last, observer.events(), observer.epoch())?;
+        self.course.take(&interface, row.octets.as_slice(), last, observer, &earlier)?;
         let facts = self.course.facts(&interface, row, last, observer, earlier);
-        self.rest.calls.take(&facts, self.course.ended(), recorded)?;
+        self.rest
+            .calls
+            .take(&facts, self.origins.calls.ended(), recorded)?;
         self.rest.uncounted = observer.uncounted();
         self.rest.has_gaps = interface.gaps;
         if !picked {
             return Ok(());
         }
-        let ended = self.course.ended();
+        let ended = self.origins.calls.ended();
         write_members(&facts, ended, recorded, line, &mut self.members);
         append_object(&facts, self.members.out.written()?, out)
     }
@@ -182,7 +184,7 @@ impl<A: Allocator + Copy> PastRows<A> {
 
     /// The call that is open on a channel, or 0.
     pub(crate) fn call_on(&self, channel: u16) -> u32 {
-        self.course.call_on(channel)
+        self.origins.call_on(channel)
     }
 
     /// What is remembered for the end.
@@ -199,8 +201,8 @@ fn write_members<A: Allocator>(
     line: &[u8],
     members: &mut Json<Growing<A>>,
 )
-    ensures { Holds ⟦<Growing<A> as Out>⟧.has (IsRest
-        (gap_of facts.now.last.now.packet) facts.now.last.now.finding) members.new.out }
+    ensures { Holds ⟦<Growing<A> as Out>⟧.has (IsRest (gap_of facts.now.last.now.packet)
+        facts.now.last.now.finding (row_call facts.now.calls)) members.new.out }
 {
     members.out.clear();
     let digits = last_digits(line, facts.length);

@@ -6,8 +6,7 @@ use Rattle.descriptions.specs.Follows.{is_renewing}
 use Rattle.descriptions.specs.Members.{IsText}
 use Rattle.descriptions.specs.RowObjects.{named_channel}
 use Rattle.descriptions.specs.CommonObjects.{IsCommonObject}
-use Rattle.descriptions.proofs.LineLemmas.{form_then, if_line, common_line}
-use Rattle.descriptions.proofs.MemberLemmas.{more}
+use Rattle.descriptions.proofs.LineLemmas.{if_line, common_line}
 use Rattle.descriptions.proofs.common_objects.common_object.Goals as goal
 
 pub returns : goal.returns
@@ -17,6 +16,6 @@ returns c =
     let packet = OnTrue_at c.if-not-is_common.false c.put_packet-is_common.ensures.members in
     let other = ap is_renewing c.in-Channel.is ∙ OnTrue_at c.if-not-is_common.false c.put_packet-is_common.ensures.renews c.in-Channel.channel in
     let gap = ap gap_of c.in-Channel.is ∙ OnTrue_at c.if-not-is_common.false c.put_packet-is_common.ensures.packet c.in-Channel.channel in
-    let head = c.put_head.ensures (all_lengths events) c.common_fate-fate.ensures (ap named_channel c.in-Channel.is) in
-    if_line (λ object. object.now) (λ bytes. IsText c.args.common.now.digits.now → IsCommonObject row c.args.common.now.epoch events bytes) c.line.result _ c.line.ensures
-    (λ bytes is one. common_line row c.args.common.now.epoch events _ _ _ _ bytes (sym c.is_quiet.ensures ∙ c.if-not-is_quiet.false) gap other c.clear.ensures c.put.ensures (form_then _ _ _ more (packet one) c.put_call_member.ensures) head is)
+    let head = c.put_head.ensures (all_lengths events) c.in-Some.ensures.counted (ap named_channel c.in-Channel.is) in
+    if_line (λ object. object.now) (λ bytes. IsText c.args.common.now.digits.now → IsCommonObject row c.args.common.now.epoch c.args.common.now.call events bytes) c.line.result _ c.line.ensures
+    (λ bytes is one. common_line row c.args.common.now.epoch c.args.common.now.call events _ _ _ _ _ bytes (sym c.is_quiet.ensures ∙ c.if-not-is_quiet.false) gap other c.in-Some.ensures.quiet c.clear.ensures c.put.ensures (packet one) c.put_call_member.ensures head is)

@@ -10,7 +10,7 @@ use Rattle.descriptions.proofs.FactLemmas.{events_are}
 use Rattle.descriptions.proofs.course.Course.facts.Goals as goal
 
 pub returns-clause-facts : goal.returns-clause-facts
-returns-clause-facts g c i earlier r l epoch follows =
+returns-clause-facts g c i earlier r l epoch follows call =
     let o = observer i earlier in
     let to = routed (x25 i) o.level r in
     let by = taker_is i to o (observer i (earlier ++ r ∷ [])) c.args.last.now.judge l.judge in
@@ -29,4 +29,5 @@ returns-clause-facts g c i earlier r l epoch follows =
           events.untaken;
       epoch = epoch;
       follows = follows;
+      call = call;
     }

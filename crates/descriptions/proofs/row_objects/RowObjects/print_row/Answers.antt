@@ -7,7 +7,7 @@ use Rattle.descriptions.proofs.row_objects.RowObjects.print_row.Goals as goal
 pub returns-in-Some-clause-object : goal.returns-in-Some-clause-object
 returns-in-Some-clause-object g c i before l r text s lines head row is kept =
     object_appended c.extend_from_slice.result (IsObjectWhere c.args.picked i (items_of i (rows_in before)) (item_of i r)) c.in-Some.object.now c.args.out.now.items c.extend_from_slice.new.self.items c.extend_from_slice.ensures.items
-    (c.in-Some.ensures.object i before l r text s lines head row is)
+    (c.in-Some.ensures.object i before l r text s lines head row is kept)
 
 pub returns-in-None-clause-object : goal.returns-in-None-clause-object
 returns-in-None-clause-object g c i before l r text s lines head row is kept = c.append_row.ensures.object i before l r text s lines head row is kept
