@@ -21,7 +21,7 @@ const TERMS: [Explanation; 11] = [
         word: "frame",
         name: "frame",
         meaning: "The unit of a capture that holds a packet, or its last octet, by the number that Wireshark shows.",
-        when: "A comment #@ SECONDS FRAME before a row has it, --rows prints it as frame, and pages name packets by it.",
+        when: "A comment #@ SECONDS FRAME before a row has it, --rows prints it as frame, --annotate ends a comment with it, and pages name packets by it.",
         clause: "profile",
         example: "#@ 1700000003.000003 152",
         trace: "",
