@@ -125,9 +125,5 @@ abbrev pub shown_from : Line → List Record → List Shown
 shown_from l [] = []
 shown_from l (r ∷ rs) = record_shown r l ++ shown_from (after_record r l) rs
 
--- the rows of a capture that is read as it comes, and of one that can be read twice
-abbrev pub noticed : Line → List Record → List Row
-noticed l rs = rows_from Noticed l rs
-
 abbrev pub placed : Line → List Record → List Row
 placed l rs = rows_from (Placed (plan_of (shown_from l rs))) l rs
