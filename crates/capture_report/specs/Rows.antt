@@ -125,5 +125,6 @@ abbrev pub shown_from : Line → List Record → List Shown
 shown_from l [] = []
 shown_from l (r ∷ rs) = record_shown r l ++ shown_from (after_record r l) rs
 
+-- the rows of a capture that can be read twice
 abbrev pub placed : Line → List Record → List Row
 placed l rs = rows_from (Placed (plan_of (shown_from l rs))) l rs
