@@ -23,7 +23,7 @@ returns-in-Ok-clause-shown g c text shown =
       failures = failures;
       plain = status;
       scanned = scanned_afresh (lag_by c.args.options.alone) c.args.options.follow text _ _ _ _ _ failures status c.new-json.ensures.taken c.new-json.ensures.failures
-      (scan_status (lag_by c.args.options.alone) c.args.options.follow text _ _ _ _ _ c.run_scan-scanned.result (c.run_scan-scanned.ensures.reported text shown) (c.run_scan-scanned.ensures.refused text shown) (λ e well. omega (arith, c.run_scan-scanned.ensures.write_failed e, well)));
+          (scan_status (lag_by c.args.options.alone) c.args.options.follow text _ _ _ _ _ c.run_scan-scanned.result (c.run_scan-scanned.ensures.reported text shown) (c.run_scan-scanned.ensures.refused text shown) (λ e well. omega (arith, c.run_scan-scanned.ensures.write_failed e, well)));
       objects = inl (
         none_failed failures c.finish-lent.result.1 _ c.in-Ok.is c.finish-lent.ensures.refused,
         refl,
@@ -48,7 +48,7 @@ returns-in-Err-clause-shown g c text shown =
       failures = failures;
       plain = status;
       scanned = scanned_afresh (lag_by c.args.options.alone) c.args.options.follow text _ _ _ _ _ failures status c.new-json.ensures.taken c.new-json.ensures.failures
-      (scan_status (lag_by c.args.options.alone) c.args.options.follow text _ _ _ _ _ c.run_scan-scanned.result (c.run_scan-scanned.ensures.reported text shown) (c.run_scan-scanned.ensures.refused text shown) (λ e well. omega (arith, c.run_scan-scanned.ensures.write_failed e, well)));
+          (scan_status (lag_by c.args.options.alone) c.args.options.follow text _ _ _ _ _ c.run_scan-scanned.result (c.run_scan-scanned.ensures.reported text shown) (c.run_scan-scanned.ensures.refused text shown) (λ e well. omega (arith, c.run_scan-scanned.ensures.write_failed e, well)));
       objects = inr (ap fault_status (failed g c).0, (λ well. omega (arith, (failed g c).1, well)), record { front = part.0; rest = part.1; whole = part.2; taken = part.3 });
     })
 
