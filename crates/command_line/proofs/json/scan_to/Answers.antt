@@ -1,13 +1,12 @@
-use Rattle.line_model.specs.declared.fault.Fault.{Fault}
 use Rattle.line_model.specs.declared.fault.Fault.TheVariants.{Write}
 use Rattle.std.proofs.Common.{◌≡◌, ◌<◌, ◌∙◌, ap, arith, inl, inr, length, refl, subst, sym, Some, false, true}
 use Rattle.std.specs.Prelude.{OnOk, IfErr}
 use Rattle.line_model.specs.basics.Device.{with_more}
 use Rattle.json_lines.specs.Json.{json_text}
 use Rattle.command_line.specs.Program.{IsReportStatus, fault_status, lag_by, status_of}
-use Rattle.command_line.specs.Stopped.{IsCause}
 use Rattle.command_line.proofs.JsonLemmas.{json_cause, none_failed, reported_json, scanned_afresh, given_back}
 use Rattle.command_line.proofs.StatusLemmas.{any_status, other_any, refused_lines, scan_status}
+use Rattle.command_line.proofs.StopLemmas.{write_cause}
 use Rattle.command_line.proofs.json.scan_to.Given.{Over}
 use Rattle.command_line.proofs.json.scan_to.Goals as goal
 
@@ -78,4 +77,4 @@ returns-in-Ok-clause-cause g c =
 pub returns-in-Err-clause-cause : goal.returns-in-Err-clause-cause
 returns-in-Err-clause-cause g c =
     let more : g.B.Origin.before.1 < g.K.Sink.failures c.give_back-in-Err.result.now = subst (λ n. g.B.Origin.before.1 < n) (sym c.give_back-in-Err.ensures.failures) (failed g c).1 in
-    subst (λ (f : Fault). IsCause _ (g.B.Origin.before.1 < g.K.Sink.failures c.give_back-in-Err.result.now) _ f) (sym (failed g c).0) more
+    write_cause c.in-Err.fault (failed g c).0 more

@@ -24,7 +24,7 @@ pub returns-in-Objects-clause-cause : goal.returns-in-Objects-clause-cause
 returns-in-Objects-clause-cause g c = scan_cause _ _ _ c.print_trace.result (printing_scan c.print_trace.result c.print_trace.ensures.kinds) c.print_trace.ensures.read_failed c.print_trace.ensures.write_failed
 
 pub returns-in-Table-clause-cause : goal.returns-in-Table-clause-cause
-returns-in-Table-clause-cause g c = scan_cause _ _ _ c.print_trace-2.result (printing_scan c.print_trace-2.result c.print_trace-2.ensures.kinds) c.print_trace-2.ensures.read_failed c.print_trace-2.ensures.write_failed
+returns-in-Table-clause-cause g c = scan_cause _ _ _ c.print_trace-in-Table.result (printing_scan c.print_trace-in-Table.result c.print_trace-in-Table.ensures.kinds) c.print_trace-in-Table.ensures.read_failed c.print_trace-in-Table.ensures.write_failed
 
 pub returns-in-TableObjects-clause-cause : goal.returns-in-TableObjects-clause-cause
-returns-in-TableObjects-clause-cause g c = scan_cause _ _ _ c.print_trace-3.result (printing_scan c.print_trace-3.result c.print_trace-3.ensures.kinds) c.print_trace-3.ensures.read_failed c.print_trace-3.ensures.write_failed
+returns-in-TableObjects-clause-cause g c = scan_cause _ _ _ c.print_trace-in-TableObjects.result (printing_scan c.print_trace-in-TableObjects.result c.print_trace-in-TableObjects.ensures.kinds) c.print_trace-in-TableObjects.ensures.read_failed c.print_trace-in-TableObjects.ensures.write_failed

@@ -24,5 +24,5 @@ returns-in-Ok-clause-stopped g c three = unhalted c.in-Ok.findings c.tried_statu
 pub returns-in-Err-clause-stopped : goal.returns-in-Err-clause-stopped
 returns-in-Err-clause-stopped g c three =
     halted c.in-Err.fault c.refuse_scan.result c.refuse_scan.ensures.status
-    (scan_cause _ _ _ (Err {T = ℕ} c.in-Err.fault) c.in-Err.ensures.kinds (λ e. omega (arith, c.in-Err.ensures.read_failed e, c.show_progress.ensures.failures)) c.in-Err.ensures.write_failed)
+    (scan_cause {T = ℕ} _ _ _ (Err c.in-Err.fault) c.in-Err.ensures.kinds (λ e. omega (arith, c.in-Err.ensures.read_failed e, c.show_progress.ensures.failures)) c.in-Err.ensures.write_failed)
     c.refuse_scan.ensures.said three
