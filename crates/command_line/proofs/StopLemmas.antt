@@ -60,8 +60,8 @@ worked_cause a b d (UnknownPiece i) kinds read write start = absurd kinds
 worked_cause a b d (Missing i) kinds read write start = absurd kinds
 
 -- the cause of a write that failed
-pub write_cause : {a b d : Type 0} (f : Fault) → f ≡ Write → b → IsCause a b d f
-write_cause {a = a} {b = b} {d = d} f is failed = subst (λ (x : Fault). IsCause a b d x) (sym is) failed
+pub write_cause : (a b d : Type 0) (f : Fault) → f ≡ Write → b → IsCause a b d f
+write_cause a b d f is failed = subst (λ (x : Fault). IsCause a b d x) (sym is) failed
 
 -- what shows a fault, where each of these shows another
 pub more_cause : (a b d a′ b′ d′ : Type 0) (f : Fault) → (a → a′) → (b → b′) → (d → d′) → IsCause a b d f → IsCause a′ b′ d′ f

@@ -4,6 +4,7 @@ use Rattle.std.specs.Prelude.{OnOk, IfErr}
 use Rattle.line_model.specs.basics.Device.{with_more}
 use Rattle.json_lines.specs.Json.{json_text}
 use Rattle.command_line.specs.Program.{IsReportStatus, fault_status, lag_by, status_of}
+use Rattle.command_line.specs.Stopped.{has_workers}
 use Rattle.command_line.proofs.JsonLemmas.{json_cause, none_failed, reported_json, scanned_afresh, given_back}
 use Rattle.command_line.proofs.StatusLemmas.{any_status, other_any, refused_lines, scan_status}
 use Rattle.command_line.proofs.StopLemmas.{write_cause}
@@ -77,4 +78,5 @@ returns-in-Ok-clause-cause g c =
 pub returns-in-Err-clause-cause : goal.returns-in-Err-clause-cause
 returns-in-Err-clause-cause g c =
     let more : g.B.Origin.before.1 < g.K.Sink.failures c.give_back-in-Err.result.now = subst (λ n. g.B.Origin.before.1 < n) (sym c.give_back-in-Err.ensures.failures) (failed g c).1 in
-    write_cause c.in-Err.fault (failed g c).0 more
+    write_cause (g.S.Source.failures c.args.source.now < g.S.Source.failures c.run_scan-scanned.new.source) (g.B.Origin.before.1 < g.K.Sink.failures c.give_back-in-Err.result.now)
+    ((has_workers c.args.options.alone c.args.options.follow ≡ true) × (g.S.Source.calls c.run_scan-scanned.new.source ≡ g.S.Source.calls c.args.source.now)) c.in-Err.fault (failed g c).0 more
