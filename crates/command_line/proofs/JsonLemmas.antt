@@ -1,11 +1,14 @@
 -- What the status says of a report that is printed as JSON lines.
 use Rattle.std.proofs.Common.{◌≡◌, ◌∙◌, ap, ◌<◌, ℕ, zero, suc, Bool, false, true, List, [], Option, Some, Result, Ok, Err, refl, subst, sym, arith}
+use Rattle.std.specs.Prelude.{IfErr}
 use Rattle.line_model.specs.declared.fault.Fault.{Fault}
 use Rattle.line_model.specs.declared.fault.Fault.TheVariants.{Write}
 use Rattle.line_model.specs.basics.Device.{with_more}
 use Rattle.line_model.specs.traces.Traces.{trace_report}
 use Rattle.json_lines.specs.Json.{json_text}
 use Rattle.command_line.specs.Program.{IsReportStatus, IsScanned, IsScannedAsJson}
+use Rattle.command_line.specs.Stopped.{IsCause}
+use Rattle.command_line.proofs.StopLemmas.{more_cause}
 
 -- what a scan says of a sink that had accepted nothing and not failed
 pub scanned_afresh : (lag : ℕ) (followed : Bool) (text : List ℕ) (left asked before after : Option (List ℕ)) (failed failures status : ℕ) →
@@ -25,6 +28,11 @@ IsFine (Err fault) = ⊥
 pub none_failed : {U : Type 0} (failures : ℕ) (answer : Result U Fault) (u : U) → answer ≡ Ok u → (0 < failures → answer ≡ Err Write) → failures ≡ 0
 none_failed zero answer u fine failed = refl
 none_failed (suc n) answer u fine failed = absurd (subst (λ r. IsFine r) (failed (omega (arith))) (subst (λ r. IsFine r) (sym fine) tt))
+
+-- what shows a fault of the scan, where its sink has not failed
+pub json_cause : {T : Type 0} (a b b′ d : Type 0) (r : Result T Fault) → IfErr r (IsCause a b d) → (¬ b) → IfErr r (IsCause a b′ d)
+json_cause a b b′ d (Ok t) cause none = tt
+json_cause a b b′ d (Err f) cause none = more_cause a b d a b′ d f (λ x. x) (λ x. absurd (none x)) (λ x. x) cause
 
 -- the same of a lent sink that came back
 pub given_back : (lag : ℕ) (followed : Bool) (text : List ℕ) (left asked before taken after : Option (List ℕ)) (failed failures was status : ℕ) → after ≡ taken → failures ≡ failed →

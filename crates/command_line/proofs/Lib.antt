@@ -4,4 +4,5 @@ pub mod FaultLemmas
 pub mod JsonLemmas
 pub mod PastedLemmas
 pub mod StatusLemmas
+pub mod StopLemmas
 pub mod TryLemmas

@@ -1,12 +1,12 @@
 -- The exit status of a scan.
-use Rattle.std.proofs.Common.{◌≡◌, ◌∙◌, sym, ap, refl, subst, inl, inr, ◌⊎◌, ℕ, zero, suc, ◌+◌, ◌<◌, ◌≤◌, ◌^◌, Bool, true, false, true≢false, List, [], ◌++◌, Option, None, Result, Ok, Err, arith, append-nil, cond, ◌==◌}
-use Rattle.std.specs.Prelude.{IfErr}
+use Rattle.std.proofs.Common.{◌≡◌, ◌∙◌, sym, ap, refl, subst, inl, inr, ◌⊎◌, ℕ, zero, suc, ◌+◌, ◌<◌, ◌≤◌, ◌^◌, Bool, true, false, true≢false, List, [], ◌++◌, Option, None, Some, Result, Ok, Err, arith, append-nil, cond, ◌==◌}
+use Rattle.std.specs.Prelude.{IfErr, IfOk}
 use Rattle.std.proofs.lemmas.Bool.Decides.{nat_tests}
 use Rattle.line_model.specs.text.Text.{fault}
 use Rattle.line_model.specs.declared.totals.Summary.{Summary}
 use Rattle.line_model.specs.declared.fault.Fault.{Fault}
 use Rattle.line_model.specs.declared.fault.Fault.TheVariants.{Memory, Trace, Read, Write, Start, Double, UnknownPiece, Missing}
-use Rattle.command_line.specs.Program.{IsCutShort, IsFollowStatus, IsReportStatus, IsScanRefusal, IsScanned, IsStatus, fault_status, lag_by, summary_status}
+use Rattle.command_line.specs.Program.{IsCutShort, IsFollowStatus, IsReportStatus, IsScanRefusal, IsScanned, IsStatus, IsStatusOf, RefusesLine, fault_status, lag_by, status_of, summary_status}
 use Rattle.trace_text.specs.Decided.{NoneDecidedButLast}
 use Rattle.trace_text.specs.Sources.{IsRefusedBy, NoneDecided}
 use Rattle.trace_text.specs.Refusals.{IsRefusal}
@@ -132,6 +132,12 @@ pub refused_scan : (lag : ℕ) (followed : Bool) (text : List ℕ) (left asked b
 refused_scan lag false text left asked before after well f status r failed s = refused_status lag text left asked before after well f status r.0 r.1 failed s
 refused_scan lag true text left asked before after well f status r failed s = refused_follow text left asked before after well f status r.0 r.1 failed s
 
+-- by its result
+pub scan_status : (lag : ℕ) (followed : Bool) (text : List ℕ) (left asked before after : Option (List ℕ)) (well : Type 0) (r : Result Summary Fault) → IfOk r (IsReported text before after) → IfErr r (IsScanRefusal lag followed text left asked before after well) → (r ≡ Err Write → ¬ well)
+    → IsScanned lag followed text left asked before after well (status_of r)
+scan_status lag followed text left asked before after well (Ok sums) reported refused failed = reported_scan lag followed text left asked before after well sums (summary_status sums) reported refl
+scan_status lag followed text left asked before after well (Err f) reported refused failed = refused_scan lag followed text left asked before after well f (fault_status f) refused (λ e. failed (ap Err e)) refl
+
 -- ---- whatever the source shows
 
 -- a report was accepted
@@ -148,6 +154,11 @@ other_any json before after status s = record { reported = λ e. absurd (omega (
 pub refused_any : (json : Bool) (before after : Option (List ℕ)) (f : Fault) (status : ℕ) → status ≡ fault_status f → IsReportStatus json before after status
 refused_any json before after (Trace line kind) status s = record { reported = λ e. absurd (omega (arith, e, s)); range = omega (arith, s) }
 refused_any json before after _ status s = other_any json before after status s
+
+-- by its result
+pub any_status : (before after : Option (List ℕ)) (r : Result Summary Fault) → IfOk r (λ sums. (text : List ℕ) × IsReported text before after sums) → IsReportStatus false before after (status_of r)
+any_status before after (Ok sums) of = reported_any before after sums (summary_status sums) of refl
+any_status before after (Err f) of = refused_any false before after f (fault_status f) refl
 
 -- ---- a refusal with no lag is one with any
 
@@ -170,11 +181,45 @@ pub wider_refusal : (lag : ℕ) (text : List ℕ) (left asked : Option (List ℕ
 wider_refusal lag text left asked f r = record { given = r.given; rest = r.rest; whole = r.whole; left = r.left; order = wider_order lag r.given text asked r.order; refusal = wider_fault lag r.given r.rest f r.refusal }
 
 -- so one thread refuses a text as workers may
-pub wider_scan : (thread alone followed : Bool) (text : List ℕ) (left asked before after : Option (List ℕ)) (well : Type 0) (f : Fault) → (thread ≡ false → alone ≡ false) → IsScanRefusal (lag_by thread) followed text left asked before after well f
-    → IsScanRefusal (lag_by alone) followed text left asked before after well f
-wider_scan thread alone true text left asked before after well f same r = r
-wider_scan true alone false text left asked before after well f same r = (wider_refusal (lag_by alone) text left asked f r.0, r.1)
-wider_scan false alone false text left asked before after well f same r = subst (λ a. IsScanRefusal (lag_by a) false text left asked before after well f) (sym (same refl)) r
+pub wider_line : (thread alone : Bool) (text : List ℕ) (left asked : Option (List ℕ)) (f : Fault) → (thread ≡ false → alone ≡ false) → RefusesLine (lag_by thread) text left asked f → RefusesLine (lag_by alone) text left asked f
+wider_line true alone text left asked f same r two = wider_refusal (lag_by alone) text left asked f (r two)
+wider_line false alone text left asked f same r two = subst (λ a. IsRefusedBy (lag_by a) (IsRefusal (lag_by a)) text left asked f) (sym (same refl)) (r two)
+
+wider_status : (lag : ℕ) (text : List ℕ) (left asked before after : Option (List ℕ)) (well : Type 0) (status : ℕ) → IsStatus 0 text left asked before after well status → IsStatus lag text left asked before after well status
+wider_status lag text left asked before after well status s = record {
+  clean = s.clean;
+  found = s.found;
+  faulty = λ two.
+      let f = s.faulty two in
+      (record { line = f.0.line; kind = f.0.kind; refusal = wider_refusal lag text left asked (Trace f.0.line f.0.kind) f.0.refusal }, f.1);
+  other = λ three.
+      let o = s.other three in
+      record { cause = o.cause; other = o.other; refusal = wider_refusal lag text left asked o.cause o.refusal; taken = o.taken };
+  range = s.range;
+}
+
+wider_scanned : (thread alone followed : Bool) (text : List ℕ) (left asked before after : Option (List ℕ)) (well : Type 0) (status : ℕ) → (thread ≡ false → alone ≡ false) → IsScanned (lag_by thread) followed text left asked before after well status
+    → IsScanned (lag_by alone) followed text left asked before after well status
+wider_scanned thread alone true text left asked before after well status same s = s
+wider_scanned true alone false text left asked before after well status same s = wider_status (lag_by alone) text left asked before after well status s
+wider_scanned false alone false text left asked before after well status same s = subst (λ a. IsStatus (lag_by a) text left asked before after well status) (sym (same refl)) s
+
+pub wider_scan : (thread alone json followed : Bool) (text : List ℕ) (left asked before after : Option (List ℕ)) (well : Type 0) (status : ℕ) → (thread ≡ false → alone ≡ false) → IsStatusOf (lag_by thread) json followed text left asked before after well status
+    → IsStatusOf (lag_by alone) json followed text left asked before after well status
+wider_scan thread alone false followed text left asked before after well status same s = wider_scanned thread alone followed text left asked before after well status same s
+wider_scan thread alone true followed text left asked before after well status same s =
+    record { given = s.given; failures = s.failures; plain = s.plain; scanned = wider_scanned thread alone followed text left asked (Some []) (Some s.given) (s.failures ≡ 0) s.plain same s.scanned; objects = s.objects }
+
+-- the faulty line of a scan that was refused
+refused_line : (lag : ℕ) (followed : Bool) (text : List ℕ) (left asked before after : Option (List ℕ)) (well : Type 0) (f : Fault) → IsScanRefusal lag followed text left asked before after well f → RefusesLine lag text left asked f
+refused_line lag false text left asked before after well f r two = r.0
+refused_line lag true text left asked before after well (Trace line kind) r two =
+    wider_refusal lag text left asked (Trace line kind) (record { given = r.0.given; rest = r.0.rest; whole = r.0.whole; left = r.0.left; order = r.0.order; refusal = r.0.refusal })
+refused_line lag true text left asked before after well _ r two = absurd (omega (arith, two))
+
+pub refused_lines : (lag : ℕ) (followed : Bool) (text : List ℕ) (left asked before after : Option (List ℕ)) (well : Type 0) (r : Result Summary Fault) → IfErr r (IsScanRefusal lag followed text left asked before after well) → IfErr r (RefusesLine lag text left asked)
+refused_lines lag followed text left asked before after well (Ok sums) refused = tt
+refused_lines lag followed text left asked before after well (Err f) refused = refused_line lag followed text left asked before after well f refused
 
 -- the refusal of a scan that did not follow the text, and of one that did
 pub plain_refusal : (lag : ℕ) (followed : Bool) (text : List ℕ) (left asked before after : Option (List ℕ)) (well : Type 0) (r : Result Summary Fault) → followed ≡ false → IfErr r (IsRefusedBy lag (IsRefusal lag) text left asked) → IfErr r (IsTaken before after (trace_report text))

@@ -1,5 +1,9 @@
 -- What is printed of a fault.
-use Rattle.std.specs.Prelude.{◌≡◌, ◌⊎◌, ℕ, List, [], ◌∷◌, ◌++◌, Option, Some, codes, decimal}
+use Rattle.std.specs.Prelude.{◌≡◌, ◌⊎◌, ℕ, Bool, true, false, List, [], ◌∷◌, ◌++◌, Option, None, Some, codes, decimal}
+use Rattle.std.specs.IoError.{error_kind}
+use Rattle.std.specs.declared.io.Error.{Error}
+use Rattle.std.specs.declared.io.ErrorKind.{ErrorKind}
+use Rattle.std.specs.declared.io.ErrorKind.TheVariants.{BrokenPipe}
 use Rattle.line_model.specs.basics.Device.{with_more}
 use Rattle.line_model.specs.basics.Faults.{kind_number}
 use Rattle.line_model.specs.basics.Written.{HasFront}
@@ -49,6 +53,21 @@ BeginsWith line before after = (more : List ℕ) × (after ≡ with_more before 
 pub record IsSaid (line : List ℕ) (before after : Option (List ℕ)) (well : Type 0) : Type 0 where
   pub part : HasFront before after line ⊎ BeginsWith line before after
   pub whole : well → BeginsWith line before after
+
+-- whether an error of this kind says that the reader of a sink went away
+abbrev pub is_by_reader : ErrorKind → Bool
+is_by_reader BrokenPipe = true
+is_by_reader _ = false
+
+-- whether a write failed because it did
+abbrev pub lost_its_reader : (reason : Option Error) → Bool
+lost_its_reader None = false
+lost_its_reader (Some reason) = is_by_reader (error_kind reason)
+
+-- the line of a fault was printed first; of a write that failed perhaps nothing was, as where the reader of the sink went away
+abbrev pub IsFaultSaid : Fault → (before after : Option (List ℕ)) → (well : Type 0) → Type 0
+IsFaultSaid Write before after well = IsSaid (fault_line Write) before after well ⊎ (after ≡ before)
+IsFaultSaid fault before after well = IsSaid (fault_line fault) before after well
 
 -- a trace could not be opened by its name, and a line that says so was printed first
 pub record IsUnopened (name : Option (List ℕ)) (before after : Option (List ℕ)) (heard : Type 0) : Type 0 where

@@ -5,6 +5,7 @@ pub mod Pasted
 pub mod Explaining
 pub mod Faults
 pub mod Program
+pub mod Stopped
 pub mod Calls
 pub mod Printing
 pub mod Trying

@@ -1,5 +1,5 @@
 -- What the exit status of the program says.
-use Rattle.std.specs.Prelude.{◌≡◌, ℕ, Bool, true, false, ◌<◌, ◌++◌, ◌⊎◌, [], List, Option, Some, None, option_map, take, ◌==◌, if◌then◌else◌}
+use Rattle.std.specs.Prelude.{◌≡◌, ℕ, Bool, true, false, ◌<◌, ◌++◌, ◌⊎◌, [], List, Option, Some, None, Result, Ok, Err, option_map, take, ◌==◌, if◌then◌else◌}
 use Rattle.clap.specs.Words.{IsAmong, Kinds}
 use Rattle.clap.specs.declared.error.kind.ErrorKind.{ErrorKind}
 use Rattle.clap.specs.declared.error.kind.ErrorKind.TheVariants.{DisplayHelp, DisplayVersion, OutOfMemory}
@@ -28,6 +28,11 @@ summary_status sums = if sums.findings == 0 then 0 else 1
 abbrev pub fault_status : Fault → ℕ
 fault_status (Trace line kind) = 2
 fault_status _ = 3
+
+-- the status by the sums of a report, or by the fault in its place
+abbrev pub status_of : Result Summary Fault → ℕ
+status_of (Ok sums) = summary_status sums
+status_of (Err fault) = fault_status fault
 
 -- 3 where memory is refused, 0 for help and the version, otherwise 64
 abbrev pub words_status : ErrorKind → ℕ
@@ -58,6 +63,10 @@ IsWordsAnswer kinds before after well status =
 abbrev pub lag_by : (alone : Bool) → ℕ
 lag_by true = 0
 lag_by false = in_flight
+
+-- a text was refused by this fault, where that is a faulty line
+abbrev pub RefusesLine : (lag : ℕ) (text : List ℕ) (left asked : Option (List ℕ)) → Fault → Type 0
+RefusesLine lag text left asked fault = fault_status fault ≡ 2 → IsRefusedBy lag (IsRefusal lag) text left asked fault
 
 -- a text is refused by a faulty line
 pub record IsFaulty (lag : ℕ) (text : List ℕ) (left asked : Option (List ℕ)) : Type 0 where

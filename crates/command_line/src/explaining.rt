@@ -1,9 +1,11 @@
 //! Prints the meaning of a word.
 
-ghost use Rattle.std.specs.Prelude.{◌≡◌, ℕ, ◌⊎◌, IfOk, option_map, string_bytes, take};
+ghost use Rattle.std.specs.Prelude.{◌≡◌, ◌<◌, ℕ, ◌⊎◌, IfOk, option_map, string_bytes, take};
 ghost use Rattle.line_model.specs.basics.Device.{with_more};
 ghost use Rattle.explanations.specs.Table.{rows};
 ghost use Rattle.command_line.specs.Explaining.{IsAnswer, IsAnswered, answer_by, asked_rows};
+ghost use Rattle.command_line.specs.Faults.{IsFaultSaid};
+ghost use Rattle.command_line.specs.Stopped.{IsHalted};
 
 use crate::pasted::{push_pasted, unprefixed};
 use crate::program::USAGE;
@@ -64,6 +66,8 @@ fn print_answer<K: Output, E: Sink>(alloc: Global, text: &str, sink: &mut K, err
     ensures printed { result ≡ 0 → K.taken sink.new ≡ with_more (K.taken sink.old) text.now }
     ensures part { result ≡ 3 → (n : ℕ) × (K.taken sink.new
         ≡ with_more (K.taken sink.old) (take n text.now)) }
+    ensures stopped { result ≡ 3 → (K.failures sink.old < K.failures sink.new)
+        × IsFaultSaid Fault.Write (E.taken errors.old) (E.taken errors.new) (E.failures errors.new ≡ E.failures errors.old) }
     ensures range { (result ≡ 0) ⊎ (result ≡ 3) }
 {
     match write_all(sink, text.as_bytes()) {
@@ -93,6 +97,8 @@ pub fn explain_word<K: Output, E: Sink>(
     errors: &mut E,
 ) -> u8
     ensures answered { IsAnswered word.now (K.taken sink.old) (K.taken sink.new) result }
+    ensures stopped { result ≡ 3 → IsHalted ⊥ (K.failures sink.old < K.failures sink.new) ⊥ (E.taken errors.old)
+        (E.taken errors.new) (E.failures errors.new ≡ E.failures errors.old) }
     ensures unwritten { result ≡ 64 → sink.new ≡ sink.old }
 {
     match answer(alloc, word) {

@@ -1,15 +1,16 @@
 //! The scan whose report is printed as JSON lines.
 
-ghost use Rattle.std.specs.Prelude.{◌≡◌, ℕ, ◌<◌, ◌≤◌, ◌+◌, ◌^◌, List, Some, true};
-ghost use Rattle.command_line.specs.Faults.{SaysFault};
-ghost use Rattle.command_line.specs.Program.{IsReportStatus, IsScannedAsJson, lag_by};
+ghost use Rattle.std.specs.Prelude.{◌≡◌, ℕ, ◌<◌, ◌≤◌, ◌+◌, ◌^◌, IfErr, List, Some, true};
+ghost use Rattle.command_line.specs.Program.{IsReportStatus, IsScannedAsJson, RefusesLine, lag_by, status_of};
+ghost use Rattle.command_line.specs.Stopped.{IsCause, has_workers};
 
 use crate::options::Options;
-use crate::program::{Host, OTHER_FAULT, scan};
-use crate::refusing::refuse_write;
+use crate::program::{Host, run_scan};
 use json_lines::sink::JsonSink;
-use line_model::device::Sink;
+use line_model::fault::Fault;
 use line_model::lending::{Borrowed, Origin, take_back};
+use line_model::totals::Summary;
+use live_report::uncounted::Uncounted;
 use std::marker::Brand;
 use std::sync::Wait;
 use std::thread::Threads;
@@ -18,58 +19,57 @@ use streams::input::Input;
 use streams::output::Output;
 
 /// As `scan_json`, to the sink of an origin.
-fn scan_to<'a, S: Input, K: Output, E: Sink, R: Threads + Wait + Clock + Sync, B: Origin>(
+fn scan_to<'a, S: Input, K: Output, R: Threads + Wait + Clock + Sync, B: Origin>(
     host: Host<'_, R>,
     options: Options<'_>,
     source: &mut S,
     sink: &'a mut K,
-    errors: &mut E,
-) -> (&'a mut K, u8)
+    uncounted: &mut Uncounted,
+) -> (&'a mut K, Result<Summary, Fault>)
     requires name { sink.ghost_name ≡ B.name }
     requires before { (K.taken sink.now, K.failures sink.now) ≡ B.before }
     ensures name { result.0.ghost_name ≡ B.name }
     ensures shown { (text : List ℕ) → S.left source.old ≡ Some text
         → IsScannedAsJson (lag_by options.entry.alone) options.entry.follow text (S.left source.new) (S.before source.new) B.before.0
-        (K.taken result.0.now) (K.failures result.0.now ≡ B.before.1) result.1 }
-    ensures reported { IsReportStatus true B.before.0 (K.taken result.0.now) result.1 }
-    ensures said { result.1 ≡ 2 → SaysFault (lag_by options.entry.alone) (S.left source.old) (S.left source.new) (S.before source.new)
-        (E.taken errors.old) (E.taken errors.new) (E.failures errors.new ≡ E.failures errors.old) }
-    ensures range { result.1 < 4 }
+        (K.taken result.0.now) (K.failures result.0.now ≡ B.before.1) (status_of result.1) }
+    ensures reported { IsReportStatus true B.before.0 (K.taken result.0.now) (status_of result.1) }
+    ensures refused { (text : List ℕ) → S.left source.old ≡ Some text
+        → IfErr result.1 (RefusesLine (lag_by options.entry.alone) text (S.left source.new) (S.before source.new)) }
+    ensures cause { IfErr result.1 (IsCause (S.failures source.old < S.failures source.new)
+        (B.before.1 < K.failures result.0.now)
+        ((has_workers options.entry.alone options.entry.follow ≡ true) × (S.calls source.new ≡ S.calls source.old))) }
     ensures asked { S.calls source.new ≤ S.calls source.old + (2 ^ 30 + 1) }
 {
-    let alloc = host.alloc;
     let mut json = JsonSink::new(Borrowed::<K, B>::new(sink));
-    let scanned = scan(host, options, source, &mut json, errors);
+    let scanned = run_scan(host, options, source, &mut json, uncounted);
     let (lent, answer) = json.finish();
     match answer {
         Ok(()) => (lent.give_back(), scanned),
-        // The scan has printed that its sink failed.
-        Err(_) if scanned == OTHER_FAULT => (lent.give_back(), scanned),
-        Err(_) => {
-            let status = refuse_write(alloc, &lent, errors);
-            (lent.give_back(), status)
-        }
+        Err(fault) => (lent.give_back(), Err(fault)),
     }
 }
 
-/// Scans the trace as the options ask, prints each line of the report as an object, and returns the exit status.
-pub(crate) fn scan_json<S: Input, K: Output, E: Sink, R: Threads + Wait + Clock + Sync>(
+/// Runs the scan that the options ask for, and prints each line of the report as an object. Where the sink failed, its
+/// fault is returned in place of another.
+pub(crate) fn scan_json<S: Input, K: Output, R: Threads + Wait + Clock + Sync>(
     host: Host<'_, R>,
     options: Options<'_>,
     source: &mut S,
     sink: &mut K,
-    errors: &mut E,
-) -> u8
+    uncounted: &mut Uncounted,
+) -> Result<Summary, Fault>
     ensures shown { (text : List ℕ) → S.left source.old ≡ Some text
         → IsScannedAsJson (lag_by options.entry.alone) options.entry.follow text (S.left source.new) (S.before source.new) (K.taken sink.old)
-        (K.taken sink.new) (K.failures sink.new ≡ K.failures sink.old) result }
-    ensures reported { IsReportStatus true (K.taken sink.old) (K.taken sink.new) result }
-    ensures said { result ≡ 2 → SaysFault (lag_by options.entry.alone) (S.left source.old) (S.left source.new) (S.before source.new)
-        (E.taken errors.old) (E.taken errors.new) (E.failures errors.new ≡ E.failures errors.old) }
-    ensures range { result < 4 }
+        (K.taken sink.new) (K.failures sink.new ≡ K.failures sink.old) (status_of result) }
+    ensures reported { IsReportStatus true (K.taken sink.old) (K.taken sink.new) (status_of result) }
+    ensures refused { (text : List ℕ) → S.left source.old ≡ Some text
+        → IfErr result (RefusesLine (lag_by options.entry.alone) text (S.left source.new) (S.before source.new)) }
+    ensures cause { IfErr result (IsCause (S.failures source.old < S.failures source.new)
+        (K.failures sink.old < K.failures sink.new)
+        ((has_workers options.entry.alone options.entry.follow ≡ true) × (S.calls source.new ≡ S.calls source.old))) }
     ensures asked { S.calls source.new ≤ S.calls source.old + (2 ^ 30 + 1) }
 {
-    let (sink, status) = scan_to::<S, K, E, R, Brand>(host, options, source, sink, errors);
+    let (sink, scanned) = scan_to::<S, K, R, Brand>(host, options, source, sink, uncounted);
     take_back(sink);
-    status
+    scanned
 }

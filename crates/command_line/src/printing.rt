@@ -1,10 +1,11 @@
 //! The rows of the trace in place of its report: the trace once more with comments, or an object for each row; or the table of
 //! its calls.
 
-ghost use Rattle.std.specs.Prelude.{◌≡◌, ◌<◌, ◌≤◌, ◌+◌, ◌^◌, ◌⊎◌, IfErr, IfOk, is_some};
+ghost use Rattle.std.specs.Prelude.{◌≡◌, ◌<◌, ◌≤◌, ◌+◌, ◌^◌, ◌⊎◌, IfErr, IfOk, false, is_some, option_map};
 ghost use Rattle.command_line.specs.Calls.{cannot_list};
 ghost use Rattle.command_line.specs.Printing.{IsPrintAnswer, IsPrintStatus, PrintsTo, StopsTo, is_refused};
 ghost use Rattle.command_line.specs.Program.{IsUnread, trace_in};
+ghost use Rattle.command_line.specs.Stopped.{HaltsRun, IsCause, IsStopped};
 
 use crate::annotated_scan::annotate;
 use crate::channels::last_channel;
@@ -94,6 +95,8 @@ fn print<S: Source, K: Sink>(
 ) -> Result<Summary, Fault>
     ensures printed { IfOk result (PrintsTo S.Source K.Sink printing source.old source.new sink.old sink.new) }
     ensures stopped { IfErr result (StopsTo S.Source K.Sink printing source.old source.new sink.old sink.new) }
+    ensures cause { IfErr result (IsCause (S.failures source.old < S.failures source.new)
+        (K.failures sink.old < K.failures sink.new) ⊥) }
     ensures asked { S.calls source.new ≤ S.calls source.old + (2 ^ 30 + 1) }
 {
     match printing.form {
@@ -123,6 +126,7 @@ fn run_print<S: Input, K: Output, E: Sink>(
 ) -> u8
     ensures status { IsPrintStatus printing (S.left source.old) (S.left source.new) (S.before source.new)
         (K.taken sink.old) (K.taken sink.new) (K.failures sink.new ≡ K.failures sink.old) result }
+    ensures stopped { result ≡ 3 → HaltsRun S.Source K.Sink E.Sink false source.old source.new sink.old sink.new errors.old errors.new }
     ensures range { result < 4 }
     ensures asked { S.calls source.new ≤ S.calls source.old + (2 ^ 30 + 1) }
 {
@@ -147,6 +151,8 @@ fn print_input<S: Input, K: Output, E: Sink>(
         IsUnread source.old source.new sink.old sink.new result
         ⊎ IsPrintStatus asked.entry.printing trace (S.left source.new) (S.before source.new)
         (K.taken sink.old) (K.taken sink.new) (K.failures sink.new ≡ K.failures sink.old) result }
+    ensures stopped { result ≡ 3 → IsStopped S.Source K.Sink E.Sink false
+        (option_map (λ name. name.now) asked.entry.options.trace) source.old source.new sink.old sink.new errors.old errors.new }
     ensures range { result < 4 }
     ensures asked { S.calls source.new ≤ S.calls source.old + (2 ^ 30 + 1) }
 {
@@ -186,6 +192,8 @@ pub(crate) fn print_trace<S: Input, K: Output, E: Sink>(
         asked.entry.printing source.old source.new sink.old sink.new
         trace (S.left source.new) (S.before source.new) (K.taken sink.old) (K.taken sink.new)
         (K.failures sink.new ≡ K.failures sink.old) result }
+    ensures stopped { result ≡ 3 → IsStopped S.Source K.Sink E.Sink false
+        (option_map (λ name. name.now) asked.entry.options.trace) source.old source.new sink.old sink.new errors.old errors.new }
     ensures unwritten { result ≡ 64 → sink.new ≡ sink.old }
     ensures asked { S.calls source.new ≤ S.calls source.old + (2 ^ 30 + 1) }
 {

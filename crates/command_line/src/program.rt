@@ -5,13 +5,14 @@ ghost use Rattle.clap.specs.Words.{kind_of};
 ghost use Rattle.live_report.specs.Reports.{IsReported};
 ghost use Rattle.command_line.specs.Options.{AreAskedRows, alone, annotates, as_json, asked_word, follows, has_comments, lists_calls, named_trace, prints_rows, tries_headers, words_fault};
 ghost use Rattle.command_line.specs.Explaining.{IsAnswered};
-ghost use Rattle.command_line.specs.Faults.{SaysFault};
+ghost use Rattle.command_line.specs.Faults.{IsSaid, SaysFault, fault_line};
+ghost use Rattle.command_line.specs.Stopped.{HaltsRun, IsCause, IsStopped, has_workers, opened_by};
 ghost use Rattle.command_line.specs.Notes.{notes_refused, refused_in};
 ghost use Rattle.annotated_trace.specs.declared.rows.Rows.{Rows as AnyRows};
 ghost use Rattle.command_line.specs.Calls.{cannot_list};
 ghost use Rattle.command_line.specs.Printing.{IsAnnotateAnswer, IsCallsAnswer, IsPrintAnswer, IsRefused, IsRowsAnswer, is_refused, printing_of, table_of};
 ghost use Rattle.command_line.specs.Trying.{IsTryAnswer, cannot_try};
-ghost use Rattle.command_line.specs.Program.{IsAskedTextTaken, IsReportStatus, IsScanRefusal, IsScanned, IsUnread, IsWordsAnswer, IsStatusOfShown, asked_text, fault_status, lag_by, summary_status, trace_in, trace_of, words_status};
+ghost use Rattle.command_line.specs.Program.{IsAskedTextTaken, IsReportStatus, IsScanRefusal, IsUnread, IsWordsAnswer, IsStatusOfShown, RefusesLine, asked_text, fault_status, lag_by, status_of, summary_status, trace_in, trace_of, words_status};
 
 use crate::explaining::explain_word;
 use crate::help::{HELP, VERSION};
@@ -122,7 +123,7 @@ fn is_alone(options: &Options<'_>, notes: bool) -> bool
 
 /// Runs the scan that the options ask for: it follows the trace, reads it in one thread, or has workers. Returns the
 /// sums of its report and, of one thread, the data that was not counted.
-fn run_scan<S: Input, K: Output, R: Threads + Wait + Clock + Sync>(
+pub(crate) fn run_scan<S: Input, K: Output, R: Threads + Wait + Clock + Sync>(
     host: Host<'_, R>,
     options: Options<'_>,
     source: &mut S,
@@ -137,6 +138,9 @@ fn run_scan<S: Input, K: Output, R: Threads + Wait + Clock + Sync>(
         → IfErr result (IsScanRefusal (lag_by options.entry.alone) options.entry.follow text (S.left source.new) (S.before source.new)
         (K.taken sink.old) (K.taken sink.new) (K.failures sink.new ≡ K.failures sink.old)) }
     ensures write_failed { result ≡ Err Fault.Write → K.failures sink.old < K.failures sink.new }
+    ensures cause { IfErr result (IsCause (S.failures source.old < S.failures source.new)
+        (K.failures sink.old < K.failures sink.new)
+        ((has_workers options.entry.alone options.entry.follow ≡ true) × (S.calls source.new ≡ S.calls source.old))) }
     ensures asked { S.calls source.new ≤ S.calls source.old + (2 ^ 30 + 1) }
 {
     let Host { rt, alloc } = host;
@@ -151,40 +155,33 @@ fn run_scan<S: Input, K: Output, R: Threads + Wait + Clock + Sync>(
     Ok(scan.summary)
 }
 
-/// Scans the trace as the options ask, in one thread where a note is printed, and returns the exit status.
-pub(crate) fn scan<S: Input, K: Output, E: Sink, R: Threads + Wait + Clock + Sync>(
+/// Runs the scan that the options ask for, whose report is written in the form that they ask for.
+fn scan_in_form<S: Input, K: Output, R: Threads + Wait + Clock + Sync>(
     host: Host<'_, R>,
     options: Options<'_>,
     source: &mut S,
     sink: &mut K,
-    errors: &mut E,
-) -> u8
-    ensures status { (text : List ℕ) → S.left source.old ≡ Some text
-        → IsScanned (lag_by options.entry.alone) options.entry.follow text (S.left source.new) (S.before source.new)
-        (K.taken sink.old) (K.taken sink.new) (K.failures sink.new ≡ K.failures sink.old) result }
-    ensures reported { IsReportStatus false (K.taken sink.old) (K.taken sink.new) result }
-    ensures said { result ≡ 2 → SaysFault (lag_by options.entry.alone) (S.left source.old) (S.left source.new) (S.before source.new)
-        (E.taken errors.old) (E.taken errors.new) (E.failures errors.new ≡ E.failures errors.old) }
-    ensures range { result < 4 }
+    uncounted: &mut Uncounted,
+) -> Result<Summary, Fault>
+    ensures shown { IsStatusOfShown (lag_by options.entry.alone) options.entry.json options.entry.follow (S.left source.old) (S.left source.new) (S.before source.new)
+        (K.taken sink.old) (K.taken sink.new) (K.failures sink.new ≡ K.failures sink.old) (status_of result) }
+    ensures reported { IsReportStatus options.entry.json (K.taken sink.old) (K.taken sink.new) (status_of result) }
+    ensures refused { (text : List ℕ) → S.left source.old ≡ Some text
+        → IfErr result (RefusesLine (lag_by options.entry.alone) text (S.left source.new) (S.before source.new)) }
+    ensures cause { IfErr result (IsCause (S.failures source.old < S.failures source.new)
+        (K.failures sink.old < K.failures sink.new)
+        ((has_workers options.entry.alone options.entry.follow ≡ true) × (S.calls source.new ≡ S.calls source.old))) }
     ensures asked { S.calls source.new ≤ S.calls source.old + (2 ^ 30 + 1) }
 {
-    let alloc = host.alloc;
-    source.show_progress(progress_choice(&options));
-    let notes = has_note(&options, source);
-    let mut asked = options;
-    asked.alone = is_alone(&options, notes);
-    let mut uncounted = Uncounted::none();
-    match run_scan(host, asked, source, sink, &mut uncounted) {
-        Ok(summary) => {
-            print_note(alloc, notes, &uncounted, errors);
-            summary_status(&summary)
-        }
-        Err(fault) => refuse_scan(alloc, source, sink, errors, fault),
+    if options.json {
+        scan_json(host, options, source, sink, uncounted)
+    } else {
+        run_scan(host, options, source, sink, uncounted)
     }
 }
 
-/// Scans the trace as the options ask, writes its report in the form that they ask, and returns the exit status.
-fn scan_in_form<S: Input, K: Output, E: Sink, R: Threads + Wait + Clock + Sync>(
+/// Scans the trace as the options ask, in one thread where a note is printed, and returns the exit status.
+fn scan<S: Input, K: Output, E: Sink, R: Threads + Wait + Clock + Sync>(
     host: Host<'_, R>,
     options: Options<'_>,
     source: &mut S,
@@ -196,13 +193,23 @@ fn scan_in_form<S: Input, K: Output, E: Sink, R: Threads + Wait + Clock + Sync>(
     ensures reported { IsReportStatus options.entry.json (K.taken sink.old) (K.taken sink.new) result }
     ensures said { result ≡ 2 → SaysFault (lag_by options.entry.alone) (S.left source.old) (S.left source.new) (S.before source.new)
         (E.taken errors.old) (E.taken errors.new) (E.failures errors.new ≡ E.failures errors.old) }
+    ensures stopped { result ≡ 3 → HaltsRun S.Source K.Sink E.Sink (has_workers options.entry.alone options.entry.follow)
+        source.old source.new sink.old sink.new errors.old errors.new }
     ensures range { result < 4 }
     ensures asked { S.calls source.new ≤ S.calls source.old + (2 ^ 30 + 1) }
 {
-    if options.json {
-        scan_json(host, options, source, sink, errors)
-    } else {
-        scan(host, options, source, sink, errors)
+    let alloc = host.alloc;
+    source.show_progress(progress_choice(&options));
+    let notes = has_note(&options, source);
+    let mut asked = options;
+    asked.alone = is_alone(&options, notes);
+    let mut uncounted = Uncounted::none();
+    match scan_in_form(host, asked, source, sink, &mut uncounted) {
+        Ok(summary) => {
+            print_note(alloc, notes, &uncounted, errors);
+            summary_status(&summary)
+        }
+        Err(fault) => refuse_scan(alloc, source, sink, errors, fault),
     }
 }
 
@@ -222,11 +229,13 @@ fn scan_trace<S: Input, K: Output, E: Sink, R: Threads + Wait + Clock + Sync>(
     ensures said { let trace = trace_in options.entry (S.left source.old) (S.named source.old) in
         result ≡ 2 → SaysFault (lag_by options.entry.alone) trace (S.left source.new) (S.before source.new)
         (E.taken errors.old) (E.taken errors.new) (E.failures errors.new ≡ E.failures errors.old) }
+    ensures stopped { result ≡ 3 → IsStopped S.Source K.Sink E.Sink (has_workers options.entry.alone options.entry.follow)
+        (option_map (λ name. name.now) options.entry.trace) source.old source.new sink.old sink.new errors.old errors.new }
     ensures range { result < 4 }
     ensures asked { S.calls source.new ≤ S.calls source.old + (2 ^ 30 + 1) }
 {
     match open_trace(host.alloc, options.trace, source, errors) {
-        Ok(()) => scan_in_form(host, options, source, sink, errors),
+        Ok(()) => scan(host, options, source, sink, errors),
         Err(status) => status,
     }
 }
@@ -324,6 +333,9 @@ fn run<S: Input, K: Output, E: Sink, R: Threads + Wait + Clock + Sync>(
     ensures explained { IfSome (option_map (λ word. word.now) options.entry.explain) (λ word.
         (source.new ≡ source.old)
         × IsAnswered word (K.taken sink.old) (K.taken sink.new) result) }
+    ensures stopped { result ≡ 3 → IsStopped S.Source K.Sink E.Sink (has_workers options.entry.alone options.entry.follow)
+        (opened_by [] (option_map (λ word. word.now) options.entry.explain) (option_map (λ name. name.now) options.entry.trace))
+        source.old source.new sink.old sink.new errors.old errors.new }
     ensures unwritten { result ≡ 64 → sink.new ≡ sink.old }
     ensures asked { S.calls source.new ≤ S.calls source.old + (2 ^ 30 + 1) }
 {
@@ -359,7 +371,9 @@ fn asked_text(kind: ErrorKind) -> Option<&'static str>
 /// Prints what is wrong with the words, or that memory ran out, and returns the exit status.
 fn refuse_wrong<E: Sink>(alloc: Global, error: &Error, errors: &mut E) -> u8
     requires { asked_text (kind_of error.now) ≡ None }
-    ensures { result ≡ words_status (kind_of error.now) }
+    ensures status { result ≡ words_status (kind_of error.now) }
+    ensures stopped { result ≡ 3 → IsSaid (fault_line Fault.Memory) (E.taken errors.old) (E.taken errors.new)
+        (E.failures errors.new ≡ E.failures errors.old) }
 {
     match error.kind() {
         ErrorKind::OutOfMemory => refuse(errors, Fault::Memory),
@@ -377,6 +391,8 @@ fn refuse_words<K: Output, E: Sink>(alloc: Global, error: Error, sink: &mut K, e
     ensures printed { IsAskedTextTaken (asked_text (kind_of error)) (K.taken sink.old) (K.taken sink.new)
         (K.failures sink.new ≡ K.failures sink.old) }
     ensures unwritten { words_status (kind_of error) ≢ 0 → sink.new ≡ sink.old }
+    ensures stopped { result ≡ 3 → IsSaid (fault_line Fault.Memory) (E.taken errors.old) (E.taken errors.new)
+        (E.failures errors.new ≡ E.failures errors.old) }
 {
     match asked_text(error.kind()) {
         Some(text) => {
@@ -424,6 +440,12 @@ pub fn program<S: Input, K: Output, E: Sink, R: Threads + Wait + Clock + Sync>(
         → lists_calls asked ≡ false → notes_refused asked ≡ false
         → result ≡ 2 → SaysFault (lag_by (alone asked)) trace (S.left source.new) (S.before source.new)
         (E.taken errors.old) (E.taken errors.new) (E.failures errors.new ≡ E.failures errors.old) }
+    // Status 3 says that the trace could not be opened, that memory or a thread was refused, or that a read or a write
+    // failed, and that the errors accepted the line of this fault first, or that they failed.
+    ensures stopped { let asked = map (λ word. word.now) words.now in
+        result ≡ 3 → IsStopped S.Source K.Sink E.Sink (has_workers (alone asked) (follows asked))
+        (opened_by (words_fault asked) (asked_word asked) (named_trace asked))
+        source.old source.new sink.old sink.new errors.old errors.new }
     // Where they ask for an annotation, of each row or of exactly those that they choose, the sink accepted one of that
     // trace, or it was refused. Where they ask for JSON with it, they are refused.
     ensures annotated { let asked = map (λ word. word.now) words.now in

@@ -2,8 +2,8 @@
 //! wrong with a faulty line of the trace, or what the system says of a read or a write that failed. A message that standard
 //! error does not accept is lost.
 
-ghost use Rattle.std.specs.Prelude.{◌≡◌, ◌≢◌, ◌≤◌, ◌⊎◌};
-ghost use Rattle.command_line.specs.Faults.{Grows, IsSaid, fault_line, open_line};
+ghost use Rattle.std.specs.Prelude.{◌≡◌, ◌≤◌, false, true};
+ghost use Rattle.command_line.specs.Faults.{Grows, IsFaultSaid, IsSaid, fault_line, lost_its_reader, open_line};
 ghost use Rattle.command_line.specs.Program.{fault_status};
 
 use crate::faults::{print_fault, print_unopened};
@@ -100,24 +100,27 @@ pub fn refuse<E: Sink>(errors: &mut E, fault: Fault) -> u8
     fault_status(fault)
 }
 
-/// Whether the sink failed because its reader went away, as `head` does once it has its lines.
-fn lost_its_reader<K: Output>(sink: &K) -> bool {
-    match sink.failure() {
+/// Whether a write failed because the reader of its sink went away, as `head` does once it has its lines.
+fn lost_its_reader(reason: Option<io::Error>) -> bool
+    ensures { result ≡ lost_its_reader reason }
+{
+    match reason {
         Some(reason) => reason.kind() == ErrorKind::BrokenPipe,
         None => false,
     }
 }
 
-/// Prints that the sink failed, and what the system says of it. Prints nothing where its reader went away.
-fn print_write<K: Output, E: Sink>(alloc: Global, sink: &K, errors: &mut E)
-    ensures { IsSaid (fault_line Fault.Write) (E.taken errors.old) (E.taken errors.new)
-        (E.failures errors.new ≡ E.failures errors.old) ⊎ (errors.new ≡ errors.old) }
+/// Prints that the sink failed, and the reason that the system gives. Prints nothing where its reader went away.
+fn print_write<E: Sink>(alloc: Global, errors: &mut E, reason: Option<io::Error>)
+    ensures said { lost_its_reader reason ≡ false → IsSaid (fault_line Fault.Write) (E.taken errors.old) (E.taken errors.new)
+        (E.failures errors.new ≡ E.failures errors.old) }
+    ensures silent { lost_its_reader reason ≡ true → errors.new ≡ errors.old }
 {
-    if lost_its_reader(sink) {
+    if lost_its_reader(reason) {
         return;
     }
     match print_fault(errors, Fault::Write) {
-        Ok(()) => print_reason(alloc, errors, None, sink.failure()),
+        Ok(()) => print_reason(alloc, errors, None, reason),
         Err(_) => {}
     }
 }
@@ -125,10 +128,10 @@ fn print_write<K: Output, E: Sink>(alloc: Global, sink: &K, errors: &mut E)
 /// Prints why a text was not written whole, and returns the exit status.
 pub fn refuse_write<K: Output, E: Sink>(alloc: Global, sink: &K, errors: &mut E) -> u8
     ensures status { result ≡ 3 }
-    ensures said { IsSaid (fault_line Fault.Write) (E.taken errors.old) (E.taken errors.new)
-        (E.failures errors.new ≡ E.failures errors.old) ⊎ (errors.new ≡ errors.old) }
+    ensures said { IsFaultSaid Fault.Write (E.taken errors.old) (E.taken errors.new)
+        (E.failures errors.new ≡ E.failures errors.old) }
 {
-    print_write(alloc, sink, errors);
+    print_write(alloc, errors, sink.failure());
     OTHER_FAULT
 }
 
@@ -155,7 +158,8 @@ fn print_lines<S: Input, E: Sink>(alloc: Global, source: &S, errors: &mut E, fau
     }
 }
 
-/// Prints why a scan gave up, and returns the exit status. Where its sink did not fail, the line of the fault comes first.
+/// Prints why a scan gave up, and returns the exit status. The line of the fault comes first; nothing is printed where the
+/// sink failed because its reader went away.
 pub fn refuse_scan<S: Input, K: Output, E: Sink>(
     alloc: Global,
     source: &S,
@@ -164,8 +168,7 @@ pub fn refuse_scan<S: Input, K: Output, E: Sink>(
     fault: Fault,
 ) -> u8
     ensures status { result ≡ fault_status fault }
-    ensures said { fault ≢ Fault.Write
-        → IsSaid (fault_line fault) (E.taken errors.old) (E.taken errors.new)
+    ensures said { IsFaultSaid fault (E.taken errors.old) (E.taken errors.new)
         (E.failures errors.new ≡ E.failures errors.old) }
 {
     match fault {

@@ -1,7 +1,8 @@
 //! The headers that explain a trace best, in place of its report.
 
-ghost use Rattle.std.specs.Prelude.{◌≡◌, ◌<◌, ◌≤◌, ◌+◌, ◌^◌, ◌⊎◌, is_some, ◌==◌, if◌then◌else◌};
+ghost use Rattle.std.specs.Prelude.{◌≡◌, ◌<◌, ◌≤◌, ◌+◌, ◌^◌, ◌⊎◌, false, is_some, option_map, ◌==◌, if◌then◌else◌};
 ghost use Rattle.command_line.specs.Program.{IsUnread, trace_in};
+ghost use Rattle.command_line.specs.Stopped.{HaltsRun, IsStopped};
 ghost use Rattle.command_line.specs.Trying.{IsTryAnswer, TriesOf, cannot_try};
 
 use crate::opening::open_trace;
@@ -35,6 +36,7 @@ fn run_try<S: Input, K: Output, E: Sink>(
 ) -> u8
     ensures status { TriesOf (S.left source.old) (S.left source.new) (S.before source.new)
         (K.taken sink.old) (K.taken sink.new) (K.failures sink.new ≡ K.failures sink.old) result }
+    ensures stopped { result ≡ 3 → HaltsRun S.Source K.Sink E.Sink false source.old source.new sink.old sink.new errors.old errors.new }
     ensures range { result < 4 }
     ensures asked { S.calls source.new ≤ S.calls source.old + (2 ^ 30 + 1) }
 {
@@ -57,6 +59,8 @@ fn try_input<S: Input, K: Output, E: Sink>(
         IsUnread source.old source.new sink.old sink.new result
         ⊎ TriesOf trace (S.left source.new) (S.before source.new)
         (K.taken sink.old) (K.taken sink.new) (K.failures sink.new ≡ K.failures sink.old) result }
+    ensures stopped { result ≡ 3 → IsStopped S.Source K.Sink E.Sink false
+        (option_map (λ name. name.now) options.entry.trace) source.old source.new sink.old sink.new errors.old errors.new }
     ensures range { result < 4 }
     ensures asked { S.calls source.new ≤ S.calls source.old + (2 ^ 30 + 1) }
 {
@@ -88,6 +92,8 @@ pub(crate) fn try_trace<S: Input, K: Output, E: Sink>(
         source.old source.new sink.old sink.new
         trace (S.left source.new) (S.before source.new) (K.taken sink.old) (K.taken sink.new)
         (K.failures sink.new ≡ K.failures sink.old) result }
+    ensures stopped { result ≡ 3 → IsStopped S.Source K.Sink E.Sink false
+        (option_map (λ name. name.now) options.entry.trace) source.old source.new sink.old sink.new errors.old errors.new }
     ensures unwritten { result ≡ 64 → sink.new ≡ sink.old }
     ensures asked { S.calls source.new ≤ S.calls source.old + (2 ^ 30 + 1) }
 {

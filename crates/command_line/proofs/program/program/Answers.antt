@@ -11,7 +11,9 @@ use Rattle.command_line.specs.Options.{AreAskedRows, AreRowsBy, annotates, annot
 use Rattle.command_line.specs.Printing.{IsPrintAnswer, is_refused, printing_of, table_form, table_of}
 use Rattle.command_line.specs.declared.options.OutputForm.TheVariants.{Comments, Objects}
 use Rattle.command_line.specs.declared.options.Printing.{Printing}
+use Rattle.command_line.specs.Stopped.{IsStopped, has_workers, opened_by}
 use Rattle.command_line.specs.Trying.{IsTryAnswer, cannot_try}
+use Rattle.line_model.specs.declared.fault.Fault.TheVariants.{Memory}
 use Rattle.command_line.proofs.FaultLemmas.{says_of}
 use Rattle.command_line.proofs.TryLemmas.{annotating}
 use Rattle.command_line.specs.Program.{IsReportStatus, IsStatusOf, IsUnread, lag_by, trace_of}
@@ -171,3 +173,12 @@ returns-in-Ok-clause-said g c right unasked untried unannotated plain unlisted a
     (says_of (lag_by c.in-Ok.options.alone) (g.S.Source.left c.run.new.source) (g.S.Source.before c.run.new.source) (g.E.Sink.taken c.args.errors.now) (g.E.Sink.taken c.run.new.errors) (g.E.Sink.failures c.run.new.errors ≡ g.E.Sink.failures c.args.errors.now)
     (ap (λ name. trace_of name (g.S.Source.left c.args.source.now) (g.S.Input.named c.args.source.now)) c.in-Ok.ensures.trace)
     (c.run.ensures.said (c.in-Ok.ensures.explain ∙ unasked) (c.in-Ok.ensures.try_headers ∙ untried) (same_refusal g c ∙ allowed) none two))
+
+pub returns-in-Ok-clause-stopped : goal.returns-in-Ok-clause-stopped
+returns-in-Ok-clause-stopped g c three =
+    let none = sym c.in-Ok.ensures.kinds in
+    subst (λ (o : Bool × Option (List ℕ)). IsStopped g.S.Source g.K.Sink g.E.Sink o.0 o.1 c.args.source.now c.run.new.source c.args.sink.now c.run.new.sink c.args.errors.now c.run.new.errors)
+    (λ i. (has_workers (c.in-Ok.ensures.alone i) (c.in-Ok.ensures.follow i), opened_by (none i) (c.in-Ok.ensures.explain i) (c.in-Ok.ensures.trace i))) (c.run.ensures.stopped three)
+
+pub returns-in-Err-clause-stopped : goal.returns-in-Err-clause-stopped
+returns-in-Err-clause-stopped g c three = inr (record { fault = Memory; other = refl; cause = tt; said = c.refuse_words.ensures.stopped three })

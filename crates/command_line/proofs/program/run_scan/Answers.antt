@@ -1,9 +1,11 @@
-use Rattle.std.proofs.Common.{◌≡◌, Bool, subst, sym}
+use Rattle.std.proofs.Common.{◌≡◌, Bool, Err, ap, subst, sym}
 use Rattle.std.specs.Prelude.{IfErr}
 use Rattle.std.proofs.lemmas.Result.{IfOk-from_err}
 use Rattle.trace_text.proofs.SourceLemmas.{passed_on}
 use Rattle.command_line.specs.Program.{IsScanRefusal, lag_by}
+use Rattle.command_line.specs.Stopped.{has_workers}
 use Rattle.command_line.proofs.StatusLemmas.{follow_refusal, plain_refusal}
+use Rattle.command_line.proofs.StopLemmas.{scan_cause, worked_cause}
 use Rattle.command_line.proofs.program.run_scan.Goals as goal
 
 pub returns-then-options-clause-refused : goal.returns-then-options-clause-refused
@@ -33,3 +35,16 @@ returns-in_err-scan-clause-of_text g c = IfOk-from_err _ _ c.from_residual.ensur
 
 pub returns-clause-of_text : goal.returns-clause-of_text
 returns-clause-of_text g c = (c.in_ok-scan.ensures.of_text.0, c.in_ok-scan.ensures.of_text.1)
+
+pub returns-then-options-clause-cause : goal.returns-then-options-clause-cause
+returns-then-options-clause-cause g c = scan_cause _ _ _ c.follow.result c.follow.ensures.kinds c.follow.ensures.read_failed c.follow.ensures.write_failed
+
+pub returns-then-options-2-clause-cause : goal.returns-then-options-2-clause-cause
+returns-then-options-2-clause-cause g c = scan_cause _ _ _ c.scan_alone.result c.scan_alone.ensures.kinds c.scan_alone.ensures.read_failed c.scan_alone.ensures.write_failed
+
+pub returns-in_err-scan-clause-cause : goal.returns-in_err-scan-clause-cause
+returns-in_err-scan-clause-cause g c =
+    let fault = c.in_err-scan.field-0.0 in
+    passed_on c.from_residual.result fault _ c.from_residual.ensures.1
+    (worked_cause _ _ _ fault c.in_err-scan.ensures.kinds (λ e. c.in_err-scan.ensures.read_failed (ap Err e)) (λ e. c.in_err-scan.ensures.write_failed (ap Err e))
+    (λ e. ((λ i. has_workers (c.if-options-2.false i) (c.if-options.false i)), ap g.S.Source.calls (c.in_err-scan.ensures.start (ap Err e)))))

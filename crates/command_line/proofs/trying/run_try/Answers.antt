@@ -1,5 +1,6 @@
-use Rattle.std.proofs.Common.{◌∙◌, ap, arith, Err}
+use Rattle.std.proofs.Common.{◌∙◌, ℕ, ap, arith, Err}
 use Rattle.command_line.proofs.StatusLemmas.{status_range}
+use Rattle.command_line.proofs.StopLemmas.{halted, scan_cause, unhalted}
 use Rattle.command_line.proofs.TryLemmas.{refused_try, tried_status}
 use Rattle.command_line.proofs.trying.run_try.Goals as goal
 
@@ -16,3 +17,12 @@ returns-in-Err-clause-status g c text shown =
 
 pub returns-in-Err-clause-range : goal.returns-in-Err-clause-range
 returns-in-Err-clause-range g c = status_range c.in-Err.fault c.refuse_scan.result c.refuse_scan.ensures.status
+
+pub returns-in-Ok-clause-stopped : goal.returns-in-Ok-clause-stopped
+returns-in-Ok-clause-stopped g c three = unhalted c.in-Ok.findings c.tried_status.result _ c.tried_status.ensures three
+
+pub returns-in-Err-clause-stopped : goal.returns-in-Err-clause-stopped
+returns-in-Err-clause-stopped g c three =
+    halted c.in-Err.fault c.refuse_scan.result c.refuse_scan.ensures.status
+    (scan_cause {T = ℕ} _ _ _ (Err c.in-Err.fault) c.in-Err.ensures.kinds (λ e. omega (arith, c.in-Err.ensures.read_failed e, c.show_progress.ensures.failures)) c.in-Err.ensures.write_failed)
+    c.refuse_scan.ensures.said three
