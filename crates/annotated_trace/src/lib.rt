@@ -3,10 +3,10 @@
 
 pub mod annotating;
 pub mod annotation;
-mod closing;
+pub mod closing;
 mod commenting;
 pub mod describer;
-mod holding;
+pub mod holding;
 pub mod laws;
 mod marks;
 pub mod notes;

@@ -44,12 +44,12 @@ fn is_line(fault: Fault) -> bool
 /// Drop it after a refusal.
 #[derive(Drop)]
 pub struct TracePrinter<A: Allocator, O: Drop, P: Drop> {
-    trace: O,
-    printer: P,
+    pub trace: O,
+    pub printer: P,
     /// What comes after the last LF.
-    begun: Vec<u8, A>,
+    pub begun: Vec<u8, A>,
     /// What was printed and not yet sent to the sink.
-    held: Vec<u8, A>,
+    pub held: Vec<u8, A>,
 }
 
 impl<A: Allocator + Copy, O: TraceObserver<A>, P: Printer<A, O>> TracePrinter<A, O, P> {
@@ -100,7 +100,7 @@ impl<A: Allocator + Copy, O: TraceObserver<A>, P: Printer<A, O>> TracePrinter<A,
 
     /// Reads the end of a line with its LF, and holds what the line becomes.
     #[inline(always)]
-    fn take_line(&mut self, end: &[u8]) -> Result<(), Fault>
+    pub fn take_line(&mut self, end: &[u8]) -> Result<(), Fault>
         requires { IsFed O.TraceObserver P.Printer self.old }
         ensures fed { (choice : AnyRows) (text front : List ℕ)
             → WasFed (HasFollowed O.TraceObserver P.Printer choice) self.old text
@@ -124,7 +124,7 @@ impl<A: Allocator + Copy, O: TraceObserver<A>, P: Printer<A, O>> TracePrinter<A,
     }
 
     /// Reads bytes without an LF.
-    fn begin(&mut self, more: &[u8]) -> Result<(), Fault>
+    pub fn begin(&mut self, more: &[u8]) -> Result<(), Fault>
         requires { IsFed O.TraceObserver P.Printer self.old }
         ensures fed { (choice : AnyRows) (text : List ℕ)
             → WasFed (HasFollowed O.TraceObserver P.Printer choice) self.old text

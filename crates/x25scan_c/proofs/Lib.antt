@@ -1,3 +1,4 @@
 pub mod HandleValues
 pub mod LooseValues
+pub mod PrintingLemmas
 pub mod ScanLemmas

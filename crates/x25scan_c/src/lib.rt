@@ -7,18 +7,21 @@ ghost use Rattle.std.specs.Prelude.{◌≡◌, ◌≢◌, ◌++◌, ◌∷◌, �
 ghost use Rattle.line_model.specs.basics.Faults.{kind_number};
 ghost use Rattle.line_model.specs.declared.finding.Finding.{Finding as AnyFinding};
 ghost use Rattle.line_model.specs.declared.state.Side.{Side as AnySide};
-ghost use Rattle.line_model.specs.text.Text.{early, fault};
+ghost use Rattle.line_model.specs.text.Text.{early, ended_lines, fault};
 ghost use Rattle.live_report.specs.Found.{found as findings_of};
 ghost use Rattle.trace_text.specs.EndedPart.{ended_part as ended};
 ghost use Rattle.trace_text.specs.RowTexts.{row_text, side_letter};
 ghost use Rattle.x25scan_c.specs.Owning.{Holds};
 ghost use Rattle.x25scan_c.specs.Found.{numbers_of};
-ghost use Rattle.x25scan_c.specs.Sound.{AddsFound, HasReport, IsSoundScan, IsSoundScanning, KeepsFault, OfScans, WasScanned, has_ended, reports, scan_reports, scan_ended, waiting_findings, waiting_text};
+ghost use Rattle.x25scan_c.specs.LiveRows.{EndsRows};
+ghost use Rattle.x25scan_c.specs.Sound.{AddsFound, AddsReport, AddsRowsWhere, HasReport, IsSoundScan, IsSoundScanning, KeepsFault, KeepsFaultAtEnd, OfScans, WasScanned, has_ended, prints_rows, reports, scan_reports, scan_ended, waiting_findings, waiting_text};
 
 pub mod errors;
 pub mod found;
 mod handle;
+mod live_rows;
 mod loose;
+mod printing;
 mod reading;
 mod scanning;
 
@@ -138,6 +141,10 @@ pub extern "C" fn x25scan_feed_text(alloc: Global, scan: &mut Scan, text: &[u8])
     ensures found { (before : List ℕ) → WasScanned ⟦<PackedChannel<Global> as Channel<Global>>⟧ before scan.old.observer.value → result ≡ 0
         → OfScans (λ s t. AddsFound (reports s.reading) (waiting_findings s) (waiting_findings t)
         (findings_of before) (findings_of (before ++ text.now))) scan.old.observer.value scan.new.observer.value }
+    // Where rows are printed, the objects of those whose lines it ends wait after what waited.
+    ensures rows { (before : List ℕ) → WasScanned ⟦<PackedChannel<Global> as Channel<Global>>⟧ before scan.old.observer.value → result ≡ 0
+        → OfScans (λ s t. AddsRowsWhere (prints_rows s.reading) (ended_lines before) (ended_lines (before ++ text.now))
+        (Some (waiting_text s)) (Some (waiting_text t))) scan.old.observer.value scan.new.observer.value }
     // The trace is refused by its first faulty line, which is kept.
     ensures refused { (before : List ℕ) → WasScanned ⟦<PackedChannel<Global> as Channel<Global>>⟧ before scan.old.observer.value → result ≡ 2
         → IfSome scan.new.observer.value (KeepsFault (early (before ++ text.now))) }
@@ -174,6 +181,11 @@ pub extern "C" fn x25scan_feed_packet(
         → WasScanned ⟦<PackedChannel<Global> as Channel<Global>>⟧ before scan.old.observer.value → result ≡ 0
         → OfScans (λ o t. AddsFound (reports o.reading) (waiting_findings o) (waiting_findings t) (findings_of before)
         (findings_of (before ++ row_text (record { number = number; side = s; octets = octets.now; gap = None })))) scan.old.observer.value scan.new.observer.value }
+    ensures rows { (before : List ℕ) (s : AnySide) → side ≡ side_letter s
+        → WasScanned ⟦<PackedChannel<Global> as Channel<Global>>⟧ before scan.old.observer.value → result ≡ 0
+        → OfScans (λ o t. AddsRowsWhere (prints_rows o.reading) (ended_lines before)
+        (ended_lines (before ++ row_text (record { number = number; side = s; octets = octets.now; gap = None })))
+        (Some (waiting_text o)) (Some (waiting_text t))) scan.old.observer.value scan.new.observer.value }
     ensures closed { scan.old.mark ≢ 1 → (result ≡ (if scan.old.mark == 2 then 3 else 8)) × (scan.new ≡ scan.old) }
 {
     match take(alloc, scan) {
@@ -232,9 +244,12 @@ pub extern "C" fn x25scan_make_report(alloc: Global, scan: &mut Scan, form: u32)
     ensures reported { (text : List ℕ) → WasScanned ⟦<PackedChannel<Global> as Channel<Global>>⟧ text scan.old.observer.value
         → scan_reports scan.old.observer.value ≡ true → result ≡ 0
         → IfSome scan.new.observer.value (HasReport form (ended text)) }
+    // Where rows are printed, the objects of that report wait after what waited.
+    ensures objects { (text : List ℕ) → WasScanned ⟦<PackedChannel<Global> as Channel<Global>>⟧ text scan.old.observer.value
+        → scan_reports scan.old.observer.value ≡ false → result ≡ 0
+        → OfScans (AddsReport (ended text)) scan.old.observer.value scan.new.observer.value }
     // The trace is refused by its first faulty line, which is kept.
-    ensures refused { (text : List ℕ) → WasScanned ⟦<PackedChannel<Global> as Channel<Global>>⟧ text scan.old.observer.value
-        → scan_reports scan.old.observer.value ≡ true → result ≡ 2
+    ensures refused { (text : List ℕ) → WasScanned ⟦<PackedChannel<Global> as Channel<Global>>⟧ text scan.old.observer.value → result ≡ 2
         → IfSome scan.new.observer.value (KeepsFault (fault (ended text))) }
     ensures once { scan_ended scan.old.observer.value ≡ true → (result ≢ 0) × (result ≢ 2) }
     ensures fed { (text : List ℕ) → WasScanned ⟦<PackedChannel<Global> as Channel<Global>>⟧ text scan.old.observer.value
@@ -261,10 +276,13 @@ pub extern "C" fn x25scan_end_trace(alloc: Global, scan: &mut Scan, form: u32) -
     ensures reported { (text : List ℕ) → WasScanned ⟦<PackedChannel<Global> as Channel<Global>>⟧ text scan.old.observer.value
         → scan_reports scan.old.observer.value ≡ true → result ≡ 0
         → IfSome scan.new.observer.value (HasReport form text) }
+    // Where rows are printed, what waits after what waited completes the rows to what is printed of the text.
+    ensures rows { (text : List ℕ) → WasScanned ⟦<PackedChannel<Global> as Channel<Global>>⟧ text scan.old.observer.value
+        → scan_reports scan.old.observer.value ≡ false → result ≡ 0
+        → OfScans (λ s t. EndsRows text (Some (waiting_text s)) (Some (waiting_text t))) scan.old.observer.value scan.new.observer.value }
     // The trace is refused by its first faulty line, which is kept.
-    ensures refused { (text : List ℕ) → WasScanned ⟦<PackedChannel<Global> as Channel<Global>>⟧ text scan.old.observer.value
-        → scan_reports scan.old.observer.value ≡ true → result ≡ 2
-        → IfSome scan.new.observer.value (KeepsFault (fault text)) }
+    ensures refused { (text : List ℕ) → WasScanned ⟦<PackedChannel<Global> as Channel<Global>>⟧ text scan.old.observer.value → result ≡ 2
+        → OfScans (λ s t. KeepsFaultAtEnd (prints_rows s.reading) text t) scan.old.observer.value scan.new.observer.value }
     ensures once { scan_ended scan.old.observer.value ≡ true → (result ≢ 0) × (result ≢ 2) }
     ensures ended { result ≡ 0 → scan_ended scan.new.observer.value ≡ true }
     ensures closed { scan.old.mark ≢ 1 → (result ≡ (if scan.old.mark == 2 then 3 else 8)) × (scan.new ≡ scan.old) }

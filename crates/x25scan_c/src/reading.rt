@@ -2,7 +2,7 @@
 
 ghost use Rattle.std.specs.Prelude.{◌≡◌, ◌++◌, ◌≤◌, ℕ, List, [], None, not, true, false, Ok, IfErr, IfOk, OnOk, length};
 ghost use Rattle.line_model.specs.basics.Device.{with_more};
-ghost use Rattle.line_model.specs.text.Text.{early, fault};
+ghost use Rattle.line_model.specs.text.Text.{early, ended_lines, fault};
 ghost use Rattle.line_model.specs.traces.Traces.{trace_report};
 ghost use Rattle.live_report.specs.Found.{HasFound, found as findings_of};
 ghost use Rattle.live_report.specs.Lives.{WasFed};
@@ -10,19 +10,17 @@ ghost use Rattle.live_report.specs.Reports.{IsRefusal};
 ghost use Rattle.trace_text.specs.EndedPart.{ended_part as ended};
 ghost use Rattle.trace_text.specs.Represents.{IsFaultOf};
 ghost use Rattle.trace_text.specs.RowTexts.{row_text};
-ghost use Rattle.x25scan_c.specs.Sound.{AddsFound, IsSound, WasRead, has_ended, prints_rows, reports};
+ghost use Rattle.x25scan_c.specs.LiveRows.{EndsRows};
+ghost use Rattle.x25scan_c.specs.Sound.{AddsFound, AddsRowsWhere, IsRefusalAtEnd, IsSound, WasRead, has_ended, prints_rows, reports};
 
-use annotated_trace::printing::print_trace;
-use annotated_trace::rows::Rows;
+use crate::live_rows::LiveRows;
 use channel_run::run::Channel;
-use descriptions::row_objects::RowObjects;
-use line_model::device::{Sink, SliceSource};
+use line_model::device::Sink;
 use line_model::fault::Fault;
 use line_model::finding::Finding;
 use line_model::state::Side;
 use live_report::live::Live;
 use live_report::uncounted::Uncounted;
-use memchr::memrchr;
 use std::alloc::Allocator;
 use std::mem::replace;
 
@@ -31,38 +29,10 @@ use std::mem::replace;
 pub enum Reading<A: Allocator, C: Channel<A>> {
     /// A trace whose report can be asked for at any moment.
     Report(Live<A, C>),
-    /// The text so far, whose rows are printed at its end.
-    Rows(Vec<u8, A>),
+    /// A trace whose rows are printed as they come.
+    Rows(LiveRows<A, C>),
     /// The trace has ended.
     Ended,
-}
-
-/// Returns a trace text up to its last line feed.
-fn ended_part(text: &[u8]) -> &[u8] {
-    let end = match memrchr(b'\n', text) {
-        Some(last) => last.saturating_add(1),
-        None => 0,
-    };
-    match text.get(..end) {
-        Some(front) => front,
-        None => text,
-    }
-}
-
-/// Writes the rows of a trace text and its report, as `print_trace`.
-fn print_rows<A: Allocator + Copy, C: Channel<A>, K: Sink>(
-    alloc: A,
-    text: &[u8],
-    sink: &mut K,
-) -> Result<(), Fault> {
-    print_trace(
-        alloc,
-        Live::<A, C>::with_rows(alloc),
-        RowObjects::new(alloc, Rows::All),
-        &mut SliceSource::new(text),
-        sink,
-    )?;
-    Ok(())
 }
 
 /// Reads the next bytes of a trace text, as `Live::feed`, and appends what their rows found.
@@ -124,7 +94,7 @@ impl<A: Allocator + Copy, C: Channel<A>> Reading<A, C> {
         ensures form { reports result ≡ not prints_rows }
     {
         if prints_rows {
-            Reading::Rows(Vec::new(alloc))
+            Reading::Rows(LiveRows::new(alloc))
         } else {
             Reading::Report(Live::new(alloc))
         }
@@ -144,8 +114,13 @@ impl<A: Allocator + Copy, C: Channel<A>> Reading<A, C> {
         matches!(self, Reading::Ended)
     }
 
-    /// Reads the next bytes of the text, and appends what their rows found.
-    pub fn feed(&mut self, chunk: &[u8], found: &mut Vec<Finding, A>) -> Result<(), Fault>
+    /// Reads the next bytes of the text, and appends what their rows found, or the objects of their rows.
+    pub fn feed<K: Sink>(
+        &mut self,
+        chunk: &[u8],
+        found: &mut Vec<Finding, A>,
+        sink: &mut K,
+    ) -> Result<(), Fault>
         requires { IsSound C.Channel self.old }
         ensures sound { IsSound C.Channel self.new }
         ensures fed { (text : List ℕ) → WasRead C.Channel text self.old
@@ -153,6 +128,10 @@ impl<A: Allocator + Copy, C: Channel<A>> Reading<A, C> {
         ensures found { (text : List ℕ) → WasRead C.Channel text self.old
             → OnOk result (AddsFound (reports self.old) found.old.items found.new.items
             (findings_of text) (findings_of (text ++ chunk.now))) }
+        ensures rows { (text : List ℕ) → WasRead C.Channel text self.old
+            → OnOk result (AddsRowsWhere (prints_rows self.old) (ended_lines text) (ended_lines (text ++ chunk.now))
+            (K.taken sink.old) (K.taken sink.new)) }
+        ensures appended { (more : List ℕ) × (K.taken sink.new ≡ with_more (K.taken sink.old) more) }
         ensures refused { (text : List ℕ) → WasRead C.Channel text self.old
             → IfErr result (IsFaultOf (early (text ++ chunk.now))) }
         ensures form { reports self.new ≡ reports self.old }
@@ -160,10 +139,7 @@ impl<A: Allocator + Copy, C: Channel<A>> Reading<A, C> {
     {
         match self {
             Reading::Report(live) => feed_live(live, chunk, found),
-            Reading::Rows(text) => {
-                text.extend_from_slice(chunk)?;
-                Ok(())
-            }
+            Reading::Rows(rows) => rows.feed(chunk, sink),
             Reading::Ended => Ok(()),
         }
     }
@@ -187,6 +163,8 @@ impl<A: Allocator + Copy, C: Channel<A>> Reading<A, C> {
             → AddsFound (reports self.old) found.old.items found.new.items (findings_of text)
             (findings_of (text ++ row_text (record { number = number; side = side; octets = octets.now; gap = None }))) }
         ensures unfound { result ≡ Ok false → found.new ≡ found.old }
+        ensures reports { result ≡ Ok true → prints_rows self.old ≡ false }
+        ensures rows { prints_rows self.new ≡ prints_rows self.old }
         ensures form { reports self.new ≡ reports self.old }
         ensures more { length found.old.items ≤ length found.new.items }
     {
@@ -196,43 +174,45 @@ impl<A: Allocator + Copy, C: Channel<A>> Reading<A, C> {
         }
     }
 
-    /// Writes the report of the lines that have ended, as `Live::report`, or their rows and their report.
-    pub fn report<K: Sink>(&self, alloc: A, sink: &mut K) -> Result<(), Fault>
+    /// Writes the report of the lines that have ended, as `Live::report`.
+    pub fn report<K: Sink>(&self, sink: &mut K) -> Result<(), Fault>
         requires { IsSound C.Channel self.now }
-        ensures reported { (text : List ℕ) → WasRead C.Channel text self.now → reports self.now ≡ true
+        ensures reported { (text : List ℕ) → WasRead C.Channel text self.now
             → OnOk result ((fault (ended text) ≡ None)
             × (K.taken sink.new ≡ with_more (K.taken sink.old) (trace_report (ended text)))) }
-        ensures refused { (text : List ℕ) → WasRead C.Channel text self.now → reports self.now ≡ true
+        ensures refused { (text : List ℕ) → WasRead C.Channel text self.now
             → IfErr result (IsRefusal (ended text)) }
     {
         match self {
             Reading::Report(live) => {
                 live.report(sink)?;
+                Ok(())
             }
-            Reading::Rows(text) => print_rows::<A, C, K>(alloc, ended_part(text.as_slice()), sink)?,
-            Reading::Ended => {}
+            Reading::Rows(rows) => rows.report(sink),
+            Reading::Ended => Ok(()),
         }
-        Ok(())
     }
 
-    /// Writes the report of the text, which has ended, as `Live::end`, or its rows and its report, as `print_trace`.
-    pub fn end<K: Sink>(&mut self, alloc: A, sink: &mut K) -> Result<(), Fault>
+    /// Writes the report of the text, which has ended, as `Live::end`, or what comes after the rows that were printed.
+    pub fn end<K: Sink>(&mut self, sink: &mut K) -> Result<(), Fault>
         requires { IsSound C.Channel self.old }
         ensures ended { self.new ≡ Reading.Ended }
         ensures reported { (text : List ℕ) → WasRead C.Channel text self.old → reports self.old ≡ true
             → OnOk result ((fault text ≡ None)
             × (K.taken sink.new ≡ with_more (K.taken sink.old) (trace_report text))) }
-        ensures refused { (text : List ℕ) → WasRead C.Channel text self.old → reports self.old ≡ true
-            → IfErr result (IsRefusal text) }
+        ensures rows { (text : List ℕ) → WasRead C.Channel text self.old → reports self.old ≡ false
+            → OnOk result (EndsRows text (K.taken sink.old) (K.taken sink.new)) }
+        ensures refused { (text : List ℕ) → WasRead C.Channel text self.old
+            → IfErr result (IsRefusalAtEnd (prints_rows self.old) text) }
     {
         match replace(self, Reading::Ended) {
             Reading::Report(live) => {
                 let mut uncounted = Uncounted::none();
                 live.end(sink, &mut uncounted)?;
+                Ok(())
             }
-            Reading::Rows(text) => print_rows::<A, C, K>(alloc, text.as_slice(), sink)?,
-            Reading::Ended => {}
+            Reading::Rows(rows) => rows.end(sink),
+            Reading::Ended => Ok(()),
         }
-        Ok(())
     }
 }

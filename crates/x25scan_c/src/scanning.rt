@@ -1,16 +1,17 @@
 //! What a handle holds: a trace that is read, its findings, and the text that the caller has not received.
 
-ghost use Rattle.std.specs.Prelude.{◌≡◌, ◌≢◌, ◌++◌, ◌∷◌, ◌≤◌, ◌==◌, if◌then◌else◌, ℕ, List, [], None, Some, true, false, IfSome, OnOk, IfErr, drop, length};
+ghost use Rattle.std.specs.Prelude.{◌≡◌, ◌≢◌, ◌++◌, ◌∷◌, ◌≤◌, ◌==◌, if◌then◌else◌, ℕ, List, [], None, Some, true, false, IfSome, OnOk, IfOk, IfErr, drop, length};
 ghost use Rattle.json_lines.specs.Json.{json_text};
 ghost use Rattle.line_model.specs.declared.fault.Fault.TheVariants.{Trace};
 ghost use Rattle.line_model.specs.declared.fault.Kind.{Kind as AnyKind};
 ghost use Rattle.line_model.specs.declared.state.Side.{Side as AnySide};
-ghost use Rattle.line_model.specs.text.Text.{early, fault};
+ghost use Rattle.line_model.specs.text.Text.{early, ended_lines, fault};
 ghost use Rattle.line_model.specs.traces.Traces.{trace_report};
 ghost use Rattle.live_report.specs.Found.{found as findings_of};
 ghost use Rattle.trace_text.specs.EndedPart.{ended_part as ended};
 ghost use Rattle.trace_text.specs.RowTexts.{row_text, side_letter};
-ghost use Rattle.x25scan_c.specs.Sound.{AddsFound, HasReport, IsSoundScanning, KeepsFault, WasRead, has_ended, number_of, prints_rows, reports, waiting_findings, waiting_text};
+ghost use Rattle.x25scan_c.specs.LiveRows.{EndsRows};
+ghost use Rattle.x25scan_c.specs.Sound.{AddsFound, AddsReport, AddsRowsWhere, HasReport, IsSoundScanning, KeepsFault, KeepsFaultAtEnd, WasRead, has_ended, number_of, prints_rows, reports, waiting_findings, waiting_text};
 
 use crate::errors::{ARGUMENT, ENDED, LINE, MEMORY, OK, ROWS, number_of};
 use crate::reading::Reading;
@@ -22,6 +23,7 @@ use line_model::device::{Beginning, VecSink};
 use line_model::fault::{Fault, Kind};
 use line_model::finding::Finding;
 use line_model::state::Side;
+use line_model::write_buffer::write_all;
 use live_report::row_text::put_row;
 use std::alloc::Global;
 use std::mem::replace;
@@ -56,6 +58,15 @@ pub struct Scanning {
     has_begun: bool,
     refused: Option<(u32, Kind)>,
     advice: Option<String>,
+}
+
+/// Returns the objects of the lines of a report.
+fn objects_of(alloc: Global, lines: &[u8]) -> Result<VecSink<Global>, Fault>
+    ensures { IfOk result (λ objects. objects.bytes.items ≡ json_text lines.now) }
+{
+    let mut objects = VecSink::new(Vec::new(alloc));
+    write_json_lines(lines, &mut objects)?;
+    Ok(objects)
 }
 
 /// The side of a letter.
@@ -97,6 +108,7 @@ impl Scanning {
     fn remember(&mut self, chunk: &[u8])
         ensures reading { self.new.reading ≡ self.old.reading }
         ensures findings { (self.new.found ≡ self.old.found) × (self.new.found_taken ≡ self.old.found_taken) }
+        ensures text { (self.new.text ≡ self.old.text) × (self.new.text_taken ≡ self.old.text_taken) }
     {
         if self.recent.len().saturating_add(chunk.len()) > MOST_RECENT && !self.recent.is_empty() {
             self.recent.clear();
@@ -111,6 +123,7 @@ impl Scanning {
     fn refuse(&mut self, alloc: Global, fault: Fault) -> u32
         ensures reading { self.new.reading ≡ self.old.reading }
         ensures findings { (self.new.found ≡ self.old.found) × (self.new.found_taken ≡ self.old.found_taken) }
+        ensures text { (self.new.text ≡ self.old.text) × (self.new.text_taken ≡ self.old.text_taken) }
         ensures number { result ≡ number_of fault }
         ensures some { result ≢ 0 }
         ensures kept { (line : ℕ) (kind : AnyKind) → fault ≡ Trace line kind
@@ -140,10 +153,13 @@ impl Scanning {
         ensures found { (text : List ℕ) → WasRead ⟦<PackedChannel<Global> as Channel<Global>>⟧ text self.old.reading → result ≡ 0
             → AddsFound (reports self.old.reading) (waiting_findings self.old) (waiting_findings self.new)
             (findings_of text) (findings_of (text ++ chunk.now)) }
+        ensures rows { (text : List ℕ) → WasRead ⟦<PackedChannel<Global> as Channel<Global>>⟧ text self.old.reading → result ≡ 0
+            → AddsRowsWhere (prints_rows self.old.reading) (ended_lines text) (ended_lines (text ++ chunk.now))
+            (Some (waiting_text self.old)) (Some (waiting_text self.new)) }
         ensures refused { (text : List ℕ) → WasRead ⟦<PackedChannel<Global> as Channel<Global>>⟧ text self.old.reading → result ≡ 2
             → KeepsFault (early (text ++ chunk.now)) self.new }
     {
-        match self.reading.feed(chunk, &mut self.found) {
+        match self.reading.feed(chunk, &mut self.found, &mut self.text) {
             Ok(()) => OK,
             Err(fault) => self.refuse(alloc, fault),
         }
@@ -158,6 +174,9 @@ impl Scanning {
         ensures found { (text : List ℕ) → WasRead ⟦<PackedChannel<Global> as Channel<Global>>⟧ text self.old.reading → result ≡ 0
             → AddsFound (reports self.old.reading) (waiting_findings self.old) (waiting_findings self.new)
             (findings_of text) (findings_of (text ++ chunk.now)) }
+        ensures rows { (text : List ℕ) → WasRead ⟦<PackedChannel<Global> as Channel<Global>>⟧ text self.old.reading → result ≡ 0
+            → AddsRowsWhere (prints_rows self.old.reading) (ended_lines text) (ended_lines (text ++ chunk.now))
+            (Some (waiting_text self.old)) (Some (waiting_text self.new)) }
         ensures refused { (text : List ℕ) → WasRead ⟦<PackedChannel<Global> as Channel<Global>>⟧ text self.old.reading → result ≡ 2
             → KeepsFault (early (text ++ chunk.now)) self.new }
         ensures ended { has_ended self.old.reading ≡ true → (result ≡ 4) × (self.new ≡ self.old) }
@@ -183,6 +202,10 @@ impl Scanning {
         ensures found { (text : List ℕ) (s : AnySide) → side ≡ side_letter s → WasRead ⟦<PackedChannel<Global> as Channel<Global>>⟧ text self.old.reading
             → result ≡ 0 → AddsFound (reports self.old.reading) (waiting_findings self.old) (waiting_findings self.new)
             (findings_of text) (findings_of (text ++ row_text (record { number = number; side = s; octets = octets.now; gap = None }))) }
+        ensures rows { (text : List ℕ) (s : AnySide) → side ≡ side_letter s → WasRead ⟦<PackedChannel<Global> as Channel<Global>>⟧ text self.old.reading
+            → result ≡ 0 → AddsRowsWhere (prints_rows self.old.reading) (ended_lines text)
+            (ended_lines (text ++ row_text (record { number = number; side = s; octets = octets.now; gap = None })))
+            (Some (waiting_text self.old)) (Some (waiting_text self.new)) }
     {
         let Some(sender) = side_of(side) else {
             return ARGUMENT;
@@ -215,6 +238,10 @@ impl Scanning {
         ensures found { (text : List ℕ) → WasRead ⟦<PackedChannel<Global> as Channel<Global>>⟧ text self.old.reading
             → result ≡ 0 → AddsFound (reports self.old.reading) (waiting_findings self.old) (waiting_findings self.new)
             (findings_of text) (findings_of (text ++ row_text (record { number = number; side = side; octets = octets.now; gap = None }))) }
+        ensures rows { (text : List ℕ) → WasRead ⟦<PackedChannel<Global> as Channel<Global>>⟧ text self.old.reading
+            → result ≡ 0 → AddsRowsWhere (prints_rows self.old.reading) (ended_lines text)
+            (ended_lines (text ++ row_text (record { number = number; side = side; octets = octets.now; gap = None })))
+            (Some (waiting_text self.old)) (Some (waiting_text self.new)) }
     {
         let mut line = replace(&mut self.line, Vec::new(alloc));
         match put_row(&mut line, number, side, octets) {
@@ -260,34 +287,68 @@ impl Scanning {
 
     /// Replaces the text that was not returned by lines of a report.
     fn put_report(&mut self, alloc: Global, form: u32, lines: VecSink<Global>) -> u32
+        requires { self.old.text_taken ≤ length self.old.text.bytes.items }
         ensures reading { self.new.reading ≡ self.old.reading }
         ensures findings { (self.new.found ≡ self.old.found) × (self.new.found_taken ≡ self.old.found_taken) }
+        ensures few { self.new.text_taken ≤ length self.new.text.bytes.items }
         ensures text { result ≡ 0 → waiting_text self.new
             ≡ (if form == 1 then json_text lines.bytes.items else lines.bytes.items) }
         ensures number { result ≢ 2 }
     {
         let mut text = lines;
         if form == JSON {
-            let mut objects = VecSink::new(Vec::new(alloc));
-            if write_json_lines(text.as_slice(), &mut objects).is_err() {
-                return MEMORY;
+            match objects_of(alloc, text.as_slice()) {
+                Ok(objects) => text = objects,
+                Err(_) => return MEMORY,
             }
-            text = objects;
         }
         self.text = text;
         self.text_taken = 0;
         OK
     }
 
-    /// Replaces the text that was not returned by the report of the lines that have ended, or by their rows. When it
-    /// fails, that text is as it was.
+    /// Appends to the text that was not returned.
+    fn append(&mut self, more: &[u8]) -> u32
+        requires { self.old.text_taken ≤ length self.old.text.bytes.items }
+        ensures reading { self.new.reading ≡ self.old.reading }
+        ensures findings { (self.new.found ≡ self.old.found) × (self.new.found_taken ≡ self.old.found_taken) }
+        ensures few { self.new.text_taken ≤ length self.new.text.bytes.items }
+        ensures text { result ≡ 0 → waiting_text self.new ≡ waiting_text self.old ++ more.now }
+        ensures number { result ≢ 2 }
+    {
+        match write_all(&mut self.text, more) {
+            Ok(()) => OK,
+            Err(_) => MEMORY,
+        }
+    }
+
+    /// Appends the objects of lines of a report.
+    fn append_objects(&mut self, alloc: Global, lines: &[u8]) -> u32
+        requires { self.old.text_taken ≤ length self.old.text.bytes.items }
+        ensures reading { self.new.reading ≡ self.old.reading }
+        ensures findings { (self.new.found ≡ self.old.found) × (self.new.found_taken ≡ self.old.found_taken) }
+        ensures few { self.new.text_taken ≤ length self.new.text.bytes.items }
+        ensures text { result ≡ 0 → waiting_text self.new ≡ waiting_text self.old ++ json_text lines.now }
+        ensures number { result ≢ 2 }
+    {
+        match objects_of(alloc, lines) {
+            Ok(objects) => self.append(objects.as_slice()),
+            Err(_) => MEMORY,
+        }
+    }
+
+    /// Replaces the text that was not returned by the report of the lines that have ended; where rows are printed,
+    /// appends its objects. When it fails, that text is as it was.
     pub(crate) fn report(&mut self, alloc: Global, form: u32) -> u32
         requires { IsSoundScanning ⟦<PackedChannel<Global> as Channel<Global>>⟧ self.old }
         ensures reading { self.new.reading ≡ self.old.reading }
         ensures findings { (self.new.found ≡ self.old.found) × (self.new.found_taken ≡ self.old.found_taken) }
+        ensures few { self.new.text_taken ≤ length self.new.text.bytes.items }
         ensures reported { (text : List ℕ) → WasRead ⟦<PackedChannel<Global> as Channel<Global>>⟧ text self.old.reading → reports self.old.reading ≡ true
             → result ≡ 0 → HasReport form (ended text) self.new }
-        ensures refused { (text : List ℕ) → WasRead ⟦<PackedChannel<Global> as Channel<Global>>⟧ text self.old.reading → reports self.old.reading ≡ true
+        ensures objects { (text : List ℕ) → WasRead ⟦<PackedChannel<Global> as Channel<Global>>⟧ text self.old.reading → reports self.old.reading ≡ false
+            → result ≡ 0 → AddsReport (ended text) self.old self.new }
+        ensures refused { (text : List ℕ) → WasRead ⟦<PackedChannel<Global> as Channel<Global>>⟧ text self.old.reading
             → result ≡ 2 → KeepsFault (fault (ended text)) self.new }
         ensures once { has_ended self.old.reading ≡ true → (result ≢ 0) × (result ≢ 2) }
     {
@@ -303,33 +364,39 @@ impl Scanning {
             _ => {}
         }
         let mut lines = VecSink::new(Vec::new(alloc));
-        match self.reading.report(alloc, &mut lines) {
+        match self.reading.report(&mut lines) {
+            Ok(()) if self.reading.prints_rows() => self.append_objects(alloc, lines.as_slice()),
             Ok(()) => self.put_report(alloc, form, lines),
             Err(fault) => self.refuse(alloc, fault),
         }
     }
 
-    /// Replaces the text that was not returned by the report of the text, which has ended, or by its rows and their
-    /// report. The trace has ended then, also when it fails, except where the form is another than the scan's.
+    /// Replaces the text that was not returned by the report of the text, which has ended; where rows are printed,
+    /// appends what comes after them. The trace has ended then, also when it fails, except where the form is another than
+    /// the scan's.
     pub(crate) fn end(&mut self, alloc: Global, form: u32) -> u32
         requires { IsSoundScanning ⟦<PackedChannel<Global> as Channel<Global>>⟧ self.old }
         ensures sound { IsSoundScanning ⟦<PackedChannel<Global> as Channel<Global>>⟧ self.new }
         ensures findings { waiting_findings self.new ≡ waiting_findings self.old }
         ensures reported { (text : List ℕ) → WasRead ⟦<PackedChannel<Global> as Channel<Global>>⟧ text self.old.reading → reports self.old.reading ≡ true
             → result ≡ 0 → HasReport form text self.new }
-        ensures refused { (text : List ℕ) → WasRead ⟦<PackedChannel<Global> as Channel<Global>>⟧ text self.old.reading → reports self.old.reading ≡ true
-            → result ≡ 2 → KeepsFault (fault text) self.new }
+        ensures rows { (text : List ℕ) → WasRead ⟦<PackedChannel<Global> as Channel<Global>>⟧ text self.old.reading → reports self.old.reading ≡ false
+            → result ≡ 0 → EndsRows text (Some (waiting_text self.old)) (Some (waiting_text self.new)) }
+        ensures refused { (text : List ℕ) → WasRead ⟦<PackedChannel<Global> as Channel<Global>>⟧ text self.old.reading
+            → result ≡ 2 → KeepsFaultAtEnd (prints_rows self.old.reading) text self.new }
         ensures once { has_ended self.old.reading ≡ true → (result ≢ 0) × (result ≢ 2) }
         ensures ended { result ≡ 0 → has_ended self.new.reading ≡ true }
     {
         if self.reading.has_ended() {
             return ENDED;
         }
-        if form > ROW_OBJECTS || self.reading.prints_rows() != (form == ROW_OBJECTS) {
+        let prints_rows = self.reading.prints_rows();
+        if form > ROW_OBJECTS || prints_rows != (form == ROW_OBJECTS) {
             return ARGUMENT;
         }
         let mut lines = VecSink::new(Vec::new(alloc));
-        match self.reading.end(alloc, &mut lines) {
+        match self.reading.end(&mut lines) {
+            Ok(()) if prints_rows => self.append(lines.as_slice()),
             Ok(()) => self.put_report(alloc, form, lines),
             Err(fault) => self.refuse(alloc, fault),
         }
@@ -345,16 +412,22 @@ impl Scanning {
         }
     }
 
-    /// Counts `taken` more bytes of the text as returned.
+    /// Counts `taken` more bytes of the text as returned, and frees them once they are as many as those that wait.
     pub(crate) fn take_text(&mut self, alloc: Global, taken: usize)
-        requires { taken ≤ length (waiting_text self.old) }
+        requires taken { taken ≤ length (waiting_text self.old) }
+        requires few { self.old.text_taken ≤ length self.old.text.bytes.items }
+        ensures few { self.new.text_taken ≤ length self.new.text.bytes.items }
         ensures reading { self.new.reading ≡ self.old.reading }
         ensures findings { (self.new.found ≡ self.old.found) × (self.new.found_taken ≡ self.old.found_taken) }
         ensures taken { waiting_text self.new ≡ drop taken (waiting_text self.old) }
     {
         self.text_taken = self.text_taken.saturating_add(taken);
-        if self.waiting().is_empty() {
-            self.text = VecSink::new(Vec::new(alloc));
+        let waiting = self.waiting();
+        if waiting.len() > self.text_taken {
+            return;
+        }
+        if let Ok(rest) = Vec::from_slice(alloc, waiting) {
+            self.text = VecSink::new(rest);
             self.text_taken = 0;
         }
     }

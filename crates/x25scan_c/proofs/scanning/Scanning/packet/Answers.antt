@@ -1,4 +1,4 @@
-use Rattle.std.proofs.Common.{◌≡◌, ◌∙◌, Ok, ap}
+use Rattle.std.proofs.Common.{◌≡◌, ◌∙◌, Ok, ap, refl}
 use Rattle.x25scan_c.proofs.ScanLemmas.{same_side}
 use Rattle.x25scan_c.proofs.scanning.Scanning.packet.Goals as goal
 
@@ -22,3 +22,14 @@ returns-in-Ok-false-clause-found c text s letter was ok =
     let reported = rw c.packet.ensures.form at found in
     let waiting = rw (c.packet.ensures.unfound none) at reported in
     rw same at waiting
+
+pub returns-in-Ok-true-clause-rows : goal.returns-in-Ok-true-clause-rows
+returns-in-Ok-true-clause-rows c text s letter was ok = rw (c.packet.ensures.reports (c.in-Ok-true.is ∙ ap Ok c.in-Ok-true.field-0-test)) refl
+
+pub returns-in-Ok-false-clause-rows : goal.returns-in-Ok-false-clause-rows
+returns-in-Ok-false-clause-rows c text s letter was ok =
+    let none = c.in-Ok-false.is ∙ ap Ok c.in-Ok-false.field-0-test in
+    let same : c.in-Some.sender ≡ s = same_side _ _ _ c.in-Some.is (c.side_of.ensures s letter) in
+    let rows = c.feed_row.ensures.rows text (c.packet.ensures.passed text was none) ok in
+    let printed = rw c.packet.ensures.rows at rows in
+    rw same at printed
