@@ -1,12 +1,8 @@
 //! The status of a channel in one word of 64 bits.
 
-ghost use Rattle.std.specs.Prelude.{ℕ, ◌≡◌, ◌<◌, ◌+◌, ◌/◌, ◌%◌, ◌^◌, ◌==◌, OnErr};
-ghost use Rattle.line_model.specs.channels.Channels.{of_side};
-ghost use Rattle.line_model.specs.channels.FlowControl.{Counts, count_data, count_receive};
-ghost use Rattle.data_transfer.specs.FlowResidues.{Answers, ResiduesRepresent};
+ghost use Rattle.std.specs.Prelude.{ℕ, ◌≡◌, ◌<◌, ◌+◌, ◌/◌, ◌%◌, ◌^◌, ◌==◌};
 ghost use Rattle.packet_decode.specs.Shown.{IsPacketSize};
 ghost use Rattle.channel_machine.specs.Terms.{AreUsable};
-ghost use Rattle.channel_machine.specs.Status.{CountsAlone};
 ghost use Rattle.channel_run.specs.StatusWord.{state_by, state_in, owed_in};
 ghost use Rattle.channel_machine.specs.PackedStatus.{call_by, call_in, values_in, status_in, settled};
 
@@ -98,66 +94,25 @@ impl StatusStore for PackedStatus {
     fn data(&mut self, side: Side, send: u8, receive: u8) -> Result<(), u8> {
         // Each side has an arm of its own, so that the places of its numbers in the word are constants.
         match side {
-            Side::T => self.judge_data(Side::T, send, receive),
-            Side::N => self.judge_data(Side::N, send, receive),
+            Side::T => self.word.data(Side::T, send, receive),
+            Side::N => self.word.data(Side::N, send, receive),
         }
     }
 
     #[inline(always)]
     fn ack(&mut self, side: Side, receive: u8) -> Result<(), u8> {
         match side {
-            Side::T => self.judge_ack(Side::T, receive),
-            Side::N => self.judge_ack(Side::N, receive),
+            Side::T => self.word.ack(Side::T, receive),
+            Side::N => self.word.ack(Side::N, receive),
         }
     }
 
     fn interrupt(&mut self, side: Side) -> Result<(), u8> {
-        let mut flow = self.word.flow();
-        flow.interrupt(side)?;
-        self.word.set_flow(&flow);
-        Ok(())
+        self.word.interrupt(side)
     }
 
     fn confirm(&mut self, side: Side) -> Result<(), u8> {
-        let mut flow = self.word.flow();
-        flow.confirm(side)?;
-        self.word.set_flow(&flow);
-        Ok(())
-    }
-}
-
-impl PackedStatus {
-    /// Judges a data packet, as `Flow::data`.
-    #[inline(always)]
-    fn judge_data(&mut self, side: Side, send: u8, receive: u8) -> Result<(), u8>
-        ensures rest { CountsAlone (status_in self.old.interface self.old.word)
-            (status_in self.new.interface self.new.word) }
-        ensures unchanged { OnErr result (self.new ≡ self.old) }
-        ensures counts { (c : Counts) → ResiduesRepresent self.old.word.flow c
-            → Answers result self.old.word.flow self.new.word.flow
-            (count_data self.old.word.flow.modulus
-            (of_side side self.old.word.flow.windows) c side send receive) }
-    {
-        let mut flow = self.word.flow();
-        flow.data(side, send, receive)?;
-        self.word.set_flow(&flow);
-        Ok(())
-    }
-
-    /// Judges a P(R), as `Flow::ack`.
-    #[inline(always)]
-    fn judge_ack(&mut self, side: Side, receive: u8) -> Result<(), u8>
-        ensures rest { CountsAlone (status_in self.old.interface self.old.word)
-            (status_in self.new.interface self.new.word) }
-        ensures unchanged { OnErr result (self.new ≡ self.old) }
-        ensures counts { (c : Counts) → ResiduesRepresent self.old.word.flow c
-            → Answers result self.old.word.flow self.new.word.flow
-            (count_receive self.old.word.flow.modulus c side receive) }
-    {
-        let mut flow = self.word.flow();
-        flow.ack(side, receive)?;
-        self.word.set_flow(&flow);
-        Ok(())
+        self.word.confirm(side)
     }
 }
 

@@ -33,6 +33,20 @@ fn take(flow: &mut Flow, step: Step) -> Result<(), u8> {
     }
 }
 
+/// Applies a step to a word.
+fn take_packed(word: &mut FlowWord, step: Step) -> Result<(), u8> {
+    match step {
+        Step::Data(side, send) => word.data(side, send, 0),
+        Step::Ack(side, receive) => word.ack(side, receive),
+        Step::Interrupt(side) => word.interrupt(side),
+        Step::Confirm(side) => word.confirm(side),
+        Step::Reset => {
+            word.reset();
+            Ok(())
+        }
+    }
+}
+
 /// A step, and what it returns.
 type Answered = (Step, Result<(), u8>);
 
@@ -45,6 +59,17 @@ fn after(rt: &impl Abort, flow: Flow, steps: &[Answered]) -> Flow {
         number = number.saturating_add(1);
     }
     flow
+}
+
+/// Checks the result of each step on a word, and returns the word after them.
+fn after_packed(rt: &impl Abort, word: FlowWord, steps: &[Answered]) -> FlowWord {
+    let mut word = word;
+    let mut number = 0u64;
+    for (next, answer) in steps {
+        holds_at(rt, take_packed(&mut word, *next) == *answer, number);
+        number = number.saturating_add(1);
+    }
+    word
 }
 
 /// The first data packet of the DTE.
@@ -89,13 +114,11 @@ const OF_AN_OWNER: [Answered; 4] = [
 
 #[test]
 fn number_of_the_owner_stays(rt: HostRuntime) {
-    let mut word = FlowWord::new(&Flow::new(8, 2, 3), 5);
+    let word = FlowWord::new(&Flow::new(8, 2, 3), 5);
     assert!(rt; word.word() == 207_232_172_032 + (5 << 45));
-    let flow = after(&rt, word.flow(), &FIRST);
-    word.set_flow(&flow);
+    let word = after_packed(&rt, word, &FIRST);
     assert!(rt; word.word() == 207_232_172_034 + (5 << 45));
-    let flow = after(&rt, word.flow(), &OF_AN_OWNER);
-    word.set_flow(&flow);
+    let mut word = after_packed(&rt, word, &OF_AN_OWNER);
     assert!(rt; word.owner_bits() == 5);
     word.set_owner_bits(524_287);
     assert!(rt; word.owner_bits() == 524_287);
