@@ -15,17 +15,11 @@ pub fn thins_again()
     ensures { ThinsAgain }
 {}
 
-/// A recording with gaps counts no call and no data packet that the whole one doesn't have, and each at most once.
-pub fn counts_no_more_than_was_sent()
-    ensures { BoundLaw }
-{}
-
-/// A channel of which nothing is missing has the events of the whole walk, so its calls have the same records.
-pub fn leaves_other_channels_alone()
-    ensures { SameEventsLaw }
-{}
-
-/// In data transfer on permanent virtual circuits a recording with gaps says nothing that the whole one doesn't say.
-pub fn counts_what_was_recorded_in_data_transfer()
-    ensures { CountingLaw }
+/// What was recorded counts: no call and no data packet that was not sent, and each at most once. In data transfer on
+/// permanent virtual circuits a recording with gaps says nothing that the whole one doesn't say. A channel of which nothing
+/// is missing has the events of the whole walk, so its calls have the same records.
+pub fn counts_what_was_recorded()
+    ensures sent { BoundLaw }
+    ensures in_data_transfer { CountingLaw }
+    ensures without_a_gap { SameEventsLaw }
 {}
