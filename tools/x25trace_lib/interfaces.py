@@ -7,7 +7,7 @@ from .frames import Direction, Frame
 
 # Of so many interfaces the ends are kept.
 MOST = 64
-# What tells the two ends of a link apart: a link address, a direction, or the address octet of an I frame.
+# What distinguishes the two ends of a link: a link address, a direction, or the address octet of an I frame.
 End = bytes | Direction | int
 
 

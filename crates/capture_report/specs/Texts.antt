@@ -51,12 +51,12 @@ content_text n (Packet s octets) = row_text (record { number = n; side = s; octe
 content_text n (Gap c) = decimal n ++ codes " ? " ++ channel_text c ++ codes "\n"
 
 -- a row has the number of its frame, and a gap the one before, or the next one that is free; or rows count from 1
-abbrev pub wanted : (by_frames : Bool) → (frame : ℕ) → Content → ℕ
-wanted by_frames frame (Packet s octets) = if by_frames then frame else 0
-wanted by_frames frame (Gap c) = if by_frames then frame - 1 else 0
+abbrev pub least_number : (by_frames : Bool) → (frame : ℕ) → Content → ℕ
+least_number by_frames frame (Packet s octets) = if by_frames then frame else 0
+least_number by_frames frame (Gap c) = if by_frames then frame - 1 else 0
 
 abbrev pub number_of : Printer → Row → ℕ
-number_of p r = max (p.last + 1) (wanted p.by_frames r.place.frame r.content)
+number_of p r = max (p.last + 1) (least_number p.by_frames r.place.frame r.content)
 
 -- a gap of all channels is no row behind another one, and no row has a number above 999,999,999
 abbrev pub number_if : Printer → Row → Option ℕ

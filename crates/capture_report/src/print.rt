@@ -3,7 +3,7 @@
 ghost use Rattle.std.specs.Prelude.{◌≡◌, ◌++◌, [], None, OnOk, decimal};
 ghost use Rattle.capture_report.specs.Contents.{Gap, content_view, row_view};
 ghost use Rattle.trace_text.specs.RowTexts.{octets_word, row_text, side_letter};
-ghost use Rattle.capture_report.specs.Texts.{channel_text, content_text, decimals, first_printer, nano_units, nanos_text, number_if, part_text, place_text, seconds_text, sign_text, split_decimal, time_text, wanted, with_row};
+ghost use Rattle.capture_report.specs.Texts.{channel_text, content_text, decimals, first_printer, nano_units, nanos_text, number_if, part_text, place_text, seconds_text, sign_text, split_decimal, time_text, least_number, with_row};
 
 use crate::row::{Content, Row};
 use capture_model::time::Nanos;
@@ -53,9 +53,9 @@ impl Printer {
         }
     }
 
-    /// Returns the number that a row wants.
-    fn wanted(&self, row: &Row<'_>) -> u64
-        ensures { result ≡ wanted self.now.by_frames row.now.place.frame (content_view row.now.content) }
+    /// Returns the least number that a row may have: that of its frame, and of a gap the one before; 0 where rows count from 1.
+    fn least_number(&self, row: &Row<'_>) -> u64
+        ensures { result ≡ least_number self.now.by_frames row.now.place.frame (content_view row.now.content) }
     {
         if !self.by_frames {
             return 0;
@@ -77,7 +77,7 @@ impl Printer {
         if self.last >= LAST_NUMBER {
             return None;
         }
-        let number = self.wanted(row).max(self.last + 1);
+        let number = self.least_number(row).max(self.last + 1);
         if number > LAST_NUMBER {
             return None;
         }

@@ -32,7 +32,7 @@ use Rattle.line_model.specs.channels.Gaps.{Certainty, Doubts, GapChannel, of_bot
 use Rattle.line_model.specs.channels.Gaps.Certainty.{Certain, Settled}
 use Rattle.line_model.specs.channels.GapStep.{doubts_in, gap_channel_step, is_in_d1, largest_size, receive_of, settled_outcome, settled_verdict}
 use Rattle.gap_laws.proofs.Read.{is_read}
-use Rattle.gap_laws.proofs.Circuits.{some_none, Circuit, IsOrdered, Terms, channel_with, circuit, idle, silent, size_of, told, with_data, with_receive}
+use Rattle.gap_laws.proofs.Circuits.{some_none, Circuit, IsOrdered, Terms, channel_with, circuit, idle, silent, size_of, with_message, with_data, with_receive}
 use Rattle.line_model.specs.channels.ChannelStep.{accepted_of}
 use Rattle.line_model.specs.channels.GapStep.{may_be_begun, message_in_doubt}
 use Rattle.gap_laws.proofs.Settled.{SideFits, completed_circuit, after_data, data_settled, doubts_then, said_in_doubt, receive_settled, taken_with}
@@ -150,9 +150,9 @@ entered_sides i k b o transfer.TheVariants.D1 = λ y. record { numbers = numbers
 entered_sides i k b o transfer.TheVariants.D2 = (refl, refl)
 entered_sides i k b o transfer.TheVariants.D3 = (refl, refl)
 
-agrees_told : (i : Interface) (u : Bool) (k t : Terms) (m : List PadMessage) → Agrees i u k t → Agrees i u (record k { pad_messages = m }) t
-agrees_told i true k t m e = e
-agrees_told i false k t m e = e
+agrees_with_message : (i : Interface) (u : Bool) (k t : Terms) (m : List PadMessage) → Agrees i u k t → Agrees i u (record k { pad_messages = m }) t
+agrees_with_message i true k t m e = e
+agrees_with_message i false k t m e = e
 
 -- ---- packets while a call is up
 
@@ -255,7 +255,7 @@ data_row : (i : Interface) (n nr : ℕ) (x : Side) (j : ℕ) (h : DataHeader) (l
 data_row i n nr x j h len os perm k hs v u calm held s = record {
   whole = w;
   after = t.after;
-  calm = up_calm i k (told i k r h q) q (with_data i r h t.taken.upto q) calm held refl refl t.ordered;
+  calm = up_calm i k (with_message i k r h q) q (with_data i r h t.taken.upto q) calm held refl refl t.ordered;
   drifts = carried_row i n nr x j (kind.TheVariants.Data (Some h)) len os perm refl c w
       (record {
         keeps = record { transfer = λ e. refl; opening = refl; accepting = refl };
@@ -272,7 +272,7 @@ data_row i n nr x j h len os perm k hs v u calm held s = record {
       subst (FollowsCall i w b)
       (sym (data_settles i k f.terms n nr x j h len os hs v u t b f.doubts.hidden f.doubts.numbers f.doubts.interrupts f.doubts.sequences f.settled.accepted f.settled.acknowledged f.settled.unconfirmed allow ds))
       (still_settled i w f.terms b f.doubts (doubts_then i f.terms f.doubts r h) z (after_data i f.doubts r h ds.upto z) (said_in_doubt i f.terms f.doubts r h z) (said_silent i f.terms f.doubts r h z) refl f.held
-      (agrees_told i f.doubts.hidden k f.terms (told i k r h q).pad_messages f.agrees) ds.fits));
+      (agrees_with_message i f.doubts.hidden k f.terms (with_message i k r h q).pad_messages f.agrees) ds.fits));
 }
   where
     r : Item
@@ -291,7 +291,7 @@ data_row i n nr x j h len os perm k hs v u calm held s = record {
     t = data_whole i k n nr x j h len os hs v u below calm.ordered (call_silent i n r c perm s)
 
     w : Channel
-    w = channel_with (told i k r h q) (with_data i r h t.taken.upto q)
+    w = channel_with (with_message i k r h q) (with_data i r h t.taken.upto q)
 
 receive_row : (i : Interface) (n nr : ℕ) (x : Side) (j : ℕ) (p : PacketKind) (m len : ℕ) (os : List ℕ) → is_permanent i n ≡ false → IsReceive i n (row_at nr x j p len os) m → adrift_entry false (kind_class p) ≡ Carries
     → ((c w : Channel) → Carried i x None (Some m) c w → CarriedRow i (row_at nr x j p len os) c w) → ((d e : Channel) → adrift_fault i n d (row_at nr x j p len os) ≡ packet_fault i n e (row_at nr x j p len os))

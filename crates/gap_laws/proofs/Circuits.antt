@@ -179,8 +179,8 @@ with_data i r h k q = record q { accepted = q.accepted ++ accepted_of i r h ∷ 
 abbrev pub message_of : Interface → Terms → Item → DataHeader → Circuit → Option (List ℕ)
 message_of i k r h q = completed_message i r.side (channel_with k q) (accepted_of i r h)
 
-abbrev pub told : Interface → Terms → Item → DataHeader → Circuit → Terms
-told i k r h q = record k { pad_messages = messages_after r.side k.pad_messages (message_of i k r h q) }
+abbrev pub with_message : Interface → Terms → Item → DataHeader → Circuit → Terms
+with_message i k r h q = record k { pad_messages = messages_after r.side k.pad_messages (message_of i k r h q) }
 
 -- a data packet that is accepted
 pub record DataTaken (i : Interface) (k : Terms) (r : Item) (h : DataHeader) (q : Circuit) : Type 0 where
@@ -188,7 +188,7 @@ pub record DataTaken (i : Interface) (k : Terms) (r : Item) (h : DataHeader) (q 
   pub next : IsNext i.modulus (window_of i k r.side) (sent r.side q.accepted) (of_side r.side q.acknowledged) h.send
   pub receive : Acknowledges i.modulus (sent (other r.side) q.accepted) (of_side (other r.side) q.acknowledged) h.receive upto
   pub alike : is_alike (accepted_of i r h) (begun (size_of i k r.side) r.side q.accepted) ≡ true
-  pub after : (data_step i D1 r (Some h) (channel_with k q)).after ≡ channel_with (told i k r h q) (with_data i r h upto q)
+  pub after : (data_step i D1 r (Some h) (channel_with k q)).after ≡ channel_with (with_message i k r h q) (with_data i r h upto q)
   pub reported : (data_step i D1 r (Some h) (channel_with k q)).reported ≡ data_reports r.side (accepted_of i r h) k.pad_messages (message_of i k r h q)
 
 pub data_taken : (i : Interface) (k : Terms) (r : Item) (h : DataHeader) (q : Circuit) → silent (data_step i D1 r (Some h) (channel_with k q)).reported ≡ true → DataTaken i k r h q
@@ -203,7 +203,7 @@ data_taken i k r h q s = at (count_data i.modulus (window_of i k r.side) (counts
     taken : (v : Counts) → count_data i.modulus (window_of i k r.side) (counts_of (channel_with k q)) r.side h.send h.receive ≡ Ok v
         → is_alike p (begun (size_of i k r.side) r.side q.accepted) ≡ true
         → (o : Outcome) → o ≡ data_step i D1 r (Some h) (channel_with k q)
-        → o.after ≡ channel_with (told i k r h q) (record q { accepted = q.accepted ++ p ∷ []; acknowledged = v.acknowledged })
+        → o.after ≡ channel_with (with_message i k r h q) (record q { accepted = q.accepted ++ p ∷ []; acknowledged = v.acknowledged })
         → o.reported ≡ data_reports r.side p k.pad_messages (message_of i k r h q)
         → DataTaken i k r h q
     taken v e alike o is same said =
@@ -215,7 +215,7 @@ data_taken i k r h q s = at (count_data i.modulus (window_of i k r.side) (counts
           receive = acknowledged i.modulus (sent (other r.side) q.accepted) (of_side (other r.side) q.acknowledged) h.receive f.upto
               (ap (λ n. count_acknowledged i.modulus n (of_side (other r.side) q.acknowledged) h.receive) (sym (of_sent (other r.side) q.accepted)) ∙ f.found);
           alike = alike;
-          after = sym (ap (λ (o : Outcome). o.after) is) ∙ same ∙ ap (λ a. channel_with (told i k r h q) (record q { accepted = q.accepted ++ p ∷ []; acknowledged = a })) f.acknowledged;
+          after = sym (ap (λ (o : Outcome). o.after) is) ∙ same ∙ ap (λ a. channel_with (with_message i k r h q) (record q { accepted = q.accepted ++ p ∷ []; acknowledged = a })) f.acknowledged;
           reported = sym (ap (λ (o : Outcome). o.reported) is) ∙ said;
         }
 

@@ -29,7 +29,7 @@ use Rattle.line_model.specs.channels.Gaps.{Doubts, of_both}
 use Rattle.line_model.specs.channels.GapStep.{GapOutcome, adrift_received, gap_channel_step, is_resetting, largest_size, last_after, passing, settled_outcome, settled_verdict}
 use Rattle.gap_laws.specs.Thinned.{IsPart}
 use Rattle.gap_laws.proofs.SentPackets.{other_side, own_side, sent_other, sent_own}
-use Rattle.gap_laws.proofs.Circuits.{Circuit, DataTaken, IsOrdered, Terms, by_side, channel_with, circuit, data_taken, message_of, no_terms, of_back, of_other, of_own, silent, size_of, some_none, told, window_of, with_data}
+use Rattle.gap_laws.proofs.Circuits.{Circuit, DataTaken, IsOrdered, Terms, by_side, channel_with, circuit, data_taken, message_of, no_terms, of_back, of_other, of_own, silent, size_of, some_none, with_message, window_of, with_data}
 use Rattle.gap_laws.proofs.Settled.{Allows, DataSettled, SideFits, after_data, data_settled, doubts_then, doubts_with, in_doubt, said_in_doubt, taken_with}
 use Rattle.gap_laws.proofs.Fits.{Fits, FitsAdrift, IsResting, LastFits, adrift_at, settled_at, settled_with}
 use Rattle.gap_laws.proofs.Fits.Fits.{FitsAnyAfter, FitsSome}
@@ -117,7 +117,7 @@ said_of i r h = DataAccepted r.side (accepted_of i r h).length ∷ []
 pub record DataStep (i : Interface) (k : Terms) (n : ℕ) (r : Item) (h : DataHeader) (q : Circuit) : Type 0 where
   pub no_fault : packet_fault i n (channel_with k q) r ≡ None
   pub taken : DataTaken i k r h q
-  pub after : (channel_step i n (channel_with k q) r).after ≡ channel_with (told i k r h q) (with_data i r h taken.upto q)
+  pub after : (channel_step i n (channel_with k q) r).after ≡ channel_with (with_message i k r h q) (with_data i r h taken.upto q)
   pub ordered : (y : Side) → IsOrdered i.modulus (with_data i r h taken.upto q) y
   pub reported : (channel_step i n (channel_with k q) r).reported ≡ data_reports r.side (accepted_of i r h) k.pad_messages (message_of i k r h q)
 
