@@ -1,8 +1,8 @@
 -- Which frames of a capture are read, and how.
 use Rattle.std.specs.Prelude.{ℕ, ◌==◌, Bool, true, false, Option, Some, None}
 use Rattle.std.specs.Option.{option_or}
-use Rattle.capture_links.specs.Kinds.{kind_of_link}
-use Rattle.capture_links.specs.declared.kind.LinkKind.{LinkKind}
+use Rattle.capture_model.specs.Kinds.{kind_of_link}
+use Rattle.capture_model.specs.declared.kind.LinkKind.{LinkKind}
 use Rattle.capture_rows.specs.declared.choices.Carrier.{Carrier}
 use Rattle.capture_rows.specs.declared.choices.Carrier.TheVariants as carrier
 use Rattle.capture_rows.specs.declared.choices.Choices.{Choices}

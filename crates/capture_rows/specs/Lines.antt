@@ -7,11 +7,11 @@ use Rattle.capture_model.specs.declared.frame.Direction.{Direction}
 use Rattle.capture_model.specs.declared.frame.Direction.TheVariants as direction
 use Rattle.capture_model.specs.declared.reason.Reason.{Reason}
 use Rattle.capture_model.specs.declared.reason.Reason.TheVariants as reason
-use Rattle.capture_links.specs.Views.{Payload, Internet, Lapb, CheckedLapb, Packet, Device, Other, Cut, Unknown}
-use Rattle.capture_links.specs.Devices.{device_packet, device_word}
-use Rattle.capture_links.specs.HeaderViews.{LinkHeader}
-use Rattle.capture_links.specs.LinkHeaders.{header_of}
-use Rattle.capture_links.specs.declared.kind.LinkKind.{LinkKind}
+use Rattle.capture_model.specs.Views.{Payload, Internet, Lapb, CheckedLapb, Packet, Device, Other, Cut, Unknown}
+use Rattle.capture_model.specs.Devices.{device_packet, device_word}
+use Rattle.capture_model.specs.HeaderViews.{LinkHeader}
+use Rattle.capture_model.specs.LinkHeaders.{header_of}
+use Rattle.capture_model.specs.declared.kind.LinkKind.{LinkKind}
 use Rattle.lapb_link.specs.Checks.{unframed}
 use Rattle.lapb_link.specs.Links as links
 use Rattle.lapb_link.specs.Links.{LinkFrame}

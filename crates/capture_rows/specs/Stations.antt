@@ -4,7 +4,7 @@ use Rattle.std.specs.Int.{w64, from_be_bytes}
 use Rattle.std.specs.Option.{option_or}
 use Rattle.capture_model.specs.declared.frame.Direction.{Direction}
 use Rattle.capture_model.specs.declared.frame.Direction.TheVariants as direction
-use Rattle.capture_links.specs.HeaderViews.{LinkHeader}
+use Rattle.capture_model.specs.HeaderViews.{LinkHeader}
 use Rattle.capture_rows.specs.declared.station.StationBy.{StationBy}
 use Rattle.capture_rows.specs.declared.station.StationBy.TheVariants as by
 

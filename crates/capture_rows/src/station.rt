@@ -1,11 +1,11 @@
 //! The station that sent a frame, as a number.
 
 ghost use Rattle.std.specs.Prelude.{◌≡◌};
-ghost use Rattle.capture_links.specs.HeaderViews.{header_view};
+ghost use Rattle.capture_model.specs.HeaderViews.{header_view};
 ghost use Rattle.capture_rows.specs.Stations.{of_address, of_direction, station_of};
 
-use capture_links::header::LinkHeader;
 use capture_model::frame::Direction;
+use capture_model::header::LinkHeader;
 
 /// What distinguishes the stations of a link.
 #[derive(Clone, Copy, PartialEq, Eq, Debug)]

@@ -1,9 +1,9 @@
 //! Link headers.
 
-use capture_links::header::read_header;
-use capture_links::kind::LinkKind;
 use capture_model::carried::{Carried, Payload};
 use capture_model::frame::{Direction, Frame};
+use capture_model::header::read_header;
+use capture_model::kind::LinkKind;
 
 /// A frame of these octets, of which there were so many on the line.
 fn frame(octets: &[u8], length: u32) -> Frame<'_> {

@@ -1,7 +1,7 @@
 //! Lines.
 
-use capture_links::kind::LinkKind;
 use capture_model::frame::{Direction, Frame};
+use capture_model::kind::LinkKind;
 use capture_rows::choices::Choices;
 use capture_rows::given::Given;
 use capture_rows::line::{FrameRead, Line};

@@ -1,8 +1,8 @@
 -- What a link header says, as contracts see it.
 use Rattle.std.specs.Prelude.{ℕ, List, Option}
 use Rattle.capture_model.specs.declared.frame.Direction.{Direction}
-use Rattle.capture_links.specs.Views.{Carried, carried_view}
-use Rattle.capture_links.specs.declared.header.LinkHeader as declared
+use Rattle.capture_model.specs.Views.{Carried, carried_view}
+use Rattle.capture_model.specs.declared.header.LinkHeader as declared
 
 pub record LinkHeader : Type 0 where
   pub carried : Carried

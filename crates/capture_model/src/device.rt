@@ -1,11 +1,11 @@
 //! The X.25 device of Linux.
 
 ghost use Rattle.std.specs.Prelude.{◌≡◌, MatchResult, None, Some};
-ghost use Rattle.capture_links.specs.Devices.{device_word, device_packet};
-ghost use Rattle.capture_links.specs.Views.{payload_view};
+ghost use Rattle.capture_model.specs.Devices.{device_word, device_packet};
+ghost use Rattle.capture_model.specs.Views.{payload_view};
 
-use capture_model::carried::Payload;
-use capture_model::reason::Reason;
+use crate::carried::Payload;
+use crate::reason::Reason;
 
 /// Returns the packet of an X.25 device: after its octet 0, or where there is no such octet. Fails with the word of the
 /// device, where it says that the link came up (1), went down (2), or its parameters (3).

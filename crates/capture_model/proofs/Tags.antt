@@ -1,8 +1,8 @@
 -- A tag, and octets without one.
 use Rattle.std.proofs.Common.{◌≡◌, sym, refl, true≢false, ℕ, ◌-◌, ◌<◌, true, false, List, [], ◌∷◌, drop, length, arith}
 use Rattle.std.proofs.lemmas.Bool.{cond-true, cond-false}
-use Rattle.capture_links.specs.Views.{Payload}
-use Rattle.capture_links.specs.Ethernet.{is_tag, is_tagged, two_octets, untagged}
+use Rattle.capture_model.specs.Views.{Payload}
+use Rattle.capture_model.specs.Ethernet.{is_tag, is_tagged, two_octets, untagged}
 
 abbrev pub plain : List ℕ → ℕ → Payload
 plain xs n = record { octets = xs; length = n }

@@ -1,10 +1,10 @@
 //! What an Ethernet type carries.
 
 ghost use Rattle.std.specs.Prelude.{◌≡◌};
-ghost use Rattle.capture_links.specs.Ethernet.{after, by_cooked, by_protocol, by_type, is_tag, is_tagged, lapb_over_ethernet, two_octets, untagged};
-ghost use Rattle.capture_links.specs.Views.{carried_view, payload_view};
+ghost use Rattle.capture_model.specs.Ethernet.{after, by_cooked, by_protocol, by_type, is_tag, is_tagged, lapb_over_ethernet, two_octets, untagged};
+ghost use Rattle.capture_model.specs.Views.{carried_view, payload_view};
 
-use capture_model::carried::{Carried, Payload};
+use crate::carried::{Carried, Payload};
 
 /// Returns the number of two octets, the high one first.
 pub(crate) fn two_octets(high: u8, low: u8) -> u16

@@ -2,14 +2,14 @@
 
 ghost use Rattle.std.specs.Prelude.{◌≡◌};
 ghost use Rattle.capture_model.specs.Frames.{frame_view};
-ghost use Rattle.capture_links.specs.HeaderViews.{header_view};
-ghost use Rattle.capture_links.specs.LinkHeaders.{by_ppp, cisco, cooked_1, cooked_2, directed, direction_of, ethernet, has_control, has_lapb_address, header_of, plain, ppp};
-ghost use Rattle.capture_links.specs.Views.{carried_view, payload_view};
+ghost use Rattle.capture_model.specs.HeaderViews.{header_view};
+ghost use Rattle.capture_model.specs.LinkHeaders.{by_ppp, cisco, cooked_1, cooked_2, directed, direction_of, ethernet, has_control, has_lapb_address, header_of, plain, ppp};
+ghost use Rattle.capture_model.specs.Views.{carried_view, payload_view};
 
+use crate::carried::{Carried, Payload};
 use crate::ethernet::{after, by_cooked, by_type, two_octets};
+use crate::frame::{Direction, Frame};
 use crate::kind::LinkKind;
-use capture_model::carried::{Carried, Payload};
-use capture_model::frame::{Direction, Frame};
 
 /// What a link header says.
 #[derive(Clone, Copy)]

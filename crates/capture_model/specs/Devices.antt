@@ -2,7 +2,7 @@
 use Rattle.std.specs.Prelude.{ℕ, ◌-◌, ◌==◌, ◌||◌, List, [], ◌∷◌, Option, Some, None, if◌then◌else◌}
 use Rattle.capture_model.specs.declared.reason.Reason.{Reason}
 use Rattle.capture_model.specs.declared.reason.Reason.TheVariants.{DeviceWord}
-use Rattle.capture_links.specs.Views.{Payload}
+use Rattle.capture_model.specs.Views.{Payload}
 
 -- the word of a device that carries no packet
 abbrev pub device_word : List ℕ → Option Reason

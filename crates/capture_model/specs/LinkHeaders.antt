@@ -4,11 +4,11 @@ use Rattle.std.specs.Int.{w32, from_be_bytes}
 use Rattle.capture_model.specs.Frames.{Frame}
 use Rattle.capture_model.specs.declared.frame.Direction.{Direction}
 use Rattle.capture_model.specs.declared.frame.Direction.TheVariants as direction
-use Rattle.capture_links.specs.Views.{Payload, Carried, Internet, Lapb, CheckedLapb, Packet, Other, Cut}
-use Rattle.capture_links.specs.Ethernet.{after, by_cooked, by_type, two_octets}
-use Rattle.capture_links.specs.HeaderViews.{LinkHeader}
-use Rattle.capture_links.specs.declared.kind.LinkKind.{LinkKind}
-use Rattle.capture_links.specs.declared.kind.LinkKind.TheVariants as kind
+use Rattle.capture_model.specs.Views.{Payload, Carried, Internet, Lapb, CheckedLapb, Packet, Other, Cut}
+use Rattle.capture_model.specs.Ethernet.{after, by_cooked, by_type, two_octets}
+use Rattle.capture_model.specs.HeaderViews.{LinkHeader}
+use Rattle.capture_model.specs.declared.kind.LinkKind.{LinkKind}
+use Rattle.capture_model.specs.declared.kind.LinkKind.TheVariants as kind
 
 abbrev pub plain : Direction → Carried → LinkHeader
 plain d c = record { carried = c; direction = d; source = []; index = None }

@@ -1,7 +1,7 @@
 -- The link header of each link type.
 use Rattle.std.specs.Prelude.{ℕ, ◌==◌, ◌||◌, Option, Some, None, if◌then◌else◌}
-use Rattle.capture_links.specs.declared.kind.LinkKind.{LinkKind}
-use Rattle.capture_links.specs.declared.kind.LinkKind.TheVariants as kind
+use Rattle.capture_model.specs.declared.kind.LinkKind.{LinkKind}
+use Rattle.capture_model.specs.declared.kind.LinkKind.TheVariants as kind
 
 abbrev pub kind_of_link : ℕ → Option LinkKind
 kind_of_link n = if n == 0 || n == 108 then Some kind.Loopback

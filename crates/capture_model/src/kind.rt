@@ -1,7 +1,7 @@
 //! The link headers that are read.
 
 ghost use Rattle.std.specs.Prelude.{◌≡◌};
-ghost use Rattle.capture_links.specs.Kinds.{kind_of_link};
+ghost use Rattle.capture_model.specs.Kinds.{kind_of_link};
 
 /// A link header.
 #[derive(Clone, Copy, PartialEq, Eq, Debug)]

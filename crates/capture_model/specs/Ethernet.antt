@@ -1,6 +1,6 @@
 -- What an Ethernet type carries.
 use Rattle.std.specs.Prelude.{ℕ, ◌+◌, ◌-◌, ◌*◌, ◌==◌, ◌||◌, nat_lt, Bool, false, List, ◌∷◌, drop, take, if◌then◌else◌}
-use Rattle.capture_links.specs.Views.{Payload, Carried, Internet, Lapb, Device, Other, Cut}
+use Rattle.capture_model.specs.Views.{Payload, Carried, Internet, Lapb, Device, Other, Cut}
 
 abbrev pub two_octets : (high low : ℕ) → ℕ
 two_octets high low = high * 256 + low

@@ -1,7 +1,7 @@
 -- The rest has the same octets after its tags.
 use Rattle.std.proofs.Common.{◌≡◌, length}
-use Rattle.capture_links.specs.Ethernet.{untagged}
-use Rattle.capture_links.proofs.ethernet.untagged.Given as goal
+use Rattle.capture_model.specs.Ethernet.{untagged}
+use Rattle.capture_model.proofs.ethernet.untagged.Given as goal
 
 abbrev pub invariant-loop-payload : goal.invariant-loop-payload
 invariant-loop-payload l = untagged l.payload.octets.now l.payload.length ≡ untagged l.fn.payload.octets.now l.fn.payload.length

@@ -1,6 +1,0 @@
-pub mod Kinds
-pub mod Views
-pub mod Ethernet
-pub mod Devices
-pub mod HeaderViews
-pub mod LinkHeaders
