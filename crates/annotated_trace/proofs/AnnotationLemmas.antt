@@ -81,8 +81,8 @@ same_print_before F G to before taken ls _ h = tt
 
 -- ---- the whole text
 
-abbrev pub Closes : Report → List ℕ → Type 0
-Closes report bytes = IsUnmarked bytes
+abbrev pub Closes : List Line → Report → List ℕ → Type 0
+Closes ls report bytes = IsUnmarked bytes
 
 -- comments after the lines
 closed : (choice : Rows) (x lines bytes closing : List ℕ) → IsPrintOf (IsAnnotatedLine choice) [] (lines_of x) lines → IsUnmarked closing → bytes ≡ lines ++ closing → IsAnnotation choice x bytes

@@ -139,7 +139,7 @@ no_last : (x : List ℕ) → begun_line x ≡ [] → lines_of x ≡ ended_lines 
 no_last x h = ap (λ b. ended_lines x ++ line_or_none b) h ∙ append-nil (ended_lines x)
 
 -- the print of the lines that ended is that of all
-all_lines : (F : List Line → List ℕ → Type 0) (x bytes : List ℕ) → begun_line x ≡ [] → F (ended_lines x) bytes → F (lines_of x) bytes
+pub all_lines : (F : List Line → List ℕ → Type 0) (x bytes : List ℕ) → begun_line x ≡ [] → F (ended_lines x) bytes → F (lines_of x) bytes
 all_lines F x bytes none h = subst (λ ls. F ls bytes) (sym (no_last x none)) h
 
 -- what comes after what a sink has
@@ -147,8 +147,8 @@ behind : (before taken after : Option (List ℕ)) (sent more : List ℕ) → tak
 behind before taken after sent more t a = a ∙ ap (λ o. with_more o more) t ∙ with_more-append before sent more
 
 -- the lines that were held, and what comes after them
-pub all_closed : (F : List Line → List ℕ → Type 0) (C : Report → List ℕ → Type 0) (x : List ℕ) (before taken after : Option (List ℕ)) (held : List ℕ) (r : Report) (result : Result Summary Fault) → begun_line x ≡ [] → HasPrinted F before taken held (ended_lines x) → IsReportOf x r
-    → OnOk result (HasTaken (C r) (with_more taken held) after) → IfOk result (λ sums. sums ≡ r.summary) → IfOk result (IsPrinted F C x before after)
+pub all_closed : (F : List Line → List ℕ → Type 0) (C : List Line → Report → List ℕ → Type 0) (x : List ℕ) (before taken after : Option (List ℕ)) (held : List ℕ) (r : Report) (result : Result Summary Fault) → begun_line x ≡ [] → HasPrinted F before taken held (ended_lines x) → IsReportOf x r
+    → OnOk result (HasTaken (C (lines_of x) r) (with_more taken held) after) → IfOk result (λ sums. sums ≡ r.summary) → IfOk result (IsPrinted F C x before after)
 all_closed F C x before taken after held r (Err f) none h reported closing same = tt
 all_closed F C x before taken after held r (Ok sums) none h reported closing same = record {
   report = r;
@@ -162,7 +162,7 @@ all_closed F C x before taken after held r (Ok sums) none h reported closing sam
 }
 
 -- a first part of them
-pub first_closed : (F : List Line → List ℕ → Type 0) (C : Report → List ℕ → Type 0) (x : List ℕ) (before taken after : Option (List ℕ)) (held : List ℕ) (r : Report) → begun_line x ≡ [] → HasPrinted F before taken held (ended_lines x) → IsReportOf x r → StopsClosing (C r) held taken after
+pub first_closed : (F : List Line → List ℕ → Type 0) (C : List Line → Report → List ℕ → Type 0) (x : List ℕ) (before taken after : Option (List ℕ)) (held : List ℕ) (r : Report) → begun_line x ≡ [] → HasPrinted F before taken held (ended_lines x) → IsReportOf x r → StopsClosing (C (lines_of x) r) held taken after
     → HasFirstPrintOf F C x before after
 first_closed F C x before taken after held r none h reported (inl p) = record {
   lines = h.sent ++ held;
@@ -196,7 +196,7 @@ same_report x r some e h =
     let rs : rows x ≡ rows y = rows-all x sound ∙ ap rows_in (sym (same_lines x some)) ∙ sym (rows-all y h.sound) in
     record { sound = sound; interface = h.interface; header = header ∙ h.header; report = h.report ∙ ap (λ rows. report_of h.interface (items_of h.interface rows)) (sym rs) }
 
-same_printed : (F : List Line → List ℕ → Type 0) (C : Report → List ℕ → Type 0) (x : List ℕ) (before after : Option (List ℕ)) (sums : Summary) → 0 < length (begun_line x) → fault (x ++ 10 ∷ []) ≡ fault x → IsPrinted F C (x ++ 10 ∷ []) before after sums → IsPrinted F C x before after sums
+same_printed : (F : List Line → List ℕ → Type 0) (C : List Line → Report → List ℕ → Type 0) (x : List ℕ) (before after : Option (List ℕ)) (sums : Summary) → 0 < length (begun_line x) → fault (x ++ 10 ∷ []) ≡ fault x → IsPrinted F C (x ++ 10 ∷ []) before after sums → IsPrinted F C x before after sums
 same_printed F C x before after sums some e p =
     let reported = same_report x p.report some e p.reported in
     record {
@@ -205,17 +205,17 @@ same_printed F C x before after sums some e p =
       lines = p.lines;
       closing = p.closing;
       print = subst (λ ls. F ls p.lines) (same_lines x some) p.print;
-      closed = p.closed;
+      closed = subst (λ ls. C ls p.report p.closing) (same_lines x some) p.closed;
       taken = p.taken;
       counted = p.counted ∙ sym (sums_of (x ++ 10 ∷ []) p.report p.reported) ∙ sums_of x p.report reported;
     }
 
-pub same_first : (F : List Line → List ℕ → Type 0) (C : Report → List ℕ → Type 0) (x : List ℕ) (before after : Option (List ℕ)) → 0 < length (begun_line x) → fault (x ++ 10 ∷ []) ≡ fault x → HasFirstPrintOf F C (x ++ 10 ∷ []) before after → HasFirstPrintOf F C x before after
+pub same_first : (F : List Line → List ℕ → Type 0) (C : List Line → Report → List ℕ → Type 0) (x : List ℕ) (before after : Option (List ℕ)) → 0 < length (begun_line x) → fault (x ++ 10 ∷ []) ≡ fault x → HasFirstPrintOf F C (x ++ 10 ∷ []) before after → HasFirstPrintOf F C x before after
 same_first F C x before after some e p = record { lines = p.lines; front = p.front; print = subst (λ ls. F ls p.lines) (same_lines x some) p.print; taken = p.taken; part = same_part p.part }
   where
     same_part : IsFirstOfLines p.lines p.front ⊎ IsFirstOfClosing C (x ++ 10 ∷ []) p.lines p.front → IsFirstOfLines p.lines p.front ⊎ IsFirstOfClosing C x p.lines p.front
     same_part (inl q) = inl q
-    same_part (inr q) = inr (record { report = q.report; reported = same_report x q.report some e q.reported; closing = q.closing; left = q.left; closed = q.closed; whole = q.whole })
+    same_part (inr q) = inr (record { report = q.report; reported = same_report x q.report some e q.reported; closing = q.closing; left = q.left; closed = subst (λ ls. C ls q.report q.closing) (same_lines x some) q.closed; whole = q.whole })
 
 -- ---- steps of the end
 
@@ -226,7 +226,7 @@ pub if_ok : {T E : Type 0} (r : Result T E) (P Q : T → Type 0) → IfOk r P �
 if_ok (Ok x) P Q h k = k x h
 if_ok (Err e) P Q h k = tt
 
-pub ended_printed : (F : List Line → List ℕ → Type 0) (C : Report → List ℕ → Type 0) (x : List ℕ) (before after : Option (List ℕ)) (r : Result Summary Fault) → 0 < length (begun_line x) → early x ≡ None → early (x ++ 10 ∷ []) ≡ None → IfOk r (IsPrinted F C (x ++ 10 ∷ []) before after) → IfOk r (IsPrinted F C x before after)
+pub ended_printed : (F : List Line → List ℕ → Type 0) (C : List Line → Report → List ℕ → Type 0) (x : List ℕ) (before after : Option (List ℕ)) (r : Result Summary Fault) → 0 < length (begun_line x) → early x ≡ None → early (x ++ 10 ∷ []) ≡ None → IfOk r (IsPrinted F C (x ++ 10 ∷ []) before after) → IfOk r (IsPrinted F C x before after)
 ended_printed F C x before after r some h k a =
     if_ok r (IsPrinted F C (x ++ 10 ∷ []) before after) (IsPrinted F C x before after) a (λ sums b. same_printed F C x before after sums some (same_fault x some h k) b)
 

@@ -41,6 +41,10 @@ IsFedOn reader printing before chunk after result = OfFed reader printing before
 abbrev pub PrintOf : {A O P : Type 0} → Printing P A O → Rows → List Line → List ℕ → Type 0
 PrintOf printing choice = IsPrintOf (printing.form choice) []
 
+-- of any text whose lines it has printed, and whose report this is: the bytes after them are of this form
+abbrev pub OfClosing : {A O P : Type 0} → Printing P A O → P → Report → ((List ℕ → Type 0) → Type 0) → Type 0
+OfClosing printing p report Fact = (text : List ℕ) → printing.printed p (lines_of text) → IsReportOf text report → Fact (printing.closing (printing.rows p) (lines_of text) report)
+
 -- a sink that had `before` accepted, with what is held, the print of some lines
 pub record HasPrinted (is_print : List Line → List ℕ → Type 0) (before taken : Option (List ℕ)) (held : List ℕ) (ls : List Line) : Type 0 where
   pub sent : List ℕ
@@ -107,13 +111,13 @@ IsEndRefusal x Write = fault x ≡ None
 IsEndRefusal x _ = ⊥
 
 -- the text has no fault, the sink accepted the print of its lines and what comes after them by its report, and the sums are those of the report
-pub record IsPrinted (is_print : List Line → List ℕ → Type 0) (closes : Report → List ℕ → Type 0) (x : List ℕ) (before after : Option (List ℕ)) (sums : Summary) : Type 0 where
+pub record IsPrinted (is_print : List Line → List ℕ → Type 0) (closes : List Line → Report → List ℕ → Type 0) (x : List ℕ) (before after : Option (List ℕ)) (sums : Summary) : Type 0 where
   pub report : Report
   pub reported : IsReportOf x report
   pub lines : List ℕ
   pub closing : List ℕ
   pub print : is_print (lines_of x) lines
-  pub closed : closes report closing
+  pub closed : closes (lines_of x) report closing
   pub taken : after ≡ with_more before (lines ++ closing)
   pub counted : sums ≡ trace_summary x
 
@@ -122,16 +126,16 @@ abbrev pub IsFirstOfLines : (lines front : List ℕ) → Type 0
 IsFirstOfLines lines front = (left : List ℕ) × (lines ≡ front ++ left)
 
 -- or that print, and a first part of what comes after it by the report
-pub record IsFirstOfClosing (closes : Report → List ℕ → Type 0) (x lines front : List ℕ) : Type 0 where
+pub record IsFirstOfClosing (closes : List Line → Report → List ℕ → Type 0) (x lines front : List ℕ) : Type 0 where
   pub report : Report
   pub reported : IsReportOf x report
   pub closing : List ℕ
   pub left : List ℕ
-  pub closed : closes report closing
+  pub closed : closes (lines_of x) report closing
   pub whole : lines ++ closing ≡ front ++ left
 
 -- the sink accepted a first part of what is printed of the text
-pub record HasFirstPrintOf (is_print : List Line → List ℕ → Type 0) (closes : Report → List ℕ → Type 0) (x : List ℕ) (before after : Option (List ℕ)) : Type 0 where
+pub record HasFirstPrintOf (is_print : List Line → List ℕ → Type 0) (closes : List Line → Report → List ℕ → Type 0) (x : List ℕ) (before after : Option (List ℕ)) : Type 0 where
   pub lines : List ℕ
   pub front : List ℕ
   pub print : is_print (lines_of x) lines

@@ -42,7 +42,7 @@ impl<A: Allocator + Copy, O: TraceObserver<A>, D: Describer<A, O>> Printer<A, O>
 
     ghost form = { IsAnnotatedLine };
 
-    ghost closing = { λ choice report bytes. IsUnmarked bytes };
+    ghost closing = { λ choice lines report bytes. IsUnmarked bytes };
 
     fn rows(&self) -> Rows {
         self.describer.rows()

@@ -3,6 +3,7 @@
 ghost use Rattle.std.specs.Prelude.{◌≡◌, ◌<◌, IfErr, IfOk, OnErr, OnOk};
 ghost use Rattle.line_model.specs.basics.Device.{with_more};
 ghost use Rattle.annotated_trace.specs.Printed.{HasTaken, HasTakenFirst, StopsClosing};
+ghost use Rattle.annotated_trace.specs.Printers.{OfClosing};
 
 use crate::holding::send_held;
 use crate::printer::Printer;
@@ -24,10 +25,10 @@ fn write_to<'a, A: Allocator, O: TraceObserver<A>, P: Printer<A, O>, K: Sink, B:
     requires name { sink.ghost_name ≡ B.name }
     requires before { (K.taken sink.now, K.failures sink.now) ≡ B.before }
     ensures name { result.0.ghost_name ≡ B.name }
-    ensures ok { OnOk result.1 (HasTaken (P.closing (P.rows printer.old) report.now) B.before.0
-        (K.taken result.0.now)) }
-    ensures part { OnErr result.1 (HasTakenFirst (P.closing (P.rows printer.old) report.now)
-        B.before.0 (K.taken result.0.now)) }
+    ensures ok { OfClosing P.Printer printer.old report.now (λ form.
+        OnOk result.1 (HasTaken form B.before.0 (K.taken result.0.now))) }
+    ensures part { OfClosing P.Printer printer.old report.now (λ form.
+        OnErr result.1 (HasTakenFirst form B.before.0 (K.taken result.0.now))) }
     ensures cause { OnErr result.1 (B.before.1 < K.failures result.0.now) }
     ensures write { IfErr result.1 (λ fault. fault ≡ Fault.Write) }
 {
@@ -41,10 +42,10 @@ fn write_closing<A: Allocator, O: TraceObserver<A>, P: Printer<A, O>, K: Sink>(
     printer: &mut P,
     sink: &mut K,
 ) -> Result<(), Fault>
-    ensures ok { OnOk result (HasTaken (P.closing (P.rows printer.old) report.now)
-        (K.taken sink.old) (K.taken sink.new)) }
-    ensures part { OnErr result (HasTakenFirst (P.closing (P.rows printer.old) report.now)
-        (K.taken sink.old) (K.taken sink.new)) }
+    ensures ok { OfClosing P.Printer printer.old report.now (λ form.
+        OnOk result (HasTaken form (K.taken sink.old) (K.taken sink.new))) }
+    ensures part { OfClosing P.Printer printer.old report.now (λ form.
+        OnErr result (HasTakenFirst form (K.taken sink.old) (K.taken sink.new))) }
     ensures cause { OnErr result (K.failures sink.old < K.failures sink.new) }
     ensures write { IfErr result (λ fault. fault ≡ Fault.Write) }
 {
@@ -61,11 +62,11 @@ pub fn send_closing<A: Allocator, O: TraceObserver<A>, P: Printer<A, O>, K: Sink
     held: &mut Vec<u8, A>,
     sink: &mut K,
 ) -> Result<Summary, Fault>
-    ensures ok { OnOk result (HasTaken (P.closing (P.rows printer.old) report.now)
-        (with_more (K.taken sink.old) held.old.items) (K.taken sink.new)) }
+    ensures ok { OfClosing P.Printer printer.old report.now (λ form. OnOk result (HasTaken form
+        (with_more (K.taken sink.old) held.old.items) (K.taken sink.new))) }
     ensures sums { IfOk result (λ sums. sums ≡ report.now.summary) }
-    ensures part { OnErr result (StopsClosing (P.closing (P.rows printer.old) report.now)
-        held.old.items (K.taken sink.old) (K.taken sink.new)) }
+    ensures part { OfClosing P.Printer printer.old report.now (λ form.
+        OnErr result (StopsClosing form held.old.items (K.taken sink.old) (K.taken sink.new))) }
     ensures cause { OnErr result (K.failures sink.old < K.failures sink.new) }
     ensures write { IfErr result (λ fault. fault ≡ Fault.Write) }
 {

@@ -11,8 +11,8 @@ use trace_text::trace_observer::TraceObserver;
 pub trait Printer<A: Allocator, O: TraceObserver<A>>: Drop {
     ghost use Rattle.std.specs.Prelude.{◌≡◌, ◌<◌, ℕ, ◌++◌, ◌∷◌, [], List, IfErr, OnErr, OnOk};
     ghost use Rattle.line_model.specs.basics.Records.{Report as AnyReport};
-    ghost use Rattle.line_model.specs.text.Text.{Line, ended_lines};
-    ghost use Rattle.trace_text.specs.ObserverAnswers.{found_in};
+    ghost use Rattle.line_model.specs.text.Text.{Line, ended_lines, lines_of};
+    ghost use Rattle.trace_text.specs.ObserverAnswers.{IsReportOf, found_in};
     ghost use Rattle.annotated_trace.specs.Printed.{HasAppended, HasTaken, HasTakenFirst};
     ghost use Rattle.annotated_trace.specs.declared.rows.Rows.{Rows as AnyRows};
 
@@ -25,8 +25,8 @@ pub trait Printer<A: Allocator, O: TraceObserver<A>>: Drop {
     /// The bytes that a line becomes, after the lines before it.
     ghost form: { AnyRows → List Line → Line → List ℕ → Type 0 };
 
-    /// The bytes after the last line, by the report.
-    ghost closing: { AnyRows → AnyReport → List ℕ → Type 0 };
+    /// The bytes after these lines, by their report.
+    ghost closing: { AnyRows → List Line → AnyReport → List ℕ → Type 0 };
 
     /// The rows that it prints.
     fn rows(&self) -> Rows
@@ -56,10 +56,12 @@ pub trait Printer<A: Allocator, O: TraceObserver<A>>: Drop {
     /// Writes to a lent sink what comes after the last line. Fails where the sink fails, which accepted a first part.
     fn close<S: LentSink>(&mut self, report: &Report<A>, sink: S) -> (S, Result<(), Fault>)
         requires { (S.taken sink, S.failures sink) ≡ S.before }
-        ensures ok { OnOk result.1 (HasTaken (closing (rows self.old) report.now) S.before.0
+        ensures ok { (text : List ℕ) → printed self.old (lines_of text) → IsReportOf text report.now
+            → OnOk result.1 (HasTaken (closing (rows self.old) (lines_of text) report.now) S.before.0
             (S.taken result.0)) }
-        ensures part { OnErr result.1 (HasTakenFirst (closing (rows self.old) report.now) S.before.0
-            (S.taken result.0)) }
+        ensures part { (text : List ℕ) → printed self.old (lines_of text) → IsReportOf text report.now
+            → OnErr result.1 (HasTakenFirst (closing (rows self.old) (lines_of text) report.now)
+            S.before.0 (S.taken result.0)) }
         ensures cause { OnErr result.1 (S.before.1 < S.failures result.0) }
         ensures write { IfErr result.1 (λ fault. fault ≡ Fault.Write) };
 }

@@ -7,16 +7,16 @@ use Rattle.line_model.specs.text.Text.{Line}
 use Rattle.annotated_trace.specs.Printed.{IsPrintOf}
 use Rattle.annotated_trace.specs.Printers.{HasFirstPrintOf, IsPrinted}
 use Rattle.annotated_trace.specs.Printing.{HasPassed, StopsPrinting}
-use Rattle.descriptions.specs.CallTable.{IsCallTable}
+use Rattle.descriptions.specs.CallTable.{IsTableOf}
 use Rattle.descriptions.specs.declared.call_columns.TableForm.{TableForm}
 
 -- nothing is printed of any of some lines
 abbrev pub IsNothing : List Line → List ℕ → Type 0
 IsNothing ls bytes = IsPrintOf (λ before l own. own ≡ []) [] ls bytes
 
--- after the last line comes the table of the report's calls
-abbrev pub ClosesWithCalls : TableForm → Report → List ℕ → Type 0
-ClosesWithCalls form report bytes = IsCallTable form report.calls bytes
+-- after the last line comes the table of the report's calls, with what their rows add up to
+abbrev pub ClosesWithCalls : TableForm → List Line → Report → List ℕ → Type 0
+ClosesWithCalls form ls report bytes = IsTableOf form ls report.calls bytes
 
 -- a source gave a text without a fault, and the sink accepted the table of the calls of its report; the sums are those of the report
 abbrev pub PrintsCalls : TableForm → (left after asked before taken : Option (List ℕ)) → Summary → Type 0

@@ -1,5 +1,6 @@
 -- What the exit status of the program says of a trace whose rows or calls are printed in place of its report.
 use Rattle.std.specs.Prelude.{◌≡◌, ◌⊎◌, ℕ, Bool, true, false, List, [], Option, Some, None}
+use Rattle.line_model.specs.basics.Records.{Report}
 use Rattle.line_model.specs.declared.device.Sink.{Ghosts as Sink}
 use Rattle.line_model.specs.declared.device.Source.{Ghosts as Source}
 use Rattle.line_model.specs.declared.fault.Fault.{Fault}
@@ -23,16 +24,20 @@ use Rattle.command_line.specs.declared.options.Printing.{Printing}
 abbrev pub AreRowObjects : Rows → List Line → List ℕ → Type 0
 AreRowObjects rows ls bytes = IsPrintOf (IsLineObject rows) [] ls bytes
 
+-- after the last line come the objects of the report
+abbrev pub ClosesWithObjects : List Line → Report → List ℕ → Type 0
+ClosesWithObjects ls report bytes = IsClosing report bytes
+
 -- a source gave a text without a fault, and the sink accepted the objects of these rows of it and those of its report; the sums are those of the
 -- report
 abbrev pub PrintsRows : Rows → (left after asked before taken : Option (List ℕ)) → Summary → Type 0
-PrintsRows rows left after asked before taken sums = HasPassed (IsPrinted (AreRowObjects rows) IsClosing) left after asked before taken sums
+PrintsRows rows left after asked before taken sums = HasPassed (IsPrinted (AreRowObjects rows) ClosesWithObjects) left after asked before taken sums
 
 -- a source gave some bytes, and they are refused; the sink has a first part of the objects: at a faulty line those of the chosen rows before it,
 -- if the sink did not fail, and where the source failed those of the chosen rows whose line ended
 abbrev pub StopsRows : Rows → (left after asked before taken : Option (List ℕ)) → (well : Type 0) → Fault → Type 0
 StopsRows rows left after asked before taken well fault =
-    StopsPrinting (AreRowObjects rows) (HasFirstPrintOf (AreRowObjects rows) IsClosing) left after asked before taken well fault
+    StopsPrinting (AreRowObjects rows) (HasFirstPrintOf (AreRowObjects rows) ClosesWithObjects) left after asked before taken well fault
 
 -- a trace was printed in a form
 abbrev pub Prints : Printing → (left after asked before taken : Option (List ℕ)) → Summary → Type 0

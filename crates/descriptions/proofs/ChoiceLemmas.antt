@@ -5,7 +5,7 @@ use Rattle.std.specs.Prelude.{MatchOption}
 use Rattle.std.specs.Option.{is_some, option_map, option_to_list}
 use Rattle.std.proofs.lemmas.List.Elements.{filter_map-append}
 use Rattle.line_model.specs.declared.interface.Interface.{Interface}
-use Rattle.line_model.specs.basics.Records.{Row}
+use Rattle.line_model.specs.basics.Records.{Item, Row}
 use Rattle.line_model.specs.packets.Says.{item_of, items_of}
 use Rattle.line_model.proofs.Saying.{items_more}
 use Rattle.line_model.specs.text.RowLine.{row_of}
@@ -18,9 +18,7 @@ use Rattle.annotated_trace.specs.declared.rows.Rows.TheVariants.{All, Chosen as 
 use Rattle.descriptions.specs.CallRows.{Follows}
 use Rattle.descriptions.specs.declared.chosen.Chosen.{Chosen}
 use Rattle.descriptions.specs.Choosing.{HasChosen, picked_where}
-use Rattle.descriptions.specs.Follows.{KeepsOrigins}
-use Rattle.descriptions.specs.RowObjects.{KeepsPast}
-use Rattle.descriptions.specs.declared.origins.Origins.{Origins}
+use Rattle.descriptions.specs.RowObjects.{OfRows}
 
 -- ---- the row of a line
 
@@ -171,12 +169,12 @@ chosen_same before l c h none =
 
 -- ---- what is kept of the rows of lines
 
-pub past_begun : {A : Type 0} (kept : Origins A) → ((i : Interface) → KeepsOrigins i [] kept) → KeepsPast [] kept
-past_begun kept h i head = subst (λ rows. KeepsOrigins i (items_of i rows) kept) (sym no_rows) (h i)
+pub rows_begun : (K : Interface → List Item → Type 0) → ((i : Interface) → K i []) → OfRows [] K
+rows_begun K h i head = subst (λ rows. K i (items_of i rows)) (sym no_rows) (h i)
 
-pub past_same : {A : Type 0} (before : List Line) (l : Line) (kept : Origins A) → KeepsPast before kept → row_written before l ≡ None → KeepsPast (before ++ l ∷ []) kept
-past_same before l kept h none i head =
-    subst (λ rs. KeepsOrigins i (items_of i rs) kept) (sym (rows_written before l ∙ ap (λ o. rows_in before ++ option_to_list o) none ∙ append-nil (rows_in before))) (h i (head_kept before l i head))
+pub rows_same : (K : Interface → List Item → Type 0) (before : List Line) (l : Line) → OfRows before K → row_written before l ≡ None → OfRows (before ++ l ∷ []) K
+rows_same K before l h none i head =
+    subst (λ rs. K i (items_of i rs)) (sym (rows_written before l ∙ ap (λ o. rows_in before ++ option_to_list o) none ∙ append-nil (rows_in before))) (h i (head_kept before l i head))
 
 -- the row that a line writes, where one is printed or not
 written_by : (rows : Rows) (head : Option Interface) (earlier : List Row) (o : Option Row) (picked : Bool) → Some picked ≡ picked_where rows head earlier o → (r : Row) × (o ≡ Some r)
@@ -191,15 +189,15 @@ headed_by : (o : Option Interface) (i : Interface) → is_some o ≡ true → If
 headed_by None i h k = cc
 headed_by (Some j) i h k = ap (λ x. Some x) k
 
-pub past_more : {A T E : Type 0} (result : Result T E) (rows : Rows) (before : List Line) (l : Line) (picked : Bool) (old new : Origins A) → Some picked ≡ picked_where rows (head_of before) (rows_in before) (row_written before l) → is_some (head_of before) ≡ true → KeepsPast before old
-    → ((i : Interface) (r : Row) → head_of before ≡ Some i → row_written before l ≡ Some r → KeepsOrigins i (items_of i (rows_in before)) old → OnOk result (KeepsOrigins i (items_of i (rows_in before) ++ item_of i r ∷ []) new))
-    → OnOk result (KeepsPast (before ++ l ∷ []) new)
-past_more (Err x) rows before l picked old new picks headed h step = tt
-past_more (Ok x) rows before l picked old new picks headed h step = λ i head.
+pub rows_more : {T E : Type 0} (K Q : Interface → List Item → Type 0) (result : Result T E) (rows : Rows) (before : List Line) (l : Line) (picked : Bool) → Some picked ≡ picked_where rows (head_of before) (rows_in before) (row_written before l) → is_some (head_of before) ≡ true → OfRows before K
+    → ((i : Interface) (r : Row) → head_of before ≡ Some i → row_written before l ≡ Some r → K i (items_of i (rows_in before)) → OnOk result (Q i (items_of i (rows_in before) ++ item_of i r ∷ [])))
+    → OnOk result (OfRows (before ++ l ∷ []) Q)
+rows_more K Q (Err x) rows before l picked picks headed h step = tt
+rows_more K Q (Ok x) rows before l picked picks headed h step = λ i head.
     let one = written_by rows (head_of before) (rows_in before) (row_written before l) picked picks in
     let known = head_kept before l i head in
     let all : rows_in (before ++ l ∷ []) ≡ rows_in before ++ one.0 ∷ [] = rows_written before l ∙ ap (λ o. rows_in before ++ option_to_list o) one.1 in
-    subst (λ items. KeepsOrigins i items new) (sym (items_written i (rows_in (before ++ l ∷ [])) (rows_in before) one.0 all))
+    subst (Q i) (sym (items_written i (rows_in (before ++ l ∷ [])) (rows_in before) one.0 all))
     (step i one.0 (headed_by (head_of before) i headed known) one.1 (h i known))
 
 pub both_ok : {T E : Type 0} {P : Type 0} (Q : Type 0) (result : Result T E) → P → OnOk result Q → OnOk result (P × Q)

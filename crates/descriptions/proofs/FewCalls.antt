@@ -1,10 +1,9 @@
 -- A trace has no more calls than rows.
-use Rattle.std.proofs.Common.{◌≡◌, ◌∙◌, sym, ap, subst, refl, ℕ, ◌+◌, ◌≤◌, ◌<◌, ◌^◌, Bool, true, false, cond, List, [], ◌∷◌, ◌++◌, map, length, length-append, arith}
+use Rattle.std.proofs.Common.{◌≡◌, ◌∙◌, sym, ap, refl, ℕ, ◌+◌, ◌≤◌, ◌<◌, ◌^◌, Bool, true, false, cond, List, [], ◌∷◌, map, length, length-append, arith}
 use Rattle.std.specs.List.{filter}
 use Rattle.line_model.specs.basics.Records.{Item}
 use Rattle.line_model.specs.channels.Gaps.{GapChannel}
 use Rattle.line_model.specs.channels.GapRestart.{GapInterfaceState}
-use Rattle.line_model.specs.declared.event.Event.{Event}
 use Rattle.line_model.specs.declared.event.What.{What}
 use Rattle.line_model.specs.declared.event.What.TheVariants.{Open}
 use Rattle.line_model.specs.declared.interface.Interface.{Interface}
@@ -58,5 +57,8 @@ pub few_calls : (i : Interface) (rs : List Item) → length rs < 2 ^ 32 → AreF
 few_calls i rs few = omega (arith, few, one_each (walk_events (x25 i) (start i) rs), few_openings i (start i) rs)
 
 -- the rows that an observer has walked are few
+pub few_rows : {A C : Type 0} {interface_of : C → Interface} {number_of : C → ℕ} {represents : C → GapChannel → Type 0} (i : Interface) (rs : List Item) (o : Observing A C) → Represents interface_of number_of represents i rs o → length rs < 2 ^ 32
+few_rows i rs o h = omega (arith, h.cut.packets, h.bounds.rows, h.bounds.last)
+
 pub few_walked : {A C : Type 0} {interface_of : C → Interface} {number_of : C → ℕ} {represents : C → GapChannel → Type 0} (i : Interface) (rs : List Item) (o : Observing A C) → Represents interface_of number_of represents i rs o → AreFewCalls (events i rs)
-few_walked i rs o h = few_calls i rs (omega (arith, h.cut.packets, h.bounds.rows, h.bounds.last))
+few_walked i rs o h = few_calls i rs (few_rows i rs o h)

@@ -14,7 +14,7 @@ use Rattle.line_model.specs.channels.Gaps.{GapChannel}
 use Rattle.line_model.specs.declared.event.How.{How}
 use Rattle.line_model.specs.packets.Says.{gap_of}
 use Rattle.line_model.specs.channels.GapRestart.{GapInterfaceState, is_of_all, is_ready, routing}
-use Rattle.line_model.specs.observer.Calls.{calls_of, is_end, is_opening}
+use Rattle.line_model.specs.observer.Calls.{calls_of, is_opening}
 use Rattle.line_model.specs.observer.Machine.{Observer, after, after_by, channel_unless, level_moved, level_stepped, renewed, routed, stays_ready, steps_all, walk}
 use Rattle.line_model.specs.observer.MachineEvents.{RowEvent, closed_events, ended_events, row_events as all_row_events, row_events_by, stamp, walk_events}
 use Rattle.line_model.specs.observer.Observer.{event_of, events, epoch_end, epoch_end_if, route_found, start, x25}

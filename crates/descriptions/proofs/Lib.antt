@@ -9,6 +9,7 @@ pub mod LineLemmas
 pub mod FactLemmas
 pub mod OriginLemmas
 pub mod SentLemmas
+pub mod CallSumLemmas
 pub mod TableLemmas
 pub mod MemberLemmas
 pub mod OneLine

@@ -1,6 +1,7 @@
 -- The objects of rows, as they are appended.
 use Rattle.std.proofs.Common.{◌≡◌, ◌∙◌, sym, ap, subst, refl, ℕ, ◌+◌, ◌<◌, map, get_or, Bool, false, List, [], ◌∷◌, ◌++◌, take, length, Option, Some, None, Result, Ok, Err, OnOk, append_assoc, append-nil}
 use Rattle.std.specs.Prelude.{codes}
+use Rattle.std.specs.Option.{option_to_list}
 use Rattle.std.proofs.lemmas.Grind.{flat_map-append}
 use Rattle.std.proofs.lemmas.List.{map-append, take_more}
 use Rattle.line_model.specs.basics.Records.{Item, Row}
@@ -13,12 +14,20 @@ use Rattle.line_model.specs.observer.Observer.{x25}
 use Rattle.line_model.specs.observer.Calls.{all_lengths}
 use Rattle.line_model.specs.observer.Report.{state_word}
 use Rattle.line_model.specs.packets.Says.{gap_of, item_of, items_of}
+use Rattle.line_model.specs.text.Text.{Line, early_rows, ended_lines, head_of, rows_in}
+use Rattle.trace_text.proofs.FeedLemmas.{rows-sound}
+use Rattle.channel_run.specs.declared.run.Channel.{Ghosts as Machine}
 use Rattle.restart_epochs.specs.Cutting.{observer}
+use Rattle.live_report.proofs.LiveLemmas.{keeps_rows, nothing_seen, observing_of}
 use Rattle.live_report.specs.JudgedRows.{IsJudge}
+use Rattle.live_report.specs.Lives.{KeepsRowsOf}
+use Rattle.live_report.specs.Observing.{HasKept, HasWalked}
+use Rattle.live_report.specs.declared.live.Live.{Live}
+use Rattle.live_report.specs.declared.observer.Observer.{Observer as Observing}
 use Rattle.live_report.specs.declared.judged_row.Judge.{Judge}
 use Rattle.live_report.specs.declared.judged_row.Judge.TheVariants as judge
 use Rattle.annotated_trace.specs.Printed.{HasAppended}
-use Rattle.annotated_trace.specs.Rows.{is_chosen, is_chosen_if}
+use Rattle.annotated_trace.specs.Rows.{is_chosen, is_chosen_if, row_written}
 use Rattle.annotated_trace.specs.declared.rows.Rows.{Rows}
 use Rattle.descriptions.specs.Choosing.{picked_where}
 use Rattle.descriptions.specs.Facts.{AreFactsOf}
@@ -26,6 +35,7 @@ use Rattle.descriptions.specs.Follows.{follows_at}
 use Rattle.descriptions.specs.RowCalls.{call_of, row_call}
 use Rattle.descriptions.specs.RowObjects.{IsObjectOf, IsObjectWhere, IsRest, IsRowObject, counted_word, events_at, finding_word, gap_head, head_by, joined, known_word, named_channel, owed_after, owed_at, packet_head, place_members, row_head, state_at, state_members, word_after, word_before}
 use Rattle.descriptions.specs.declared.facts.RowFacts.{RowFacts}
+use Rattle.descriptions.proofs.ChoiceLemmas.{headed_row, items_written, no_rows_written, rows_written}
 use Rattle.descriptions.proofs.OneLine.{rest_one}
 
 -- ---- words, one after the other
@@ -127,3 +137,18 @@ same_interface o i j e f = inner i j (sym e ∙ f)
   where
     inner : (a b : Interface) → Some a ≡ Some b → a ≡ b
     inner a b h = cc
+
+-- the observer has walked the last row of a text, and keeps it
+pub last_kept : {A C : Type 0} (m : Machine C A) (live : Live A C) (o : Observing A C) (i : Interface) (before : List Line) (l : Line) (r : Row) (text : List ℕ) → KeepsRowsOf m text live → ended_lines text ≡ before ++ l ∷ [] → head_of before ≡ Some i → row_written before l ≡ Some r → live.observer ≡ Some o
+    → HasKept m i (items_of i (rows_in before) ++ item_of i r ∷ []) o
+last_kept m live o i before l r text s lines head row is =
+    let w = observing_of m.interface_of m.number_of m.represents live text o s.0 is in
+    let rows : early_rows text ≡ rows_in before ++ r ∷ [] = rows-sound text s.0.reads.sound ∙ ap rows_in lines ∙ rows_written before l ∙ ap (λ q. rows_in before ++ option_to_list q) row in
+    let same : w.0 ≡ i = same_interface (head_of before) w.0 i (sym (headed_row before l r row) ∙ ap head_of (sym lines) ∙ sym s.0.reads.interface ∙ w.1.header) head in
+    let walked : HasWalked m w.0 (items_of w.0 (rows_in before) ++ item_of w.0 r ∷ []) o = subst (λ rs. HasWalked m w.0 rs o) (items_written w.0 (early_rows text) (rows_in before) r rows) w.1.observes in
+    (subst (λ j. HasWalked m j (items_of j (rows_in before) ++ item_of j r ∷ []) o) same walked, keeps_rows m.interface_of m.number_of m.represents live text o s.0 s.1 is)
+
+pub not_seen : {A C : Type 0} (m : Machine C A) (live : Live A C) (before : List Line) (l : Line) (r : Row) (text : List ℕ) → KeepsRowsOf m text live → ended_lines text ≡ before ++ l ∷ [] → row_written before l ≡ Some r → live.observer ≡ None → ⊥
+not_seen m live before l r text s lines row is =
+    let none = nothing_seen m.interface_of m.number_of m.represents live text s.0 is in
+    no_row (row_written before l) r (no_rows_written (rows_in before) (row_written before l) (sym (rows_written before l) ∙ ap rows_in (sym lines) ∙ sym (rows-sound text s.0.reads.sound) ∙ none)) row

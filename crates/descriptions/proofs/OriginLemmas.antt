@@ -15,18 +15,16 @@ use Rattle.line_model.specs.observer.Observer.{events, start, x25}
 use Rattle.line_model.specs.observer.Report.{findings_of}
 use Rattle.channel_run.specs.Run.{row_events}
 use Rattle.channel_run.specs.StatusWord.{view_in}
-use Rattle.channel_run.specs.declared.run.View.{View}
 use Rattle.channel_run.proofs.LiveLemmas.{findings_added}
 use Rattle.data_transfer.specs.Packed.{Packed}
 use Rattle.restart_epochs.specs.ChannelTables.{value_at}
 use Rattle.restart_epochs.specs.Cutting.{observer}
 use Rattle.restart_epochs.proofs.Epochs.{observer_more}
 use Rattle.live_report.specs.JudgedRows.{IsJudge, IsJudgedRow, taker}
-use Rattle.live_report.specs.declared.judged_row.Judge.{Judge}
 use Rattle.live_report.specs.declared.judged_row.Judge.TheVariants as judge
 use Rattle.live_report.specs.declared.judged_row.JudgedRow.{JudgedRow}
 use Rattle.live_report.proofs.LastLemmas.{taker_is}
-use Rattle.descriptions.specs.Follows.{KeepsOrigins, after_packet, after_row, first_in, follows_at, follows_from, follows_on, is_of_course, is_renewing, is_taken_by, origin_at, origin_from, origin_of, seen_by, unless_settled}
+use Rattle.descriptions.specs.Follows.{KeepsOrigins, after_row, first_in, follows_at, follows_from, follows_on, is_of_course, is_renewing, is_taken_by, origin_at, origin_from, origin_of, seen_by, unless_settled}
 use Rattle.descriptions.specs.declared.origins.Origin.{Origin}
 use Rattle.descriptions.specs.declared.origins.Origins.{Origins}
 use Rattle.descriptions.specs.RowCalls.{AreQuiet, KeepsCalls}

@@ -1,13 +1,12 @@
 -- Which call is open, and which one a row belongs to, row by row.
 use Rattle.std.proofs.Common.{◌≡◌, ◌≢◌, ◌∙◌, sym, ap, subst, refl, ℕ, ◌+◌, ◌≤◌, ◌<◌, ◌^◌, ◌-◌, ◌⊎◌, inl, inr, zero, suc, Bool, true, false, true≢false, not, ◌&&◌, cond, eqb, List, [], ◌∷◌, ◌++◌, map, length, min, take, get_or, Option, Some, None, IfSome, Result, Ok, Err, OnOk, IfOk, arith, append-nil, append_assoc}
 use Rattle.std.specs.Prelude.{is_none}
-use Rattle.std.specs.List.{AllByRecursion}
 use Rattle.std.proofs.lemmas.Bool.{ne_eqb, eq-eqb, eqb-true}
 use Rattle.std.proofs.lemmas.List.{take_more}
 use Rattle.line_model.specs.declared.event.Event.{Event}
 use Rattle.line_model.specs.declared.event.What.{What}
 use Rattle.line_model.specs.declared.interface.Interface.{Interface}
-use Rattle.line_model.specs.basics.Records.{CallRecord, Item}
+use Rattle.line_model.specs.basics.Records.{Item}
 use Rattle.line_model.specs.channels.GapRestart.{GapInterfaceState, is_ready}
 use Rattle.line_model.specs.declared.state.RState.{RState}
 use Rattle.line_model.specs.declared.state.RState.TheVariants.{R1, R2, R3}
@@ -29,7 +28,7 @@ use Rattle.descriptions.specs.declared.open_calls.CallMove.{CallMove}
 use Rattle.descriptions.specs.declared.open_calls.ChannelCalls.{ChannelCalls}
 use Rattle.descriptions.specs.declared.open_calls.OpenCalls.{OpenCalls}
 use Rattle.descriptions.proofs.FollowLemmas.{LevelBegins, LevelStays, UpTo, epoch_up, events_on_channel, level_case, level_count, ready_at, same_epoch}
-use Rattle.descriptions.proofs.OpenCalls.{OpensFirst, count_more, on, open_more, opens_first, passes_first}
+use Rattle.descriptions.proofs.OpenCalls.{count_more, on, open_more, opens_first, passes_first}
 
 -- ---- one more event
 

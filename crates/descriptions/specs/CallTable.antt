@@ -1,8 +1,12 @@
 -- The table of calls: CSV with a heading (RFC 4180), or an object for each call (profile).
-use Rattle.std.specs.Prelude.{◌≡◌, ℕ, ◌-◌, ◌+◌, ◌==◌, ◌≤◌, ◌||◌, Bool, true, false, List, [], ◌∷◌, ◌++◌, drop, flat_map, Option, Some, None, codes, decimal, length, if◌then◌else◌}
+use Rattle.std.specs.Prelude.{◌≡◌, ℕ, ◌-◌, ◌+◌, ◌==◌, ◌≤◌, ◌||◌, Bool, true, false, List, [], ◌∷◌, ◌++◌, drop, flat_map, Option, Some, None, codes, decimal, length, min, if◌then◌else◌}
 use Rattle.std.specs.List.{enumerate_from}
-use Rattle.line_model.specs.basics.Records.{CallRecord}
+use Rattle.line_model.specs.basics.Records.{CallRecord, Row}
+use Rattle.line_model.specs.declared.interface.Interface.{Interface}
 use Rattle.line_model.specs.observer.Report.{direction_word, how_word}
+use Rattle.line_model.specs.packets.Says.{items_of}
+use Rattle.line_model.specs.text.Text.{Line, head_of, rows_in}
+use Rattle.descriptions.specs.CallSums.{findings_in, segments_in}
 use Rattle.descriptions.specs.Members.{is_plain}
 use Rattle.descriptions.specs.RowObjects.{joined}
 use Rattle.descriptions.specs.declared.value.Value.{Value}
@@ -166,22 +170,33 @@ abbrev pub entry : TableForm → ℕ × CallRecord → Further → List ℕ
 entry form p further = joined (
     before_call form ∷ decimal p.0 ∷ place_columns form p.1 ∷ span_columns form p.1 further ∷ cause_columns form further ∷ data_columns form p.1 further ∷ last_columns form p.1 further ∷ after_call form ∷ [])
 
--- bytes are the entry of a call, whose sides have the call's segments
-pub record IsEntry (form : TableForm) (p : ℕ × CallRecord) (bytes : List ℕ) : Type 0 where
+-- bytes are the entry of a call with these findings, and with these segments from the DTE, which are among the call's
+pub record IsEntry (form : TableForm) (findings segments : (call : ℕ) → ℕ) (p : ℕ × CallRecord) (bytes : List ℕ) : Type 0 where
   pub further : Further
+  pub found : further.findings ≡ findings p.0
+  pub sent : further.segments_t ≡ min (segments p.0) p.1.segments
   pub sides : further.segments_t ≤ p.1.segments
   pub written : bytes ≡ entry form p further
 
 -- they are those of some calls, one after the other
-abbrev pub AreEntries : TableForm → List (ℕ × CallRecord) → List ℕ → Type 0
-AreEntries form [] bytes = bytes ≡ []
-AreEntries form (p ∷ ps) bytes = (own : List ℕ) × (rest : List ℕ) × (bytes ≡ own ++ rest) × IsEntry form p own × AreEntries form ps rest
+abbrev pub AreEntries : TableForm → (findings segments : (call : ℕ) → ℕ) → List (ℕ × CallRecord) → List ℕ → Type 0
+AreEntries form findings segments [] bytes = bytes ≡ []
+AreEntries form findings segments (p ∷ ps) bytes = (own : List ℕ) × (rest : List ℕ) × (bytes ≡ own ++ rest) × IsEntry form findings segments p own × AreEntries form findings segments ps rest
 
 -- the table of some calls, which are numbered from 1: its heading, and exactly their entries in their order
-pub record IsCallTable (form : TableForm) (calls : List CallRecord) (bytes : List ℕ) : Type 0 where
+pub record IsCallTable (form : TableForm) (findings segments : (call : ℕ) → ℕ) (calls : List CallRecord) (bytes : List ℕ) : Type 0 where
   pub entries : List ℕ
-  pub each : AreEntries form (enumerate_from 1 calls) entries
+  pub each : AreEntries form findings segments (enumerate_from 1 calls) entries
   pub written : bytes ≡ heading form ++ entries
+
+-- the same with what the rows of each call add up to
+abbrev pub IsTableOfRows : TableForm → Option Interface → List Row → List CallRecord → List ℕ → Type 0
+IsTableOfRows form None rows calls bytes = ⊥
+IsTableOfRows form (Some i) rows calls bytes = IsCallTable form (findings_in i (items_of i rows)) (segments_in i (items_of i rows)) calls bytes
+
+-- the table of the calls of some lines
+abbrev pub IsTableOf : TableForm → List Line → List CallRecord → List ℕ → Type 0
+IsTableOf form ls calls bytes = IsTableOfRows form (head_of ls) (rows_in ls) calls bytes
 
 -- ---- what the code has of a column
 
@@ -196,5 +211,5 @@ abbrev pub column_text : TableForm → Column → List ℕ
 column_text form c = column form c.name.now (cell_text form c.cell)
 
 -- exactly the entries of some calls were put
-abbrev pub HasPutEntries : TableForm → List CallRecord → (was_put : List ℕ → Type 0) → Type 0
-HasPutEntries form calls was_put = (entries : List ℕ) × AreEntries form (enumerate_from 1 calls) entries × was_put entries
+abbrev pub HasPutEntries : TableForm → (findings segments : (call : ℕ) → ℕ) → List CallRecord → (was_put : List ℕ → Type 0) → Type 0
+HasPutEntries form findings segments calls was_put = (entries : List ℕ) × AreEntries form findings segments (enumerate_from 1 calls) entries × was_put entries

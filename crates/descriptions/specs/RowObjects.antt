@@ -194,9 +194,13 @@ AppendsObject m live line picked kept result before after = OfLastRow m live lin
 abbrev pub KeepsLast : {A C T E : Type 0} → Machine C A → Live A C → (line : List ℕ) → Result T E → (before after : Origins A) → Type 0
 KeepsLast m live line result before after = OfLastRow m live line (λ i earlier r. KeepsOrigins i earlier before → OnOk result (KeepsOrigins i (earlier ++ r ∷ []) after))
 
--- this is kept of the rows of some lines
+-- a fact on the rows of some lines, under their header
+abbrev pub OfRows : List Line → (Interface → List Item → Type 0) → Type 0
+OfRows ls Fact = (i : Interface) → IfSome (head_of ls) (λ j. j ≡ i) → Fact i (items_of i (rows_in ls))
+
+-- this is kept of them
 abbrev pub KeepsPast : {A : Type 0} → List Line → Origins A → Type 0
-KeepsPast ls kept = (i : Interface) → IfSome (head_of ls) (λ j. j ≡ i) → KeepsOrigins i (items_of i (rows_in ls)) kept
+KeepsPast ls kept = OfRows ls (λ i rs. KeepsOrigins i rs kept)
 
 -- what comes after the last row: the objects of the report, those of what was not counted, and one for each of its calls, and no other line
 pub record IsClosing (report : Report) (bytes : List ℕ) : Type 0 where

@@ -4,6 +4,7 @@
 mod call_columns;
 mod call_memory;
 mod call_rows;
+mod call_sums;
 pub mod call_table;
 mod calls;
 mod causes;

@@ -1,12 +1,13 @@
 //! The rows of a trace as objects.
 
-ghost use Rattle.std.specs.Prelude.{◌≡◌, ◌++◌, ◌∷◌, [], List, IfSome, None, OnOk, Some, false, length};
+ghost use Rattle.std.specs.Prelude.{◌≡◌, ◌<◌, ◌^◌, ◌++◌, ◌∷◌, [], List, IfSome, None, OnOk, Some, false, length};
 ghost use Rattle.line_model.specs.basics.Records.{Item, Row};
 ghost use Rattle.line_model.specs.declared.interface.Interface.{Interface};
 ghost use Rattle.line_model.specs.packets.Says.{gap_of};
 ghost use Rattle.line_model.specs.text.RowLine.{row_of};
 ghost use Rattle.line_model.specs.text.Text.{Line};
 ghost use Rattle.annotated_trace.specs.Printed.{HasAppended};
+ghost use Rattle.descriptions.specs.CallSums.{IsAddend};
 ghost use Rattle.descriptions.specs.Facts.{AreFactsOf};
 ghost use Rattle.descriptions.specs.Members.{IsText};
 ghost use Rattle.descriptions.specs.Follows.{KeepsOrigins};
@@ -15,6 +16,7 @@ ghost use Rattle.descriptions.specs.RowObjects.{AppendsObject, IsObjectWhere, Is
 ghost use Rattle.descriptions.specs.Writing.{Holds};
 
 use crate::call_memory::Calls;
+use crate::call_sums::Addend;
 use crate::chosen::Chosen;
 use crate::closing_objects::{Rest, write_rest};
 use crate::common_objects::{CommonRow, common_object};
@@ -61,6 +63,8 @@ pub(crate) struct PastRows<A: Allocator> {
     origins: Origins<A>,
     course: Course<A>,
     rest: Rest<A>,
+    /// What the last row that was appended adds to the sums of its call.
+    added: Addend,
     /// When and where the next row was recorded.
     recorded: Option<Recorded>,
     /// Room for the members of an object.
@@ -80,6 +84,7 @@ impl<A: Allocator + Copy> PastRows<A> {
                 uncounted: Uncounted::none(),
                 has_gaps: false,
             },
+            added: Addend::none(),
             recorded: None,
             members: Json {
                 out: Growing::new(alloc),
@@ -145,6 +150,9 @@ impl<A: Allocator + Copy> PastRows<A> {
         ensures object { AppendsObject C.Channel trace.now line.now picked self.old.origins result out.old.items out.new.items }
         ensures unpicked { picked ≡ false → out.new.items ≡ out.old.items }
         ensures kept { KeepsLast C.Channel trace.now line.now result self.old.origins self.new.origins }
+        ensures added { OfLastRow C.Channel trace.now line.now (λ i earlier r.
+            KeepsOrigins i earlier self.old.origins
+            → OnOk result (IsAddend i earlier r self.new.added × (length earlier < 2 ^ 32))) }
     {
         let recorded = self.recorded.take().unwrap_or(Recorded::UNKNOWN);
         let Some(observer) = trace.observer() else {
@@ -167,6 +175,7 @@ impl<A: Allocator + Copy> PastRows<A> {
             .take(&facts, self.origins.calls.ended(), recorded)?;
         self.rest.uncounted = observer.uncounted();
         self.rest.has_gaps = interface.gaps;
+        self.added = Addend::of(&facts);
         if !picked {
             return Ok(());
         }
@@ -176,15 +185,19 @@ impl<A: Allocator + Copy> PastRows<A> {
     }
 
     /// Reads a line that writes no row: a comment may say when and where the next one was recorded.
-    pub(crate) fn take_comment(&mut self, line: &[u8]) {
+    pub(crate) fn take_comment(&mut self, line: &[u8])
+        ensures { self.new.origins ≡ self.old.origins }
+    {
         if let Some(recorded) = Recorded::of_comment(line) {
             self.recorded = Some(recorded);
         }
     }
 
-    /// The call that is open on a channel, or 0.
-    pub(crate) fn call_on(&self, channel: u16) -> u32 {
-        self.origins.call_on(channel)
+    /// What the last row adds to the sums of its call.
+    pub(crate) fn added(&self) -> Addend
+        ensures { result ≡ self.now.added }
+    {
+        self.added
     }
 
     /// What is remembered for the end.
@@ -290,7 +303,7 @@ impl<A: Allocator + Copy, C: Channel<A>> Printer<A, Live<A, C>> for RowObjects<A
 
     ghost form = { λ rows before l bytes. IsLineObject rows before l bytes };
 
-    ghost closing = { λ rows report bytes. IsClosing report bytes };
+    ghost closing = { λ rows lines report bytes. IsClosing report bytes };
 
     fn rows(&self) -> Rows {
         self.chosen.rows()

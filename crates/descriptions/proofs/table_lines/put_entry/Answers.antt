@@ -1,6 +1,5 @@
-use Rattle.std.proofs.Common.{◌∷◌, ◌++◌, ◌∙◌, [], List, ℕ, ap, append-nil, decimal, flat_map, sym}
-use Rattle.descriptions.specs.CallTable.{after_call, before_call, cause_columns, data_columns, place_columns, span_columns}
-use Rattle.descriptions.specs.RowObjects.{joined}
+use Rattle.std.proofs.Common.{◌∙◌, append-nil, sym}
+use Rattle.descriptions.specs.CallTable.{after_call}
 use Rattle.descriptions.proofs.ValueLemmas.{these_same, these_then}
 use Rattle.descriptions.proofs.table_lines.put_entry.Goals as goal
 

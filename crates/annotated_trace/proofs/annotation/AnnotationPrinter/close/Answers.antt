@@ -2,12 +2,12 @@ use Rattle.annotated_trace.proofs.ClosingLemmas.{closing_said, failed_said, firs
 use Rattle.annotated_trace.proofs.annotation.AnnotationPrinter.close.Goals as goal
 
 pub returns-clause-ok : goal.returns-clause-ok
-returns-clause-ok g c =
+returns-clause-ok g c text printed reported =
     let page = c.close.new.page in
     closing_said c.finish.result.1 g.S.LentSink.before (g.S.Sink.taken page.sink, g.S.Sink.failures page.sink) page.buffer page.said (g.S.Sink.taken c.finish.result.0) page.represented c.finish.ensures.ok
 
 pub returns-clause-part : goal.returns-clause-part
-returns-clause-part g c =
+returns-clause-part g c text printed reported =
     let page = c.close.new.page in
     first_said c.finish.result.1 g.S.LentSink.before (g.S.Sink.taken page.sink, g.S.Sink.failures page.sink) page.buffer page.said (g.S.Sink.taken c.finish.result.0) page.represented c.finish.ensures.part
 

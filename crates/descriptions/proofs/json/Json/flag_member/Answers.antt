@@ -1,4 +1,4 @@
-use Rattle.std.proofs.Common.{sym, subst, Bool, true, false}
+use Rattle.std.proofs.Common.{sym, subst}
 use Rattle.descriptions.specs.Members.{IsValue}
 use Rattle.descriptions.proofs.MemberLemmas.{as_form, flag_value, member_put}
 use Rattle.descriptions.proofs.json.Json.flag_member.Goals as goal

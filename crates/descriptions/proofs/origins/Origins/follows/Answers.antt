@@ -1,4 +1,4 @@
-use Rattle.std.proofs.Common.{◌≡◌, ◌∙◌, ap, false, sym, true}
+use Rattle.std.proofs.Common.{◌∙◌, ap, false, sym, true}
 use Rattle.descriptions.specs.Follows.{first_in}
 use Rattle.descriptions.proofs.OriginLemmas.{follows_here, follows_off}
 use Rattle.descriptions.proofs.origins.Origins.follows.Goals as goal

@@ -1,6 +1,7 @@
 use Rattle.std.proofs.Common.{◌++◌, ◌∷◌, [], subst, sym}
 use Rattle.descriptions.specs.Choosing.{HasChosen}
-use Rattle.descriptions.proofs.ChoiceLemmas.{both_ok, head_is, past_more, past_same, unwritten_by}
+use Rattle.descriptions.specs.Follows.{KeepsOrigins}
+use Rattle.descriptions.proofs.ChoiceLemmas.{both_ok, head_is, rows_more, rows_same, unwritten_by}
 use Rattle.line_model.specs.text.Text.{head_of, rows_in}
 use Rattle.annotated_trace.specs.Rows.{row_written}
 use Rattle.descriptions.proofs.ObjectLemmas.{nothing_put, row_put}
@@ -16,17 +17,17 @@ returns-in-Some-of_comment-clause-form g c before line text printed represented 
     nothing_put c.args.self.now.chosen.rows (head_of before) (rows_in before) (row_written before line) c.args.out.now.items (c.in-None.ensures.picked before line text printed.0 represented lines)
 
 pub returns-in-Some-of_comment-clause-printed : goal.returns-in-Some-of_comment-clause-printed
-returns-in-Some-of_comment-clause-printed g c before line text printed represented lines found is = (c.in-None.ensures.chosen before line text printed.0 represented lines, past_same before line c.args.self.now.past.origins printed.1 (unwritten_by c.args.self.now.chosen.rows (head_of before) (rows_in before) (row_written before line) (c.in-None.ensures.picked before line text printed.0 represented lines)))
+returns-in-Some-of_comment-clause-printed g c before line text printed represented lines found is = (c.in-None.ensures.chosen before line text printed.0 represented lines, rows_same (λ i rs. KeepsOrigins i rs c.args.self.now.past.origins) before line printed.1 (unwritten_by c.args.self.now.chosen.rows (head_of before) (rows_in before) (row_written before line) (c.in-None.ensures.picked before line text printed.0 represented lines)))
 
 pub returns-in_default-clause-form : goal.returns-in_default-clause-form
 returns-in_default-clause-form g c before line text printed represented lines found is =
     nothing_put c.args.self.now.chosen.rows (head_of before) (rows_in before) (row_written before line) c.args.out.now.items (c.in-None.ensures.picked before line text printed.0 represented lines)
 
 pub returns-in_default-clause-printed : goal.returns-in_default-clause-printed
-returns-in_default-clause-printed g c before line text printed represented lines found is = (c.in-None.ensures.chosen before line text printed.0 represented lines, past_same before line c.args.self.now.past.origins printed.1 (unwritten_by c.args.self.now.chosen.rows (head_of before) (rows_in before) (row_written before line) (c.in-None.ensures.picked before line text printed.0 represented lines)))
+returns-in_default-clause-printed g c before line text printed represented lines found is = (c.in-None.ensures.chosen before line text printed.0 represented lines, rows_same (λ i rs. KeepsOrigins i rs c.args.self.now.past.origins) before line printed.1 (unwritten_by c.args.self.now.chosen.rows (head_of before) (rows_in before) (row_written before line) (c.in-None.ensures.picked before line text printed.0 represented lines)))
 
 pub returns-in-Some-clause-printed : goal.returns-in-Some-clause-printed
 returns-in-Some-clause-printed g c before line text printed represented lines found is =
     both_ok _ c.print_row.result (subst (λ chosen. HasChosen (before ++ line ∷ []) chosen) (sym c.print_row.ensures.chosen) (c.in-Some.ensures.chosen before line text printed.0 represented lines))
-    (past_more c.print_row.result c.args.self.now.chosen.rows before line c.in-Some.picked c.args.self.now.past.origins c.print_row.new.self.past.origins (c.in-Some.ensures.picked before line text printed.0 represented lines)
+    (rows_more (λ i rs. KeepsOrigins i rs c.args.self.now.past.origins) (λ i rs. KeepsOrigins i rs c.print_row.new.self.past.origins) c.print_row.result c.args.self.now.chosen.rows before line c.in-Some.picked (c.in-Some.ensures.picked before line text printed.0 represented lines)
     (c.in-Some.ensures.headed before line text printed.0 represented lines) printed.1 (λ i r head row kept. c.print_row.ensures.kept i before line r text represented lines head row is kept))
