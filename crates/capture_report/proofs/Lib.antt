@@ -2,4 +2,5 @@ mod GapLemmas
 mod GivingLemmas
 mod ReadingLemmas
 mod SearchLemmas
+mod RecordingLemmas
 mod TextLemmas

@@ -7,3 +7,4 @@ pub mod Rows
 pub mod Texts
 pub mod Readings
 pub mod Traces
+pub mod Recordings

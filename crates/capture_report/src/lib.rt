@@ -1,12 +1,18 @@
 //! A capture of a line as a trace: its rows, in their order, and their text.
 #![tactic(auto)]
 
+pub mod begun_file;
 pub mod file_frames;
 pub mod frames;
 mod gaps;
+pub mod header;
+pub mod header_text;
 mod line_reading;
 pub mod plan;
 pub mod print;
 pub mod reader;
+mod reader_source;
+pub mod recordings;
 pub mod row;
+pub mod survey;
 pub mod trace;

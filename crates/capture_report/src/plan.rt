@@ -9,6 +9,7 @@ ghost use Rattle.capture_report.specs.Readings.{IsPlanOf, IsReadOn};
 use crate::frames::Frames;
 use crate::gaps::{Gaps, LostRange};
 use crate::line_reading::read_record;
+use crate::survey::Survey;
 use capture_rows::line::Line;
 use lapb_link::receiver::Shown;
 use line_model::fault::Fault;
@@ -34,16 +35,21 @@ impl Model for Plan {
 }
 
 impl Plan {
-    /// Reads a capture to its end, from a line on of which nothing was read. Fails where it can't be read, and when
-    /// memory is refused.
+    /// Reads a capture to its end, from a line on of which nothing was read; the survey sees all of it. Fails where it
+    /// can't be read, and when memory is refused.
     #[tactic(auto, using(crate::proofs::ReadingLemmas::read_none, crate::proofs::ReadingLemmas::read_more, crate::proofs::ReadingLemmas::read_all))]
-    pub fn read<F: Frames>(alloc: Global, line: Line, frames: &mut F) -> Result<Plan, Fault>
+    pub fn read<F: Frames>(
+        alloc: Global,
+        line: Line,
+        frames: &mut F,
+        survey: &mut Survey,
+    ) -> Result<Plan, Fault>
         ensures { IfOk result (IsPlanOf (F.left frames.old) line) }
     {
         let mut reached = line;
         let mut marks = Marks::new(alloc);
         for _ in 0..u64::MAX {
-            if !marks.read_next(alloc, &mut reached, frames)? {
+            if !marks.read_next(alloc, &mut reached, frames, survey)? {
                 return Ok(marks.into_plan()?);
             }
         }
@@ -91,6 +97,7 @@ impl Marks {
         alloc: Global,
         line: &mut Line,
         frames: &mut F,
+        survey: &mut Survey,
     ) -> Result<bool, Fault>
         ensures { IfOk result (IsReadOn (F.left frames.old) (F.left frames.new) line.old line.new self.old self.new) }
     {
@@ -99,7 +106,8 @@ impl Marks {
             return Ok(false);
         };
         let mut shown = Vec::new(alloc);
-        read_record(alloc, line, &record, &mut shown)?;
+        let read = read_record(alloc, line, &record, &mut shown)?;
+        survey.see(&record, &shown, read)?;
         self.add_all(&shown)?;
         Ok(true)
     }

@@ -150,11 +150,40 @@ fn print_shown(shown: &[Shown], page: &mut Page) -> Result<(), AllocError>
 fn print_one(shown: &Shown, page: &mut Page) -> Result<(), AllocError>
     ensures { OnOk result (page.new ≡ with_rows page.old (shown_rows shown.now)) }
 {
-    match shown {
-        Shown::Gap(gap) => page.print(&Row::gap_of_all(gap.place)),
-        Shown::Accepted(held) => print_own(held.place, &of_held(held), page),
-        Shown::Lost(..) | Shown::Refused(_) => Ok(()),
+    print_row(shown_row(shown), page)
+}
+
+/// Appends a row, where there is one.
+fn print_row(row: Option<Row<'_>>, page: &mut Page) -> Result<(), AllocError>
+    ensures { OnOk result (page.new ≡ with_rows page.old (option_to_list (option_map row_view row.entry))) }
+{
+    match row {
+        Some(row) => page.print(&row),
+        None => Ok(()),
     }
+}
+
+/// Returns the row of what a frame shows of a frame before it.
+pub(crate) fn shown_row<'a>(shown: &'a Shown) -> Option<Row<'a>>
+    ensures { option_to_list (option_map row_view result) ≡ shown_rows shown.now }
+{
+    match shown {
+        Shown::Gap(gap) => Some(Row::gap_of_all(gap.place)),
+        Shown::Accepted(held) => own_row(held.place, &of_held(held)),
+        Shown::Lost(..) | Shown::Refused(_) => None,
+    }
+}
+
+/// Returns the row of what a frame gives.
+pub(crate) fn own_row<'a>(place: Place, given: &Given<'a>) -> Option<Row<'a>>
+    ensures { option_to_list (option_map row_view result) ≡ own_rows place (given_view given.now) }
+{
+    let content = match *given {
+        Given::Packet(side, octets) => Content::Packet(side, octets),
+        Given::Gap(channel, _) => Content::Gap(channel),
+        Given::Held { .. } | Given::Unnumbered(_) | Given::LeftOut(_) => return None,
+    };
+    Some(Row { place, content })
 }
 
 /// Appends the row of a frame at its place, behind a gap where packets may be missing.
@@ -244,10 +273,5 @@ fn print_behind(
 fn print_own(place: Place, given: &Given<'_>, page: &mut Page) -> Result<(), AllocError>
     ensures { OnOk result (page.new ≡ with_rows page.old (own_rows place (given_view given.now))) }
 {
-    let content = match *given {
-        Given::Packet(side, octets) => Content::Packet(side, octets),
-        Given::Gap(channel, _) => Content::Gap(channel),
-        Given::Held { .. } | Given::Unnumbered(_) | Given::LeftOut(_) => return Ok(()),
-    };
-    page.print(&Row { place, content })
+    print_row(own_row(place, given), page)
 }

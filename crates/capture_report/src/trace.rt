@@ -152,6 +152,11 @@ impl<F: Frames + Drop> CaptureTrace<F> {
             failures: Count::new(),
         }
     }
+
+    /// Returns the frames, of which those were read whose rows were made.
+    pub fn frames(&self) -> &F {
+        &self.made.frames
+    }
 }
 
 impl<F: Frames + Drop> Source for CaptureTrace<F> {

@@ -10,8 +10,10 @@ use Rattle.line_model.specs.basics.Written.{HasFront}
 use Rattle.line_model.specs.declared.fault.Kind.{Kind}
 use Rattle.line_model.specs.declared.fault.Fault.{Fault}
 use Rattle.line_model.specs.declared.fault.Fault.TheVariants.{Memory, Trace, Read, Write, Start, Double, UnknownPiece, Missing}
+use Rattle.streams.specs.declared.input.CaptureFault.{CaptureFault}
+use Rattle.streams.specs.declared.input.CaptureFault.TheVariants.{Damaged, Internet, NoPacket, Piped, SeveralInterfaces, TwoCarriers, UnknownLink}
 use Rattle.streams.specs.declared.input.OpenFault.{OpenFault}
-use Rattle.streams.specs.declared.input.OpenFault.TheVariants.{Missing as NoFile, Denied, Directory, Refused}
+use Rattle.streams.specs.declared.input.OpenFault.TheVariants.{Missing as NoFile, Capture, Denied, Directory, Refused}
 use Rattle.trace_text.specs.Sources.{IsRefusedBy}
 use Rattle.trace_text.specs.Refusals.{IsRefusal}
 
@@ -30,12 +32,23 @@ fault_words (Missing piece) = codes "piece " ++ decimal piece ++ codes " missing
 abbrev pub fault_line : Fault → List ℕ
 fault_line fault = codes "x25scan: " ++ fault_words fault ++ 10 ∷ []
 
+-- why a capture has no trace, in words (profile)
+abbrev pub capture_words : CaptureFault → List ℕ
+capture_words Damaged = codes "the capture is damaged before its first frame"
+capture_words NoPacket = codes "the capture has no packet of X.25"
+capture_words Internet = codes "the capture has IP alone, as of XOT: x25trace FILE | x25scan reads it"
+capture_words UnknownLink = codes "the link type of the capture is unknown: x25trace --as KIND FILE | x25scan reads it"
+capture_words TwoCarriers = codes "the capture has LAPB and packets without it: x25trace --only lapb or --only x25 reads one of them"
+capture_words SeveralInterfaces = codes "the capture has packets of several interfaces: x25trace --interface N reads one of them"
+capture_words Piped = codes "a capture is read twice, and a pipe only once: x25trace FILE | x25scan reads it"
+
 -- why a trace could not be opened, in words (profile)
 abbrev pub open_words : OpenFault → List ℕ
 open_words NoFile = codes "no such file"
 open_words Denied = codes "permission denied"
 open_words Directory = codes "it is a directory"
 open_words Refused = codes "the system refuses it"
+open_words (Capture fault) = capture_words fault
 
 -- the line that says so
 abbrev pub open_line : (name : List ℕ) → OpenFault → List ℕ

@@ -2,13 +2,13 @@
 
 ghost use Rattle.std.specs.Prelude.{◌≡◌, ◌<◌, ◌≤◌, ◌++◌, OnErr, OnOk, codes, decimal};
 ghost use Rattle.line_model.specs.basics.Written.{PutsTo, TakesAll, TakesFront};
-ghost use Rattle.command_line.specs.Faults.{fault_line, fault_words, open_line, open_words};
+ghost use Rattle.command_line.specs.Faults.{capture_words, fault_line, fault_words, open_line, open_words};
 
 use itoa::Buffer;
 use line_model::device::Sink;
 use line_model::fault::Fault;
 use line_model::write_buffer::WriteBuffer;
-use streams::input::OpenFault;
+use streams::input::{CaptureFault, OpenFault};
 
 /// Puts a number.
 fn put_number<E: Sink>(out: &mut WriteBuffer, errors: &mut E, number: u32)
@@ -62,6 +62,36 @@ fn put_name<E: Sink>(out: &mut WriteBuffer, errors: &mut E, name: &str)
     out.put(errors, name.as_bytes());
 }
 
+/// Puts the words of why a capture has no trace.
+fn put_capture_words<E: Sink>(out: &mut WriteBuffer, errors: &mut E, fault: CaptureFault)
+    ensures { PutsTo E.Sink errors.old errors.new out.old out.new (capture_words fault) }
+{
+    match fault {
+        CaptureFault::Damaged => out.put(errors, b"the capture is damaged before its first frame"),
+        CaptureFault::NoPacket => out.put(errors, b"the capture has no packet of X.25"),
+        CaptureFault::Internet => out.put(
+            errors,
+            b"the capture has IP alone, as of XOT: x25trace FILE | x25scan reads it",
+        ),
+        CaptureFault::UnknownLink => out.put(
+            errors,
+            b"the link type of the capture is unknown: x25trace --as KIND FILE | x25scan reads it",
+        ),
+        CaptureFault::TwoCarriers => out.put(
+            errors,
+            b"the capture has LAPB and packets without it: x25trace --only lapb or --only x25 reads one of them",
+        ),
+        CaptureFault::SeveralInterfaces => out.put(
+            errors,
+            b"the capture has packets of several interfaces: x25trace --interface N reads one of them",
+        ),
+        CaptureFault::Piped => out.put(
+            errors,
+            b"a capture is read twice, and a pipe only once: x25trace FILE | x25scan reads it",
+        ),
+    }
+}
+
 /// Puts the words of why a trace could not be opened.
 fn put_open_words<E: Sink>(out: &mut WriteBuffer, errors: &mut E, fault: OpenFault)
     ensures { PutsTo E.Sink errors.old errors.new out.old out.new (open_words fault) }
@@ -71,6 +101,7 @@ fn put_open_words<E: Sink>(out: &mut WriteBuffer, errors: &mut E, fault: OpenFau
         OpenFault::Denied => out.put(errors, b"permission denied"),
         OpenFault::Directory => out.put(errors, b"it is a directory"),
         OpenFault::Refused => out.put(errors, b"the system refuses it"),
+        OpenFault::Capture(fault) => put_capture_words(out, errors, fault),
     }
 }
 

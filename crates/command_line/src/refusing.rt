@@ -187,7 +187,7 @@ pub fn refuse_trace<E: Sink>(alloc: Global, errors: &mut E, name: &str, refusal:
         (E.failures errors.new ≡ E.failures errors.old) }
 {
     match print_unopened(errors, name, refusal.fault) {
-        Ok(()) => print_reason(alloc, errors, None, Some(refusal.reason)),
+        Ok(()) => print_reason(alloc, errors, None, refusal.reason),
         Err(_) => {}
     }
     OTHER_FAULT

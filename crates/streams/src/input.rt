@@ -9,7 +9,34 @@ use crate::room_source::RoomSource;
 use line_model::device::Beginning;
 use std::alloc::{AllocError, Global};
 use std::io;
+use std::io::ErrorKind;
 use thiserror::Error;
+
+/// Why a capture has no trace (profile).
+#[derive(Clone, Copy, Debug, PartialEq, Eq, Error)]
+pub enum CaptureFault {
+    /// The file is damaged before its first frame.
+    #[error("the capture is damaged before its first frame")]
+    Damaged,
+    /// It has no packet of X.25.
+    #[error("the capture has no packet of X.25")]
+    NoPacket,
+    /// Its frames are datagrams of IP, as those of XOT are.
+    #[error("the capture has IP alone, as of XOT: x25trace FILE | x25scan reads it")]
+    Internet,
+    /// The link type of its frames is not known.
+    #[error("the link type of the capture is unknown: x25trace --as KIND FILE | x25scan reads it")]
+    UnknownLink,
+    /// LAPB frames carry packets, and other frames are packets.
+    #[error("the capture has LAPB and packets without it: x25trace --only lapb or --only x25 reads one of them")]
+    TwoCarriers,
+    /// Packets were recorded on several interfaces.
+    #[error("the capture has packets of several interfaces: x25trace --interface N reads one of them")]
+    SeveralInterfaces,
+    /// It comes from a pipe.
+    #[error("a capture is read twice, and a pipe only once: x25trace FILE | x25scan reads it")]
+    Piped,
+}
 
 /// Why a trace could not be opened by its name (profile).
 #[derive(Clone, Copy, Debug, Error)]
@@ -26,6 +53,9 @@ pub enum OpenFault {
     /// The system refused it for another reason.
     #[error("the system refuses it")]
     Refused,
+    /// It is a capture that has no trace.
+    #[error("{0}")]
+    Capture(CaptureFault),
 }
 
 /// A trace that could not be opened.
@@ -33,8 +63,37 @@ pub enum OpenFault {
 pub struct OpenRefusal {
     /// Why.
     pub fault: OpenFault,
-    /// The system's error.
-    pub reason: io::Error,
+    /// The system's error; none of a capture.
+    pub reason: Option<io::Error>,
+}
+
+impl OpenRefusal {
+    /// Returns the refusal of a file that the system refuses for this reason.
+    pub fn by_system(reason: io::Error) -> OpenRefusal
+        ensures { IsByItsReason result }
+    {
+        let fault = match reason.kind() {
+            ErrorKind::NotFound | ErrorKind::NotADirectory => OpenFault::Missing,
+            ErrorKind::PermissionDenied => OpenFault::Denied,
+            ErrorKind::IsADirectory => OpenFault::Directory,
+            _ => OpenFault::Refused,
+        };
+        OpenRefusal {
+            fault,
+            reason: Some(reason),
+        }
+    }
+
+    /// Returns the refusal of a capture.
+    pub fn of_capture(fault: CaptureFault) -> OpenRefusal
+        ensures reason { IsByItsReason result }
+        ensures fault { result.fault ≡ OpenFault.Capture fault }
+    {
+        OpenRefusal {
+            fault: OpenFault::Capture(fault),
+            reason: None,
+        }
+    }
 }
 
 /// Bytes of a refused text, with the faulty line among them: the lines that the source was given back, if any, or the

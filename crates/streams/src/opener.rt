@@ -21,4 +21,7 @@ pub trait Opener {
         ensures opened { IfOk result (λ file. Self.File.remaining file ≡ named self.now name.now) }
         // The fault is that of the system's reason.
         ensures reason { IfErr result IsByItsReason };
+
+    /// Returns whether the file of this name can be opened again, to be read from its first byte on.
+    fn lasts(&self, name: &str) -> bool;
 }

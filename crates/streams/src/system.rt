@@ -3,10 +3,10 @@
 ghost use Rattle.std.specs.Prelude.{IfErr};
 ghost use Rattle.streams.specs.OpenFaults.{IsByItsReason};
 
-use crate::input::{OpenFault, OpenRefusal};
+use crate::input::OpenRefusal;
 use crate::opener::Opener;
 use std::fs::OpenFile;
-use std::io::{ErrorKind, Read};
+use std::io::Read;
 use std::rt::Files;
 use std::time::{Clock, Duration};
 use std::{fs, io};
@@ -57,27 +57,14 @@ impl<R: Files + Clock> Clock for System<'_, R> {
 /// The system's error number for a directory (EISDIR).
 const IS_A_DIRECTORY: i32 = 21;
 
-/// Why a file could not be opened, by the system's error.
-fn open_refusal(reason: io::Error) -> OpenRefusal
-    ensures { IsByItsReason result }
-{
-    let fault = match reason.kind() {
-        ErrorKind::NotFound | ErrorKind::NotADirectory => OpenFault::Missing,
-        ErrorKind::PermissionDenied => OpenFault::Denied,
-        ErrorKind::IsADirectory => OpenFault::Directory,
-        _ => OpenFault::Refused,
-    };
-    OpenRefusal { fault, reason }
-}
-
 /// Opens a file for reading. Refuses a directory.
 fn open_file<R: Files>(files: &R, name: &str) -> Result<R::File, OpenRefusal>
     ensures { IfErr result IsByItsReason }
 {
-    let file = fs::open(files, name).map_err(open_refusal)?;
+    let file = fs::open(files, name).map_err(OpenRefusal::by_system)?;
     match file.metadata() {
         Ok(metadata) if metadata.is_dir() => {
-            Err(open_refusal(io::Error::from_raw_os_error(IS_A_DIRECTORY)))
+            Err(OpenRefusal::by_system(io::Error::from_raw_os_error(IS_A_DIRECTORY)))
         }
         _ => Ok(file),
     }
@@ -94,6 +81,13 @@ impl<R: Files + Clock> Opener for System<'_, R> {
         match open_file(self.rt, name) {
             Ok(file) => Ok(SystemFile { file }),
             Err(refusal) => Err(refusal),
+        }
+    }
+
+    fn lasts(&self, name: &str) -> bool {
+        match fs::metadata(self.rt, name) {
+            Ok(metadata) => metadata.is_file(),
+            Err(_) => false,
         }
     }
 }

@@ -1,6 +1,7 @@
 //! Reads the recorded packets of an X.25 interface, and reports what an observer of it finds.
 #![tactic(auto)]
 
+use capture_report::recordings::Recordings;
 use command_line::program::{OTHER_FAULT, USAGE, program};
 use std::env;
 use std::io::{ErrorKind, IsTerminal};
@@ -19,9 +20,10 @@ fn run_streams<R: Threads + Wait + Clock + Sync>(
     words: &[&str],
 ) -> u8 {
     let system = System::new(rt);
+    let recordings = Recordings::new(rt.alloc(), &system);
     let mut source = FileInput::new(
         rt.alloc(),
-        &system,
+        &recordings,
         rt.stdin(),
         rt.stdin().is_terminal(),
         Progress::new(rt.stderr(), rt.stderr().is_terminal()),

@@ -11,7 +11,7 @@ use std::sync::Wait;
 use std::thread::Threads;
 use std::time::{Clock, Duration};
 use streams::first_bytes::FirstBytes;
-use streams::input::{Input, LastText, OpenFault, OpenRefusal};
+use streams::input::{Input, LastText, OpenRefusal};
 use streams::io::{FileInput, WriteSink};
 use streams::opener::Opener;
 use streams::output::Output;
@@ -31,10 +31,7 @@ pub struct Ran {
 fn missing() -> OpenRefusal
     ensures { IsByItsReason result }
 {
-    OpenRefusal {
-        fault: OpenFault::Missing,
-        reason: io::Error::from(ErrorKind::NotFound),
-    }
+    OpenRefusal::by_system(io::Error::from(ErrorKind::NotFound))
 }
 
 /// A source that cuts and fails, and opens no file.
@@ -182,6 +179,10 @@ impl<'a> Opener for NamedText<'a> {
         } else {
             Err(missing())
         }
+    }
+
+    fn lasts(&self, _name: &str) -> bool {
+        true
     }
 }
 

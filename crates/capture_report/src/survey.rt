@@ -1,0 +1,186 @@
+//! What the frames of a capture carry, and what its rows show of its header.
+
+ghost use Rattle.std.specs.Prelude.{◌≡◌};
+
+use capture_files::entry::Dropped;
+use capture_model::carried::Carried;
+use capture_model::frame::Frame;
+use capture_model::header::read_header;
+use capture_model::kind::{LinkKind, kind_of_link};
+use capture_rows::given::Given;
+use capture_rows::line::FrameRead;
+use crate::frames::Record;
+use crate::header::Seen;
+use crate::reader::{own_row, shown_row};
+use crate::row::Row;
+use lapb_link::frames::Place;
+use lapb_link::looks::{Form, form_of};
+use lapb_link::receiver::Shown;
+use std::alloc::{AllocError, Global};
+use streams::input::CaptureFault;
+
+/// What was seen of a capture as a whole.
+#[derive(Drop)]
+pub struct Survey {
+    /// The link header of frames whose link type is unknown.
+    unknown: Option<LinkKind>,
+    /// The link header that the first frame of an unknown link type looks like, where that is one for private use.
+    likely: Option<LinkKind>,
+    seen: Seen,
+    /// The first interface with a packet, and whether another one has some.
+    interface: Option<u32>,
+    has_several: bool,
+    /// Whether LAPB frames carried packets, frames were packets, frames were datagrams, link types were unknown.
+    has_lapb: bool,
+    has_packets: bool,
+    has_internet: bool,
+    has_unknown: bool,
+}
+
+impl Survey {
+    /// Returns the survey of a capture of which nothing was seen. `unknown` is the link header of unknown link types.
+    pub fn new(alloc: Global, unknown: Option<LinkKind>) -> Survey {
+        Survey {
+            unknown,
+            likely: None,
+            seen: Seen::new(alloc),
+            interface: None,
+            has_several: false,
+            has_lapb: false,
+            has_packets: false,
+            has_internet: false,
+            has_unknown: false,
+        }
+    }
+
+    /// Sees what comes next in a capture, what it shows of frames before it, and what its frame gives. Fails only when
+    /// memory is refused.
+    pub(crate) fn see(
+        &mut self,
+        record: &Record<'_>,
+        shown: &[Shown],
+        read: Option<FrameRead<'_>>,
+    ) -> Result<(), AllocError> {
+        self.see_dropped(record.dropped)?;
+        let Some(frame) = record.frame else {
+            return Ok(());
+        };
+        let Some(read) = read else {
+            return Ok(());
+        };
+        self.see_carried(&frame, is_packet(&read.given));
+        for one in shown {
+            self.see_row(shown_row(one))?;
+        }
+        let place = Place {
+            frame: frame.number,
+            time: frame.time,
+        };
+        if read.gap_before {
+            self.seen.see(&Row::gap_of_all(place))?;
+        }
+        self.see_row(own_row(place, &read.given))
+    }
+
+    /// Sees the gap of frames that were dropped.
+    fn see_dropped(&mut self, dropped: Option<Dropped>) -> Result<(), AllocError> {
+        match dropped {
+            Some(dropped) if dropped.count > 0 => self.seen.see(&Row::gap_of_all(Place {
+                frame: dropped.number,
+                time: dropped.time,
+            })),
+            _ => Ok(()),
+        }
+    }
+
+    /// Sees a row, where there is one.
+    fn see_row(&mut self, row: Option<Row<'_>>) -> Result<(), AllocError> {
+        match row {
+            Some(row) => self.seen.see(&row),
+            None => Ok(()),
+        }
+    }
+
+    /// Sees what a frame carries, and whether it gives a packet.
+    fn see_carried(&mut self, frame: &Frame<'_>, is_packet: bool) {
+        let Some(kind) = kind_of_link(frame.link).or(self.unknown) else {
+            self.see_unknown(frame);
+            return;
+        };
+        let header = read_header(kind, frame);
+        if is_packet {
+            self.see_interface(header.index.unwrap_or(frame.interface));
+        }
+        match header.carried {
+            Carried::Lapb(_) | Carried::CheckedLapb(_) => self.has_lapb |= is_packet,
+            Carried::Packet(_) | Carried::Device(_) => self.has_packets |= is_packet,
+            Carried::Internet(_) => self.has_internet = true,
+            Carried::Other | Carried::Cut | Carried::Unknown => {}
+        }
+    }
+
+    /// Sees a frame of an unknown link type. Those of 147 to 162 are for private use: LAPB may have one.
+    fn see_unknown(&mut self, frame: &Frame<'_>) {
+        if !self.has_unknown && matches!(frame.link, 147..=162) {
+            self.likely = likely_kind(frame.octets);
+        }
+        self.has_unknown = true;
+    }
+
+    /// Sees the interface of a packet.
+    fn see_interface(&mut self, interface: u32) {
+        match self.interface {
+            Some(first) => self.has_several |= interface != first,
+            None => self.interface = Some(interface),
+        }
+    }
+
+    /// Returns the link header that unknown link types likely have, where the capture has no packet without it.
+    pub(crate) fn likely(&self) -> Option<LinkKind> {
+        if self.seen.has_packets() {
+            None
+        } else {
+            self.likely
+        }
+    }
+
+    /// Returns what the packets show of the header.
+    pub(crate) fn seen(&self) -> &Seen
+        ensures { result.now ≡ self.now.seen }
+    {
+        &self.seen
+    }
+
+    /// Returns why the capture has no trace; `None` where it has one.
+    pub(crate) fn fault(&self) -> Option<CaptureFault> {
+        if self.has_several {
+            return Some(CaptureFault::SeveralInterfaces);
+        }
+        if self.has_lapb && self.has_packets {
+            return Some(CaptureFault::TwoCarriers);
+        }
+        if self.seen.has_packets() {
+            return None;
+        }
+        if self.has_internet {
+            return Some(CaptureFault::Internet);
+        }
+        if self.has_unknown {
+            return Some(CaptureFault::UnknownLink);
+        }
+        Some(CaptureFault::NoPacket)
+    }
+}
+
+/// Returns whether a frame gives a packet, or may give one once it is accepted.
+fn is_packet(given: &Given<'_>) -> bool {
+    matches!(given, Given::Packet(..) | Given::Held { .. })
+}
+
+/// Returns the link header that a frame looks like.
+fn likely_kind(octets: &[u8]) -> Option<LinkKind> {
+    match form_of(octets)? {
+        Form::Plain => Some(LinkKind::Lapb),
+        Form::Checked => Some(LinkKind::CheckedLapb),
+    }
+}
