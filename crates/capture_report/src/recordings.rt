@@ -3,11 +3,6 @@
 ghost use Rattle.std.specs.Prelude.{◌≡◌, IfErr};
 ghost use Rattle.streams.specs.OpenFaults.{IsByItsReason};
 
-use capture_files::refusal::Refusal;
-use capture_model::kind::LinkKind;
-use capture_rows::choices::Choices;
-use capture_rows::line::Line;
-use capture_rows::station::StationBy;
 use crate::begun_file::BegunFile;
 use crate::file_frames::FileFrames;
 use crate::header::Seen;
@@ -18,6 +13,11 @@ use crate::reader::{Order, Reader};
 use crate::reader_source::ReaderSource;
 use crate::survey::Survey;
 use crate::trace::CaptureTrace;
+use capture_files::refusal::Refusal;
+use capture_model::kind::LinkKind;
+use capture_rows::choices::Choices;
+use capture_rows::line::Line;
+use capture_rows::station::StationBy;
 use lapb_link::ends::Ends;
 use line_model::device::Source;
 use line_model::fault::Fault;

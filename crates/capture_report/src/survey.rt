@@ -2,6 +2,10 @@
 
 ghost use Rattle.std.specs.Prelude.{◌≡◌};
 
+use crate::frames::Record;
+use crate::header::Seen;
+use crate::reader::{own_row, shown_row};
+use crate::row::Row;
 use capture_files::entry::Dropped;
 use capture_model::carried::Carried;
 use capture_model::frame::Frame;
@@ -9,10 +13,6 @@ use capture_model::header::read_header;
 use capture_model::kind::{LinkKind, kind_of_link};
 use capture_rows::given::Given;
 use capture_rows::line::FrameRead;
-use crate::frames::Record;
-use crate::header::Seen;
-use crate::reader::{own_row, shown_row};
-use crate::row::Row;
 use lapb_link::frames::Place;
 use lapb_link::looks::{Form, form_of};
 use lapb_link::receiver::Shown;

@@ -3,8 +3,8 @@
 ghost use Rattle.std.specs.Prelude.{◌≡◌};
 ghost use Rattle.capture_rows.specs.Choosing.{is_chosen, is_on, is_wanted, kind_of};
 
-use capture_model::kind::{LinkKind, kind_of_link};
 use crate::station::StationBy;
+use capture_model::kind::{LinkKind, kind_of_link};
 use line_model::state::Side;
 
 /// What carries the packets of a line.

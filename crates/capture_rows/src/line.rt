@@ -12,14 +12,14 @@ ghost use Rattle.capture_rows.specs.Givens as given;
 ghost use Rattle.capture_rows.specs.Givens.{given_view};
 ghost use Rattle.capture_rows.specs.Lines.{alone, as_given, carried_read, frame_read, lapb_read, link_frame, packet_read, read_view, shortened, side_of, unframed_whole};
 
+use crate::choices::{Carrier, Choices};
+use crate::given::{Given, LONGEST, lost, packet_or_gap};
+use crate::station::station_of;
 use capture_model::carried::{Carried, Payload};
 use capture_model::device::device_packet;
 use capture_model::frame::{Direction, Frame};
 use capture_model::header::{LinkHeader, read_header};
 use capture_model::reason::Reason;
-use crate::choices::{Carrier, Choices};
-use crate::given::{Given, LONGEST, lost, packet_or_gap};
-use crate::station::station_of;
 use lapb_link::check::unframe;
 use lapb_link::ends::{Ends, Sender};
 use lapb_link::frames::Place;
