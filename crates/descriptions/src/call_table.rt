@@ -8,7 +8,6 @@ ghost use Rattle.descriptions.specs.RowObjects.{OfLastRow};
 ghost use Rattle.descriptions.specs.Writing.{Adds, These};
 
 use crate::call_columns::{Further, Named, TableForm};
-use crate::call_memory::CallMemory;
 use crate::call_sums::CallSums;
 use crate::causes::{CauseTable, named_diagnostic};
 use crate::chosen::Chosen;
@@ -144,30 +143,17 @@ fn further<A: Allocator + Copy>(
         ended_frame: None,
     };
     match sources.rest.calls.get(u32::try_from(number).unwrap_or(0)) {
-        Some(memory) => remembered(sources.rest, memory, known),
+        Some(memory) => Further {
+            start: memory.start.time,
+            seconds: call_length(memory),
+            cause: memory.causes.named_cause(CauseTable::Clearing),
+            diagnostic: named_diagnostic(memory.causes.diagnostic),
+            gaps: sources.rest.gaps_of(memory),
+            opened_frame: memory.start.frame,
+            ended_frame: memory.end.frame,
+            ..known
+        },
         None => known,
-    }
-}
-
-/// Returns what is known of a call, with what is remembered of it.
-fn remembered<A: Allocator + Copy>(
-    rest: &Rest<A>,
-    call: &CallMemory<A>,
-    known: Further<'static>,
-) -> Further<'static>
-    ensures findings { result.findings ≡ known.entry.findings }
-    ensures segments { result.segments_t ≡ known.entry.segments_t }
-{
-    Further {
-        start: call.start.time,
-        seconds: call_length(call),
-        cause: call.causes.named_cause(CauseTable::Clearing),
-        diagnostic: named_diagnostic(call.causes.diagnostic),
-        segments_t: known.segments_t,
-        findings: known.findings,
-        gaps: rest.gaps_of(call),
-        opened_frame: call.start.frame,
-        ended_frame: call.end.frame,
     }
 }
 

@@ -324,9 +324,7 @@ impl<A: Allocator + Copy, C: Channel<A>> Printer<A, Live<A, C>> for RowObjects<A
         match self.chosen.judge_line(trace) {
             Some(picked) => self.print_row(trace, line, picked, out),
             None => {
-                if let Some(recorded) = Recorded::of_comment(line) {
-                    self.past.recorded = Some(recorded);
-                }
+                self.past.take_comment(line);
                 Ok(())
             }
         }
