@@ -37,15 +37,15 @@ def owed(rule: str) -> Proof:
 
 
 def number(function: str, edit: str) -> Proof:
-    """A code of interrupts, given over the word in which the scans keep them."""
-    return Proof("Windows and interrupts", "crates/data_transfer/src/packed.rt", function, f"crates/data_transfer/{edit}.edit")
+    """A code of interrupts."""
+    return Proof("Windows and interrupts", "crates/data_transfer/src/flow.rt", function, f"crates/data_transfer/{edit}.edit")
 
 
 def compared_number(function: str, comparison: str, edit: str) -> Proof:
-    """A code of sequence numbers: the scans keep them in a word, and compare those of one direction."""
+    """A code of sequence numbers, by a comparison of those of one direction."""
     proof = f"crates/data_transfer/proofs/direction/Direction/{comparison}/Answers.antt"
     edit = f"crates/data_transfer/must-fail/{edit}.edit"
-    return Proof("Windows and interrupts", "crates/data_transfer/src/packed.rt", function, edit, proof, ("crates/data_transfer/src/direction.rt", comparison))
+    return Proof("Windows and interrupts", "crates/data_transfer/src/flow.rt", function, edit, proof, ("crates/data_transfer/src/direction.rt", comparison))
 
 
 def field(function: str, edit: str) -> Proof:
@@ -96,8 +96,8 @@ PROOFS = {
     "39": length("between", "must-fail/interrupt_of_36_octets_passes"),
     "40": packet_class("must-fail/unassigned_channel_before_wrong_format"),
     "41": packet_class("must-fail-more/restart_confirmation_on_a_channel_is_undefined"),
-    "43": number("confirm", "must-fail-more/confirmation_leaves_interrupt_in_a_word"),
-    "44": number("interrupt", "must-fail-more/second_interrupt_passes_in_a_word"),
+    "43": number("confirm", "must-fail/confirmation_leaves_interrupt"),
+    "44": number("interrupt", "must-fail/second_interrupt_passes"),
     "66": field("read_tail", "window_of_the_modulus_passes"),
     "67": field("read_addresses", "calling_digits_are_judged_first"),
     "68": field("read_addresses", "calling_digits_are_judged_first"),

@@ -78,12 +78,11 @@ all other functions whose bodies name the code, apart from those that only say w
 The contract of `table_t` is the whole table. An edit of it lets a class of packets pass that has these codes, so several
 codes name the same edit. Three codes are of the DCE alone: `table_n` returns them where no indication is owed.
 
-The scans keep the windows and interrupts of a channel in one word, `FlowWord` of
-[packed.rt](../crates/data_transfer/src/packed.rt). Its functions judge P(S) and P(R) by a comparison of the numbers of one
-direction (`is_send_valid` and `count_acknowledged` in the definition); the proof and the edit of codes 1 and 2 are those of
-the comparison. `Flow` has the same contracts and calls the same comparisons. It judges for a settled channel of a recording with
-gaps, of which [numbering.rt](../crates/channel_machine/src/gaps/numbering.rt) also compares the window where a number is in
-doubt, and for `PlainChannel`, which only tests and users of the library run.
+`Flow` judges P(S) and P(R) of every channel, by a comparison of the numbers of one direction (`is_send_valid` and
+`count_acknowledged` in the definition); the proof and the edit of codes 1 and 2 are those of the comparison. The scans keep
+the `Flow` of a channel in one word, which they read and write back. More than the window may be outstanding on a settled
+channel of a recording with gaps: [numbering.rt](../crates/channel_machine/src/gaps/numbering.rt) compares the window there
+before its `Flow` judges.
 
 | code | rule | definition | function | proof | edit | trace | also given by |
 |---|---|---|---|---|---|---|---|

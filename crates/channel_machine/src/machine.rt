@@ -4,7 +4,6 @@ ghost use Rattle.channel_machine.specs.GapChannels.{Represents, interface_of, nu
 
 use crate::gaps::channel::{Certainty, GapChannel};
 use crate::gaps::kinds::gap_in;
-use crate::messages::data_packet;
 use crate::status::StatusStore;
 use channel_run::run::Channel;
 use channel_run::status_word::set_adrift;
@@ -44,28 +43,6 @@ impl<A: Allocator + Clone, S: StatusStore + Drop> Channel<A> for GapChannel<A, S
 
     fn is_restarting(&self) -> bool {
         self.restarting
-    }
-
-    fn step(
-        &mut self,
-        epoch: u32,
-        item: &ItemRef<'_>,
-        events: &mut Vec<Event, A>,
-    ) -> Result<(), Fault> {
-        events.reserve(1)?;
-        match self.advance(epoch, item, events) {
-            Ok(Some(octets)) => {
-                events.push_reserved(Event {
-                    epoch,
-                    channel: self.channel.channel,
-                    packet: item.number,
-                    what: data_packet(item.side, octets),
-                });
-                Ok(())
-            }
-            Ok(None) => Ok(()),
-            Err(fault) => Err(fault),
-        }
     }
 
     #[inline(always)]

@@ -94,25 +94,49 @@ impl StatusStore for PackedStatus {
     fn data(&mut self, side: Side, send: u8, receive: u8) -> Result<(), u8> {
         // Each side has an arm of its own, so that the places of its numbers in the word are constants.
         match side {
-            Side::T => self.word.data(Side::T, send, receive),
-            Side::N => self.word.data(Side::N, send, receive),
+            Side::T => {
+                let mut flow = self.word.flow();
+                flow.data(Side::T, send, receive)?;
+                self.word.set_numbers(&flow);
+            }
+            Side::N => {
+                let mut flow = self.word.flow();
+                flow.data(Side::N, send, receive)?;
+                self.word.set_numbers(&flow);
+            }
         }
+        Ok(())
     }
 
     #[inline(always)]
     fn ack(&mut self, side: Side, receive: u8) -> Result<(), u8> {
         match side {
-            Side::T => self.word.ack(Side::T, receive),
-            Side::N => self.word.ack(Side::N, receive),
+            Side::T => {
+                let mut flow = self.word.flow();
+                flow.ack(Side::T, receive)?;
+                self.word.set_numbers(&flow);
+            }
+            Side::N => {
+                let mut flow = self.word.flow();
+                flow.ack(Side::N, receive)?;
+                self.word.set_numbers(&flow);
+            }
         }
+        Ok(())
     }
 
     fn interrupt(&mut self, side: Side) -> Result<(), u8> {
-        self.word.interrupt(side)
+        let mut flow = self.word.flow();
+        flow.interrupt(side)?;
+        self.word.set_interrupts(&flow);
+        Ok(())
     }
 
     fn confirm(&mut self, side: Side) -> Result<(), u8> {
-        self.word.confirm(side)
+        let mut flow = self.word.flow();
+        flow.confirm(side)?;
+        self.word.set_interrupts(&flow);
+        Ok(())
     }
 }
 

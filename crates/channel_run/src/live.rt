@@ -13,8 +13,7 @@ ghost use Rattle.channel_run.specs.Run.{data_events, row_events};
 ghost use Rattle.channel_run.specs.StatusWord.{view_in};
 ghost use Rattle.channel_run.specs.Views.{IsViewOf};
 
-use crate::run::{Channel, View};
-use crate::status_word::view_in;
+use crate::run::Channel;
 use crate::tally::PieceTally;
 use data_transfer::packed::FlowWord;
 use line_model::event::{Event, How, What};
@@ -111,15 +110,7 @@ impl<A: Allocator + Clone, C: Channel<A>> LiveChannel<A, C> {
         }
     }
 
-    /// Returns what is known of the channel after the rows so far.
-    pub fn view(&self) -> View
-        ensures { (p : Piece) → Represents C.interface_of C.number_of C.represents self.now p
-            → IsViewOf p.interface (channel_so_far p) result }
-    {
-        view_in(&self.machine.word())
-    }
-
-    /// Returns what is known of the channel in one word, which `status_word::view_in` reads.
+    /// Returns what is known of the channel after the rows so far, in one word, which `status_word::view_in` reads.
     pub fn word(&self) -> FlowWord
         ensures { (p : Piece) → Represents C.interface_of C.number_of C.represents self.now p
             → IsViewOf p.interface (channel_so_far p) (view_in result) }

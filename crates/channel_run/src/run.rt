@@ -83,32 +83,9 @@ pub trait Channel<A: Allocator>: Drop {
     fn is_restarting(&self) -> bool
         ensures { (g : GapChannel) → represents self.now g → result ≡ g.restarting };
 
-    /// Steps the channel by what a row says, and appends the events of the row in an epoch. Fails only when memory is
-    /// refused, and nothing has changed then.
-    fn step(
-        &mut self,
-        epoch: u32,
-        item: &ItemRef<'_>,
-        events: &mut Vec<Event, A>,
-    ) -> Result<(), Fault>
-        requires item { IsItem (interface_of self.old) (number_of self.old) item.now }
-        ensures interface { (g : GapChannel) → represents self.old g
-            → IfOk result (λ _. interface_of self.new ≡ interface_of self.old) }
-        ensures number { (g : GapChannel) → represents self.old g
-            → IfOk result (λ _. number_of self.new ≡ number_of self.old) }
-        ensures represented { (g : GapChannel) → represents self.old g
-            → IfOk result (λ _. represents self.new
-            (row_step (interface_of self.old) (number_of self.old) g item.now).after) }
-        ensures events { (g : GapChannel) → represents self.old g
-            → IfOk result (λ _. events.new.items ≡ events.old.items
-            ++ row_events (interface_of self.old) epoch (number_of self.old) g item.now) }
-        ensures unchanged { OnErr result ((self.new ≡ self.old)
-            × (events.new.items ≡ events.old.items)) }
-        ensures memory { IfErr result (λ fault. fault ≡ Memory) };
-
-    /// Steps the channel as `step` does, but keeps the event of an accepted data packet with Q 0 out of the list: it
-    /// returns that packet's octets of user data instead, and leaves the list as it was. Fails only when memory is
-    /// refused, and nothing has changed then.
+    /// Steps the channel by what a row says, and appends the events of the row in an epoch, except that of an accepted
+    /// data packet with Q 0: it returns that packet's octets of user data instead, and leaves the list as it was. Fails
+    /// only when memory is refused, and nothing has changed then.
     fn advance(
         &mut self,
         epoch: u32,

@@ -3,13 +3,12 @@ use Rattle.std.proofs.Common.{◌≡◌, ◌⊎◌, inl, inr, ◌<◌, ◌≤◌
 use Rattle.std.specs.Prelude.{cond}
 use Rattle.std.proofs.lemmas.Nat.{pow-add, pow_pos, shr_split, shr_high, shr_below, mod_low, mod_below, mul-add-lt, shl_whole, one_shl}
 use Rattle.std.proofs.Math.Nat.{mul-le-mul_right, mod-eq_of_lt}
-use Rattle.data_transfer.specs.FlowResidues.{FlowResidues, AreFlowResidues, IsDirection, DirectionRepresents, ResiduesRepresent, bit, word_of}
+use Rattle.data_transfer.specs.FlowResidues.{FlowResidues, AreFlowResidues, IsDirection, bit, word_of}
 use Rattle.line_model.specs.declared.state.Side.{Side}
 use Rattle.line_model.specs.declared.state.Side.TheVariants.{T, N}
 use Rattle.line_model.specs.channels.Channels.{of_side}
-use Rattle.line_model.specs.channels.FlowControl.{no_counts}
 use Rattle.data_transfer.specs.declared.direction.Direction.{Direction}
-use Rattle.data_transfer.specs.Directions.{direction_of, with_direction}
+use Rattle.data_transfer.specs.Directions.{direction_of}
 use Rattle.data_transfer.specs.declared.flow.Flow.TheInside.{Inside}
 use Rattle.data_transfer.specs.FlowFields.{kept}
 use Rattle.data_transfer.specs.PackedLaw.{cut, bit_read, packed_word-packed_in}
@@ -67,7 +66,7 @@ replaced_by_shifts w k n v e l fits =
     rw (one_shl n 64 l) (rw (old, new) refl)
 
 -- a bit is below 2
-bit_below : (b : Bool) → bit b < 2
+pub bit_below : (b : Bool) → bit b < 2
 bit_below true = omega arith
 bit_below false = omega arith
 
@@ -82,7 +81,7 @@ modulus_back m (inl e) = rw e refl
 modulus_back m (inr e) = rw e refl
 
 -- what can be kept is of numbers of seven bits
-below_128 : (m n : ℕ) → (m ≡ 8) ⊎ (m ≡ 128) → n < m → n < 128
+pub below_128 : (m n : ℕ) → (m ≡ 8) ⊎ (m ≡ 128) → n < m → n < 128
 below_128 m n (inl e) l = omega (arith, e, l)
 below_128 m n (inr e) l = omega (arith, e, l)
 
@@ -192,11 +191,6 @@ pub direction_read : (x : Side) (w : ℕ) →
 direction_read T w = refl
 direction_read N w = refl
 
--- what is kept stays in range with other numbers of a side
-is_kept : (x : Side) (k : FlowResidues) (d : Direction) → AreFlowResidues k → IsDirection k.modulus d.window d.sent d.acknowledged → AreFlowResidues (with_direction x d k)
-is_kept T k d h r = record { eight = h.eight; of_t = r; of_n = h.of_n }
-is_kept N k d h r = record { eight = h.eight; of_t = h.of_t; of_n = r }
-
 -- a word that keeps these, in range
 pub record Keeps (w : ℕ) (p : Packed) : Type 0 where
   pub parts : packed_in w ≡ p
@@ -206,38 +200,6 @@ pub keeps : (w : ℕ) (p : Packed) → AreFlowResidues p.flow → w ≡ packed_w
 keeps w p h e =
     let is : packed_in w ≡ p = packed_in-packed_word w p h e in
     record { parts = is; in_range = subst (λ q. AreFlowResidues q.flow) (sym is) h }
-
--- what is kept, with other numbers of a side
-abbrev pub other_numbers : Side → Direction → Packed → Packed
-other_numbers x d p = record p { flow = with_direction x d p.flow }
-
--- a word that keeps what another keeps, with other numbers of a side
-pub replaced : (f : Direction → Direction) (x : Side) (w u : ℕ) (old : Packed) → packed_in w ≡ old → AreFlowResidues (kept_in w) →
-    IsDirection old.flow.modulus (f (direction_of x old.flow)).window (f (direction_of x old.flow)).sent (f (direction_of x old.flow)).acknowledged →
-    u ≡ packed_word (other_numbers x (f (direction_of x (kept_in w))) (packed_in w)) →
-    Keeps u (other_numbers x (f (direction_of x old.flow)) old)
-replaced f x w u old is h r e =
-    let P : Packed → Type 0 = λ p. IsDirection p.flow.modulus (f (direction_of x p.flow)).window (f (direction_of x p.flow)).sent (f (direction_of x p.flow)).acknowledged →
-    Keeps u (other_numbers x (f (direction_of x p.flow)) p) in
-    subst P is (λ q. keeps u _ (is_kept x _ _ h q) e) r
-
--- the word with another number sent
-pub sent_word : (x : Side) (w u v : ℕ) → u + number_at w (sent_at x) * 2 ^ sent_at x ≡ w + v * 2 ^ sent_at x →
-    u ≡ packed_word (other_numbers x (record (direction_of x (kept_in w)) { sent = v }) (packed_in w))
-sent_word T w u v e = omega (arith, e, packed_word-packed_in w)
-sent_word N w u v e = omega (arith, e, packed_word-packed_in w)
-
--- the word with another number acknowledged
-pub acknowledged_word : (x : Side) (w u v : ℕ) → u + number_at w (acknowledged_at x) * 2 ^ acknowledged_at x ≡ w + v * 2 ^ acknowledged_at x →
-    u ≡ packed_word (other_numbers x (record (direction_of x (kept_in w)) { acknowledged = v }) (packed_in w))
-acknowledged_word T w u v e = omega (arith, e, packed_word-packed_in w)
-acknowledged_word N w u v e = omega (arith, e, packed_word-packed_in w)
-
--- the word with another interrupt
-pub unconfirmed_word : (x : Side) (w u : ℕ) (b : Bool) → u + w / 2 ^ unconfirmed_at x % 2 ^ 1 * 2 ^ unconfirmed_at x ≡ w + bit b * 2 ^ unconfirmed_at x →
-    u ≡ packed_word (other_numbers x (record (direction_of x (kept_in w)) { unconfirmed = b }) (packed_in w))
-unconfirmed_word T w u b e = omega (arith, e, packed_word-packed_in w, bit_read (w / 2 ^ 43 % 2) (mod_below _ 2 (omega arith)))
-unconfirmed_word N w u b e = omega (arith, e, packed_word-packed_in w, bit_read (w / 2 ^ 44 % 2) (mod_below _ 2 (omega arith)))
 
 -- the numbers of a side are in range
 pub range_of : (x : Side) (k : FlowResidues) → AreFlowResidues k → IsDirection k.modulus (of_side x k.windows) (of_side x k.sent) (of_side x k.acknowledged)
@@ -251,60 +213,60 @@ owner_bits_replaced w u v old is h l e =
     let whole : w / 2 ^ 45 % 2 ^ 19 ≡ w / 2 ^ 45 = mod-eq_of_lt (shr_below w 19 45 l) in
     subst (λ p. Keeps u (record p { owner_bits = v })) is (keeps u _ h (omega (arith, e, whole, packed_word-packed_in w)))
 
--- what is kept when nothing was sent
-abbrev pub nothing_sent : FlowResidues → FlowResidues
-nothing_sent k = record k {
-  sent = record { of_t = 0; of_n = 0 };
-  acknowledged = record { of_t = 0; of_n = 0 };
-  unconfirmed = record { of_t = false; of_n = false };
-}
+-- the numbers of both sides, and their interrupts
+abbrev pub numbers_of : FlowResidues → ℕ
+numbers_of k = k.sent.of_t + k.acknowledged.of_t * 2 ^ 7 + k.sent.of_n * 2 ^ 14 + k.acknowledged.of_n * 2 ^ 21
 
--- the word when nothing was sent
-nothing_sent_word : (w u t : ℕ) → u + w / 2 ^ 43 % 2 ^ 2 * 2 ^ 43 ≡ w + 0 * 2 ^ 43 → t + u / 2 ^ 1 % 2 ^ 28 * 2 ^ 1 ≡ u + 0 * 2 ^ 1 →
-    t ≡ packed_word (record (packed_in w) { flow = nothing_sent (kept_in w) })
-nothing_sent_word w u t e f =
-    let numbers : w / 2 ^ 1 % 2 ^ 28 < 2 ^ 28 = mod_below _ (2 ^ 28) (omega arith) in
-    let high : w / 2 ^ 43 % 2 ^ 2 * 2 ^ 14 ≤ w / 2 ^ 29 = omega (arith, cut w 29 14, cut w 43 2) in
-    let around_numbers : u ≡ ((w / 2 ^ 29 - w / 2 ^ 43 % 2 ^ 2 * 2 ^ 14) * 2 ^ 28 + w / 2 ^ 1 % 2 ^ 28) * 2 ^ 1 + w / 2 ^ 0 % 2 ^ 1 =
-    omega (arith, e, high, cut w 0 1, cut w 1 28) in
-    let same : u / 2 ^ 1 % 2 ^ 28 ≡ w / 2 ^ 1 % 2 ^ 28 =
-    field_at u 1 28 _ _ _ (mod_below _ (2 ^ 1) (omega arith)) numbers around_numbers in
+abbrev pub interrupts_of : FlowResidues → ℕ
+interrupts_of k = bit k.unconfirmed.of_t + bit k.unconfirmed.of_n * 2 ^ 1
+
+-- the word with other sequence numbers
+numbers_word : (w t : ℕ) (k : FlowResidues) → k.modulus ≡ (kept_in w).modulus → k.windows ≡ (kept_in w).windows → k.unconfirmed ≡ (kept_in w).unconfirmed →
+    t + w / 2 ^ 1 % 2 ^ 28 * 2 ^ 1 ≡ w + numbers_of k * 2 ^ 1 → t ≡ packed_word (record (packed_in w) { flow = k })
+numbers_word w t k m v u e =
+    let modulus = ap (λ n. bit (n == 128)) m in
+    let window_t = ap (λ s. s.of_t) v in
+    let window_n = ap (λ s. s.of_n) v in
+    let of_t = ap (λ s. bit s.of_t) u in
+    let of_n = ap (λ s. bit s.of_n) u in
+    let split : w / 2 ^ 1 % 2 ^ 28 ≡ number_at w 1 + number_at w 8 * 2 ^ 7 + number_at w 15 * 2 ^ 14 + number_at w 22 * 2 ^ 21 =
+    omega (arith, cut w 1 28, cut w 1 7, cut w 8 7, cut w 15 7, cut w 22 7) in
+    omega (arith, e, split, modulus, window_t, window_n, of_t, of_n, packed_word-packed_in w)
+
+-- a word that keeps what another keeps, with other sequence numbers
+pub numbers_replaced : (w t : ℕ) (k : FlowResidues) (old : Packed) → packed_in w ≡ old → AreFlowResidues k →
+    k.modulus ≡ old.flow.modulus → k.windows ≡ old.flow.windows → k.unconfirmed ≡ old.flow.unconfirmed →
+    t + w / 2 ^ 1 % 2 ^ 28 * 2 ^ 1 ≡ w + numbers_of k * 2 ^ 1 → Keeps t (record old { flow = k })
+numbers_replaced w t k old is h m v u e =
+    let P : Packed → Type 0 = λ p. k.modulus ≡ p.flow.modulus → k.windows ≡ p.flow.windows → k.unconfirmed ≡ p.flow.unconfirmed → Keeps t (record p { flow = k }) in
+    subst P is (λ n s i. keeps t _ h (numbers_word w t k n s i e)) m v u
+
+-- the word with other interrupts
+interrupts_word : (w t : ℕ) (k : FlowResidues) → k.modulus ≡ (kept_in w).modulus → k.windows ≡ (kept_in w).windows →
+    k.sent ≡ (kept_in w).sent → k.acknowledged ≡ (kept_in w).acknowledged →
+    t + w / 2 ^ 43 % 2 ^ 2 * 2 ^ 43 ≡ w + interrupts_of k * 2 ^ 43 → t ≡ packed_word (record (packed_in w) { flow = k })
+interrupts_word w t k m v s a e =
+    let modulus = ap (λ n. bit (n == 128)) m in
+    let window_t = ap (λ s. s.of_t) v in
+    let window_n = ap (λ s. s.of_n) v in
+    let sent_t = ap (λ s. s.of_t) s in
+    let sent_n = ap (λ s. s.of_n) s in
+    let acknowledged_t = ap (λ s. s.of_t) a in
+    let acknowledged_n = ap (λ s. s.of_n) a in
     let of_t = bit_read (w / 2 ^ 43 % 2) (mod_below _ 2 (omega arith)) in
     let of_n = bit_read (w / 2 ^ 44 % 2) (mod_below _ 2 (omega arith)) in
-    let split_numbers : w / 2 ^ 1 % 2 ^ 28 ≡ number_at w 1 + number_at w 8 * 2 ^ 7 + number_at w 15 * 2 ^ 14 + number_at w 22 * 2 ^ 21 =
-    omega (arith, cut w 1 28, cut w 1 7, cut w 8 7, cut w 15 7, cut w 22 7) in
-    let split_interrupts : w / 2 ^ 43 % 2 ^ 2 ≡ w / 2 ^ 43 % 2 + w / 2 ^ 44 % 2 * 2 =
+    let split : w / 2 ^ 43 % 2 ^ 2 ≡ w / 2 ^ 43 % 2 + w / 2 ^ 44 % 2 * 2 =
     omega (arith, cut w 43 2, cut w 43 1, cut w 44 1) in
-    omega (arith, e, f, same, split_numbers, split_interrupts, of_t, of_n, packed_word-packed_in w)
+    omega (arith, e, split, of_t, of_n, modulus, window_t, window_n, sent_t, sent_n, acknowledged_t, acknowledged_n, packed_word-packed_in w)
 
--- no number is in range beside none
-none_sent : (m w s a : ℕ) → (m ≡ 8) ⊎ (m ≡ 128) → IsDirection m w s a → IsDirection m w 0 0
-none_sent m w s a e h = record {
-  window_above = h.window_above;
-  window_below = h.window_below;
-  sent_below = omega (arith, h.sent_below);
-  acknowledged_below = omega (arith, h.sent_below);
-  within = grind (arith, e, h.window_above);
-}
-
--- a word that keeps what another keeps, where nothing was sent
-pub cleared : (w u t : ℕ) (old : Packed) → packed_in w ≡ old → AreFlowResidues (kept_in w) →
-    u + w / 2 ^ 43 % 2 ^ 2 * 2 ^ 43 ≡ w + 0 * 2 ^ 43 → t + u / 2 ^ 1 % 2 ^ 28 * 2 ^ 1 ≡ u + 0 * 2 ^ 1 →
-    Keeps t (record old { flow = nothing_sent old.flow })
-cleared w u t old is h e f =
-    let in_range : AreFlowResidues (nothing_sent (kept_in w)) = record {
-      eight = h.eight;
-      of_t = none_sent _ _ _ _ h.eight h.of_t;
-      of_n = none_sent _ _ _ _ h.eight h.of_n;
-    } in
-    subst (λ p. Keeps t (record p { flow = nothing_sent p.flow })) is (keeps t _ in_range (nothing_sent_word w u t e f))
-
--- it represents no counts
-none_stand : (m w : ℕ) → DirectionRepresents m w 0 0 0 0
-none_stand m w = record { sent_is = omega arith; acknowledged_is = omega arith; ordered = omega arith; within = omega arith }
-
-pub nothing_represents : (k : FlowResidues) → ResiduesRepresent (nothing_sent k) no_counts
-nothing_represents k = record { of_t = none_stand _ _; of_n = none_stand _ _; unconfirmed = refl }
+-- a word that keeps what another keeps, with other interrupts
+pub interrupts_replaced : (w t : ℕ) (k : FlowResidues) (old : Packed) → packed_in w ≡ old → AreFlowResidues k →
+    k.modulus ≡ old.flow.modulus → k.windows ≡ old.flow.windows → k.sent ≡ old.flow.sent → k.acknowledged ≡ old.flow.acknowledged →
+    t + w / 2 ^ 43 % 2 ^ 2 * 2 ^ 43 ≡ w + interrupts_of k * 2 ^ 43 → Keeps t (record old { flow = k })
+interrupts_replaced w t k old is h m v s a e =
+    let P : Packed → Type 0 = λ p. k.modulus ≡ p.flow.modulus → k.windows ≡ p.flow.windows →
+    k.sent ≡ p.flow.sent → k.acknowledged ≡ p.flow.acknowledged → Keeps t (record p { flow = k }) in
+    subst P is (λ n u x y. keeps t _ h (interrupts_word w t k n u x y e)) m v s a
 
 -- the word of what can be kept has nothing above, and keeps it
 pub word_of-keeps : (w : ℕ) (k : FlowResidues) → AreFlowResidues k → word_of k ≡ w → packed_in w ≡ record { flow = k; owner_bits = 0 }

@@ -70,9 +70,11 @@ impl Flow {
 
     /// Judges a data packet of a side by its P(S) and then its P(R): `INVALID_P_S` where P(S) is not the next number or
     /// lies outside the window, `INVALID_P_R` where P(R) acknowledges no packet sent (X.25 clauses 4.4.1.1 to 4.4.1.3).
+    #[inline(always)]
     pub fn data(&mut self, side: Side, send: u8, receive: u8) -> Result<(), u8>
         ensures modulus { self.new.modulus ≡ self.old.modulus }
         ensures windows { self.new.windows ≡ self.old.windows }
+        ensures interrupts { self.new.unconfirmed ≡ self.old.unconfirmed }
         ensures unchanged { OnErr result (self.new ≡ self.old) }
         ensures counts { (c : Counts) → ResiduesRepresent self.old c
             → Answers result self.old self.new
@@ -90,9 +92,11 @@ impl Flow {
 
     /// Judges the P(R) of a side: `INVALID_P_R` where it acknowledges no packet that the other side sent (X.25 clause
     /// 4.4.1.3).
+    #[inline(always)]
     pub fn ack(&mut self, side: Side, receive: u8) -> Result<(), u8>
         ensures modulus { self.new.modulus ≡ self.old.modulus }
         ensures windows { self.new.windows ≡ self.old.windows }
+        ensures interrupts { self.new.unconfirmed ≡ self.old.unconfirmed }
         ensures unchanged { OnErr result (self.new ≡ self.old) }
         ensures counts { (c : Counts) → ResiduesRepresent self.old c
             → Answers result self.old self.new (count_receive self.old.modulus c side receive) }
@@ -116,6 +120,8 @@ impl Flow {
     pub fn interrupt(&mut self, side: Side) -> Result<(), u8>
         ensures modulus { self.new.modulus ≡ self.old.modulus }
         ensures windows { self.new.windows ≡ self.old.windows }
+        ensures sent { self.new.sent ≡ self.old.sent }
+        ensures acknowledged { self.new.acknowledged ≡ self.old.acknowledged }
         ensures unchanged { OnErr result (self.new ≡ self.old) }
         ensures counts { (c : Counts) → ResiduesRepresent self.old c
             → Answers result self.old self.new (count_interrupt c side) }
@@ -139,6 +145,8 @@ impl Flow {
     pub fn confirm(&mut self, side: Side) -> Result<(), u8>
         ensures modulus { self.new.modulus ≡ self.old.modulus }
         ensures windows { self.new.windows ≡ self.old.windows }
+        ensures sent { self.new.sent ≡ self.old.sent }
+        ensures acknowledged { self.new.acknowledged ≡ self.old.acknowledged }
         ensures unchanged { OnErr result (self.new ≡ self.old) }
         ensures counts { (c : Counts) → ResiduesRepresent self.old c
             → Answers result self.old self.new (count_confirm c side) }

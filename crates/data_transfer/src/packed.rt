@@ -1,22 +1,18 @@
 //! The windows and interrupts of a logical channel, kept in a word that has room for its owner.
 
-ghost use Rattle.std.specs.Prelude.{◌≡◌, ◌⊎◌, ◌<◌, ◌≤◌, ◌+◌, ◌*◌, ◌^◌, OnErr};
-ghost use Rattle.line_model.specs.channels.FlowControl.{Counts, count_interrupt, count_receive, count_confirm, count_data, no_counts};
-ghost use Rattle.line_model.specs.channels.Channels.{of_side, other};
-ghost use Rattle.data_transfer.specs.FlowResidues.{IsDirection, ResiduesRepresent, Answers, word_of};
-ghost use Rattle.data_transfer.specs.Directions.{direction_of, with_direction};
+ghost use Rattle.std.specs.Prelude.{◌≡◌, ◌⊎◌, ◌<◌, ◌+◌, ◌*◌, ◌^◌};
+ghost use Rattle.line_model.specs.channels.Channels.{of_side};
+ghost use Rattle.data_transfer.specs.FlowResidues.{IsDirection, word_of};
+ghost use Rattle.data_transfer.specs.Directions.{direction_of};
 
-use crate::direction::{Direction, residue};
+use crate::direction::Direction;
 use crate::flow::Flow;
-use crate::word::{acknowledged_at, direction, modulus, sent_at, unconfirmed_at, with_field};
-use line_model::diagnostic::{
-    INVALID_P_R, INVALID_P_S, UNAUTHORIZED_INTERRUPT, UNAUTHORIZED_INTERRUPT_CONFIRMATION,
-};
+use crate::word::{direction, modulus, with_field};
 use line_model::state::Side;
 use std::marker::Model;
 
-/// The windows and interrupts of a channel in data transfer, as the word that `Flow::pack` makes of them. It judges on
-/// the word, without a `Flow`. The bits from 45 up are its owner's: they stay as they are (profile).
+/// The windows and interrupts of a channel in data transfer, as the word that `Flow::pack` makes of them. The bits from
+/// 45 up are its owner's (profile).
 #[derive(Clone, Copy)]
 pub struct FlowWord {
     word: u64,
@@ -77,6 +73,7 @@ impl FlowWord {
     }
 
     /// Returns what a channel keeps, without the owner's number.
+    #[inline(always)]
     pub fn flow(&self) -> Flow
         ensures { result ≡ self.now.flow }
     {
@@ -94,88 +91,35 @@ impl FlowWord {
         self.direction(side).window
     }
 
-    /// Judges a data packet of a side by its P(S) and then its P(R): `INVALID_P_S` where P(S) is not the next number or
-    /// lies outside the window, `INVALID_P_R` where P(R) acknowledges no packet sent (X.25 clauses 4.4.1.1 to 4.4.1.3).
+    /// Sets the sequence numbers of both sides to those of a flow that differs in nothing else.
     #[inline(always)]
-    pub fn data(&mut self, side: Side, send: u8, receive: u8) -> Result<(), u8>
-        ensures modulus { self.new.flow.modulus ≡ self.old.flow.modulus }
-        ensures windows { self.new.flow.windows ≡ self.old.flow.windows }
+    pub fn set_numbers(&mut self, flow: &Flow)
+        requires modulus { flow.now.modulus ≡ self.old.flow.modulus }
+        requires windows { flow.now.windows ≡ self.old.flow.windows }
+        requires interrupts { flow.now.unconfirmed ≡ self.old.flow.unconfirmed }
+        ensures flow { self.new.flow ≡ flow.now }
         ensures owner_bits { self.new.owner_bits ≡ self.old.owner_bits }
-        ensures unchanged { OnErr result (self.new ≡ self.old) }
-        ensures counts { (c : Counts) → ResiduesRepresent self.old.flow c
-            → Answers result self.old.flow self.new.flow
-            (count_data self.old.flow.modulus
-            (of_side side self.old.flow.windows) c side send receive) }
     {
-        let modulus = self.modulus();
-        let sender = self.direction(side);
-        if !sender.is_next(modulus, send) {
-            return Err(INVALID_P_S);
-        }
-        let sent = residue(sender.sent + 1, modulus);
-        self.acknowledge(side, receive)?;
-        self.set_sent(side, sent);
-        Ok(())
+        // Each number is written at its place, so that the compiler leaves out those that stay.
+        let without_numbers = with_field(self.word, 1, 28, 0);
+        self.word = without_numbers
+            + (u64::from(flow.of_t.sent) << 1)
+            + (u64::from(flow.of_t.acknowledged) << 8)
+            + (u64::from(flow.of_n.sent) << 15)
+            + (u64::from(flow.of_n.acknowledged) << 22);
     }
 
-    /// Judges the P(R) of a side: `INVALID_P_R` where it acknowledges no packet that the other side sent (X.25 clause
-    /// 4.4.1.3).
-    #[inline(always)]
-    pub fn ack(&mut self, side: Side, receive: u8) -> Result<(), u8>
-        ensures modulus { self.new.flow.modulus ≡ self.old.flow.modulus }
-        ensures windows { self.new.flow.windows ≡ self.old.flow.windows }
+    /// Sets the interrupts of both sides to those of a flow that differs in nothing else.
+    pub fn set_interrupts(&mut self, flow: &Flow)
+        requires modulus { flow.now.modulus ≡ self.old.flow.modulus }
+        requires windows { flow.now.windows ≡ self.old.flow.windows }
+        requires sent { flow.now.sent ≡ self.old.flow.sent }
+        requires acknowledged { flow.now.acknowledged ≡ self.old.flow.acknowledged }
+        ensures flow { self.new.flow ≡ flow.now }
         ensures owner_bits { self.new.owner_bits ≡ self.old.owner_bits }
-        ensures unchanged { OnErr result (self.new ≡ self.old) }
-        ensures counts { (c : Counts) → ResiduesRepresent self.old.flow c
-            → Answers result self.old.flow self.new.flow
-            (count_receive self.old.flow.modulus c side receive) }
     {
-        self.acknowledge(side, receive)
-    }
-
-    /// Judges an interrupt of a side: `UNAUTHORIZED_INTERRUPT` while one of that side is unconfirmed (X.25 clause
-    /// 4.3.7).
-    pub fn interrupt(&mut self, side: Side) -> Result<(), u8>
-        ensures modulus { self.new.flow.modulus ≡ self.old.flow.modulus }
-        ensures windows { self.new.flow.windows ≡ self.old.flow.windows }
-        ensures owner_bits { self.new.owner_bits ≡ self.old.owner_bits }
-        ensures unchanged { OnErr result (self.new ≡ self.old) }
-        ensures counts { (c : Counts) → ResiduesRepresent self.old.flow c
-            → Answers result self.old.flow self.new.flow (count_interrupt c side) }
-    {
-        if self.direction(side).unconfirmed {
-            return Err(UNAUTHORIZED_INTERRUPT);
-        }
-        self.set_unconfirmed(side, true);
-        Ok(())
-    }
-
-    /// Judges an interrupt confirmation of a side: `UNAUTHORIZED_INTERRUPT_CONFIRMATION` while none of the other side
-    /// is unconfirmed (X.25 clause 4.3.7).
-    pub fn confirm(&mut self, side: Side) -> Result<(), u8>
-        ensures modulus { self.new.flow.modulus ≡ self.old.flow.modulus }
-        ensures windows { self.new.flow.windows ≡ self.old.flow.windows }
-        ensures owner_bits { self.new.owner_bits ≡ self.old.owner_bits }
-        ensures unchanged { OnErr result (self.new ≡ self.old) }
-        ensures counts { (c : Counts) → ResiduesRepresent self.old.flow c
-            → Answers result self.old.flow self.new.flow (count_confirm c side) }
-    {
-        if !self.direction(side.other()).unconfirmed {
-            return Err(UNAUTHORIZED_INTERRUPT_CONFIRMATION);
-        }
-        self.set_unconfirmed(side.other(), false);
-        Ok(())
-    }
-
-    /// Forgets what was sent, as entering d1 does; the windows stay.
-    pub fn reset(&mut self)
-        ensures modulus { self.new.flow.modulus ≡ self.old.flow.modulus }
-        ensures windows { self.new.flow.windows ≡ self.old.flow.windows }
-        ensures owner_bits { self.new.owner_bits ≡ self.old.owner_bits }
-        ensures represented { ResiduesRepresent self.new.flow no_counts }
-    {
-        let without_interrupts = with_field(self.word, 43, 2, 0);
-        self.word = with_field(without_interrupts, 1, 28, 0);
+        let interrupts = u64::from(flow.of_t.unconfirmed) + (u64::from(flow.of_n.unconfirmed) << 1);
+        self.word = with_field(self.word, 43, 2, interrupts);
     }
 
     /// Returns the modulus of the numbers.
@@ -193,60 +137,5 @@ impl FlowWord {
             result.acknowledged }
     {
         direction(self.word, side)
-    }
-
-    /// Judges the P(R) of a side, which leaves the numbers of its own packets as they are.
-    #[inline(always)]
-    fn acknowledge(&mut self, side: Side, receive: u8) -> Result<(), u8>
-        ensures modulus { self.new.flow.modulus ≡ self.old.flow.modulus }
-        ensures windows { self.new.flow.windows ≡ self.old.flow.windows }
-        ensures owner_bits { self.new.owner_bits ≡ self.old.owner_bits }
-        ensures own { direction_of side self.new.flow ≡ direction_of side self.old.flow }
-        ensures unchanged { OnErr result (self.new ≡ self.old) }
-        ensures counts { (c : Counts) → ResiduesRepresent self.old.flow c
-            → Answers result self.old.flow self.new.flow
-            (count_receive self.old.flow.modulus c side receive) }
-    {
-        let acknowledged = self.direction(side.other());
-        if !acknowledged.acknowledges(self.modulus(), receive) {
-            return Err(INVALID_P_R);
-        }
-        self.set_acknowledged(side.other(), receive);
-        Ok(())
-    }
-
-    /// Sets the number of the next packet of a side.
-    fn set_sent(&mut self, side: Side, number: u8)
-        requires { IsDirection self.old.flow.modulus (of_side side self.old.flow.windows) number
-            (of_side side self.old.flow.acknowledged) }
-        ensures { self.new ≡ record self.old {
-          flow = with_direction side
-              (record (direction_of side self.old.flow) { sent = number }) self.old.flow;
-        } }
-    {
-        self.word = with_field(self.word, sent_at(side), 7, u64::from(number));
-    }
-
-    /// Sets the number up to which the packets of a side are acknowledged.
-    fn set_acknowledged(&mut self, side: Side, number: u8)
-        requires { IsDirection self.old.flow.modulus (of_side side self.old.flow.windows)
-            (of_side side self.old.flow.sent) number }
-        ensures { self.new ≡ record self.old {
-          flow = with_direction side
-              (record (direction_of side self.old.flow) { acknowledged = number }) self.old.flow;
-        } }
-    {
-        self.word = with_field(self.word, acknowledged_at(side), 7, u64::from(number));
-    }
-
-    /// Sets whether an interrupt of a side is unconfirmed.
-    fn set_unconfirmed(&mut self, side: Side, unconfirmed: bool)
-        ensures { self.new ≡ record self.old {
-          flow = with_direction side
-              (record (direction_of side self.old.flow) { unconfirmed = unconfirmed })
-              self.old.flow;
-        } }
-    {
-        self.word = with_field(self.word, unconfirmed_at(side), 1, u64::from(unconfirmed));
     }
 }

@@ -34,7 +34,7 @@ pub(crate) fn modulus(word: u64) -> u8
 }
 
 /// Where a word keeps the number sent of a side: its first bit, of seven.
-pub(crate) fn sent_at(side: Side) -> u32
+fn sent_at(side: Side) -> u32
     ensures place { result ≡ sent_at side }
     ensures inside { result + 7 < 64 }
 {
@@ -45,7 +45,7 @@ pub(crate) fn sent_at(side: Side) -> u32
 }
 
 /// Where a word keeps the number acknowledged of a side: its first bit, of seven.
-pub(crate) fn acknowledged_at(side: Side) -> u32
+fn acknowledged_at(side: Side) -> u32
     ensures place { result ≡ acknowledged_at side }
     ensures inside { result + 7 < 64 }
 {
@@ -67,7 +67,7 @@ fn window_at(side: Side) -> u32
 }
 
 /// Where a word keeps whether an interrupt of a side is unconfirmed: a bit.
-pub(crate) fn unconfirmed_at(side: Side) -> u32
+fn unconfirmed_at(side: Side) -> u32
     ensures place { result ≡ unconfirmed_at side }
     ensures inside { result + 1 < 64 }
 {

@@ -48,12 +48,12 @@ fn step_until_taken<'a, C: Channel<&'a Scarce<Global>>>(
     let before = seen_of(channel, events.len());
     for good in 0..GROWTHS {
         heap.refuse_one(good);
-        let step = channel.step(1, item, events);
+        let step = channel.advance(1, item, events);
         let refused = good < heap.asked();
         heap.grant_all();
         holds_at(rt, step.is_err() == refused, good);
         match step {
-            Ok(()) => return Ok(good),
+            Ok(_) => return Ok(good),
             Err(fault) => {
                 let after = seen_of(channel, events.len());
                 holds_at(rt, fault == Fault::Memory && after == before, good);
