@@ -7,3 +7,6 @@ pub mod Rows
 pub mod Texts
 pub mod Readings
 pub mod Traces
+pub mod HeaderChannels
+pub mod Headers
+pub mod HeaderTexts

@@ -1,0 +1,144 @@
+//! The lines of a trace that come before its rows.
+
+ghost use Rattle.std.specs.Prelude.{◌≡◌, ◌++◌, OnOk};
+ghost use Rattle.capture_report.specs.HeaderTexts.{IsHead, channel_numbers, comment_text, first_numbers, form_word, head_text, header_line, is_first_form, joining, last_name, named, size_source, window_source};
+ghost use Rattle.capture_report.specs.declared.header.Seen.{Seen as AnySeen};
+ghost use Rattle.line_model.specs.declared.interface.Interface.{Interface as AnyInterface};
+
+use crate::header::Seen;
+use itoa::Buffer;
+use line_model::interface::Interface;
+use std::alloc::AllocError;
+
+/// Appends a name and its number.
+fn append_named(name: &[u8], number: u16, out: &mut Vec<u8>) -> Result<(), AllocError>
+    ensures { OnOk result (out.new.items ≡ out.old.items ++ named name.now number) }
+{
+    let mut digits = Buffer::new();
+    out.extend_from_slice(name)?;
+    out.extend_from_slice(digits.format(number).as_bytes())
+}
+
+/// Returns whether a header has the first form.
+fn is_first_form(header: &Interface) -> bool
+    ensures { result ≡ is_first_form header.now }
+{
+    header.incoming == header.pvc && header.two_way == header.svc && !header.join && !header.gaps
+}
+
+/// Returns how a header begins.
+fn form_word(is_first: bool, gaps: bool) -> &'static [u8]
+    ensures { result.now ≡ form_word is_first gaps }
+{
+    match is_first {
+        true => b"X25 1",
+        false if gaps => b"X25 3",
+        false => b"X25 2",
+    }
+}
+
+/// Returns how a header with ranges ends.
+fn joining(join: bool) -> &'static [u8]
+    ensures { result.now ≡ joining join }
+{
+    if join { b" JOIN" } else { b"" }
+}
+
+/// Appends the numbers that all forms begin with.
+fn append_first(header: &Interface, out: &mut Vec<u8>) -> Result<(), AllocError>
+    ensures { OnOk result (out.new.items ≡ out.old.items ++ first_numbers header.now) }
+{
+    append_named(b" MOD ", u16::from(header.modulus), out)?;
+    append_named(b" WIN ", u16::from(header.window), out)?;
+    append_named(b" SIZE ", header.size, out)?;
+    append_named(b" PVC ", header.pvc, out)
+}
+
+/// Appends the numbers of the channels.
+fn append_channels(
+    is_first: bool,
+    header: &Interface,
+    out: &mut Vec<u8>,
+) -> Result<(), AllocError>
+    ensures { OnOk result (out.new.items ≡ out.old.items ++ channel_numbers is_first header.now) }
+{
+    if is_first {
+        return append_named(b" SVC ", header.svc, out);
+    }
+    append_named(b" IN ", header.incoming, out)?;
+    append_named(b" TWO ", header.two_way, out)?;
+    append_named(b" OUT ", header.svc, out)?;
+    out.extend_from_slice(joining(header.join))
+}
+
+/// Appends the header line.
+fn append_header(header: &Interface, out: &mut Vec<u8>) -> Result<(), AllocError>
+    ensures { OnOk result (out.new.items ≡ out.old.items ++ header_line header.now) }
+{
+    let is_first = is_first_form(header);
+    out.extend_from_slice(form_word(is_first, header.gaps))?;
+    append_first(header, out)?;
+    append_channels(is_first, header, out)
+}
+
+/// Returns what the window was estimated from.
+fn window_source(most: u16) -> &'static [u8]
+    ensures { result.now ≡ window_source most }
+{
+    if most == 0 {
+        b" (the default: no data was seen)"
+    } else {
+        b" (the most data not acknowledged)"
+    }
+}
+
+/// Returns what the packet size was estimated from.
+fn size_source(largest: usize) -> &'static [u8]
+    ensures { result.now ≡ size_source largest }
+{
+    if largest == 0 {
+        b" (the default: no data was seen)"
+    } else {
+        b" (the largest user data)"
+    }
+}
+
+/// Returns the name of the last channel in a header.
+fn last_name(is_first: bool) -> &'static [u8]
+    ensures { result.now ≡ last_name is_first }
+{
+    if is_first { b", SVC " } else { b", OUT " }
+}
+
+/// Appends the comment that says what the numbers were estimated from.
+fn append_comment(header: &Interface, seen: &Seen, out: &mut Vec<u8>) -> Result<(), AllocError>
+    ensures { OnOk result (out.new.items ≡ out.old.items ++ comment_text header.now seen.now) }
+{
+    out.extend_from_slice(b"# estimated from what was seen:")?;
+    append_named(b" MOD ", u16::from(header.modulus), out)?;
+    out.extend_from_slice(b" (the general format identifiers),")?;
+    append_named(b" WIN ", u16::from(header.window), out)?;
+    out.extend_from_slice(window_source(seen.most()))?;
+    append_named(b", SIZE ", header.size, out)?;
+    out.extend_from_slice(size_source(seen.largest()))?;
+    append_named(b", PVC ", header.pvc, out)?;
+    out.extend_from_slice(b" (channels with data and no call)")?;
+    append_named(last_name(is_first_form(header)), header.svc, out)?;
+    out.extend_from_slice(b" (the channels used)")
+}
+
+/// Appends the lines that come before the rows: a comment that says what the numbers were estimated from, and the header.
+/// Fails only when memory is refused.
+pub fn print_head(header: &Interface, seen: &Seen, out: &mut Vec<u8>) -> Result<(), AllocError>
+    ensures { OnOk result (out.new.items ≡ out.old.items ++ head_text header.now seen.now) }
+{
+    append_comment(header, seen, out)?;
+    out.extend_from_slice(b"\n")?;
+    append_header(header, out)?;
+    out.extend_from_slice(b"\n")
+}
+
+/// These lines are a comment, and a line that is read as the header.
+pub fn head_is_read()
+    ensures { (i : AnyInterface) (v : AnySeen) → IsHead i (head_text i v) }
+{}
