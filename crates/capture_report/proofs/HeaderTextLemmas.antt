@@ -20,7 +20,7 @@ use Rattle.trace_text.proofs.CutLemmas.{words-found, words-none}
 use Rattle.trace_text.proofs.HeaderLemmas.{numbers_of, own_numbers}
 use Rattle.trace_text.proofs.NumberLemmas.{both}
 use Rattle.trace_text.proofs.RowFront.{lacks-append, number_lacks}
-use Rattle.capture_report.specs.HeaderTexts.{IsHead, channel_numbers, comment_text, first_numbers, form_digit, form_word, head_text, header_line, is_first_form, joining, last_name, named, size_source, window_source}
+use Rattle.capture_report.specs.HeaderTexts.{IsHead, channel_numbers, comment_text, estimate, first_estimates, first_numbers, form_digit, form_word, head_text, header_line, is_first_form, joining, last_name, named, size_source, window_source}
 use Rattle.capture_report.specs.declared.header.Seen.{Seen}
 
 -- ---- words
@@ -285,23 +285,24 @@ size_part largest = by (largest == 0)
     by true = words_part (codes " (the default: no data was seen)") refl refl
     by false = words_part (codes " (the largest user data)") refl refl
 
-last_part : (b : Bool) (n : ℕ) → n < 65536 → IsPart (named (last_name b) n) 49
-last_part true n small = named_part (codes ", SVC ") refl refl n small
-last_part false n small = named_part (codes ", OUT ") refl refl n small
+estimate_part : (xs : List ℕ) → Lacks 10 xs → nat_le (length xs) 40 ≡ true → (n : ℕ) → n < 65536 → (source : List ℕ) → IsPart source 40 → IsPart (estimate xs n source) 89
+estimate_part xs none few n small source p = joined_parts (named xs n) source 49 40 (named_part xs none few n small) p
+
+last_part : (b : Bool) (n : ℕ) → n < 65536 → IsPart (estimate (last_name b) n (codes " (the channels used)")) 89
+last_part true n small = estimate_part (codes ", SVC ") refl refl n small (codes " (the channels used)") (words_part (codes " (the channels used)") refl refl)
+last_part false n small = estimate_part (codes ", OUT ") refl refl n small (codes " (the channels used)") (words_part (codes " (the channels used)") refl refl)
+
+first_part : (i : Interface) (v : Seen) → IsSmall i → IsPart (first_estimates i v) 356
+first_part i v s =
+    joined_parts _ _ 89 267 (estimate_part (codes " MOD ") refl refl i.modulus s.modulus (codes " (the general format identifiers),") (words_part (codes " (the general format identifiers),") refl refl))
+    (joined_parts _ _ 89 178 (estimate_part (codes " WIN ") refl refl i.window s.window (window_source v.most) (source_part v.most))
+    (joined_parts _ _ 89 89 (estimate_part (codes ", SIZE ") refl refl i.size s.size (size_source v.largest) (size_part v.largest))
+    (estimate_part (codes ", PVC ") refl refl i.pvc s.pvc (codes " (channels with data and no call)") (words_part (codes " (channels with data and no call)") refl refl))))
 
 comment_part : (i : Interface) (v : Seen) → IsSmall i → IsPart (comment_text i v) 485
 comment_part i v s =
     joined_parts _ _ 40 445 (words_part (codes "# estimated from what was seen:") refl refl)
-    (joined_parts _ _ 49 396 (named_part (codes " MOD ") refl refl i.modulus s.modulus)
-    (joined_parts _ _ 40 356 (words_part (codes " (the general format identifiers),") refl refl)
-    (joined_parts _ _ 49 307 (named_part (codes " WIN ") refl refl i.window s.window)
-    (joined_parts _ _ 40 267 (source_part v.most)
-    (joined_parts _ _ 49 218 (named_part (codes ", SIZE ") refl refl i.size s.size)
-    (joined_parts _ _ 40 178 (size_part v.largest)
-    (joined_parts _ _ 49 129 (named_part (codes ", PVC ") refl refl i.pvc s.pvc)
-    (joined_parts _ _ 40 89 (words_part (codes " (channels with data and no call)") refl refl)
-    (joined_parts _ _ 49 40 (last_part (is_first_form i) i.svc s.svc)
-    (words_part (codes " (the channels used)") refl refl))))))))))
+    (joined_parts _ _ 356 89 (first_part i v s) (last_part (is_first_form i) i.svc s.svc))
 
 -- ---- both lines
 

@@ -47,15 +47,20 @@ size_source largest = if largest == 0 then codes " (the default: no data was see
 abbrev pub last_name : (is_first : Bool) → List ℕ
 last_name is_first = if is_first then codes ", SVC " else codes ", OUT "
 
+abbrev pub estimate : (name : List ℕ) → ℕ → (source : List ℕ) → List ℕ
+estimate name n source = named name n ++ source
+
+abbrev pub first_estimates : Interface → Seen → List ℕ
+first_estimates i v =
+    estimate (codes " MOD ") i.modulus (codes " (the general format identifiers),")
+    ++ (estimate (codes " WIN ") i.window (window_source v.most)
+    ++ (estimate (codes ", SIZE ") i.size (size_source v.largest)
+    ++ estimate (codes ", PVC ") i.pvc (codes " (channels with data and no call)")))
+
 -- what the numbers were estimated from
 abbrev pub comment_text : Interface → Seen → Line
 comment_text i v =
-    codes "# estimated from what was seen:"
-    ++ (named (codes " MOD ") i.modulus ++ (codes " (the general format identifiers),"
-    ++ (named (codes " WIN ") i.window ++ (window_source v.most
-    ++ (named (codes ", SIZE ") i.size ++ (size_source v.largest
-    ++ (named (codes ", PVC ") i.pvc ++ (codes " (channels with data and no call)"
-    ++ (named (last_name (is_first_form i)) i.svc ++ codes " (the channels used)")))))))))
+    codes "# estimated from what was seen:" ++ (first_estimates i v ++ estimate (last_name (is_first_form i)) i.svc (codes " (the channels used)"))
 
 abbrev pub head_text : Interface → Seen → List ℕ
 head_text i v = comment_text i v ++ 10 ∷ (header_line i ++ 10 ∷ [])

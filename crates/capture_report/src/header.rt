@@ -1,9 +1,11 @@
 //! The header of a trace, from what the packets of a capture show. Its numbers are the largest that were seen, so that no
 //! data that is right under some header breaks it.
 
-ghost use Rattle.std.specs.Prelude.{◌≡◌, ◌≤◌, ◌<◌, ◌==◌, ◌⊎◌, Some, OnOk, nat_le, nat_lt};
+ghost use Rattle.std.specs.Prelude.{◌≡◌, ◌≤◌, ◌⊎◌, Some, OnOk, true};
 ghost use Rattle.line_model.specs.packets.Classes.{class_of, kind_class, packet_class};
 ghost use Rattle.line_model.specs.text.Header.{interface_with};
+ghost use Rattle.line_model.specs.basics.Limits.{is_numbering};
+ghost use Rattle.packet_decode.specs.Shown.{IsPacketSize};
 ghost use Rattle.capture_report.specs.Contents.{row_view};
 ghost use Rattle.capture_report.specs.Headers.{all_channels, beginning_after, beginning_missed, counted, format_interface, gap_seen, has_packets, is_same, kind_seen, last_channel, more, modulus_seen, nothing_seen, numbers_seen, on_channel, packet_seen, permanent_seen, seen_with, sending, size_seen, smallest_size, window_seen};
 
@@ -139,7 +141,8 @@ fn more(count: u64) -> u64
 
 /// Returns the smallest packet size for user data, up to 4,096 octets (X.25 clause 4.3.2).
 fn smallest_size(length: usize) -> u16
-    ensures { result ≡ smallest_size length }
+    ensures value { result ≡ smallest_size length }
+    ensures listed { IsPacketSize result }
 {
     match length {
         0..=16 => 16,
@@ -301,8 +304,10 @@ impl Seen {
     }
 
     /// Returns the most data that was not acknowledged, below the modulus; 2 where no data shows a window.
+    #[tactic(auto, using(crate::proofs::HeaderLemmas::default_window, crate::proofs::HeaderLemmas::window_in_range))]
     fn window(&self) -> u8
-        ensures { result ≡ window_seen self.now }
+        ensures value { result ≡ window_seen self.now }
+        ensures in_range { is_numbering (modulus_seen self.now) result ≡ true }
     {
         if self.most == 0 {
             return 2;
@@ -312,7 +317,8 @@ impl Seen {
 
     /// Returns the smallest packet size for all user data; 128 where there is none.
     fn size(&self) -> u16
-        ensures { result ≡ size_seen self.now }
+        ensures value { result ≡ size_seen self.now }
+        ensures listed { IsPacketSize result }
     {
         if self.largest == 0 {
             return 128;
@@ -322,20 +328,25 @@ impl Seen {
 
     /// Returns the last channel that is used, at least 1.
     fn last_channel(&self) -> u16
-        ensures { result ≡ last_channel self.now }
+        ensures value { result ≡ last_channel self.now }
+        ensures some { 1 ≤ result }
+        ensures few { result ≤ 4095 }
     {
         self.highest.min(4095).max(1)
     }
 
     /// Returns the last channel that is used without a call, below all channels with calls.
+    #[tactic(auto, using(crate::proofs::HeaderLemmas::last_few))]
     fn permanent(&self) -> u16
-        ensures { result ≡ permanent_seen self.now }
+        ensures value { result ≡ permanent_seen self.now }
+        ensures few { result ≤ last_channel self.now }
     {
-        self.channels
-            .last_below(self.first_call.min(self.last_channel() + 1))
+        let bound = self.first_call.min(self.last_channel() + 1);
+        self.channels.last_below(bound)
     }
 
     /// Returns the header. Where no packet was seen it is that of an interface with one channel.
+    #[tactic(auto, using(crate::proofs::HeaderLemmas::in_range))]
     pub fn header(&self) -> Interface
         ensures { interface_with (numbers_seen self.now) ≡ Some result }
     {

@@ -299,6 +299,7 @@ fn sweep_all(channels: &mut Vec<SeenChannel>, sweep: Sweep)
 }
 
 /// Appends channels to a list until it has a channel.
+#[tactic(auto, using(crate::proofs::HeaderLemmas::widened_whole))]
 fn widen(
     channels: &mut Vec<SeenChannel>,
     channel: u16,
@@ -352,14 +353,15 @@ impl Channels {
     }
 
     /// Returns the last channel below a bound that was used, or 0.
+    #[tactic(auto, using(crate::proofs::HeaderLemmas::last_none, crate::proofs::HeaderLemmas::last_used, crate::proofs::HeaderLemmas::last_unused))]
     pub(crate) fn last_below(&self, bound: u16) -> u16
         ensures { result ≡ last_below self.now bound }
     {
-        let mut bound = bound;
-        while bound > 0 {
-            bound -= 1;
-            if self.get(bound).is_used {
-                return bound;
+        let mut left = bound;
+        while left > 0 {
+            left -= 1;
+            if self.get(left).is_used {
+                return left;
             }
         }
         0

@@ -1,7 +1,7 @@
 //! The lines of a trace that come before its rows.
 
 ghost use Rattle.std.specs.Prelude.{◌≡◌, ◌++◌, OnOk};
-ghost use Rattle.capture_report.specs.HeaderTexts.{IsHead, channel_numbers, comment_text, first_numbers, form_word, head_text, header_line, is_first_form, joining, last_name, named, size_source, window_source};
+ghost use Rattle.capture_report.specs.HeaderTexts.{IsHead, channel_numbers, comment_text, estimate, first_estimates, first_numbers, form_word, head_text, header_line, is_first_form, joining, last_name, named, size_source, window_source};
 ghost use Rattle.capture_report.specs.declared.header.Seen.{Seen as AnySeen};
 ghost use Rattle.line_model.specs.declared.interface.Interface.{Interface as AnyInterface};
 
@@ -110,21 +110,46 @@ fn last_name(is_first: bool) -> &'static [u8]
     if is_first { b", SVC " } else { b", OUT " }
 }
 
+/// Appends a name, its number, and what that was estimated from.
+fn append_estimate(
+    name: &[u8],
+    number: u16,
+    source: &[u8],
+    out: &mut Vec<u8>,
+) -> Result<(), AllocError>
+    ensures { OnOk result (out.new.items ≡ out.old.items ++ estimate name.now number source.now) }
+{
+    append_named(name, number, out)?;
+    out.extend_from_slice(source)
+}
+
+/// Appends the estimates of the numbers that all forms begin with.
+fn append_first_estimates(
+    header: &Interface,
+    seen: &Seen,
+    out: &mut Vec<u8>,
+) -> Result<(), AllocError>
+    ensures { OnOk result (out.new.items ≡ out.old.items ++ first_estimates header.now seen.now) }
+{
+    let modulus = u16::from(header.modulus);
+    append_estimate(b" MOD ", modulus, b" (the general format identifiers),", out)?;
+    append_estimate(b" WIN ", u16::from(header.window), window_source(seen.most()), out)?;
+    append_estimate(b", SIZE ", header.size, size_source(seen.largest()), out)?;
+    append_estimate(b", PVC ", header.pvc, b" (channels with data and no call)", out)
+}
+
 /// Appends the comment that says what the numbers were estimated from.
 fn append_comment(header: &Interface, seen: &Seen, out: &mut Vec<u8>) -> Result<(), AllocError>
     ensures { OnOk result (out.new.items ≡ out.old.items ++ comment_text header.now seen.now) }
 {
     out.extend_from_slice(b"# estimated from what was seen:")?;
-    append_named(b" MOD ", u16::from(header.modulus), out)?;
-    out.extend_from_slice(b" (the general format identifiers),")?;
-    append_named(b" WIN ", u16::from(header.window), out)?;
-    out.extend_from_slice(window_source(seen.most()))?;
-    append_named(b", SIZE ", header.size, out)?;
-    out.extend_from_slice(size_source(seen.largest()))?;
-    append_named(b", PVC ", header.pvc, out)?;
-    out.extend_from_slice(b" (channels with data and no call)")?;
-    append_named(last_name(is_first_form(header)), header.svc, out)?;
-    out.extend_from_slice(b" (the channels used)")
+    append_first_estimates(header, seen, out)?;
+    append_estimate(
+        last_name(is_first_form(header)),
+        header.svc,
+        b" (the channels used)",
+        out,
+    )
 }
 
 /// Appends the lines that come before the rows: a comment that says what the numbers were estimated from, and the header.
