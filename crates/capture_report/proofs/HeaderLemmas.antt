@@ -1,8 +1,11 @@
 -- The channels of a line as they are kept, and the ranges of a header.
-use Rattle.std.proofs.Common.{◌≡◌, ◌∙◌, ap, refl, ℕ, zero, suc, ◌+◌, ◌-◌, ◌<◌, ◌≤◌, Bool, true, false, List, [], ◌∷◌, ◌++◌, length, length-append, append-nil, append_assoc, replicate, arith}
+use Rattle.std.proofs.Common.{◌≡◌, ◌∙◌, ap, refl, ℕ, zero, suc, ◌+◌, ◌-◌, ◌<◌, ◌≤◌, Bool, true, false, List, [], ◌∷◌, ◌++◌, length, length-append, append-nil, append_assoc, replicate, Some, arith, sym}
 use Rattle.std.specs.Prelude.{◌==◌, ◌||◌, min, nat_lt, if◌then◌else◌}
 use Rattle.std.proofs.lemmas.Bool.{le-leb, lt-ltb}
 use Rattle.line_model.specs.basics.Limits.{IsInterface, is_numbering}
+use Rattle.line_model.specs.declared.interface.Interface.{Interface}
+use Rattle.line_model.specs.text.Header.{HeaderNumbers, interface_with}
+use Rattle.trace_text.proofs.HeaderLemmas.{numbers_of, own_numbers}
 use Rattle.packet_decode.specs.Shown.{IsPacketSize}
 use Rattle.capture_report.specs.HeaderChannels.{ChannelList, channel_at, last_below, widened}
 use Rattle.capture_report.specs.Headers.{modulus_seen}
@@ -64,3 +67,10 @@ window_in_range v n some = by (nat_lt v.of_8 v.of_128)
 pub in_range : (m w s p l : ℕ) → is_numbering m w ≡ true → IsPacketSize s → p ≤ l → 1 ≤ l → l ≤ 4095 → IsInterface m w s p p l l
 in_range m w s p l numbering size few some most =
     rw (numbering, size, le-leb 1 l some, le-leb l 4095 most, le-leb p p (omega arith), le-leb p l few, le-leb l l (omega arith)) refl
+
+-- the header of these numbers
+pub header_is : (i : Interface) (n : HeaderNumbers) → i.modulus ≡ n.modulus → i.window ≡ n.window → i.size ≡ n.size → i.pvc ≡ n.pvc → i.incoming ≡ n.incoming → i.two_way ≡ n.two_way → i.svc ≡ n.svc → i.join ≡ n.join → i.gaps ≡ n.gaps
+    → interface_with n ≡ Some i
+header_is i n m w s p a t v j g =
+    let same : numbers_of i ≡ n = λ k. record { modulus = m k; window = w k; size = s k; pvc = p k; incoming = a k; two_way = t k; svc = v k; join = j k; gaps = g k } in
+    sym (ap interface_with same) ∙ own_numbers i

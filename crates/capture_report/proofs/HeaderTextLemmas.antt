@@ -23,6 +23,16 @@ use Rattle.trace_text.proofs.RowFront.{lacks-append, number_lacks}
 use Rattle.capture_report.specs.HeaderTexts.{IsHead, channel_numbers, comment_text, estimate, first_estimates, first_numbers, form_digit, form_word, head_text, header_line, is_first_form, joining, last_name, named, size_source, window_source}
 use Rattle.capture_report.specs.declared.header.Seen.{Seen}
 
+-- ---- text that is appended part by part
+
+pub three_more : (o o1 o2 o3 a b d : List ℕ) → o1 ≡ o ++ a → o2 ≡ o1 ++ b → o3 ≡ o2 ++ d → o3 ≡ o ++ (a ++ (b ++ d))
+three_more o o1 o2 o3 a b d p q r =
+    r ∙ ap (λ xs. xs ++ d) (q ∙ ap (λ xs. xs ++ b) p ∙ append_assoc o a b) ∙ append_assoc o (a ++ b) d ∙ ap (λ xs. o ++ xs) (append_assoc a b d)
+
+pub four_more : (o o1 o2 o3 o4 a b d e : List ℕ) → o1 ≡ o ++ a → o2 ≡ o1 ++ b → o3 ≡ o2 ++ d → o4 ≡ o3 ++ e → o4 ≡ o ++ (a ++ (b ++ (d ++ e)))
+four_more o o1 o2 o3 o4 a b d e p q r s =
+    s ∙ ap (λ xs. xs ++ e) (three_more o o1 o2 o3 a b d p q r) ∙ append_assoc o (a ++ (b ++ d)) e ∙ ap (λ xs. o ++ xs) (append_assoc a (b ++ d) e ∙ ap (λ xs. a ++ xs) (append_assoc b d e))
+
 -- ---- words
 
 record IsWord (word : List ℕ) : Type 0 where

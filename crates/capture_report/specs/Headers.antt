@@ -149,6 +149,9 @@ abbrev pub permanent_seen : Seen → ℕ
 permanent_seen v = last_below v.channels (min v.first_call (last_channel v + 1))
 
 -- a trace that begins in the middle, or has gaps, has the third form
+abbrev pub has_third_form : Seen → Bool
+has_third_form v = is_joined v.beginning || v.has_gaps
+
 abbrev pub numbers_seen : Seen → HeaderNumbers
 numbers_seen v = record {
   modulus = modulus_seen v;
@@ -159,5 +162,5 @@ numbers_seen v = record {
   two_way = last_channel v;
   svc = last_channel v;
   join = is_joined v.beginning;
-  gaps = is_joined v.beginning || v.has_gaps;
+  gaps = has_third_form v;
 }

@@ -7,7 +7,7 @@ ghost use Rattle.line_model.specs.text.Header.{interface_with};
 ghost use Rattle.line_model.specs.basics.Limits.{is_numbering};
 ghost use Rattle.packet_decode.specs.Shown.{IsPacketSize};
 ghost use Rattle.capture_report.specs.Contents.{row_view};
-ghost use Rattle.capture_report.specs.Headers.{all_channels, beginning_after, beginning_missed, counted, format_interface, gap_seen, has_packets, is_same, kind_seen, last_channel, more, modulus_seen, nothing_seen, numbers_seen, on_channel, packet_seen, permanent_seen, seen_with, sending, size_seen, smallest_size, window_seen};
+ghost use Rattle.capture_report.specs.Headers.{all_channels, beginning_after, beginning_missed, counted, format_interface, gap_seen, has_packets, has_third_form, is_joined, is_same, kind_seen, last_channel, more, modulus_seen, nothing_seen, numbers_seen, on_channel, packet_seen, permanent_seen, seen_with, sending, size_seen, smallest_size, window_seen};
 
 use crate::header_channels::{Channels, Sweep, is_set_up};
 use crate::row::{Content, Row};
@@ -90,6 +90,13 @@ impl Beginning {
             },
             Beginning::Whole | Beginning::Joined => self,
         }
+    }
+
+    /// Returns whether the recording began in the middle.
+    fn is_joined(self) -> bool
+        ensures { result ≡ is_joined self }
+    {
+        matches!(self, Beginning::Joined)
     }
 
     /// Returns the beginning where packets may be missing, such as the answer of a restart.
@@ -283,14 +290,14 @@ impl Seen {
     }
 
     /// Returns the most data of a side that was not acknowledged.
-    pub fn most(&self) -> u16
+    pub(crate) fn most(&self) -> u16
         ensures { result ≡ self.now.most }
     {
         self.most
     }
 
     /// Returns the largest user data.
-    pub fn largest(&self) -> usize
+    pub(crate) fn largest(&self) -> usize
         ensures { result ≡ self.now.largest }
     {
         self.largest
@@ -345,6 +352,13 @@ impl Seen {
         self.channels.last_below(bound)
     }
 
+    /// Returns whether the header has the third form: a trace that begins in the middle, or has gaps.
+    fn has_third_form(&self) -> bool
+        ensures { result ≡ has_third_form self.now }
+    {
+        self.beginning.is_joined() || self.has_gaps
+    }
+
     /// Returns the header. Where no packet was seen it is that of an interface with one channel.
     #[tactic(auto, using(crate::proofs::HeaderLemmas::in_range))]
     pub fn header(&self) -> Interface
@@ -352,7 +366,6 @@ impl Seen {
     {
         let pvc = self.permanent();
         let svc = self.last_channel();
-        let join = matches!(self.beginning, Beginning::Joined);
         Interface {
             modulus: self.modulus(),
             window: self.window(),
@@ -361,8 +374,8 @@ impl Seen {
             incoming: pvc,
             two_way: svc,
             svc,
-            join,
-            gaps: join || self.has_gaps,
+            join: self.beginning.is_joined(),
+            gaps: self.has_third_form(),
         }
     }
 }
