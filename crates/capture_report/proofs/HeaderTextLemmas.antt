@@ -256,6 +256,7 @@ line_length i s =
     at_most_one : (join : Bool) → length (joined join) ≤ 1
     at_most_one true = omega arith
     at_most_one false = omega arith
+
     few : (b : Bool) → length (later_words b i) ≤ 16
     few true = omega arith
     few false = omega (arith, at_most_one i.join)

@@ -279,7 +279,8 @@ impl Seen {
         if is_set_up(kind) {
             self.first_call = self.first_call.min(channel);
         }
-        self.channels.set(channel, before.seen(interface, side, octets, kind))
+        self.channels
+            .set(channel, before.seen(interface, side, octets, kind))
     }
 
     /// Returns whether a packet was seen.

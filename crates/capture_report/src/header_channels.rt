@@ -300,11 +300,7 @@ fn sweep_all(channels: &mut Vec<SeenChannel>, sweep: Sweep)
 
 /// Appends channels to a list until it has a channel.
 #[tactic(auto, using(crate::proofs::HeaderLemmas::widened_whole))]
-fn widen(
-    channels: &mut Vec<SeenChannel>,
-    channel: u16,
-    rest: SeenChannel,
-) -> Result<(), AllocError>
+fn widen(channels: &mut Vec<SeenChannel>, channel: u16, rest: SeenChannel) -> Result<(), AllocError>
     ensures wide { OnOk result (channel < length channels.new.items) }
     ensures widened { OnOk result (channels.new.items ≡ widened channel rest channels.old.items) }
 {

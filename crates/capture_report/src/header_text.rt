@@ -55,11 +55,7 @@ fn append_first(header: &Interface, out: &mut Vec<u8>) -> Result<(), AllocError>
 }
 
 /// Appends the numbers of the channels.
-fn append_channels(
-    is_first: bool,
-    header: &Interface,
-    out: &mut Vec<u8>,
-) -> Result<(), AllocError>
+fn append_channels(is_first: bool, header: &Interface, out: &mut Vec<u8>) -> Result<(), AllocError>
     ensures { OnOk result (out.new.items ≡ out.old.items ++ channel_numbers is_first header.now) }
 {
     if is_first {
@@ -132,10 +128,25 @@ fn append_first_estimates(
     ensures { OnOk result (out.new.items ≡ out.old.items ++ first_estimates header.now seen.now) }
 {
     let modulus = u16::from(header.modulus);
-    append_estimate(b" MOD ", modulus, b" (the general format identifiers),", out)?;
-    append_estimate(b" WIN ", u16::from(header.window), window_source(seen.most()), out)?;
+    append_estimate(
+        b" MOD ",
+        modulus,
+        b" (the general format identifiers),",
+        out,
+    )?;
+    append_estimate(
+        b" WIN ",
+        u16::from(header.window),
+        window_source(seen.most()),
+        out,
+    )?;
     append_estimate(b", SIZE ", header.size, size_source(seen.largest()), out)?;
-    append_estimate(b", PVC ", header.pvc, b" (channels with data and no call)", out)
+    append_estimate(
+        b", PVC ",
+        header.pvc,
+        b" (channels with data and no call)",
+        out,
+    )
 }
 
 /// Appends the comment that says what the numbers were estimated from.
