@@ -1,4 +1,6 @@
 mod GapLemmas
+mod HeaderLemmas
+mod HeaderTextLemmas
 mod GivingLemmas
 mod ReadingLemmas
 mod SearchLemmas

@@ -8,3 +8,6 @@ pub mod Texts
 pub mod Readings
 pub mod Traces
 pub mod Recordings
+pub mod HeaderChannels
+pub mod Headers
+pub mod HeaderTexts

@@ -1,39 +1,382 @@
-//! The header of a capture, from what was seen. A stub: one header, whatever was seen.
+//! The header of a trace, from what the packets of a capture show. Its numbers are the largest that were seen, so that no
+//! data that is right under some header breaks it.
 
+ghost use Rattle.std.specs.Prelude.{◌≡◌, ◌≤◌, ◌⊎◌, Some, OnOk, true};
+ghost use Rattle.line_model.specs.packets.Classes.{class_of, kind_class, packet_class};
+ghost use Rattle.line_model.specs.text.Header.{interface_with};
+ghost use Rattle.line_model.specs.basics.Limits.{is_numbering};
+ghost use Rattle.packet_decode.specs.Shown.{IsPacketSize};
+ghost use Rattle.capture_report.specs.Contents.{row_view};
+ghost use Rattle.capture_report.specs.Headers.{all_channels, beginning_after, beginning_missed, counted, format_interface, gap_seen, has_packets, has_third_form, is_joined, is_same, kind_seen, last_channel, more, modulus_seen, nothing_seen, numbers_seen, on_channel, packet_seen, permanent_seen, seen_with, sending, size_seen, smallest_size, window_seen};
+
+use crate::header_channels::{Channels, Sweep, is_set_up};
 use crate::row::{Content, Row};
+use line_model::interface::Interface;
+use line_model::packet::{Packet, PacketKind};
+use line_model::state::Side;
+use packet_decode::decode::decode;
 use std::alloc::{AllocError, Global};
+
+/// How a recording begins.
+#[derive(Clone, Copy)]
+pub enum Beginning {
+    /// It has no packet yet.
+    Empty,
+    /// With a restart of a side that was not answered yet; the side that has sent on channels since then.
+    Restarting(Side, Option<Side>),
+    /// With a whole restart.
+    Whole,
+    /// In the middle.
+    Joined,
+}
 
 /// What the packets of a capture show of the header of its trace.
 #[derive(Drop)]
 pub struct Seen {
-    has_packets: bool,
+    /// How many packets have the general format identifier of modulo 8.
+    of_8: u64,
+    /// The same of modulo 128.
+    of_128: u64,
+    /// The most data of a side that was not acknowledged, on channels whose call agreed on no windows.
+    most: u16,
+    /// The largest user data, on channels whose call agreed on no packet sizes.
+    largest: usize,
+    /// The last channel with a packet or a gap.
+    highest: u16,
+    /// The first channel with a call, or 4,096.
+    first_call: u16,
+    beginning: Beginning,
+    has_gaps: bool,
+    channels: Channels,
 }
 
-/// A header.
-#[derive(Clone, Copy)]
-pub struct Header {
-    modulus: u8,
+/// Returns whether two sides are the same.
+fn is_same(side: Side, other: Side) -> bool
+    ensures { result ≡ is_same side other }
+{
+    match side {
+        Side::T => matches!(other, Side::T),
+        Side::N => matches!(other, Side::N),
+    }
+}
+
+/// Returns the beginning after a packet on a channel, where a restart was not answered yet.
+fn sending(side: Side, restarted: Side, sender: Option<Side>) -> Beginning
+    ensures { result ≡ sending side restarted sender }
+{
+    match sender {
+        Some(sender) if !is_same(side, sender) => Beginning::Joined,
+        _ => Beginning::Restarting(restarted, Some(side)),
+    }
+}
+
+impl Beginning {
+    /// Returns the beginning after a packet. Where both sides send on channels after a restart that was not answered,
+    /// the recording began inside of it.
+    fn after(self, side: Side, packet: Packet) -> Beginning
+        ensures { result ≡ beginning_after side packet self }
+    {
+        match self {
+            Beginning::Empty => match packet {
+                Packet::Restart => Beginning::Restarting(side, None),
+                _ => Beginning::Joined,
+            },
+            Beginning::Restarting(restarted, sender) => match packet {
+                Packet::Channel { .. } => sending(side, restarted, sender),
+                Packet::Restart | Packet::RestartConfirm if !is_same(side, restarted) => {
+                    Beginning::Whole
+                }
+                _ => self,
+            },
+            Beginning::Whole | Beginning::Joined => self,
+        }
+    }
+
+    /// Returns whether the recording began in the middle.
+    fn is_joined(self) -> bool
+        ensures { result ≡ is_joined self }
+    {
+        matches!(self, Beginning::Joined)
+    }
+
+    /// Returns the beginning where packets may be missing, such as the answer of a restart.
+    fn missed(self) -> Beginning
+        ensures { result ≡ beginning_missed self }
+    {
+        match self {
+            Beginning::Restarting(_, _) => Beginning::Whole,
+            _ => self,
+        }
+    }
+}
+
+/// Returns an interface of a modulus that has all channels.
+fn all_channels(modulus: u8) -> Interface
+    requires { (modulus ≡ 8) ⊎ (modulus ≡ 128) }
+    ensures { interface_with (all_channels modulus) ≡ Some result }
+{
+    Interface {
+        modulus,
+        window: 1,
+        size: 16,
+        pvc: 0,
+        incoming: 0,
+        two_way: 4095,
+        svc: 4095,
+        join: false,
+        gaps: false,
+    }
+}
+
+/// Returns the interface by which a packet is read: that of its general format identifier (X.25 Table 5-1).
+fn format_interface(octets: &[u8]) -> Option<Interface>
+    ensures { result ≡ format_interface octets.now }
+{
+    match octets {
+        [first, ..] if *first / 16 % 4 == 1 => Some(all_channels(8)),
+        [first, ..] if *first / 16 % 4 == 2 => Some(all_channels(128)),
+        _ => None,
+    }
+}
+
+/// Returns a count with one more.
+fn more(count: u64) -> u64
+    ensures { result ≡ more count }
+{
+    if count < u64::MAX { count + 1 } else { count }
+}
+
+/// Returns the smallest packet size for user data, up to 4,096 octets (X.25 clause 4.3.2).
+fn smallest_size(length: usize) -> u16
+    ensures value { result ≡ smallest_size length }
+    ensures listed { IsPacketSize result }
+{
+    match length {
+        0..=16 => 16,
+        17..=32 => 32,
+        33..=64 => 64,
+        65..=128 => 128,
+        129..=256 => 256,
+        257..=512 => 512,
+        513..=1024 => 1024,
+        1025..=2048 => 2048,
+        _ => 4096,
+    }
 }
 
 impl Seen {
-    /// Returns what no packet shows.
-    pub fn new(_alloc: Global) -> Seen {
-        Seen { has_packets: false }
+    /// Returns what no packet shows. Allocates nothing.
+    pub fn new(alloc: Global) -> Seen
+        ensures { result ≡ nothing_seen }
+    {
+        Seen {
+            of_8: 0,
+            of_128: 0,
+            most: 0,
+            largest: 0,
+            highest: 0,
+            first_call: 4096,
+            beginning: Beginning::Empty,
+            has_gaps: false,
+            channels: Channels::new(alloc),
+        }
     }
 
-    /// Sees a row, in the order of the rows. Fails only when memory is refused.
-    pub fn see(&mut self, row: &Row<'_>) -> Result<(), AllocError> {
-        self.has_packets |= matches!(row.content, Content::Packet(..));
-        Ok(())
+    /// Sees a row, in the order of the rows. Fails only when memory is refused; drop what was seen then.
+    pub fn see(&mut self, row: &Row<'_>) -> Result<(), AllocError>
+        ensures { OnOk result (self.new ≡ seen_with (row_view row.now) self.old) }
+    {
+        match row.content {
+            Content::Packet(side, octets) => self.see_packet(side, octets),
+            Content::Gap(channel) => self.miss(channel),
+        }
+    }
+
+    /// Notes that packets of a channel, or of all, may be missing.
+    fn miss(&mut self, channel: Option<u16>) -> Result<(), AllocError>
+        ensures { OnOk result (self.new ≡ gap_seen channel self.old) }
+    {
+        self.has_gaps = true;
+        match channel {
+            Some(channel) if channel <= 4095 => {
+                let seen = self.channels.get(channel).missed();
+                self.highest = self.highest.max(channel);
+                self.channels.set(channel, seen)
+            }
+            _ => {
+                self.beginning = self.beginning.missed();
+                self.channels.sweep(Sweep::Gap);
+                Ok(())
+            }
+        }
+    }
+
+    /// Counts a packet of a modulus.
+    fn count(&mut self, interface: &Interface)
+        ensures { self.new ≡ counted interface.now self.old }
+    {
+        if interface.modulus == 8 {
+            self.of_8 = more(self.of_8);
+        } else {
+            self.of_128 = more(self.of_128);
+        }
+    }
+
+    /// Sees a packet.
+    #[tactic(auto, using(line_model::proofs::PacketClass::class_is))]
+    fn see_packet(&mut self, side: Side, octets: &[u8]) -> Result<(), AllocError>
+        ensures { OnOk result (self.new ≡ packet_seen side octets.now (format_interface octets.now) self.old) }
+    {
+        let Some(interface) = format_interface(octets) else {
+            self.beginning = self.beginning.after(side, Packet::WrongFormat);
+            return Ok(());
+        };
+        let packet = decode(&interface, octets);
+        self.beginning = self.beginning.after(side, packet);
+        self.count(&interface);
+        self.see_kind(&interface, side, octets, packet)
+    }
+
+    /// Sees what a packet is.
+    fn see_kind(
+        &mut self,
+        interface: &Interface,
+        side: Side,
+        octets: &[u8],
+        packet: Packet,
+    ) -> Result<(), AllocError>
+        requires { class_of interface.now octets.now ≡ packet_class packet }
+        ensures { OnOk result (self.new ≡ kind_seen interface.now side octets.now packet self.old) }
+    {
+        match packet {
+            Packet::Restart => {
+                self.channels.sweep(Sweep::Restart);
+                Ok(())
+            }
+            Packet::Channel { channel, kind } => {
+                self.see_on(channel, interface, side, octets, kind)
+            }
+            _ => Ok(()),
+        }
+    }
+
+    /// Sees a packet on a channel.
+    fn see_on(
+        &mut self,
+        channel: u16,
+        interface: &Interface,
+        side: Side,
+        octets: &[u8],
+        kind: PacketKind,
+    ) -> Result<(), AllocError>
+        requires { class_of interface.now octets.now ≡ kind_class kind }
+        ensures { OnOk result (self.new ≡ on_channel interface.now side octets.now channel kind self.old) }
+    {
+        let before = self.channels.get(channel);
+        self.most = self.most.max(before.outstanding(interface, side, kind));
+        self.largest = self.largest.max(before.user_data(interface, octets, kind));
+        self.highest = self.highest.max(channel);
+        if is_set_up(kind) {
+            self.first_call = self.first_call.min(channel);
+        }
+        self.channels
+            .set(channel, before.seen(interface, side, octets, kind))
     }
 
     /// Returns whether a packet was seen.
-    pub fn has_packets(&self) -> bool {
-        self.has_packets
+    pub fn has_packets(&self) -> bool
+        ensures { result ≡ has_packets self.now.beginning }
+    {
+        !matches!(self.beginning, Beginning::Empty)
     }
 
-    /// Returns the header.
-    pub fn header(&self) -> Header {
-        Header { modulus: 8 }
+    /// Returns the most data of a side that was not acknowledged.
+    pub(crate) fn most(&self) -> u16
+        ensures { result ≡ self.now.most }
+    {
+        self.most
+    }
+
+    /// Returns the largest user data.
+    pub(crate) fn largest(&self) -> usize
+        ensures { result ≡ self.now.largest }
+    {
+        self.largest
+    }
+
+    /// Returns the modulus of most packets.
+    fn modulus(&self) -> u8
+        ensures { result ≡ modulus_seen self.now }
+    {
+        if self.of_8 < self.of_128 { 128 } else { 8 }
+    }
+
+    /// Returns the most data that was not acknowledged, below the modulus; 2 where no data shows a window.
+    #[tactic(auto, using(crate::proofs::HeaderLemmas::default_window, crate::proofs::HeaderLemmas::window_in_range))]
+    fn window(&self) -> u8
+        ensures value { result ≡ window_seen self.now }
+        ensures in_range { is_numbering (modulus_seen self.now) result ≡ true }
+    {
+        if self.most == 0 {
+            return 2;
+        }
+        self.most.min(u16::from(self.modulus()) - 1) as u8
+    }
+
+    /// Returns the smallest packet size for all user data; 128 where there is none.
+    fn size(&self) -> u16
+        ensures value { result ≡ size_seen self.now }
+        ensures listed { IsPacketSize result }
+    {
+        if self.largest == 0 {
+            return 128;
+        }
+        smallest_size(self.largest)
+    }
+
+    /// Returns the last channel that is used, at least 1.
+    fn last_channel(&self) -> u16
+        ensures value { result ≡ last_channel self.now }
+        ensures some { 1 ≤ result }
+        ensures few { result ≤ 4095 }
+    {
+        self.highest.min(4095).max(1)
+    }
+
+    /// Returns the last channel that is used without a call, below all channels with calls.
+    #[tactic(auto, using(crate::proofs::HeaderLemmas::last_few))]
+    fn permanent(&self) -> u16
+        ensures value { result ≡ permanent_seen self.now }
+        ensures few { result ≤ last_channel self.now }
+    {
+        let bound = self.first_call.min(self.last_channel() + 1);
+        self.channels.last_below(bound)
+    }
+
+    /// Returns whether the header has the third form: a trace that begins in the middle, or has gaps.
+    fn has_third_form(&self) -> bool
+        ensures { result ≡ has_third_form self.now }
+    {
+        self.beginning.is_joined() || self.has_gaps
+    }
+
+    /// Returns the header. Where no packet was seen it is that of an interface with one channel.
+    #[tactic(auto, using(crate::proofs::HeaderLemmas::in_range))]
+    pub fn header(&self) -> Interface
+        ensures { interface_with (numbers_seen self.now) ≡ Some result }
+    {
+        let pvc = self.permanent();
+        let svc = self.last_channel();
+        Interface {
+            modulus: self.modulus(),
+            window: self.window(),
+            size: self.size(),
+            pvc,
+            incoming: pvc,
+            two_way: svc,
+            svc,
+            join: self.beginning.is_joined(),
+            gaps: self.has_third_form(),
+        }
     }
 }

@@ -6,6 +6,7 @@ pub mod file_frames;
 pub mod frames;
 mod gaps;
 pub mod header;
+mod header_channels;
 pub mod header_text;
 mod line_reading;
 pub mod plan;

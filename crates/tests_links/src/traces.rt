@@ -1,14 +1,18 @@
 //! Traces of captures.
 
 use capture_report::file_frames::FileFrames;
+use capture_report::header::Seen;
+use capture_report::header_text::print_head;
 use capture_report::print::Page;
 use capture_report::reader::{Order, Reader};
 use capture_report::recordings::Recordings;
+use capture_report::row::{Content, Row};
 use capture_report::trace::CaptureTrace;
 use capture_rows::choices::Choices;
 use capture_rows::line::Line;
 use capture_rows::station::StationBy;
 use lapb_link::ends::Ends;
+use lapb_link::frames::Place;
 use line_model::device::{SliceSource, Source};
 use line_model::state::Side;
 use std::alloc::Global;
@@ -104,5 +108,44 @@ fn gaps_are_placed_in_recordings_and_noticed_in_one_reading(rt: HostRuntime) -> 
     assert!(rt; recorded(alloc, FILE).is_ok_and(|text| text.as_slice().ends_with(PLACED)));
     assert!(rt; recorded(alloc, PLACED).is_ok_and(|text| text.as_slice() == PLACED));
     assert!(rt; noticed(alloc)?.as_slice() == NOTICED);
+    Ok(())
+}
+
+/// A restart, two data packets of the DTE on channel 1 and their acknowledgement, and a call on channel 2.
+const PACKETS: [(Side, &[u8]); 6] = [
+    (Side::T, b"\x10\0\xFB\0\0"),
+    (Side::N, b"\x10\0\xFF"),
+    (Side::T, b"\x10\x01\0twenty octets of data"),
+    (Side::T, b"\x10\x01\x02\0"),
+    (Side::N, b"\x10\x01\x41"),
+    (Side::T, b"\x10\x02\x0B\0\0"),
+];
+
+const HEAD: &[u8] = b"# estimated from what was seen: MOD 8 (the general format identifiers), \
+    WIN 2 (the most data not acknowledged), SIZE 32 (the largest user data), \
+    PVC 1 (channels with data and no call), SVC 2 (the channels used)\n\
+    X25 1 MOD 8 WIN 2 SIZE 32 PVC 1 SVC 2\n";
+
+/// Sees a row.
+fn see(seen: &mut Seen, content: Content<'_>) -> Result<(), Fail> {
+    let place = Place {
+        frame: 1,
+        time: None,
+    };
+    Ok(seen.see(&Row { place, content })?)
+}
+
+#[test]
+fn header_has_the_largest_numbers_that_were_seen(rt: HostRuntime) -> Result<(), Fail> {
+    let mut seen = Seen::new(rt.alloc());
+    assert!(rt; !seen.has_packets());
+    for (side, octets) in &PACKETS {
+        see(&mut seen, Content::Packet(*side, octets))?;
+    }
+    let mut head = Vec::new(rt.alloc());
+    print_head(&seen.header(), &seen, &mut head)?;
+    assert!(rt; head.as_slice() == HEAD);
+    see(&mut seen, Content::Gap(None))?;
+    assert!(rt; seen.header().gaps);
     Ok(())
 }

@@ -1,0 +1,166 @@
+-- What the packets of a capture show of the header of its trace.
+use Rattle.std.specs.Prelude.{ℕ, ◌+◌, ◌-◌, ◌^◌, ◌==◌, ◌||◌, max, min, nat_le, nat_lt, Bool, true, false, List, Option, Some, None, find, unwrap_or, if◌then◌else◌}
+use Rattle.line_model.specs.basics.Limits.{packet_sizes}
+use Rattle.line_model.specs.basics.Octets.{bits, octet}
+use Rattle.line_model.specs.declared.interface.Interface.{Interface}
+use Rattle.line_model.specs.declared.packet.Packet.{Packet}
+use Rattle.line_model.specs.declared.packet.Packet.TheVariants.{Channel, Restart, RestartConfirm, WrongFormat}
+use Rattle.line_model.specs.declared.packet.PacketKind.{PacketKind}
+use Rattle.line_model.specs.declared.state.Side.{Side}
+use Rattle.line_model.specs.declared.state.Side.TheVariants.{T, N}
+use Rattle.line_model.specs.packets.Classes.{packet_of}
+use Rattle.line_model.specs.text.Header.{HeaderNumbers, interface_with}
+use Rattle.capture_report.specs.Contents as content
+use Rattle.capture_report.specs.Contents.{Content, Row}
+use Rattle.capture_report.specs.HeaderChannels.{all_swept, channel_at, channel_seen, is_set_up, last_below, missed, none_seen, outstanding, user_data, with_channel}
+use Rattle.capture_report.specs.declared.header.Beginning.{Beginning}
+use Rattle.capture_report.specs.declared.header.Beginning.TheVariants.{Empty, Joined, Restarting, Whole}
+use Rattle.capture_report.specs.declared.header.Seen.{Seen}
+use Rattle.capture_report.specs.declared.header_channels.Sweep.TheVariants as sweep
+
+-- ---- how the recording begins
+
+abbrev pub is_same : Side → Side → Bool
+is_same T T = true
+is_same N N = true
+is_same s r = false
+
+-- a packet on a channel after a restart that was not answered yet: where both sides send, the answer came before the recording
+abbrev pub sending : Side → (restarted : Side) → (sender : Option Side) → Beginning
+sending s r None = Restarting r (Some s)
+sending s r (Some o) = if is_same s o then Restarting r (Some s) else Joined
+
+-- a restart packet after a restart: that of the other side answers it
+abbrev pub answering : Side → (restarted : Side) → (sender : Option Side) → Beginning
+answering s r o = if is_same s r then Restarting r o else Whole
+
+abbrev pub beginning_after : Side → Packet → Beginning → Beginning
+beginning_after s Restart Empty = Restarting s None
+beginning_after s p Empty = Joined
+beginning_after s (Channel n k) (Restarting r o) = sending s r o
+beginning_after s Restart (Restarting r o) = answering s r o
+beginning_after s RestartConfirm (Restarting r o) = answering s r o
+beginning_after s p b = b
+
+-- the answer may be among packets that are missing
+abbrev pub beginning_missed : Beginning → Beginning
+beginning_missed (Restarting r o) = Whole
+beginning_missed b = b
+
+-- ---- what was seen
+
+abbrev pub nothing_seen : Seen
+nothing_seen = record {
+  of_8 = 0;
+  of_128 = 0;
+  most = 0;
+  largest = 0;
+  highest = 0;
+  first_call = 4096;
+  beginning = Empty;
+  has_gaps = false;
+  channels = none_seen;
+}
+
+-- an interface of a modulus that has all channels
+abbrev pub all_channels : (modulus : ℕ) → HeaderNumbers
+all_channels modulus = record { modulus = modulus; window = 1; size = 16; pvc = 0; incoming = 0; two_way = 4095; svc = 4095; join = false; gaps = false }
+
+-- a packet is read by its own general format identifier (X.25 Table 5-1)
+abbrev pub format_interface : List ℕ → Option Interface
+format_interface xs = if bits 6 5 (octet 1 xs) == 1 then interface_with (all_channels 8)
+    else if bits 6 5 (octet 1 xs) == 2 then interface_with (all_channels 128) else None
+
+abbrev pub more : ℕ → ℕ
+more n = if nat_lt n (2 ^ 64 - 1) then n + 1 else n
+
+abbrev pub counted : Interface → Seen → Seen
+counted i v = if i.modulus == 8 then record v { of_8 = more v.of_8 } else record v { of_128 = more v.of_128 }
+
+abbrev pub on_channel : Interface → Side → List ℕ → (channel : ℕ) → PacketKind → Seen → Seen
+on_channel i s xs n k v = record v {
+  most = max v.most (outstanding i s k (channel_at v.channels n));
+  largest = max v.largest (user_data i xs k (channel_at v.channels n));
+  highest = max v.highest n;
+  first_call = if is_set_up k then min v.first_call n else v.first_call;
+  channels = with_channel n (channel_seen i s xs k (channel_at v.channels n)) v.channels;
+}
+
+abbrev pub kind_seen : Interface → Side → List ℕ → Packet → Seen → Seen
+kind_seen i s xs Restart v = record v { channels = all_swept sweep.Restart v.channels }
+kind_seen i s xs (Channel n k) v = on_channel i s xs n k v
+kind_seen i s xs p v = v
+
+abbrev pub packet_seen : Side → List ℕ → (format : Option Interface) → Seen → Seen
+packet_seen s xs None v = record v { beginning = beginning_after s WrongFormat v.beginning }
+packet_seen s xs (Some i) v =
+    kind_seen i s xs (packet_of i xs) (counted i (record v { beginning = beginning_after s (packet_of i xs) v.beginning }))
+
+-- packets of all channels may be missing
+abbrev pub all_missed : Seen → Seen
+all_missed v = record v { beginning = beginning_missed v.beginning; has_gaps = true; channels = all_swept sweep.Gap v.channels }
+
+abbrev pub gap_seen : (channel : Option ℕ) → Seen → Seen
+gap_seen None v = all_missed v
+gap_seen (Some n) v = if nat_le n 4095
+    then record v { highest = max v.highest n; has_gaps = true; channels = with_channel n (missed (channel_at v.channels n)) v.channels }
+    else all_missed v
+
+abbrev pub content_seen : Content → Seen → Seen
+content_seen (content.Packet s xs) v = packet_seen s xs (format_interface xs) v
+content_seen (content.Gap c) v = gap_seen c v
+
+-- what was seen with a row more
+abbrev pub seen_with : Row → Seen → Seen
+seen_with r v = content_seen r.content v
+
+-- ---- the header
+
+abbrev pub has_packets : Beginning → Bool
+has_packets Empty = false
+has_packets b = true
+
+abbrev pub is_joined : Beginning → Bool
+is_joined Joined = true
+is_joined b = false
+
+-- the modulus of most packets
+abbrev pub modulus_seen : Seen → ℕ
+modulus_seen v = if nat_lt v.of_8 v.of_128 then 128 else 8
+
+-- the most data that was not acknowledged, below the modulus; 2 where no data shows a window
+abbrev pub window_seen : Seen → ℕ
+window_seen v = if v.most == 0 then 2 else min v.most (modulus_seen v - 1)
+
+-- the smallest packet size for user data
+abbrev pub smallest_size : ℕ → ℕ
+smallest_size n = unwrap_or (find (λ size. nat_le n size) packet_sizes) 4096
+
+-- that for the largest user data; 128 where there is none
+abbrev pub size_seen : Seen → ℕ
+size_seen v = if v.largest == 0 then 128 else smallest_size v.largest
+
+-- the last channel that is used
+abbrev pub last_channel : Seen → ℕ
+last_channel v = max (min v.highest 4095) 1
+
+-- the last channel that is used without a call, below all channels with calls
+abbrev pub permanent_seen : Seen → ℕ
+permanent_seen v = last_below v.channels (min v.first_call (last_channel v + 1))
+
+-- a trace that begins in the middle, or has gaps, has the third form
+abbrev pub has_third_form : Seen → Bool
+has_third_form v = is_joined v.beginning || v.has_gaps
+
+abbrev pub numbers_seen : Seen → HeaderNumbers
+numbers_seen v = record {
+  modulus = modulus_seen v;
+  window = window_seen v;
+  size = size_seen v;
+  pvc = permanent_seen v;
+  incoming = permanent_seen v;
+  two_way = last_channel v;
+  svc = last_channel v;
+  join = is_joined v.beginning;
+  gaps = has_third_form v;
+}
