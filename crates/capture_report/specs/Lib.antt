@@ -7,3 +7,5 @@ pub mod Rows
 pub mod Texts
 pub mod Readings
 pub mod Traces
+pub mod TraceRows
+pub mod Laws

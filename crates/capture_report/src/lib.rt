@@ -4,6 +4,7 @@
 pub mod file_frames;
 pub mod frames;
 mod gaps;
+pub mod laws;
 mod line_reading;
 pub mod plan;
 pub mod print;
