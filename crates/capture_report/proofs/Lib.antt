@@ -1,5 +1,9 @@
+mod CaptureRowLemmas
+mod FrameLemmas
 mod GapLemmas
 mod GivingLemmas
+mod HeldLemmas
+mod LinkLemmas
 mod PlaceLemmas
 mod ReadingLemmas
 mod RowWordLemmas

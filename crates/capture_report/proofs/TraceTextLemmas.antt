@@ -9,7 +9,7 @@ use Rattle.line_model.specs.declared.interface.Interface.{Interface}
 use Rattle.line_model.specs.observer.Report.{report}
 use Rattle.line_model.specs.packets.Says.{items_of}
 use Rattle.line_model.specs.text.RowLine.{row_of}
-use Rattle.line_model.specs.text.Text.{Line, begun_kind, begun_line, early, ended_lines, fault, first_fault, has_header, head, head_in, head_of, last_number, last_or, line_or_none, lines_of, row_number, rows, rows_in, size_kind, size_of}
+use Rattle.line_model.specs.text.Text.{Line, begun_kind, begun_line, ended_lines, first_fault, has_header, head_in, head_of, last_number, last_or, line_or_none, lines_of, row_number, rows, rows_in, size_kind, size_of}
 use Rattle.line_model.proofs.LineLemmas.{size_kind-zero}
 use Rattle.line_model.proofs.TextLemmas.{begun-lf, begun-more, ended-lf, ended-more, first_fault-append, size_of-append, size_of-ended}
 use Rattle.trace_text.specs.Cuts.{Lacks}
@@ -26,6 +26,7 @@ use Rattle.capture_report.specs.Rows.{rows_from}
 use Rattle.capture_report.specs.Texts.{Page, after_row, channel_text, content_text, first_printer, least_number, number_if, number_of, numbered, numbered_text, place_text, rows_printed}
 use Rattle.capture_report.specs.TraceRows.{AreRows as AreCaptureRows, AreWithin, IsRow, IsWithin, row_numbered, trace_row, trace_rows}
 use Rattle.capture_report.specs.declared.print.Printer.{Printer}
+use Rattle.capture_report.proofs.CaptureRowLemmas.{rows_law}
 use Rattle.capture_report.proofs.PlaceLemmas.{place_line, place_part}
 use Rattle.capture_report.proofs.RowWordLemmas.{content_line, row_line}
 
@@ -85,15 +86,23 @@ one_more i last r n rest rs h within more small later =
     ap ended_lines is ∙ place.0 ∙ ap (λ (ls : List Line). place_line r.place ∷ ls) content.0 in
     record {
       whole = ap begun_line is ∙ place.1 ∙ content.1 ∙ later.whole;
-      lines = subst (λ ls. AreRows i last ls (trace_row n r.content ∷ rs)) (sym lines)
-          (comment.few, inl (refl, (row.short, inr (
-            trace_row n r.content,
-            rs,
-            row.writes,
-            subst (λ m. last < m) (sym row.number) more,
-            refl,
-            subst (λ m. AreRows i m (ended_lines rest) rs) (sym row.number) later.lines,
-          ))));
+      lines = subst (λ ls. AreRows i last ls (trace_row n r.content ∷ rs)) (sym lines) (
+        comment.few,
+        inl (
+          refl,
+          (
+            row.short,
+            inr (
+              trace_row n r.content,
+              rs,
+              row.writes,
+              subst (λ m. last < m) (sym row.number) more,
+              refl,
+              subst (λ m. AreRows i m (ended_lines rest) rs) (sym row.number) later.lines,
+            ),
+          ),
+        ),
+      );
     }
 
 are_lines : (i : Interface) (p : Printer) (rs : List Row) → AreCaptureRows rs → AreWithin i rs → AreLines i p.last (rows_printed p rs) (trace_rows p rs)
@@ -157,10 +166,10 @@ pub text_law : TextLaw
 text_law i header by_frames rs h are within room = text_read i header (rows_printed (first_printer by_frames) rs) (trace_rows (first_printer by_frames) rs) h (are_lines i (first_printer by_frames) rs are within) room
 
 pub capture_law : CaptureLaw
-capture_law i header by_frames r records text h page are within given room =
+capture_law i header by_frames r records text h page fresh recorded within given room =
     let rs = rows_from r.order r.line records in
     let is : header ++ rows_printed (first_printer by_frames) rs ≡ text = ap (λ (p : Page). p.text ++ rows_printed p.printer rs) (sym page) ∙ some_text given in
-    subst (λ xs. HasRows xs i (trace_rows (first_printer by_frames) rs)) is (text_law i header by_frames rs h are within (subst (λ (xs : List ℕ). length xs ≤ 1073741824) (sym is) room))
+    subst (λ xs. HasRows xs i (trace_rows (first_printer by_frames) rs)) is (text_law i header by_frames rs h (rows_law r.order r.line records fresh recorded) within (subst (λ (xs : List ℕ). length xs ≤ 1073741824) (sym is) room))
   where
     some_text : {xs ys : List ℕ} → Some xs ≡ Some ys → xs ≡ ys
     some_text e = cc

@@ -52,14 +52,19 @@ pub record IsFrame (f : Frame) : Type 0 where
 abbrev pub IsRecord : Record → Type 0
 IsRecord r = IfSome r.dropped (λ d. IsPlace (record { frame = d.number; time = d.time })) × IfSome r.frame IsFrame
 
--- the rows of a capture, from a link on of which nothing was read
+-- nothing was read of a line
+pub record IsFresh (l : Line) : Type 0 where
+  pub modulus : Option Modulus
+  pub ends : Ends
+  pub new : l.link ≡ new_link modulus ends
+
+-- the rows of a capture may be those of a trace
 abbrev pub RowsLaw : Type 0
-RowsLaw = (order : Order) (l : Line) (m : Option Modulus) (ends : Ends) (records : List Record) → l.link ≡ new_link m ends → AllByRecursion IsRecord records
-    → AreRows (rows_from order l records)
+RowsLaw = (order : Order) (l : Line) (records : List Record) → IsFresh l → AllByRecursion IsRecord records → AreRows (rows_from order l records)
 
 -- the observer reads the trace that a source makes of a capture as the rows of the capture
 abbrev pub CaptureLaw : Type 0
 CaptureLaw = (i : Interface) (header : List ℕ) (by_frames : Bool) (r : Reader) (records : List Record) (text : List ℕ) → IsHeader i header
-    → r.page ≡ record { printer = first_printer by_frames; text = header } → AreRows (rows_from r.order r.line records) → AreWithin i (rows_from r.order r.line records)
+    → r.page ≡ record { printer = first_printer by_frames; text = header } → IsFresh r.line → AllByRecursion IsRecord records → AreWithin i (rows_from r.order r.line records)
     → text_left (Some records) r 0 ≡ Some text → length text ≤ text_limit
     → HasRows text i (trace_rows (first_printer by_frames) (rows_from r.order r.line records))
