@@ -1,8 +1,15 @@
+mod CaptureRowLemmas
+mod FrameLemmas
 mod GapLemmas
 mod HeaderLemmas
 mod HeaderTextLemmas
 mod GivingLemmas
+mod HeldLemmas
+mod LinkLemmas
+mod PlaceLemmas
 mod ReadingLemmas
+mod RowWordLemmas
 mod SearchLemmas
 mod RecordingLemmas
 mod TextLemmas
+mod TraceTextLemmas

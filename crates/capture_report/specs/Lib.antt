@@ -11,3 +11,5 @@ pub mod Recordings
 pub mod HeaderChannels
 pub mod Headers
 pub mod HeaderTexts
+pub mod TraceRows
+pub mod Laws

@@ -8,6 +8,7 @@ mod gaps;
 pub mod header;
 mod header_channels;
 pub mod header_text;
+pub mod laws;
 mod line_reading;
 pub mod plan;
 pub mod print;

@@ -1,0 +1,70 @@
+-- What the observer reads from the trace of a capture.
+use Rattle.std.specs.Prelude.{◌≡◌, ℕ, ◌≤◌, Bool, List, [], ◌∷◌, ◌++◌, Option, None, Some, IfSome, length}
+use Rattle.std.specs.List.{AllByRecursion}
+use Rattle.hex.specs.Hex.{IsBytes}
+use Rattle.line_model.specs.basics.Records as trace
+use Rattle.line_model.specs.declared.interface.Interface.{Interface}
+use Rattle.line_model.specs.observer.Report.{report}
+use Rattle.line_model.specs.packets.Says.{items_of}
+use Rattle.line_model.specs.text.Header.{interface_of}
+use Rattle.line_model.specs.text.Text.{begun_line, content_of, early, ended_lines, fault, head, rows, text_limit}
+use Rattle.line_model.specs.traces.Traces.{trace_report}
+use Rattle.capture_model.specs.Frames.{Frame}
+use Rattle.lapb_link.specs.Links.{new_link}
+use Rattle.lapb_link.specs.declared.ends.Ends.{Ends}
+use Rattle.lapb_link.specs.declared.modulus.Modulus.{Modulus}
+use Rattle.capture_rows.specs.declared.line.Line.{Line}
+use Rattle.capture_report.specs.Contents.{Row}
+use Rattle.capture_report.specs.Records.{Record}
+use Rattle.capture_report.specs.Rows.{place_of, rows_from}
+use Rattle.capture_report.specs.Texts.{first_printer, rows_printed}
+use Rattle.capture_report.specs.TraceRows.{AreRows, AreWithin, IsPlace, trace_rows}
+use Rattle.capture_report.specs.Traces.{text_left}
+use Rattle.capture_report.specs.declared.reader.Order.{Order}
+use Rattle.capture_report.specs.declared.reader.Reader.{Reader}
+
+-- whole lines without a fault: comments, and a header of this interface
+pub record IsHeader (i : Interface) (text : List ℕ) : Type 0 where
+  pub header : List ℕ
+  pub content : content_of (ended_lines text) ≡ header ∷ []
+  pub interface : interface_of header ≡ Some i
+  pub whole : begun_line text ≡ []
+  pub sound : early text ≡ None
+
+-- a text without a fault has this interface and these rows, and its report is that of one observer over them
+pub record HasRows (text : List ℕ) (i : Interface) (those : List trace.Row) : Type 0 where
+  pub sound : fault text ≡ None
+  pub header : head text ≡ Some i
+  pub same_rows : rows text ≡ those
+  pub report : trace_report text ≡ report i (items_of i those)
+
+-- the observer reads the text of rows as these rows
+abbrev pub TextLaw : Type 0
+TextLaw = (i : Interface) (header : List ℕ) (by_frames : Bool) (rs : List Row) → IsHeader i header → AreRows rs → AreWithin i rs
+    → length (header ++ rows_printed (first_printer by_frames) rs) ≤ text_limit
+    → HasRows (header ++ rows_printed (first_printer by_frames) rs) i (trace_rows (first_printer by_frames) rs)
+
+-- octets are octets, and the number and the time are in the ranges of their types
+pub record IsFrame (f : Frame) : Type 0 where
+  pub place : IsPlace (place_of f)
+  pub octets : IsBytes f.octets
+
+abbrev pub IsRecord : Record → Type 0
+IsRecord r = IfSome r.dropped (λ d. IsPlace (record { frame = d.number; time = d.time })) × IfSome r.frame IsFrame
+
+-- nothing was read of a line
+pub record IsFresh (l : Line) : Type 0 where
+  pub modulus : Option Modulus
+  pub ends : Ends
+  pub new : l.link ≡ new_link modulus ends
+
+-- the rows of a capture may be those of a trace
+abbrev pub RowsLaw : Type 0
+RowsLaw = (order : Order) (l : Line) (records : List Record) → IsFresh l → AllByRecursion IsRecord records → AreRows (rows_from order l records)
+
+-- the observer reads the trace that a source makes of a capture as the rows of the capture
+abbrev pub CaptureLaw : Type 0
+CaptureLaw = (i : Interface) (header : List ℕ) (by_frames : Bool) (r : Reader) (records : List Record) (text : List ℕ) → IsHeader i header
+    → r.page ≡ record { printer = first_printer by_frames; text = header } → IsFresh r.line → AllByRecursion IsRecord records → AreWithin i (rows_from r.order r.line records)
+    → text_left (Some records) r 0 ≡ Some text → length text ≤ text_limit
+    → HasRows text i (trace_rows (first_printer by_frames) (rows_from r.order r.line records))

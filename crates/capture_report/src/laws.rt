@@ -1,0 +1,15 @@
+//! Theorems about the definitions alone.
+
+ghost use Rattle.capture_report.specs.Laws.{CaptureLaw, RowsLaw, TextLaw};
+
+/// The observer reads the text of rows, after that of a header, as these rows: with the numbers of the page, each packet
+/// with its side and its octets, each gap with its channel. Its report is that of one observer over them.
+pub fn text_is_read()
+    ensures text { TextLaw }
+    ensures capture { CaptureLaw }
+{}
+
+/// Each row of a capture has a packet of at most 4,200 octets, or is a gap of a channel from 1 on or of all.
+pub fn rows_have_packets()
+    ensures { RowsLaw }
+{}
