@@ -94,10 +94,10 @@ returns-clause-walked g c i rows h next =
     c.octets_left_out-left_out.ensures i v.epoch rows (subst (λ es. IsJudgedRow i rows one (judged_row one outcome) (with_data v.epoch outcome.judge one es)) (sym c.as_slice.ensures.value) known) (same.interface ∙ w.holds.interface ∙ w.cut.interface) in
     let reaction = c.reaction_to-reaction.ensures i rows _ known (same.machine ∙ level) (step_is.machine ∙ ap (λ l. (routing l one).after) level) in
     let tally = c.args.self.now.tally in
-    let data = c.octets_left_out-left_out.result in
+    let left_out = c.octets_left_out-left_out.result in
     let counted = c.count_data.ensures
-        ∙ (λ j. record { findings = (c.count_finding.ensures j).findings; packets = (c.count_finding.ensures j).packets + length (option_to_list data); octets = (c.count_finding.ensures j).octets + sum (option_to_list data) })
-        ∙ (λ j. record { findings = tally.findings + cond (c.is_some.ensures j) 1 0; packets = tally.packets + length (option_to_list data); octets = tally.octets + sum (option_to_list data) }) in
+        ∙ (λ j. record { findings = (c.count_finding.ensures j).findings; packets = (c.count_finding.ensures j).packets + length (option_to_list left_out); octets = (c.count_finding.ensures j).octets + sum (option_to_list left_out) })
+        ∙ (λ j. record { findings = tally.findings + cond (c.is_some.ensures j) 1 0; packets = tally.packets + length (option_to_list left_out); octets = tally.octets + sum (option_to_list left_out) }) in
     let here = represents_here v w same in
     let moved = applied.represented w.cutting.open_rows here (rows_after step.effect one w.cutting.gap w.cutting.open_rows) (effects_here one step v w sound step_is same) (rows_next one step w) in
     let walked = walked_after one step v c.advance.new.self c.apply.new.self w sound step_is same c.advance.ensures applied.gap moved in
@@ -109,7 +109,7 @@ returns-clause-walked g c i rows h next =
     })) is
     (record {
       walked = same_walked _ walked refl refl refl refl refl refl;
-      tally = tally_after i rows one outcome.finding data tally _ h.tally known.finding left counted;
+      tally = tally_after i rows one outcome.finding left_out tally _ h.tally known.finding left counted;
       watch = c.in_ok-take.ensures.taken ∙ (λ j. watched_after ((step_is.effect ∙ ap (λ l. effect_of one.packet (routing l one).route) level) j) (reaction j) (h.watch j)) ∙ sym (watched_more i rows one);
-      few = few_after i rows one outcome.finding data tally _ h.few left counted;
+      few = few_after i rows one outcome.finding left_out tally _ h.few left counted;
     })
