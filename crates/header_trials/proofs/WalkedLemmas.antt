@@ -1,5 +1,5 @@
 -- A trial with one more row.
-use Rattle.std.proofs.Common.{◌≡◌, ◌∙◌, sym, ap, refl, ℕ, ◌+◌, ◌-◌, ◌≤◌, ◌^◌, cond, is_some, List, [], ◌∷◌, ◌++◌, map, length, sum, sum_by, Option, Some, None, arith, length-append, option_to_list}
+use Rattle.std.proofs.Common.{◌≡◌, ◌∙◌, sym, ap, refl, ℕ, ◌+◌, ◌≤◌, ◌^◌, List, [], ◌∷◌, ◌++◌, map, length, sum, sum_by, Option, Some, None, arith, length-append, option_to_list}
 use Rattle.std.specs.Prelude.{All, option_map}
 use Rattle.std.proofs.lemmas.List.Sums.{sum_by-append, sum_by_push}
 use Rattle.std.proofs.lemmas.List.Elements.{All-head, All-tail}
@@ -48,27 +48,13 @@ few_octets i rs r t = let few = t.octets in omega (arith, few, sum_by_push (λ (
 
 -- ---- what it counts of one more row
 
--- a row has one finding at the most
-pub one_counted : (o : Option Finding) → cond (is_some o) 1 0 ≡ length (option_to_list o)
-one_counted None = refl
-one_counted (Some f) = refl
-
 -- its data, if it was not counted
 left_by : (why : Option Reason) (n : ℕ) → (length (option_to_list (option_map (λ w. n) why)) ≡ length (left_out_by why n)) × (sum (option_to_list (option_map (λ w. n) why)) ≡ sum_by (λ (d : LeftOut). d.octets) (left_out_by why n))
 left_by None n = (refl, refl)
 left_by (Some w) n = (refl, refl)
 
-few_left : (why : Option Reason) (n : ℕ) → (length (option_to_list (option_map (λ w. n) why)) ≤ 1) × (sum (option_to_list (option_map (λ w. n) why)) ≤ n)
-few_left None n = (omega arith, omega arith)
-few_left (Some w) n = (omega arith, omega arith)
-
-pub few_octets_left : (i : Interface) (rs : List Item) (r : Item) (left : Option ℕ) → left ≡ octets_left i (observer i rs) r → (length (option_to_list left) ≤ 1) × (sum (option_to_list left) ≤ r.length)
-few_octets_left i rs r left is =
-    let few = few_left (reason_at i (observer i rs) r) (user_octets i r.length) in
-    (omega (arith, few.0, ap (λ o. length (option_to_list o)) is), omega (arith, few.1, ap (λ o. sum (option_to_list o)) is))
-
 pub tally_after : (i : Interface) (rs : List Item) (r : Item) (found : Option Finding) (left : Option ℕ) (before after : TrialCounts) → before ≡ tally_of i rs → (report_of i (rs ++ r ∷ [])).findings ≡ (report_of i rs).findings ++ option_to_list found → left ≡ octets_left i (observer i rs) r
-    → after ≡ record { findings = before.findings + cond (is_some found) 1 0; packets = before.packets + length (option_to_list left); octets = before.octets + sum (option_to_list left) } → after ≡ tally_of i (rs ++ r ∷ [])
+    → after ≡ record { findings = before.findings + length (option_to_list found); packets = before.packets + length (option_to_list left); octets = before.octets + sum (option_to_list left) } → after ≡ tally_of i (rs ++ r ∷ [])
 tally_after i rs r found left before after was finds is counted =
     let by = left_by (reason_at i (observer i rs) r) (user_octets i r.length) in
     let lefts = left_out_more i (start i) rs r in
@@ -76,7 +62,7 @@ tally_after i rs r found left before after was finds is counted =
     let own = left_out_at i (observer i rs) r in
     counted
     ∙ (λ j. record {
-      findings = (was j).findings + one_counted found j;
+      findings = (was j).findings + length (option_to_list found);
       packets = (was j).packets + (ap (λ o. length (option_to_list o)) is ∙ by.0) j;
       octets = (was j).octets + (ap (λ o. sum (option_to_list o)) is ∙ by.1) j;
     })
@@ -86,15 +72,14 @@ tally_after i rs r found left before after was finds is counted =
       octets = sym (ap (sum_by (λ (d : LeftOut). d.octets)) lefts ∙ sum_by-append (λ (d : LeftOut). d.octets) first own) j;
     })
 
-pub few_after : (i : Interface) (rs : List Item) (r : Item) (found : Option Finding) (left : Option ℕ) (before after : TrialCounts) → IsFew rs before → left ≡ octets_left i (observer i rs) r
-    → after ≡ record { findings = before.findings + cond (is_some found) 1 0; packets = before.packets + length (option_to_list left); octets = before.octets + sum (option_to_list left) } → IsFew (rs ++ r ∷ []) after
-few_after i rs r found left before after few is counted =
-    let own = few_octets_left i rs r left is in
+pub few_after : (rs : List Item) (r : Item) (found : Option Finding) (left : Option ℕ) (before after : TrialCounts) → IsFew rs before → sum (option_to_list left) ≤ r.length
+    → after ≡ record { findings = before.findings + length (option_to_list found); packets = before.packets + length (option_to_list left); octets = before.octets + sum (option_to_list left) } → IsFew (rs ++ r ∷ []) after
+few_after rs r found left before after few own counted =
     let more : length (rs ++ r ∷ []) ≡ length rs + 1 = length-append rs (r ∷ []) in
     record {
-      findings = omega (arith, ap (λ t. t.findings) counted, few.findings, one_counted found, at_most_one found, more);
-      uncounted = omega (arith, ap (λ t. t.packets) counted, few.uncounted, own.0, more);
-      octets = omega (arith, ap (λ t. t.octets) counted, few.octets, own.1, sum_by_push (λ (x : Item). x.length) rs r);
+      findings = omega (arith, ap (λ t. t.findings) counted, few.findings, at_most_one found, more);
+      uncounted = omega (arith, ap (λ t. t.packets) counted, few.uncounted, at_most_one left, more);
+      octets = omega (arith, ap (λ t. t.octets) counted, few.octets, own, sum_by_push (λ (x : Item). x.length) rs r);
     }
 
 -- ---- the walk

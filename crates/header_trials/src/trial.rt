@@ -1,6 +1,6 @@
 //! The counts of a trace's rows under one header.
 
-ghost use Rattle.std.specs.Prelude.{◌≡◌, ℕ, ◌+◌, ◌<◌, ◌^◌, ◌++◌, ◌∷◌, [], List, IfErr, OnOk, length, option_to_list, sum, if◌then◌else◌};
+ghost use Rattle.std.specs.Prelude.{◌≡◌, ℕ, ◌+◌, ◌<◌, ◌≤◌, ◌^◌, ◌++◌, ◌∷◌, [], List, IfErr, OnOk, length, option_to_list, sum};
 ghost use Rattle.line_model.specs.basics.Records as records;
 ghost use Rattle.line_model.specs.channels.GapRestart.{routing};
 ghost use Rattle.line_model.specs.declared.event.Event.{Event as AnyEvent};
@@ -20,6 +20,7 @@ use channel_run::run::Channel;
 use channel_run::status_word::view_in;
 use line_model::event::Event;
 use line_model::fault::Fault;
+use line_model::finding::Finding;
 use line_model::interface::Interface;
 use line_model::items::ItemRef;
 use line_model::row::ReadRow;
@@ -54,33 +55,23 @@ impl TrialCounts {
         }
     }
 
-    /// Counts a finding, if a row has one.
-    fn count_finding(&mut self, found: bool)
-        requires { self.old.findings + 1 < 2 ^ 32 }
-        ensures { self.new ≡ record self.old {
-          findings = self.old.findings + (if found then 1 else 0);
+    /// Counts a row, by its finding and its user data that was left out.
+    fn count(&mut self, finding: Option<Finding>, left_out: Option<u32>)
+        requires findings { self.old.findings + 1 < 2 ^ 32 }
+        requires packets { self.old.packets + 1 < 2 ^ 32 }
+        requires octets { self.old.octets + sum (option_to_list left_out) < 2 ^ 32 }
+        ensures { self.new ≡ record {
+          findings = self.old.findings + length (option_to_list finding);
+          packets = self.old.packets + length (option_to_list left_out);
+          octets = self.old.octets + sum (option_to_list left_out);
         } }
     {
-        if found {
+        if let Some(_) = finding {
             self.findings += 1;
         }
-    }
-
-    /// Counts the user data of a row, where it was left out.
-    fn count_data(&mut self, octets: Option<u32>)
-        requires packets { self.old.packets + 1 < 2 ^ 32 }
-        requires octets { self.old.octets + sum (option_to_list octets) < 2 ^ 32 }
-        ensures { self.new ≡ record self.old {
-          packets = self.old.packets + length (option_to_list octets);
-          octets = self.old.octets + sum (option_to_list octets);
-        } }
-    {
-        match octets {
-            Some(octets) => {
-                self.packets += 1;
-                self.octets += octets;
-            }
-            None => {}
+        if let Some(octets) = left_out {
+            self.packets += 1;
+            self.octets += octets;
         }
     }
 }
@@ -93,11 +84,12 @@ fn octets_left_out(
     events: &[Event],
 ) -> Option<u32>
     requires { item.now.length < 2 ^ 32 }
-    ensures { (i : AnyInterface) (epoch : ℕ) (earlier : List records.Item)
+    ensures left { (i : AnyInterface) (epoch : ℕ) (earlier : List records.Item)
         → IsJudgedRow i earlier item.now (judged_row item.now outcome.now)
         (with_data epoch outcome.now.judge item.now events.now)
         → interface.now ≡ i
         → result ≡ octets_left i (observer i earlier) item.now }
+    ensures few { sum (option_to_list result) ≤ item.now.length }
 {
     match outcome.reason(item, events) {
         Some(_) => Some(user_octets(interface, item.length) as u32),
@@ -179,8 +171,7 @@ impl<A: Allocator + Copy, C: Channel<A>> Trial<A, C> {
         let outcome = self.channels.apply(&self.walk, &step, &item, events)?;
         let reaction = reaction_to(&self.walk.machine, &step.machine, &outcome, &item);
         let left_out = octets_left_out(&self.walk.interface, &item, &outcome, events.as_slice());
-        self.tally.count_finding(outcome.finding.is_some());
-        self.tally.count_data(left_out);
+        self.tally.count(outcome.finding, left_out);
         self.watch.take(step.effect, reaction)?;
         self.walk.advance(step);
         self.walk.findings.clear();

@@ -3,11 +3,12 @@ use Rattle.std.proofs.Common.{◌≡◌, ◌∙◌, sym, ap, subst, refl, ℕ, B
 use Rattle.std.specs.BTreeSet.{insert_key}
 use Rattle.std.specs.Ordering.{nat_cmp}
 use Rattle.std.proofs.lemmas.Bool.{eqb-true, eqb-false}
+use Rattle.line_model.specs.basics.Bounds.{IsPiece}
 use Rattle.line_model.specs.basics.Records.{Item, Piece}
 use Rattle.line_model.specs.pieces.Plan.{has_some}
 use Rattle.restart_epochs.specs.OpenRows.{OpenRows, rows_of, with_channel, with_gap, HasMore}
 use Rattle.restart_epochs.specs.ChannelTables.{ChannelTables, value_at, HasTaken, HasListed, HasPut}
-use Rattle.live_report.specs.OpenChannels.{OpenEpoch, begun_piece, OpenChannelFor, OpenChannelsFor, IsOut, OpenFor}
+use Rattle.live_report.specs.OpenChannels.{OpenEpoch, begun_piece, IsOpenFor, OpenChannelFor, OpenChannelsFor, IsOut, OpenFor}
 use Rattle.live_report.specs.declared.open_channels.OpenChannel.{OpenChannel}
 
 has_more : (items : List Item) (item : Item) → has_some (items ++ item ∷ []) ≡ true
@@ -28,6 +29,16 @@ out_none R e k rows before middle after entry f t l fresh =
       others = λ j ne. subst (OpenChannelFor R (begun_piece e j (rows_of rows j))) (sym (l.values j ∙ t.others j ne)) (f.each j);
       channels = l.channels ∙ ap (λ ks. insert_key nat_cmp ks k) (t.channels ∙ f.channels) ∙ ap (λ items. with_channel items k rows.channels) (sym empty);
     }
+
+-- it has applied the last gap of all channels, and is borrowed before it and after it
+pub caught_up : {K : Type 0} → (R : K → Piece → Type 0) (e : OpenEpoch) (k taken gap : ℕ) (rows : OpenRows) (entry before after again : OpenChannel K) → taken ≡ gap → before ≡ entry → again ≡ after
+    → ((d : OpenEpoch) (j : ℕ) (items : List Item) → IsOpenFor R d j items before → IsPiece d.interface j (with_gap taken items) → IsOpenFor R d j (with_gap taken items) after)
+    → IsOpenFor R e k (rows_of rows k) entry → IsPiece e.interface k (with_gap gap (rows_of rows k)) → IsOpenFor R e k (with_gap gap (rows_of rows k)) again
+caught_up R e k taken gap rows entry before after again same lent back applies represented small =
+    let items = rows_of rows k in
+    subst (IsOpenFor R e k (with_gap gap items)) (sym back)
+    (subst (λ n. IsOpenFor R e k (with_gap n items) after) same
+    (applies e k items (subst (IsOpenFor R e k items) (sym lent) represented) (subst (λ n. IsPiece e.interface k (with_gap n items)) (sym same) small)))
 
 pub put_back : {K : Type 0} → (R : K → Piece → Type 0) (e : OpenEpoch) (gap k : ℕ) (rows more : OpenRows) (item : Item) (before after : ChannelTables (OpenChannel K)) (entry stepped : OpenChannel K)
     → IsOut R e k rows entry before → OpenFor R stepped (begun_piece e k (with_gap gap (rows_of rows k) ++ item ∷ [])) → HasPut k stepped before after → HasMore gap k item rows more

@@ -1,4 +1,4 @@
-use Rattle.std.proofs.Common.{◌≡◌, ◌∙◌, arith, ap, refl, subst, sym, ◌++◌, ◌∷◌, ◌+◌, [], cond, length, option_to_list, sum}
+use Rattle.std.proofs.Common.{◌≡◌, ◌∙◌, arith, ap, refl, subst, sym, ◌++◌, ◌∷◌, []}
 use Rattle.line_model.specs.channels.GapRestart.{routing}
 use Rattle.line_model.specs.packets.Says.{item_read}
 use Rattle.restart_epochs.specs.Cutting.{observer}
@@ -10,7 +10,7 @@ use Rattle.live_report.proofs.TakeLemmas.{effects_here, represents_here, rows_af
 use Rattle.header_trials.specs.Reactions.{watched_after}
 use Rattle.header_trials.specs.Tried.{HasWalked, octets_left}
 use Rattle.header_trials.proofs.ReactionLemmas.{roomy, watched_more}
-use Rattle.header_trials.proofs.WalkedLemmas.{few_after, few_next, few_octets, few_octets_left, judged_by, same_walked, tally_after}
+use Rattle.header_trials.proofs.WalkedLemmas.{few_after, few_next, few_octets, judged_by, same_walked, tally_after}
 use Rattle.header_trials.proofs.trial.Trial.take.Goals as goal
 
 pub step-requires : goal.step-requires
@@ -33,33 +33,20 @@ octets_left_out-left_out-requires g c =
     let next = c.requires.next in
     omega (arith, few_octets next.0 next.1 (item_read next.0 c.args.row.now) next.3, ap (λ x. x.length) c.item_of_row-item.ensures.item)
 
-pub count_finding-requires : goal.count_finding-requires
-count_finding-requires g c =
+pub count-requires-clause-findings : goal.count-requires-clause-findings
+count-requires-clause-findings g c =
     let next = c.requires.next in
     omega (arith, next.2.few.findings, few_next next.0 next.1 (item_read next.0 c.args.row.now) next.3)
 
-pub count_data-requires-clause-packets : goal.count_data-requires-clause-packets
-count_data-requires-clause-packets g c =
+pub count-requires-clause-packets : goal.count-requires-clause-packets
+count-requires-clause-packets g c =
     let next = c.requires.next in
-    omega (arith, ap (λ t. t.packets) c.count_finding.ensures, next.2.few.uncounted, few_next next.0 next.1 (item_read next.0 c.args.row.now) next.3)
+    omega (arith, next.2.few.uncounted, few_next next.0 next.1 (item_read next.0 c.args.row.now) next.3)
 
-pub count_data-requires-clause-octets : goal.count_data-requires-clause-octets
-count_data-requires-clause-octets g c =
+pub count-requires-clause-octets : goal.count-requires-clause-octets
+count-requires-clause-octets g c =
     let next = c.requires.next in
-    let i = next.0 in
-    let rows = next.1 in
-    let w = next.2.walked in
-    let one = c.item_of_row-item.result in
-    let v = c.step.new.self in
-    let same = c.in_ok-step.ensures.same in
-    let outcome = c.in_ok-outcome.outcome in
-    let is : one ≡ item_read i c.args.row.now = c.item_of_row-item.ensures.item ∙ ap (λ j. item_read j c.args.row.now) (w.holds.interface ∙ w.cut.interface) in
-    let sound = subst (λ r. AreItems i (rows ++ r ∷ [])) (sym is) next.3 in
-    let applied = c.in_ok-outcome.ensures in
-    let known = judged_by one c.in_ok-step.step v outcome c.apply.new.events.items w sound c.in_ok-step.ensures.step same applied.judge applied.finding applied.events in
-    let left : c.octets_left_out-left_out.result ≡ octets_left i (observer i rows) one =
-    c.octets_left_out-left_out.ensures i v.epoch rows (subst (λ es. IsJudgedRow i rows one (judged_row one outcome) (with_data v.epoch outcome.judge one es)) (sym c.as_slice.ensures.value) known) (same.interface ∙ w.holds.interface ∙ w.cut.interface) in
-    omega (arith, ap (λ t. t.octets) c.count_finding.ensures, next.2.few.octets, few_octets i rows one sound, (few_octets_left i rows one c.octets_left_out-left_out.result left).1)
+    omega (arith, next.2.few.octets, few_octets next.0 next.1 (item_read next.0 c.args.row.now) next.3, c.octets_left_out-left_out.ensures.few, ap (λ x. x.length) c.item_of_row-item.ensures.item)
 
 pub take-requires : goal.take-requires
 take-requires g c =
@@ -91,25 +78,22 @@ returns-clause-walked g c i rows h next =
     let known = judged_by one step v outcome c.apply.new.events.items w sound step_is same applied.judge applied.finding applied.events in
     let level = w.holds.level ∙ w.cut.level in
     let left : c.octets_left_out-left_out.result ≡ octets_left i (observer i rows) one =
-    c.octets_left_out-left_out.ensures i v.epoch rows (subst (λ es. IsJudgedRow i rows one (judged_row one outcome) (with_data v.epoch outcome.judge one es)) (sym c.as_slice.ensures.value) known) (same.interface ∙ w.holds.interface ∙ w.cut.interface) in
+    c.octets_left_out-left_out.ensures.left i v.epoch rows (subst (λ es. IsJudgedRow i rows one (judged_row one outcome) (with_data v.epoch outcome.judge one es)) (sym c.as_slice.ensures.value) known) (same.interface ∙ w.holds.interface ∙ w.cut.interface) in
     let reaction = c.reaction_to-reaction.ensures i rows _ known (same.machine ∙ level) (step_is.machine ∙ ap (λ l. (routing l one).after) level) in
     let tally = c.args.self.now.tally in
     let left_out = c.octets_left_out-left_out.result in
-    let counted = c.count_data.ensures
-        ∙ (λ j. record { findings = (c.count_finding.ensures j).findings; packets = (c.count_finding.ensures j).packets + length (option_to_list left_out); octets = (c.count_finding.ensures j).octets + sum (option_to_list left_out) })
-        ∙ (λ j. record { findings = tally.findings + cond (c.is_some.ensures j) 1 0; packets = tally.packets + length (option_to_list left_out); octets = tally.octets + sum (option_to_list left_out) }) in
     let here = represents_here v w same in
     let moved = applied.represented w.cutting.open_rows here (rows_after step.effect one w.cutting.gap w.cutting.open_rows) (effects_here one step v w sound step_is same) (rows_next one step w) in
     let walked = walked_after one step v c.advance.new.self c.apply.new.self w sound step_is same c.advance.ensures applied.gap moved in
     subst (λ r. HasWalked g.C.Channel i (rows ++ r ∷ []) (record {
       walk = record { interface = c.advance.new.self.interface; machine = c.advance.new.self.machine; epoch = c.advance.new.self.epoch; start = c.advance.new.self.start; packets = c.advance.new.self.packets; gaps = c.advance.new.self.gaps; findings = c.clear.new.self };
       channels = c.apply.new.self;
-      tally = c.count_data.new.self;
+      tally = c.count.new.self;
       watch = c.take.new.self;
     })) is
     (record {
       walked = same_walked _ walked refl refl refl refl refl refl;
-      tally = tally_after i rows one outcome.finding left_out tally _ h.tally known.finding left counted;
+      tally = tally_after i rows one outcome.finding left_out tally _ h.tally known.finding left c.count.ensures;
       watch = c.in_ok-take.ensures.taken ∙ (λ j. watched_after ((step_is.effect ∙ ap (λ l. effect_of one.packet (routing l one).route) level) j) (reaction j) (h.watch j)) ∙ sym (watched_more i rows one);
-      few = few_after i rows one outcome.finding left_out tally _ h.few left counted;
+      few = few_after rows one outcome.finding left_out tally _ h.few c.octets_left_out-left_out.ensures.few c.count.ensures;
     })
