@@ -7,13 +7,14 @@ ghost use Rattle.line_model.specs.basics.Records.{Item};
 ghost use Rattle.line_model.specs.declared.event.Event.{Event};
 ghost use Rattle.live_report.specs.JudgedRows.{judged_row, taker};
 ghost use Rattle.live_report.specs.Effects.{with_data};
-ghost use Rattle.live_report.specs.declared.judged_row.Judge.TheVariants.{Channel as OfChannel};
+ghost use Rattle.live_report.specs.declared.judged_row.Judge.TheVariants.{Channel as OfChannel, Restart};
 
 use data_transfer::packed::FlowWord;
 use line_model::finding::Finding;
 use line_model::items::ItemRef;
 use line_model::packet::Packet;
 use line_model::state::{RState, Side};
+use restart_epochs::walk::Step;
 
 /// The machine that judged a row, and what it knew before and after the row.
 #[derive(Clone, Copy)]
@@ -66,14 +67,30 @@ pub struct JudgedRow {
 
 /// What came of a row.
 #[derive(Clone, Copy)]
-pub(crate) struct RowOutcome {
+pub struct RowOutcome {
     /// The machine that judged it.
-    pub(crate) judge: Judge,
+    pub judge: Judge,
     /// What it found.
-    pub(crate) finding: Option<Finding>,
+    pub finding: Option<Finding>,
 }
 
 impl RowOutcome {
+    /// What came of a row that goes to no channel, which the restart machine judged in a state.
+    pub(crate) fn on_level(before: RState, step: &Step) -> Self
+        ensures { result ≡ record {
+          judge = Restart before step.now.machine.level.state;
+          finding = step.now.finding;
+        } }
+    {
+        RowOutcome {
+            judge: Judge::Restart {
+                before,
+                after: step.machine.state(),
+            },
+            finding: step.finding,
+        }
+    }
+
     /// Returns the row of this outcome as it was judged.
     #[inline(always)]
     pub(crate) fn row(&self, item: &ItemRef<'_>) -> JudgedRow
