@@ -22,26 +22,33 @@ use lapb_link::ends::Ends;
 use line_model::device::Source;
 use line_model::fault::Fault;
 use line_model::state::Side;
+use memchr::memchr;
 use std::alloc::Global;
 use std::io;
-use std::io::{ErrorKind, Read};
+use std::io::{Eprint, ErrorKind, Read};
 use std::time::{Clock, Duration};
 use streams::input::{CaptureFault, OpenRefusal};
 use streams::opener::Opener;
 
 /// Opens recordings: a capture of a line as the trace of its rows, and any other file as it is.
 #[derive(Drop)]
-pub struct Recordings<'a, R: Opener> {
+pub struct Recordings<'a, R: Opener, E: Eprint> {
     alloc: Global,
     system: &'a R,
+    errors: &'a E,
 }
 
-impl<'a, R: Opener> Recordings<'a, R> {
-    /// Returns the recordings among the files of a system.
-    pub fn new(alloc: Global, system: &'a R) -> Self
+impl<'a, R: Opener, E: Eprint> Recordings<'a, R, E> {
+    /// Returns the recordings among the files of a system. What the header of a capture was estimated from is printed to
+    /// the errors.
+    pub fn new(alloc: Global, system: &'a R, errors: &'a E) -> Self
         ensures { result.system.now ≡ system.entry.now }
     {
-        Recordings { alloc, system }
+        Recordings {
+            alloc,
+            system,
+            errors,
+        }
     }
 
     /// Reads a capture a first time, from what was begun; and once more from its first octet where its link type is
@@ -71,11 +78,27 @@ impl<'a, R: Opener> Recordings<'a, R> {
         if let Some(fault) = first.survey.fault() {
             return Err(OpenRefusal::of_capture(fault));
         }
-        CaptureText::new(self.alloc, self.system.open(name)?, first)
+        let head = head(self.alloc, first.survey.seen())?;
+        self.print_estimate(name, head.as_slice());
+        CaptureText::new(self.alloc, self.system.open(name)?, first, head)
+    }
+
+    /// Prints the comment of the lines before the rows, as far as the errors accept it.
+    fn print_estimate(&self, name: &str, head: &[u8]) {
+        let Some(end) = memchr(b'\n', head) else {
+            return;
+        };
+        if let Some(Ok(words)) = head.get(2..end).map(str::from_utf8) {
+            let _ = eprintln!(self.errors; "x25scan: {name}: {words}\n  {ADVICE}");
+        }
     }
 }
 
-impl<R: Opener> Opener for Recordings<'_, R> {
+/// What is advised on an estimated header.
+const ADVICE: &str =
+    "Data that broke a smaller WIN or SIZE is no finding: where you know them, x25trace --win N --size N FILE | x25scan";
+
+impl<R: Opener, E: Eprint> Opener for Recordings<'_, R, E> {
     ghost use Rattle.capture_report.specs.Recordings.{recorded};
 
     type File = Recording<R::File>;
@@ -97,7 +120,7 @@ impl<R: Opener> Opener for Recordings<'_, R> {
     }
 }
 
-impl<R: Opener + Clock> Clock for Recordings<'_, R> {
+impl<R: Opener + Clock, E: Eprint> Clock for Recordings<'_, R, E> {
     fn monotonic(&self) -> io::Result<Duration> {
         self.system.monotonic()
     }
@@ -235,18 +258,23 @@ pub struct CaptureText<F: Read + Drop> {
 
 impl<F: Read + Drop> CaptureText<F> {
     /// Returns the trace of a capture by its first reading.
-    fn new(alloc: Global, file: F, first: FirstReading) -> Result<CaptureText<F>, OpenRefusal>
+    fn new(
+        alloc: Global,
+        file: F,
+        first: FirstReading,
+        head: Vec<u8>,
+    ) -> Result<CaptureText<F>, OpenRefusal>
         ensures { IfErr result IsByItsReason }
     {
         let FirstReading {
             plan,
-            survey,
             unknown,
             last,
+            ..
         } = first;
         let frames = open_frames(alloc, file)?;
         let line = line(alloc, unknown)?;
-        let page = Page::new(head(alloc, survey.seen())?, last <= MOST_NUMBERED);
+        let page = Page::new(head, last <= MOST_NUMBERED);
         let reader = Reader::new(line, Order::Placed(plan), page);
         Ok(CaptureText {
             trace: CaptureTrace::new(alloc, frames, reader),

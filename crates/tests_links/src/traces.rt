@@ -16,7 +16,7 @@ use lapb_link::frames::Place;
 use line_model::device::{SliceSource, Source};
 use line_model::state::Side;
 use std::alloc::Global;
-use std::io::Read;
+use std::io::{Eprint, Read};
 use std::test::Fail;
 use streams::input::OpenRefusal;
 use streams::opener::Opener;
@@ -94,9 +94,13 @@ impl Opener for OneFile {
 }
 
 /// Returns all that a recording gives, or why it is refused.
-fn recorded(alloc: Global, bytes: &'static [u8]) -> Result<Vec<u8>, OpenRefusal> {
+fn recorded<E: Eprint>(
+    alloc: Global,
+    errors: &E,
+    bytes: &'static [u8],
+) -> Result<Vec<u8>, OpenRefusal> {
     let files = OneFile { bytes };
-    let mut file = Recordings::new(alloc, &files).open("day")?;
+    let mut file = Recordings::new(alloc, &files, errors).open("day")?;
     let mut text = Vec::new(alloc);
     file.read_to_end(&mut text).map_err(OpenRefusal::by_system)?;
     Ok(text)
@@ -105,8 +109,8 @@ fn recorded(alloc: Global, bytes: &'static [u8]) -> Result<Vec<u8>, OpenRefusal>
 #[test]
 fn gaps_are_placed_in_recordings_and_noticed_in_one_reading(rt: HostRuntime) -> Result<(), Fail> {
     let alloc = rt.alloc();
-    assert!(rt; recorded(alloc, FILE).is_ok_and(|text| text.as_slice().ends_with(PLACED)));
-    assert!(rt; recorded(alloc, PLACED).is_ok_and(|text| text.as_slice() == PLACED));
+    assert!(rt; recorded(alloc, &rt, FILE).is_ok_and(|text| text.as_slice().ends_with(PLACED)));
+    assert!(rt; recorded(alloc, &rt, PLACED).is_ok_and(|text| text.as_slice() == PLACED));
     assert!(rt; noticed(alloc)?.as_slice() == NOTICED);
     Ok(())
 }
