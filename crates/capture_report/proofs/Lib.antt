@@ -1,3 +1,4 @@
+mod FileLemmas
 mod GapLemmas
 mod GivingLemmas
 mod ReadingLemmas

@@ -1,10 +1,9 @@
 //! Traces of captures.
 
-use capture_report::file_frames::FileFrames;
+use capture_report::file_frames::{FileFrames, file_trace};
 use capture_report::plan::Plan;
 use capture_report::print::Page;
 use capture_report::reader::{Order, Reader};
-use capture_report::trace::CaptureTrace;
 use capture_rows::choices::Choices;
 use capture_rows::line::Line;
 use capture_rows::station::StationBy;
@@ -52,7 +51,9 @@ fn frames(alloc: Global) -> Result<FileFrames<SliceSource<'static>>, Fail> {
 /// Returns the text of the trace.
 fn text(alloc: Global, order: Order) -> Result<Vec<u8>, Fail> {
     let reader = Reader::new(line(alloc)?, order, Page::new(Vec::new(alloc), true));
-    let mut trace = CaptureTrace::new(alloc, frames(alloc)?, reader);
+    let Ok(mut trace) = file_trace(alloc, SliceSource::new(FILE), true, 0, reader) else {
+        return Err(Fail::from("no capture"));
+    };
     let mut text = Vec::new(alloc);
     for _ in 0..9 {
         if trace.read().is_err() {
