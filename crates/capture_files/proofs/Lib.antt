@@ -1,3 +1,6 @@
 pub mod WindowLemmas
 pub mod RecordLemmas
 pub mod BlockLemmas
+pub mod FileLemmas
+pub mod PcapLaw
+pub mod Worked

@@ -1,10 +1,15 @@
 pub mod Windows
 pub mod Numbers
 pub mod Entries
+pub mod Records
 pub mod PcapRecords
+pub mod PcapSearch
+pub mod PcapHeaders
+pub mod PcapFiles
 pub mod PcapSteps
 pub mod Blocks
 pub mod BlockFrames
 pub mod BlockSteps
-pub mod PcapHeaders
 pub mod CaptureSteps
+pub mod CaptureFiles
+pub mod WorkedFile

@@ -13,7 +13,7 @@ use Rattle.capture_files.specs.Windows.{WindowView}
 -- what begins at the front of a file
 abbrev pub IsStart : PcapForm → List ℕ → RecordStart → Type 0
 IsStart f file End = length file ≡ 0
-IsStart f file (HeaderCut n) = length file < header_size f.header
+IsStart f file (HeaderCut n) = (0 < length file) × (length file < header_size f.header)
 IsStart f file (Long n) = (header_size f.header ≤ length file) × (f.largest < kept f file)
 IsStart f file (Record n) = Begins f file × (n ≡ header_size f.header + kept f file)
 

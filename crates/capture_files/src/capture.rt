@@ -1,10 +1,15 @@
 //! A capture file of either format.
 
-ghost use Rattle.std.specs.Prelude.{[], ℕ, List, IfNone, IfOk, OnErr, OnOk};
+ghost use Rattle.std.specs.Prelude.{◌≡◌, ◌≤◌, [], ℕ, List, IfNone, IfOk, IsTrue, OnErr, OnOk, Option, Some, length, true};
+ghost use Rattle.capture_files.specs.CaptureFiles.{records_left, records_of};
 ghost use Rattle.capture_files.specs.CaptureSteps.{IsOpened, IsStep};
+ghost use Rattle.capture_files.specs.Numbers.{number};
+ghost use Rattle.capture_files.specs.Records.{Follows, record_in};
 ghost use Rattle.capture_files.specs.Windows.{Advances, IsAtEnd, still};
 
+use crate::block::{HEAD, SECTION};
 use crate::entry::Entry;
+use crate::numbers::read_four;
 use crate::pcap_header::open_pcap;
 use crate::pcap_reader::Pcap;
 use crate::pcapng::Pcapng;
@@ -23,6 +28,26 @@ pub enum CaptureFile {
     Pcapng(Pcapng),
 }
 
+/// Returns whether a file is one of blocks, by its first octets: twelve at least, or all. Fails where there are none, and
+/// where the first block begins a section of no byte order.
+fn is_pcapng(octets: &[u8]) -> Result<bool, Refusal>
+    ensures section { IfOk result (λ is. IsTrue is → (4 ≤ length octets.now) × (number true octets.now ≡ 168627466)) }
+{
+    if octets.is_empty() {
+        return Err(Refusal::Empty);
+    }
+    if octets.len() < 8 || read_four(true, octets, 0) != SECTION {
+        return Ok(false);
+    }
+    if octets.len() < HEAD {
+        return Err(Refusal::SectionOrder);
+    }
+    match read_four(true, octets, 8) {
+        0x1A2B_3C4D | 0x4D3C_2B1A => Ok(true),
+        _ => Err(Refusal::SectionOrder),
+    }
+}
+
 impl CaptureFile {
     /// Recognises a capture file by its first octets, and returns its reader; frames are counted on from `number`, the
     /// last one of the file before it, or 0. `may_wait` says whether more of the file may be read before its first frame
@@ -37,18 +62,14 @@ impl CaptureFile {
     ) -> Result<CaptureFile, Refusal>
         ensures opened { IfOk result (λ file. (header : List ℕ) × IsOpened number header file
             × Advances window.old (S.left source.old) window.new (S.left source.new) header) }
+        ensures records { IfOk result (λ file. (octets : List ℕ) → still window.old.ahead (S.left source.old) ≡ Some octets
+            → records_left file (still window.new.ahead (S.left source.new)) ≡ records_of may_wait number octets) }
     {
-        window.fill(source, 12)?;
-        match window.ahead() {
-            [] => Err(Refusal::Empty),
-            [0x0A, 0x0D, 0x0D, 0x0A, _, _, _, _, rest @ ..] => match rest {
-                [0x1A, 0x2B, 0x3C, 0x4D, ..] | [0x4D, 0x3C, 0x2B, 0x1A, ..] => {
-                    Ok(CaptureFile::Pcapng(Pcapng::new(alloc, number)))
-                }
-                _ => Err(Refusal::SectionOrder),
-            },
-            _ => Ok(CaptureFile::Pcap(open_pcap(window, source, may_wait, number)?)),
+        window.fill(source, HEAD)?;
+        if is_pcapng(window.ahead())? {
+            return Ok(CaptureFile::Pcapng(Pcapng::new(alloc, number)));
         }
+        Ok(CaptureFile::Pcap(open_pcap(window, source, may_wait, number)?))
     }
 
     /// Consumes the next record or block, or the next octets of a search after a damage, and returns what they give;
@@ -64,6 +85,9 @@ impl CaptureFile {
         ensures end { IfOk result (λ entry. IfNone entry
             (IsAtEnd (still window.old.ahead (S.left source.old)) (S.left source.new))) }
         ensures step { IfOk result (λ entry. IsStep self.old self.new window.new entry) }
+        ensures follows { IfOk result (λ entry. Follows (records_left self.old (still window.old.ahead (S.left source.old)))
+            (records_left self.new (still window.new.ahead (S.left source.new))) (record_in window.new.last entry)) }
+        ensures kept { OnErr result ((octets : Option (List ℕ)) → records_left self.new octets ≡ records_left self.old octets) }
     {
         match self {
             CaptureFile::Pcap(pcap) => pcap.next(window, source),

@@ -5,6 +5,7 @@ mod block;
 pub mod capture;
 pub mod entry;
 pub mod interface;
+pub mod laws;
 mod numbers;
 mod options;
 pub mod packet_block;

@@ -1,8 +1,10 @@
 //! The header of a pcap file.
 
-ghost use Rattle.std.specs.Prelude.{◌≡◌, ◌≤◌, [], ℕ, List, IfOk, IfSome, OnOk, length};
-ghost use Rattle.capture_files.specs.PcapHeaders.{IsHeader, check_of};
-ghost use Rattle.capture_files.specs.Windows.{Advances};
+ghost use Rattle.std.specs.Prelude.{◌≡◌, ◌≤◌, [], ℕ, List, IfOk, OnOk, Some, length};
+ghost use Rattle.capture_files.specs.CaptureFiles.{records_of};
+ghost use Rattle.capture_files.specs.PcapFiles.{pcap_left};
+ghost use Rattle.capture_files.specs.PcapHeaders.{IsHeader, check_of, first_fitting, fitted, form_by, form_in, headers_of};
+ghost use Rattle.capture_files.specs.Windows.{Advances, still};
 
 use crate::numbers::read_four;
 use crate::pcap::{PcapForm, RecordHeader};
@@ -20,21 +22,15 @@ const LARGEST: u32 = 262_144;
 
 const MOST: u32 = 1 << 24;
 
-/// Returns the headers of records that files of a magic number may have, the form's own first: the others are of old forms
-/// with the same number.
-fn headers_of(magic: u32) -> [RecordHeader; 3] {
-    match magic {
-        0xA1B2_CD34 | 0x34CD_B2A1 => [
-            RecordHeader::Modified,
-            RecordHeader::Suse,
-            RecordHeader::Modified,
-        ],
-        0xA1B2_3C4D | 0x4D3C_B2A1 => [RecordHeader::Plain; 3],
-        _ => [
-            RecordHeader::Plain,
-            RecordHeader::Modified,
-            RecordHeader::Nokia,
-        ],
+/// Returns the headers of records that files of a form may have, its own first: the others are of old forms with the same
+/// magic number.
+fn headers_of(own: RecordHeader, is_nano: bool) -> [RecordHeader; 3]
+    ensures { result ≡ headers_of own is_nano }
+{
+    match own {
+        RecordHeader::Plain if !is_nano => [own, RecordHeader::Modified, RecordHeader::Nokia],
+        RecordHeader::Modified => [own, RecordHeader::Suse, own],
+        _ => [own, own, own],
     }
 }
 
@@ -49,33 +45,43 @@ fn check_of(network: u32) -> u32
     }
 }
 
-/// Returns what the records of a file have in common, by its header; `None` where it is no header.
-fn form_of(header: &[u8], records: RecordHeader) -> Option<PcapForm>
+/// Returns what the records of a file have in common, by what its magic number says and by the rest of its header.
+fn form_by(is_big: bool, is_nano: bool, records: RecordHeader, header: &[u8]) -> PcapForm
     requires { 24 ≤ length header.now }
-    ensures { IfSome result (λ form. IsHeader header.now form) }
+    ensures { result ≡ form_by is_big is_nano records header.now }
 {
-    let (is_big, is_nano) = match read_four(true, header, 0) {
-        0xA1B2_C3D4 | 0xA1B2_CD34 => (true, false),
-        0xD4C3_B2A1 | 0x34CD_B2A1 => (false, false),
-        0xA1B2_3C4D => (true, true),
-        0x4D3C_B2A1 => (false, true),
-        _ => return None,
-    };
     let network = read_four(is_big, header, 20);
-    Some(PcapForm {
+    PcapForm {
         is_big,
         is_nano,
         header: records,
         link: (network % 0x1_0000) as u16,
         check: check_of(network),
         largest: read_four(is_big, header, 16).max(LARGEST).min(MOST),
-    })
+    }
+}
+
+/// Returns what the records of a file have in common, by its header; `None` where it is no header.
+fn form_in(header: &[u8]) -> Option<PcapForm>
+    requires { 24 ≤ length header.now }
+    ensures { result ≡ form_in header.now }
+{
+    match read_four(true, header, 0) {
+        0xA1B2_C3D4 => Some(form_by(true, false, RecordHeader::Plain, header)),
+        0xD4C3_B2A1 => Some(form_by(false, false, RecordHeader::Plain, header)),
+        0xA1B2_3C4D => Some(form_by(true, true, RecordHeader::Plain, header)),
+        0x4D3C_B2A1 => Some(form_by(false, true, RecordHeader::Plain, header)),
+        0xA1B2_CD34 => Some(form_by(true, false, RecordHeader::Modified, header)),
+        0x34CD_B2A1 => Some(form_by(false, false, RecordHeader::Modified, header)),
+        _ => None,
+    }
 }
 
 /// Returns the first form with whose headers the records at the front follow each other, else the first one. `octets` are
 /// all of the file where `is_end` says so.
 fn fitting(form: PcapForm, headers: &[RecordHeader], octets: &[u8], is_end: bool) -> PcapForm
-    ensures { (header : RecordHeader) × (result ≡ record form { header = header }) }
+    ensures form { (header : RecordHeader) × (result ≡ record form { header = header }) }
+    ensures first { result ≡ first_fitting form headers.now octets.now is_end }
 {
     for header in headers {
         let tried = PcapForm {
@@ -108,10 +114,11 @@ fn fit<S: RoomSource>(
     window: &mut Window,
     source: &mut S,
     form: PcapForm,
-    headers: &[RecordHeader],
     may_wait: bool,
 ) -> Result<PcapForm, Fault>
-    ensures form { IfOk result (λ fitted. (header : RecordHeader) × (fitted ≡ record form { header = header })) }
+    ensures form { IfOk result (λ f. (header : RecordHeader) × (f ≡ record form { header = header })) }
+    ensures fitted { IfOk result (λ f. (file : List ℕ) → still window.old.ahead (S.left source.old) ≡ Some file
+        → f ≡ fitted may_wait form file) }
     ensures passes { Advances window.old (S.left source.old) window.new (S.left source.new) [] }
 {
     if !may_wait {
@@ -120,7 +127,8 @@ fn fit<S: RoomSource>(
     window.fill(source, SEARCHED)?;
     let there = window.len().min(SEARCHED);
     let octets = &window.ahead()[..there];
-    Ok(fitting(form, headers, octets, there < SEARCHED))
+    let headers = headers_of(form.header, form.is_nano);
+    Ok(fitting(form, &headers, octets, there < SEARCHED))
 }
 
 /// Consumes the header of a pcap file, and returns the reader of its records; frames are counted on from `number`.
@@ -135,14 +143,15 @@ pub(crate) fn open_pcap<S: RoomSource>(
     ensures opened { IfOk result (λ pcap. (header : List ℕ) × IsHeader header pcap.form × (length header ≡ 24)
         × Advances window.old (S.left source.old) window.new (S.left source.new) header) }
     ensures number { IfOk result (λ pcap. pcap.number ≡ number) }
+    ensures records { IfOk result (λ pcap. (file : List ℕ) → still window.old.ahead (S.left source.old) ≡ Some file
+        → pcap_left pcap (still window.new.ahead (S.left source.new)) ≡ records_of may_wait number file) }
 {
     take_header(window, source)?;
-    let headers = headers_of(read_four(true, window.last(), 0));
-    let Some(form) = form_of(window.last(), headers[0]) else {
+    let Some(form) = form_in(window.last()) else {
         return Err(Refusal::Unknown);
     };
     Ok(Pcap {
-        form: fit(window, source, form, &headers, may_wait)?,
+        form: fit(window, source, form, may_wait)?,
         number,
         offset: HEADER as u64,
         seconds: None,

@@ -1,10 +1,12 @@
 //! The reader of a pcap file after its header.
 
-ghost use Rattle.std.specs.Prelude.{◌≡◌, ◌+◌, ◌≤◌, ◌<◌, [], ◌++◌, ℕ, List, IfNone, IfOk, IfSome, IsSome, None, OnErr, OnOk, length};
+ghost use Rattle.std.specs.Prelude.{◌≡◌, ◌+◌, ◌≤◌, ◌<◌, [], ◌++◌, ℕ, List, IfNone, IfOk, IfSome, IsSome, None, OnErr, OnOk, Some, length};
 ghost use Rattle.capture_files.specs.Entries.{frame_at};
 ghost use Rattle.capture_files.specs.Numbers.{next_number};
+ghost use Rattle.capture_files.specs.PcapFiles.{pcap_left};
 ghost use Rattle.capture_files.specs.PcapRecords.{Begins, header_size, kept, pcap_frame};
 ghost use Rattle.capture_files.specs.PcapSteps.{IsPcapEntry, IsPcapStep, IsStart};
+ghost use Rattle.capture_files.specs.Records.{Follows, record_in};
 ghost use Rattle.capture_files.specs.Windows.{Advances, IsAtEnd, still};
 
 use crate::entry::{Dropped, Entry};
@@ -94,6 +96,10 @@ impl Pcap {
             × (frame_at head octets.now ≡ pcap_frame self.old.form (next_number self.old.number) octets.now)) }
         ensures whole { result.damage ≡ None → size ≤ length octets.now }
         ensures cut { IsSome result.damage → length octets.now < size }
+        ensures dropped { result.dropped ≡ None }
+        ensures number { self.new.number ≡ next_number self.old.number }
+        ensures form { self.new.form ≡ self.old.form }
+        ensures search { self.new.search ≡ self.old.search }
     {
         self.number = self.number.saturating_add(1);
         let head = self.form.head(self.number, octets);
@@ -124,9 +130,13 @@ impl Pcap {
     ) -> Result<Entry, Fault>
         requires begins { Begins self.old.form window.old.ahead }
         requires size { size ≡ header_size self.old.form.header + kept self.old.form window.old.ahead }
+        requires free { self.old.search ≡ None }
         ensures passes { OnOk result (Advances window.old (S.left source.old) window.new (S.left source.new) window.new.last) }
         ensures refused { OnErr result (Advances window.old (S.left source.old) window.new (S.left source.new) []) }
         ensures entry { IfOk result (λ entry. IsPcapEntry self.old window.new.last window.new.ahead entry) }
+        ensures follows { IfOk result (λ entry. Follows (pcap_left self.old (still window.old.ahead (S.left source.old)))
+            (pcap_left self.new (still window.new.ahead (S.left source.new))) (record_in window.new.last (Some entry))) }
+        ensures kept { OnErr result (self.new ≡ self.old) }
     {
         window.fill(source, size)?;
         window.take(size.min(window.len()));
@@ -144,6 +154,7 @@ impl Pcap {
         ensures refused { OnErr result (Advances window.old (S.left source.old) window.new (S.left source.new) []) }
         ensures frame { IfOk result (λ entry. entry.frame ≡ None) }
         ensures front { OnOk result ((more : List ℕ) × (window.new.last ++ window.new.ahead ≡ window.old.ahead ++ more)) }
+        ensures kept { OnErr result (self.new ≡ self.old) }
     {
         window.fill(source, SEARCHED)?;
         let there = window.len().min(SEARCHED);
@@ -211,6 +222,9 @@ impl Pcap {
         ensures end { IfOk result (λ entry. IfNone entry
             (IsAtEnd (still window.old.ahead (S.left source.old)) (S.left source.new))) }
         ensures step { IfOk result (λ entry. IsPcapStep self.old window.new entry) }
+        ensures follows { IfOk result (λ entry. Follows (pcap_left self.old (still window.old.ahead (S.left source.old)))
+            (pcap_left self.new (still window.new.ahead (S.left source.new))) (record_in window.new.last entry)) }
+        ensures kept { OnErr result (self.new ≡ self.old) }
     {
         if let Some(search) = self.search {
             return Ok(Some(self.search_on(window, source, search)?));

@@ -1,7 +1,8 @@
 //! Where records go on after a damage of a pcap file.
 
-ghost use Rattle.std.specs.Prelude.{◌+◌, ◌<◌, ◌≤◌, IfSome, length};
+ghost use Rattle.std.specs.Prelude.{◌≡◌, ◌+◌, ◌<◌, ◌≤◌, IfSome, None, length};
 ghost use Rattle.capture_files.specs.PcapRecords.{header_size};
+ghost use Rattle.capture_files.specs.PcapSearch.{is_followed, kept_at};
 
 use crate::numbers::read_four;
 use crate::pcap::PcapForm;
@@ -17,6 +18,7 @@ impl PcapForm {
     /// octets, at most as many as there were, the part of a second is one, and the time is within 30 days of `last`.
     fn plausible(&self, octets: &[u8], at: usize, last: Option<u32>) -> Option<u32>
         ensures within { IfSome result (λ kept. at + header_size self.now.header ≤ length octets.now) }
+        ensures kept { last ≡ None → result ≡ kept_at self.now octets.now at }
     {
         let size = self.header.size();
         if octets.len() < size || octets.len() - size < at {
@@ -46,7 +48,9 @@ impl PcapForm {
         at: usize,
         last: Option<u32>,
         is_end: bool,
-    ) -> bool {
+    ) -> bool
+        ensures { last ≡ None → result ≡ is_followed self.now octets.now at is_end }
+    {
         let Some(kept) = self.plausible(octets, at, last) else {
             return false;
         };

@@ -1,4 +1,5 @@
 mod CaptureRowLemmas
+mod FileLemmas
 mod FrameLemmas
 mod GapLemmas
 mod HeaderLemmas

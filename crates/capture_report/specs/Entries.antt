@@ -1,9 +1,10 @@
--- The record of a file's entry.
-use Rattle.std.specs.Prelude.{◌+◌, ◌≤◌, ℕ, List, Option, None, Some, IfSome, length, option_map}
-use Rattle.capture_files.specs.Entries.{frame_at}
+-- The records of a file's entries.
+use Rattle.std.specs.Prelude.{◌+◌, ◌≤◌, ℕ, List, Option, None, Some, IfSome, IsSome, length}
+use Rattle.capture_files.specs.CaptureFiles.{records_left}
+use Rattle.capture_files.specs.Records.{Record}
 use Rattle.capture_files.specs.Windows.{WindowView}
+use Rattle.capture_files.specs.declared.capture.CaptureFile.{CaptureFile}
 use Rattle.capture_files.specs.declared.entry.Entry.{Entry}
-use Rattle.capture_report.specs.Records.{Record}
 
 -- the octets of its frame are among those that were consumed last
 abbrev pub IsFrameWithin : Entry → List ℕ → Type 0
@@ -12,5 +13,16 @@ IsFrameWithin e octets = IfSome e.frame (λ h. h.from + h.kept ≤ length octets
 abbrev pub IsWithin : Option Entry → WindowView → Type 0
 IsWithin e w = IfSome e (λ e. IsFrameWithin e w.last)
 
-abbrev pub record_in : Option Entry → WindowView → Option Record
-record_in e w = option_map (λ e. record { dropped = e.dropped; frame = option_map (λ h. frame_at h w.last) e.frame }) e
+-- what the frames of a file show: what they will give, and what they gave last
+pub record FileView : Type 0 where
+  pub left : Option (List Record)
+  pub latest : Option Record
+
+-- what they will give of the octets that are still to be read, where the source showed its octets from the beginning on
+abbrev pub shown_left : (at_first : Option (List ℕ)) → CaptureFile → (now : Option (List ℕ)) → Option (List Record)
+shown_left None file now = None
+shown_left (Some octets) file now = records_left file now
+
+-- a source that showed its octets at first does so now
+abbrev pub IsStillShown : (at_first now : Option (List ℕ)) → Type 0
+IsStillShown at_first now = IsSome at_first → IsSome now

@@ -1,19 +1,25 @@
 //! The frames of a capture file.
 
-ghost use Rattle.std.specs.Prelude.{◌≡◌, IfOk, None, option_map};
+ghost use Rattle.std.specs.Prelude.{◌≡◌, IfOk, None, option_and_then, option_map};
+ghost use Rattle.capture_files.specs.CaptureFiles.{records_of};
 ghost use Rattle.capture_files.specs.Entries.{frame_at};
 ghost use Rattle.capture_model.specs.Frames.{frame_view};
 ghost use Rattle.capture_report.specs.Entries.{IsFrameWithin};
+ghost use Rattle.capture_report.specs.Traces.{text_left};
 
 use crate::frames::{Frames, Record};
+use crate::reader::Reader;
+use crate::trace::CaptureTrace;
 use capture_files::capture::CaptureFile;
 use capture_files::entry::Entry;
 use capture_files::refusal::Refusal;
 use capture_files::window::Window;
 use capture_model::frame::Frame;
+use line_model::device::Source;
 use line_model::fault::Fault;
 use std::alloc::Global;
 use std::marker::Model;
+use std::snapshot::Snapshot;
 use streams::room_source::RoomSource;
 
 /// The frames of a capture file in a source. They lend the octets of one window.
@@ -23,26 +29,30 @@ pub struct FileFrames<S: RoomSource + Drop> {
     window: Window,
     file: CaptureFile,
     entry: Option<Entry>,
+    /// The source as it was at first. Only contracts see it.
+    at_first: Snapshot<S>,
 }
 
 impl<S: RoomSource + Drop> Model for FileFrames<S> {
-    ghost use Rattle.std.specs.Prelude.{Option};
-    ghost use Rattle.capture_report.specs.Records as records;
-    ghost use Rattle.capture_report.specs.Entries.{IsWithin, record_in};
+    ghost use Rattle.capture_files.specs.Records.{record_in};
+    ghost use Rattle.capture_files.specs.Windows.{still};
+    ghost use Rattle.capture_report.specs.Entries.{FileView, IsStillShown, IsWithin, shown_left};
 
-    ghost Value = { Option records.Record };
+    ghost Value = { FileView };
 
-    ghost view = { λ f. record_in f.entry f.window };
+    ghost view = { λ f. record { left = shown_left (S.left f.at_first.value) f.file (still f.window.ahead (S.left f.source)); latest = record_in f.window.last f.entry } };
 
-    ghost invariant = { λ f. IsWithin f.entry f.window };
+    ghost invariant = { λ f. IsWithin f.entry f.window × IsStillShown (S.left f.at_first.value) (still f.window.ahead (S.left f.source)) };
 }
 
 impl<S: RoomSource + Drop> FileFrames<S> {
     /// Opens the capture in a source. `may_wait` and `number` are those of `CaptureFile::open`. Fails where the source
     /// does, when memory is refused, and where it has no capture.
     pub fn open(alloc: Global, source: S, may_wait: bool, number: u64) -> Result<Self, Refusal>
-        ensures { IfOk result (λ frames. frames ≡ None) }
+        ensures left { IfOk result (λ frames. frames.left ≡ option_and_then (records_of may_wait number) (S.left source)) }
+        ensures latest { IfOk result (λ frames. frames.latest ≡ None) }
     {
+        let at_first = Snapshot::of(&source);
         let mut source = source;
         let mut window = Window::new(alloc);
         let file = CaptureFile::open(alloc, &mut window, &mut source, may_wait, number)?;
@@ -51,6 +61,7 @@ impl<S: RoomSource + Drop> FileFrames<S> {
             window,
             file,
             entry: None,
+            at_first,
         })
     }
 
@@ -65,13 +76,11 @@ impl<S: RoomSource + Drop> FileFrames<S> {
     }
 }
 
-/// What it will give is shown by no contract: each entry is one of its file by the clauses of `CaptureFile::next`.
+/// What it will give is shown of a pcap file that is not damaged, in a source that shows its octets.
 impl<S: RoomSource + Drop> Frames for FileFrames<S> {
-    ghost use Rattle.std.specs.Prelude.{None};
+    ghost left = { λ s. s.left };
 
-    ghost left = { λ s. None };
-
-    ghost latest = { λ s. s };
+    ghost latest = { λ s. s.latest };
 
     fn advance(&mut self) -> Result<(), Fault> {
         self.entry = None;
@@ -86,6 +95,22 @@ impl<S: RoomSource + Drop> Frames for FileFrames<S> {
             frame: frame_in(&entry, self.window.last()),
         })
     }
+}
+
+/// Returns the trace of the capture in a source, of which nothing was read. `may_wait` and `number` are those of
+/// `CaptureFile::open`, which says when this fails.
+pub fn file_trace<S: RoomSource + Drop>(
+    alloc: Global,
+    source: S,
+    may_wait: bool,
+    number: u64,
+    reader: Reader,
+) -> Result<CaptureTrace<FileFrames<S>>, Refusal>
+    ensures { IfOk result (λ trace. ⟦<CaptureTrace<FileFrames<S>> as Source>⟧.left trace
+        ≡ text_left (option_and_then (records_of may_wait number) (S.left source)) reader 0) }
+{
+    let frames = FileFrames::open(alloc, source, may_wait, number)?;
+    Ok(CaptureTrace::new(alloc, frames, reader))
 }
 
 /// Returns the frame of an entry, whose octets are among these.

@@ -1,13 +1,12 @@
 //! Traces of captures.
 
-use capture_report::file_frames::FileFrames;
+use capture_report::file_frames::file_trace;
 use capture_report::header::Seen;
 use capture_report::header_text::print_head;
 use capture_report::print::Page;
 use capture_report::reader::{Order, Reader};
 use capture_report::recordings::Recordings;
 use capture_report::row::{Content, Row};
-use capture_report::trace::CaptureTrace;
 use capture_rows::choices::Choices;
 use capture_rows::line::Line;
 use capture_rows::station::StationBy;
@@ -48,19 +47,13 @@ fn line(alloc: Global) -> Result<Line, Fail> {
     Ok(Line::new(alloc, choices, None, Ends::by_address())?)
 }
 
-/// The frames of the file.
-fn frames(alloc: Global) -> Result<FileFrames<SliceSource<'static>>, Fail> {
-    match FileFrames::open(alloc, SliceSource::new(FILE), true, 0) {
-        Ok(frames) => Ok(frames),
-        Err(_) => Err(Fail::from("no capture")),
-    }
-}
-
 /// Returns the text of the trace, as it is read once.
 fn noticed(alloc: Global) -> Result<Vec<u8>, Fail> {
     let page = Page::new(Vec::new(alloc), true);
     let reader = Reader::new(line(alloc)?, Order::Noticed, page);
-    let mut trace = CaptureTrace::new(alloc, frames(alloc)?, reader);
+    let Ok(mut trace) = file_trace(alloc, SliceSource::new(FILE), true, 0, reader) else {
+        return Err(Fail::from("no capture"));
+    };
     let mut text = Vec::new(alloc);
     for _ in 0..9 {
         if trace.read().is_err() {

@@ -1,5 +1,6 @@
 -- A search begins where no record does. Nothing is left where the octets ahead end.
-use Rattle.std.proofs.Common.{◌∙◌, ◌++◌, ap, arith, inl, inr, length, sym}
+use Rattle.std.proofs.Common.{◌∙◌, ◌++◌, ap, arith, inl, inr, length, rules, sym}
+use Rattle.capture_files.proofs.FileLemmas.{follows_long}
 use Rattle.capture_files.proofs.RecordLemmas.{no_frame, none_begins}
 use Rattle.capture_files.proofs.pcap_reader.Pcap.next.Goals as goal
 
@@ -11,3 +12,8 @@ returns-in_ok-search_on-in-Long-clause-step g c =
 
 pub returns-in-End-clause-end : goal.returns-in-End-clause-end
 returns-in-End-clause-end g c = elim c.in_ok-fill.ensures.there [ inl le ↦ absurd (omega (arith, le, c.in-End.ensures, ap length c.ahead.ensures, c.size.ensures.least)) | inr end ↦ end ]
+
+pub returns-in_ok-search_on-in-Long-clause-follows : goal.returns-in_ok-search_on-in-Long-clause-follows
+returns-in_ok-search_on-in-Long-clause-follows g c =
+    let start = c.in-Long.ensures in
+    follows_long c.args.self.now _ (g.S.Source.left c.fill.new.source) c.fill.new.self.ahead _ _ (search rules) c.fill.ensures.passes (search (rules, start.0, c.ahead.ensures)) (search (rules, start.1, c.ahead.ensures))
