@@ -85,25 +85,8 @@ halted f status s cause said three = record { fault = f; other = sym s ∙ three
 pub unhalted : (findings status : ℕ) (A : Type 0) → status ≡ cond {A = ℕ} (findings == 0) 0 1 → status ≡ 3 → A
 unhalted findings status A s three = let few = small findings status s in absurd (omega (arith, few, three))
 
--- one thread may scan in place of workers
-pub workers_of : (thread alone followed : Bool) → (thread ≡ false → alone ≡ false) → has_workers thread followed ≡ true → has_workers alone followed ≡ true
-workers_of true alone followed same has = absurd (let bad : false ≡ true = has in cc)
-workers_of false alone followed same has = ap (λ a. has_workers a followed) (same refl) ∙ has
-
 -- a run after the trace was opened
 pub opened_halt : {S K E : Type 0} (read : Source S) (write : Sink K) (print : Sink E) (workers : Bool) (source opened source′ : S) (sink sink′ : K) (errors silent errors′ : E) → read.failures opened ≡ read.failures source → read.calls opened ≡ read.calls source → silent ≡ errors
     → HaltsRun read write print workers opened source′ sink sink′ silent errors′ → HaltsRun read write print workers source source′ sink sink′ errors errors′
 opened_halt read write print workers source opened source′ sink sink′ errors silent errors′ failures calls same halt =
     halts_more (λ failed. omega (arith, failed, failures)) (λ failed. failed) (λ none. (none.0, none.1 ∙ calls)) (subst (λ e. HaltsRun read write print workers opened source′ sink sink′ e errors′) same halt)
-
--- a run of one thread
-pub alone_stops : {S K E : Type 0} (read : Source S) (write : Sink K) (print : Sink E) (workers : Bool) (name : Option (List ℕ)) (source source′ : S) (sink sink′ : K) (errors errors′ : E) → IsStopped read write print false name source source′ sink sink′ errors errors′
-    → IsStopped read write print workers name source source′ sink sink′ errors errors′
-alone_stops read write print workers name source source′ sink sink′ errors errors′ (inl unopened) = inl unopened
-alone_stops read write print workers name source source′ sink sink′ errors errors′ (inr halt) = inr (halts_more (λ x. x) (λ x. x) (λ none. absurd (let bad : false ≡ true = none.0 in cc)) halt)
-
--- a run that opens a trace in place of an explanation
-pub trace_stops : {S K E : Type 0} (read : Source S) (write : Sink K) (print : Sink E) (workers : Bool) (word name : Option (List ℕ)) (source source′ : S) (sink sink′ : K) (errors errors′ : E) → word ≡ None → IsStopped read write print workers name source source′ sink sink′ errors errors′
-    → IsStopped read write print workers (opened_by [] word name) source source′ sink sink′ errors errors′
-trace_stops read write print workers word name source source′ sink sink′ errors errors′ none stops =
-    subst (λ w. IsStopped read write print workers (opened_by [] w name) source source′ sink sink′ errors errors′) (sym none) stops

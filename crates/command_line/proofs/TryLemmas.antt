@@ -59,8 +59,3 @@ refused_try text left asked before after well Start status r same part failed s 
 refused_try text left asked before after well (Double i) status r same part failed s = other_status text left asked before after well (Double i) status s s r (inl (same (λ h. absurd cc)))
 refused_try text left asked before after well (UnknownPiece i) status r same part failed s = other_status text left asked before after well (UnknownPiece i) status s s r (inl (same (λ h. absurd cc)))
 refused_try text left asked before after well (Missing i) status r same part failed s = other_status text left asked before after well (Missing i) status s s r (inl (same (λ h. absurd cc)))
-
--- the options have rows to annotate where the words ask for an annotation
-pub annotating : (words : List (List ℕ)) (asked : Option Rows) → MatchOption asked (annotates words ≡ false) (λ rows. (annotates words ≡ true) × AreAskedRows words rows) → is_some asked ≡ annotates words
-annotating words None h = sym h
-annotating words (Some rows) h = sym h.0
