@@ -14,7 +14,7 @@ use Rattle.live_report.specs.Reports.{IsReported, IsTaken}
 use Rattle.trace_scan.specs.Follow.{IsFollowRefusal, IsWrittenOf}
 use Rattle.line_model.specs.traces.Traces.{trace_report, trace_summary}
 
-some_status : (m : ℕ) → cond {A = ℕ} (suc m == 0) 0 1 ≡ 1
+pub some_status : (m : ℕ) → cond {A = ℕ} (suc m == 0) 0 1 ≡ 1
 some_status m = grind (arith, nat_tests)
 
 counted : (lag : ℕ) (text : List ℕ) (left asked before after : Option (List ℕ)) (well : Type 0) (n status : ℕ) → IsReported text before after (trace_summary text) → n ≡ (trace_summary text).findings → status ≡ summary_status (trace_summary text) → IsStatus lag text left asked before after well status
@@ -65,12 +65,7 @@ refused_status lag text left asked before after well (Trace line kind) status r 
 }
 refused_status lag text left asked before after well Write status r taken failed s =
     other_status lag text left asked before after well Write status s s r (inr (cut_short lag text left asked before after well r taken (failed refl)))
-refused_status lag text left asked before after well Memory status r taken failed s = other_status lag text left asked before after well Memory status s s r (inl taken)
-refused_status lag text left asked before after well Read status r taken failed s = other_status lag text left asked before after well Read status s s r (inl taken)
-refused_status lag text left asked before after well Start status r taken failed s = other_status lag text left asked before after well Start status s s r (inl taken)
-refused_status lag text left asked before after well (Double i) status r taken failed s = other_status lag text left asked before after well (Double i) status s s r (inl taken)
-refused_status lag text left asked before after well (UnknownPiece i) status r taken failed s = other_status lag text left asked before after well (UnknownPiece i) status s s r (inl taken)
-refused_status lag text left asked before after well (Missing i) status r taken failed s = other_status lag text left asked before after well (Missing i) status s s r (inl taken)
+refused_status lag text left asked before after well _ status r taken failed s = other_status lag text left asked before after well _ status s s r (inl taken)
 
 pub status_range : (f : Fault) (status : ℕ) → status ≡ fault_status f → status < 4
 status_range (Trace line kind) status s = omega (arith, s)
@@ -113,13 +108,7 @@ refused_follow text left asked before after well (Trace line kind) status r writ
   other = λ e. absurd (omega (arith, e, s));
   range = omega (arith, s);
 }
-refused_follow text left asked before after well Memory status r written_of failed s = other_follow text left asked before after well Memory status s s r written_of failed
-refused_follow text left asked before after well Read status r written_of failed s = other_follow text left asked before after well Read status s s r written_of failed
-refused_follow text left asked before after well Write status r written_of failed s = other_follow text left asked before after well Write status s s r written_of failed
-refused_follow text left asked before after well Start status r written_of failed s = other_follow text left asked before after well Start status s s r written_of failed
-refused_follow text left asked before after well (Double i) status r written_of failed s = other_follow text left asked before after well (Double i) status s s r written_of failed
-refused_follow text left asked before after well (UnknownPiece i) status r written_of failed s = other_follow text left asked before after well (UnknownPiece i) status s s r written_of failed
-refused_follow text left asked before after well (Missing i) status r written_of failed s = other_follow text left asked before after well (Missing i) status s s r written_of failed
+refused_follow text left asked before after well _ status r written_of failed s = other_follow text left asked before after well _ status s s r written_of failed
 
 -- ---- by whether it was followed
 
@@ -224,7 +213,11 @@ pub refused_lines : (lag : ℕ) (followed : Bool) (text : List ℕ) (left asked 
 refused_lines lag followed text left asked before after well (Ok sums) refused = tt
 refused_lines lag followed text left asked before after well (Err f) refused = refused_line lag followed text left asked before after well f refused
 
--- two facts of a refusal
-pub both_refusals : {P Q : Fault → Type 0} (r : Result Summary Fault) → IfErr r P → IfErr r Q → IfErr r (λ f. P f × Q f)
-both_refusals (Ok sums) p q = tt
-both_refusals (Err f) p q = (p, q)
+-- the refusal of a scan by one thread, and of one that followed the text
+pub plain_refusal : (text : List ℕ) (left asked before after : Option (List ℕ)) (well : Type 0) (r : Result Summary Fault) → IfErr r (IsRefusedBy 0 (IsRefusal 0) text left asked) → IfErr r (IsTaken before after (trace_report text)) → IfErr r (IsScanRefusal 0 false text left asked before after well)
+plain_refusal text left asked before after well (Ok sums) refused taken = tt
+plain_refusal text left asked before after well (Err f) refused taken = (refused, taken)
+
+pub follow_refusal : (text : List ℕ) (left asked before after : Option (List ℕ)) (well : Type 0) (r : Result Summary Fault) → IfErr r (IsRefusedBy 0 IsFollowRefusal text left asked) → IfErr r (IsRefusedBy 0 (IsWrittenOf before after well) text left asked) → IfErr r (IsScanRefusal 0 true text left asked before after well)
+follow_refusal text left asked before after well (Ok sums) refused taken = tt
+follow_refusal text left asked before after well (Err f) refused taken = (refused, taken)

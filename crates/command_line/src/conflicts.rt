@@ -83,7 +83,7 @@ fn output_conflict(matches: &ArgMatches<'_>, output: TraceOutput) -> Option<&'st
     }
 }
 
-/// Why an output can't be printed with what else is asked for, if it can't: first a note of the data that was not counted.
+/// Why what is asked for can't be printed together, if it can't. A conflict with a note comes first.
 pub(crate) fn conflict(matches: &ArgMatches<'_>, output: TraceOutput) -> Option<&'static str>
     ensures { is_some result ≡ conflicts output (values_in matches.now) }
 {
