@@ -2,6 +2,7 @@ mod WorkedWords
 pub mod ChannelLemmas
 pub mod FaultLemmas
 pub mod JsonLemmas
+pub mod NumberLemmas
 pub mod PastedLemmas
 pub mod StatusLemmas
 pub mod StopLemmas

@@ -6,7 +6,7 @@ use Rattle.line_model.specs.text.Text.{fault}
 use Rattle.line_model.specs.declared.totals.Summary.{Summary}
 use Rattle.line_model.specs.declared.fault.Fault.{Fault}
 use Rattle.line_model.specs.declared.fault.Fault.TheVariants.{Memory, Trace, Read, Write, Start, Double, UnknownPiece, Missing}
-use Rattle.command_line.specs.Program.{IsCutShort, IsFollowStatus, IsReportStatus, IsScanRefusal, IsScanned, IsStatus, IsStatusOf, RefusesLine, fault_status, lag_by, status_of, summary_status}
+use Rattle.command_line.specs.Program.{IsCutShort, IsFollowStatus, IsReportStatus, IsScanRefusal, IsScanned, IsStatus, IsStatusOf, RefusesLine, fault_status, status_of, summary_status}
 use Rattle.trace_text.specs.Decided.{NoneDecidedButLast}
 use Rattle.trace_text.specs.Sources.{IsRefusedBy, NoneDecided}
 use Rattle.trace_text.specs.Refusals.{IsRefusal}
@@ -14,7 +14,7 @@ use Rattle.live_report.specs.Reports.{IsReported, IsTaken}
 use Rattle.trace_scan.specs.Follow.{IsFollowRefusal, IsWrittenOf}
 use Rattle.line_model.specs.traces.Traces.{trace_report, trace_summary}
 
-some_status : (m : ℕ) → cond {A = ℕ} (suc m == 0) 0 1 ≡ 1
+pub some_status : (m : ℕ) → cond {A = ℕ} (suc m == 0) 0 1 ≡ 1
 some_status m = grind (arith, nat_tests)
 
 counted : (lag : ℕ) (text : List ℕ) (left asked before after : Option (List ℕ)) (well : Type 0) (n status : ℕ) → IsReported text before after (trace_summary text) → n ≡ (trace_summary text).findings → status ≡ summary_status (trace_summary text) → IsStatus lag text left asked before after well status
@@ -65,12 +65,7 @@ refused_status lag text left asked before after well (Trace line kind) status r 
 }
 refused_status lag text left asked before after well Write status r taken failed s =
     other_status lag text left asked before after well Write status s s r (inr (cut_short lag text left asked before after well r taken (failed refl)))
-refused_status lag text left asked before after well Memory status r taken failed s = other_status lag text left asked before after well Memory status s s r (inl taken)
-refused_status lag text left asked before after well Read status r taken failed s = other_status lag text left asked before after well Read status s s r (inl taken)
-refused_status lag text left asked before after well Start status r taken failed s = other_status lag text left asked before after well Start status s s r (inl taken)
-refused_status lag text left asked before after well (Double i) status r taken failed s = other_status lag text left asked before after well (Double i) status s s r (inl taken)
-refused_status lag text left asked before after well (UnknownPiece i) status r taken failed s = other_status lag text left asked before after well (UnknownPiece i) status s s r (inl taken)
-refused_status lag text left asked before after well (Missing i) status r taken failed s = other_status lag text left asked before after well (Missing i) status s s r (inl taken)
+refused_status lag text left asked before after well _ status r taken failed s = other_status lag text left asked before after well _ status s s r (inl taken)
 
 pub status_range : (f : Fault) (status : ℕ) → status ≡ fault_status f → status < 4
 status_range (Trace line kind) status s = omega (arith, s)
@@ -113,13 +108,7 @@ refused_follow text left asked before after well (Trace line kind) status r writ
   other = λ e. absurd (omega (arith, e, s));
   range = omega (arith, s);
 }
-refused_follow text left asked before after well Memory status r written_of failed s = other_follow text left asked before after well Memory status s s r written_of failed
-refused_follow text left asked before after well Read status r written_of failed s = other_follow text left asked before after well Read status s s r written_of failed
-refused_follow text left asked before after well Write status r written_of failed s = other_follow text left asked before after well Write status s s r written_of failed
-refused_follow text left asked before after well Start status r written_of failed s = other_follow text left asked before after well Start status s s r written_of failed
-refused_follow text left asked before after well (Double i) status r written_of failed s = other_follow text left asked before after well (Double i) status s s r written_of failed
-refused_follow text left asked before after well (UnknownPiece i) status r written_of failed s = other_follow text left asked before after well (UnknownPiece i) status s s r written_of failed
-refused_follow text left asked before after well (Missing i) status r written_of failed s = other_follow text left asked before after well (Missing i) status s s r written_of failed
+refused_follow text left asked before after well _ status r written_of failed s = other_follow text left asked before after well _ status s s r written_of failed
 
 -- ---- by whether it was followed
 
@@ -165,71 +154,70 @@ any_status before after (Err f) of = refused_any false before after f (fault_sta
 wider_sound : (few most : ℕ) (given : List ℕ) → few ≤ most → NoneDecidedButLast few given → NoneDecidedButLast most given
 wider_sound few most given le s = record { before = s.before; last = s.last; whole = s.whole; few = omega (arith, le, s.few); sound = s.sound }
 
-wider_fault : (lag : ℕ) (given rest : List ℕ) (f : Fault) → IsRefusal 0 given rest f → IsRefusal lag given rest f
-wider_fault lag given rest Memory r = wider_sound (0 + 2 ^ 16) (lag + 2 ^ 16) given (omega arith) r
-wider_fault lag given rest (Trace line kind) r = (wider_sound (0 + 2 ^ 16) (lag + 2 ^ 16) given (omega arith) r.0, r.1)
-wider_fault lag given rest Read r = r
-wider_fault lag given rest Write r = r
-wider_fault lag given rest Start r = r
-wider_fault lag given rest _ r = absurd r
+wider_fault : (few most : ℕ) (given rest : List ℕ) (f : Fault) → few ≤ most → IsRefusal few given rest f → IsRefusal most given rest f
+wider_fault few most given rest Memory le r = wider_sound (few + 2 ^ 16) (most + 2 ^ 16) given (omega (arith, le)) r
+wider_fault few most given rest (Trace line kind) le r = (wider_sound (few + 2 ^ 16) (most + 2 ^ 16) given (omega (arith, le)) r.0, r.1)
+wider_fault few most given rest Read le r = r
+wider_fault few most given rest Write le r = r
+wider_fault few most given rest Start le r = r
+wider_fault few most given rest _ le r = absurd r
 
-wider_order : (lag : ℕ) (given text : List ℕ) (asked : Option (List ℕ)) → (given ≡ []) ⊎ NoneDecided 0 text asked → (given ≡ []) ⊎ NoneDecided lag text asked
-wider_order lag given text asked (inl none) = inl none
-wider_order lag given text asked (inr n) = inr (record { before = n.before; last = n.last; whole = n.whole; left = n.left; sound = wider_sound 0 lag n.before (omega arith) n.sound })
+wider_order : (few most : ℕ) (given text : List ℕ) (asked : Option (List ℕ)) → few ≤ most → (given ≡ []) ⊎ NoneDecided few text asked → (given ≡ []) ⊎ NoneDecided most text asked
+wider_order few most given text asked le (inl none) = inl none
+wider_order few most given text asked le (inr n) = inr (record { before = n.before; last = n.last; whole = n.whole; left = n.left; sound = wider_sound few most n.before le n.sound })
 
-pub wider_refusal : (lag : ℕ) (text : List ℕ) (left asked : Option (List ℕ)) (f : Fault) → IsRefusedBy 0 (IsRefusal 0) text left asked f → IsRefusedBy lag (IsRefusal lag) text left asked f
-wider_refusal lag text left asked f r = record { given = r.given; rest = r.rest; whole = r.whole; left = r.left; order = wider_order lag r.given text asked r.order; refusal = wider_fault lag r.given r.rest f r.refusal }
+wider_refusal : (few most : ℕ) (text : List ℕ) (left asked : Option (List ℕ)) (f : Fault) → few ≤ most → IsRefusedBy few (IsRefusal few) text left asked f → IsRefusedBy most (IsRefusal most) text left asked f
+wider_refusal few most text left asked f le r =
+    record { given = r.given; rest = r.rest; whole = r.whole; left = r.left; order = wider_order few most r.given text asked le r.order; refusal = wider_fault few most r.given r.rest f le r.refusal }
 
 -- so one thread refuses a text as workers may
-pub wider_line : (thread alone : Bool) (text : List ℕ) (left asked : Option (List ℕ)) (f : Fault) → (thread ≡ false → alone ≡ false) → RefusesLine (lag_by thread) text left asked f → RefusesLine (lag_by alone) text left asked f
-wider_line true alone text left asked f same r two = wider_refusal (lag_by alone) text left asked f (r two)
-wider_line false alone text left asked f same r two = subst (λ a. IsRefusedBy (lag_by a) (IsRefusal (lag_by a)) text left asked f) (sym (same refl)) (r two)
+pub wider_line : (few most : ℕ) (text : List ℕ) (left asked : Option (List ℕ)) (f : Fault) → few ≤ most → RefusesLine few text left asked f → RefusesLine most text left asked f
+wider_line few most text left asked f le r two = wider_refusal few most text left asked f le (r two)
 
-wider_status : (lag : ℕ) (text : List ℕ) (left asked before after : Option (List ℕ)) (well : Type 0) (status : ℕ) → IsStatus 0 text left asked before after well status → IsStatus lag text left asked before after well status
-wider_status lag text left asked before after well status s = record {
+wider_status : (few most : ℕ) (text : List ℕ) (left asked before after : Option (List ℕ)) (well : Type 0) (status : ℕ) → few ≤ most → IsStatus few text left asked before after well status → IsStatus most text left asked before after well status
+wider_status few most text left asked before after well status le s = record {
   clean = s.clean;
   found = s.found;
   faulty = λ two.
       let f = s.faulty two in
-      (record { line = f.0.line; kind = f.0.kind; refusal = wider_refusal lag text left asked (Trace f.0.line f.0.kind) f.0.refusal }, f.1);
+      (record { line = f.0.line; kind = f.0.kind; refusal = wider_refusal few most text left asked (Trace f.0.line f.0.kind) le f.0.refusal }, f.1);
   other = λ three.
       let o = s.other three in
-      record { cause = o.cause; other = o.other; refusal = wider_refusal lag text left asked o.cause o.refusal; taken = o.taken };
+      record { cause = o.cause; other = o.other; refusal = wider_refusal few most text left asked o.cause le o.refusal; taken = o.taken };
   range = s.range;
 }
 
-wider_scanned : (thread alone followed : Bool) (text : List ℕ) (left asked before after : Option (List ℕ)) (well : Type 0) (status : ℕ) → (thread ≡ false → alone ≡ false) → IsScanned (lag_by thread) followed text left asked before after well status
-    → IsScanned (lag_by alone) followed text left asked before after well status
-wider_scanned thread alone true text left asked before after well status same s = s
-wider_scanned true alone false text left asked before after well status same s = wider_status (lag_by alone) text left asked before after well status s
-wider_scanned false alone false text left asked before after well status same s = subst (λ a. IsStatus (lag_by a) text left asked before after well status) (sym (same refl)) s
+wider_scanned : (few most : ℕ) (followed : Bool) (text : List ℕ) (left asked before after : Option (List ℕ)) (well : Type 0) (status : ℕ) → few ≤ most → IsScanned few followed text left asked before after well status → IsScanned most followed text left asked before after well status
+wider_scanned few most true text left asked before after well status le s = s
+wider_scanned few most false text left asked before after well status le s = wider_status few most text left asked before after well status le s
 
-pub wider_scan : (thread alone json followed : Bool) (text : List ℕ) (left asked before after : Option (List ℕ)) (well : Type 0) (status : ℕ) → (thread ≡ false → alone ≡ false) → IsStatusOf (lag_by thread) json followed text left asked before after well status
-    → IsStatusOf (lag_by alone) json followed text left asked before after well status
-wider_scan thread alone false followed text left asked before after well status same s = wider_scanned thread alone followed text left asked before after well status same s
-wider_scan thread alone true followed text left asked before after well status same s =
-    record { given = s.given; failures = s.failures; plain = s.plain; scanned = wider_scanned thread alone followed text left asked (Some []) (Some s.given) (s.failures ≡ 0) s.plain same s.scanned; objects = s.objects }
+wider_any : (few most : ℕ) (json followed : Bool) (text : List ℕ) (left asked before after : Option (List ℕ)) (well : Type 0) (status : ℕ) → few ≤ most → IsStatusOf few json followed text left asked before after well status → IsStatusOf most json followed text left asked before after well status
+wider_any few most false followed text left asked before after well status le s = wider_scanned few most followed text left asked before after well status le s
+wider_any few most true followed text left asked before after well status le s =
+    record { given = s.given; failures = s.failures; plain = s.plain; scanned = wider_scanned few most followed text left asked (Some []) (Some s.given) (s.failures ≡ 0) s.plain le s.scanned; objects = s.objects }
+
+-- and of another that follows as it does, and has the same status
+pub wider_scan : (few most : ℕ) (json followed follows : Bool) (text : List ℕ) (left asked before after : Option (List ℕ)) (well : Type 0) (status same : ℕ) → few ≤ most → followed ≡ follows → status ≡ same → IsStatusOf few json followed text left asked before after well status
+    → IsStatusOf most json follows text left asked before after well same
+wider_scan few most json followed follows text left asked before after well status same le f is s =
+    subst (λ (o : Bool × ℕ). IsStatusOf most json o.0 text left asked before after well o.1) (λ i. (f i, is i)) (wider_any few most json followed text left asked before after well status le s)
 
 -- the faulty line of a scan that was refused
 refused_line : (lag : ℕ) (followed : Bool) (text : List ℕ) (left asked before after : Option (List ℕ)) (well : Type 0) (f : Fault) → IsScanRefusal lag followed text left asked before after well f → RefusesLine lag text left asked f
 refused_line lag false text left asked before after well f r two = r.0
 refused_line lag true text left asked before after well (Trace line kind) r two =
-    wider_refusal lag text left asked (Trace line kind) (record { given = r.0.given; rest = r.0.rest; whole = r.0.whole; left = r.0.left; order = r.0.order; refusal = r.0.refusal })
+    wider_refusal 0 lag text left asked (Trace line kind) (omega arith) (record { given = r.0.given; rest = r.0.rest; whole = r.0.whole; left = r.0.left; order = r.0.order; refusal = r.0.refusal })
 refused_line lag true text left asked before after well _ r two = absurd (omega (arith, two))
 
 pub refused_lines : (lag : ℕ) (followed : Bool) (text : List ℕ) (left asked before after : Option (List ℕ)) (well : Type 0) (r : Result Summary Fault) → IfErr r (IsScanRefusal lag followed text left asked before after well) → IfErr r (RefusesLine lag text left asked)
 refused_lines lag followed text left asked before after well (Ok sums) refused = tt
 refused_lines lag followed text left asked before after well (Err f) refused = refused_line lag followed text left asked before after well f refused
 
--- the refusal of a scan that did not follow the text, and of one that did
-pub plain_refusal : (lag : ℕ) (followed : Bool) (text : List ℕ) (left asked before after : Option (List ℕ)) (well : Type 0) (r : Result Summary Fault) → followed ≡ false → IfErr r (IsRefusedBy lag (IsRefusal lag) text left asked) → IfErr r (IsTaken before after (trace_report text))
-    → IfErr r (IsScanRefusal lag followed text left asked before after well)
-plain_refusal lag followed text left asked before after well (Ok sums) plain refused taken = tt
-plain_refusal lag false text left asked before after well (Err f) plain refused taken = (refused, taken)
-plain_refusal lag true text left asked before after well (Err f) plain refused taken = absurd (true≢false plain)
+-- the refusal of a scan by one thread, and of one that followed the text
+pub plain_refusal : (text : List ℕ) (left asked before after : Option (List ℕ)) (well : Type 0) (r : Result Summary Fault) → IfErr r (IsRefusedBy 0 (IsRefusal 0) text left asked) → IfErr r (IsTaken before after (trace_report text)) → IfErr r (IsScanRefusal 0 false text left asked before after well)
+plain_refusal text left asked before after well (Ok sums) refused taken = tt
+plain_refusal text left asked before after well (Err f) refused taken = (refused, taken)
 
-pub follow_refusal : (lag : ℕ) (followed : Bool) (text : List ℕ) (left asked before after : Option (List ℕ)) (well : Type 0) (r : Result Summary Fault) → followed ≡ true → IfErr r (IsRefusedBy 0 IsFollowRefusal text left asked) → IfErr r (IsRefusedBy 0 (IsWrittenOf before after well) text left asked)
-    → IfErr r (IsScanRefusal lag followed text left asked before after well)
-follow_refusal lag followed text left asked before after well (Ok sums) follow refused taken = tt
-follow_refusal lag true text left asked before after well (Err f) follow refused taken = (refused, taken)
-follow_refusal lag false text left asked before after well (Err f) follow refused taken = absurd (true≢false (sym follow))
+pub follow_refusal : (text : List ℕ) (left asked before after : Option (List ℕ)) (well : Type 0) (r : Result Summary Fault) → IfErr r (IsRefusedBy 0 IsFollowRefusal text left asked) → IfErr r (IsRefusedBy 0 (IsWrittenOf before after well) text left asked) → IfErr r (IsScanRefusal 0 true text left asked before after well)
+follow_refusal text left asked before after well (Ok sums) refused taken = tt
+follow_refusal text left asked before after well (Err f) refused taken = (refused, taken)

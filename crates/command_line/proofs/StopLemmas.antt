@@ -16,13 +16,7 @@ use Rattle.command_line.proofs.StatusLemmas.{small}
 -- the line of another fault than a failed write is printed
 pub said_of : (f : Fault) (before after : Option (List ℕ)) (well : Type 0) → f ≢ Write → IsSaid (fault_line f) before after well → IsFaultSaid f before after well
 said_of Write before after well other said = absurd (other refl)
-said_of Memory before after well other said = said
-said_of (Trace line kind) before after well other said = said
-said_of Read before after well other said = said
-said_of Start before after well other said = said
-said_of (Double i) before after well other said = said
-said_of (UnknownPiece i) before after well other said = said
-said_of (Missing i) before after well other said = said
+said_of _ before after well other said = said
 
 -- the cause of a scan's fault
 pub scan_cause : {T : Type 0} (read_failed write_failed unstarted : Type 0) (r : Result T Fault) → IfErr r IsScanFault → (r ≡ Err Read → read_failed) → (r ≡ Err Write → write_failed) → IfErr r (IsCause read_failed write_failed unstarted)
@@ -31,10 +25,7 @@ scan_cause a b d (Err Memory) kinds read write = tt
 scan_cause a b d (Err (Trace line kind)) kinds read write = tt
 scan_cause a b d (Err Read) kinds read write = read refl
 scan_cause a b d (Err Write) kinds read write = write refl
-scan_cause a b d (Err Start) kinds read write = absurd kinds
-scan_cause a b d (Err (Double i)) kinds read write = absurd kinds
-scan_cause a b d (Err (UnknownPiece i)) kinds read write = absurd kinds
-scan_cause a b d (Err (Missing i)) kinds read write = absurd kinds
+scan_cause a b d (Err _) kinds read write = absurd kinds
 
 -- a printer meets the faults of a scan
 pub printing_scan : {T : Type 0} (r : Result T Fault) → IfErr r IsPrintingFault → IfErr r IsScanFault
@@ -43,10 +34,7 @@ printing_scan (Err Memory) kinds = tt
 printing_scan (Err (Trace line kind)) kinds = tt
 printing_scan (Err Read) kinds = tt
 printing_scan (Err Write) kinds = tt
-printing_scan (Err Start) kinds = absurd kinds
-printing_scan (Err (Double i)) kinds = absurd kinds
-printing_scan (Err (UnknownPiece i)) kinds = absurd kinds
-printing_scan (Err (Missing i)) kinds = absurd kinds
+printing_scan (Err _) kinds = absurd kinds
 
 -- the cause of a fault of a scan that has workers
 pub worked_cause : (read_failed write_failed unstarted : Type 0) (f : Fault) → IsWorkedFault f → (f ≡ Read → read_failed) → (f ≡ Write → write_failed) → (f ≡ Start → unstarted) → IsCause read_failed write_failed unstarted f
@@ -55,9 +43,7 @@ worked_cause a b d (Trace line kind) kinds read write start = tt
 worked_cause a b d Read kinds read write start = read refl
 worked_cause a b d Write kinds read write start = write refl
 worked_cause a b d Start kinds read write start = start refl
-worked_cause a b d (Double i) kinds read write start = absurd kinds
-worked_cause a b d (UnknownPiece i) kinds read write start = absurd kinds
-worked_cause a b d (Missing i) kinds read write start = absurd kinds
+worked_cause a b d _ kinds read write start = absurd kinds
 
 -- the cause of a write that failed
 pub write_cause : (a b d : Type 0) (f : Fault) → f ≡ Write → b → IsCause a b d f
@@ -70,9 +56,7 @@ more_cause a b d a′ b′ d′ (Trace line kind) x y z cause = tt
 more_cause a b d a′ b′ d′ Read x y z cause = x cause
 more_cause a b d a′ b′ d′ Write x y z cause = y cause
 more_cause a b d a′ b′ d′ Start x y z cause = z cause
-more_cause a b d a′ b′ d′ (Double i) x y z cause = absurd cause
-more_cause a b d a′ b′ d′ (UnknownPiece i) x y z cause = absurd cause
-more_cause a b d a′ b′ d′ (Missing i) x y z cause = absurd cause
+more_cause a b d a′ b′ d′ _ x y z cause = absurd cause
 
 pub halts_more : {a b d a′ b′ d′ : Type 0} {before after : Option (List ℕ)} {well : Type 0} → (a → a′) → (b → b′) → (d → d′) → IsHalted a b d before after well → IsHalted a′ b′ d′ before after well
 halts_more {a = a} {b = b} {d = d} {a′ = a′} {b′ = b′} {d′ = d′} x y z h = record { fault = h.fault; other = h.other; cause = more_cause a b d a′ b′ d′ h.fault x y z h.cause; said = h.said }
@@ -85,25 +69,8 @@ halted f status s cause said three = record { fault = f; other = sym s ∙ three
 pub unhalted : (findings status : ℕ) (A : Type 0) → status ≡ cond {A = ℕ} (findings == 0) 0 1 → status ≡ 3 → A
 unhalted findings status A s three = let few = small findings status s in absurd (omega (arith, few, three))
 
--- one thread may scan in place of workers
-pub workers_of : (thread alone followed : Bool) → (thread ≡ false → alone ≡ false) → has_workers thread followed ≡ true → has_workers alone followed ≡ true
-workers_of true alone followed same has = absurd (let bad : false ≡ true = has in cc)
-workers_of false alone followed same has = ap (λ a. has_workers a followed) (same refl) ∙ has
-
 -- a run after the trace was opened
 pub opened_halt : {S K E : Type 0} (read : Source S) (write : Sink K) (print : Sink E) (workers : Bool) (source opened source′ : S) (sink sink′ : K) (errors silent errors′ : E) → read.failures opened ≡ read.failures source → read.calls opened ≡ read.calls source → silent ≡ errors
     → HaltsRun read write print workers opened source′ sink sink′ silent errors′ → HaltsRun read write print workers source source′ sink sink′ errors errors′
 opened_halt read write print workers source opened source′ sink sink′ errors silent errors′ failures calls same halt =
     halts_more (λ failed. omega (arith, failed, failures)) (λ failed. failed) (λ none. (none.0, none.1 ∙ calls)) (subst (λ e. HaltsRun read write print workers opened source′ sink sink′ e errors′) same halt)
-
--- a run of one thread
-pub alone_stops : {S K E : Type 0} (read : Source S) (write : Sink K) (print : Sink E) (workers : Bool) (name : Option (List ℕ)) (source source′ : S) (sink sink′ : K) (errors errors′ : E) → IsStopped read write print false name source source′ sink sink′ errors errors′
-    → IsStopped read write print workers name source source′ sink sink′ errors errors′
-alone_stops read write print workers name source source′ sink sink′ errors errors′ (inl unopened) = inl unopened
-alone_stops read write print workers name source source′ sink sink′ errors errors′ (inr halt) = inr (halts_more (λ x. x) (λ x. x) (λ none. absurd (let bad : false ≡ true = none.0 in cc)) halt)
-
--- a run that opens a trace in place of an explanation
-pub trace_stops : {S K E : Type 0} (read : Source S) (write : Sink K) (print : Sink E) (workers : Bool) (word name : Option (List ℕ)) (source source′ : S) (sink sink′ : K) (errors errors′ : E) → word ≡ None → IsStopped read write print workers name source source′ sink sink′ errors errors′
-    → IsStopped read write print workers (opened_by [] word name) source source′ sink sink′ errors errors′
-trace_stops read write print workers word name source source′ sink sink′ errors errors′ none stops =
-    subst (λ w. IsStopped read write print workers (opened_by [] w name) source source′ sink sink′ errors errors′) (sym none) stops

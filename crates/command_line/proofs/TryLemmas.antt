@@ -1,19 +1,13 @@
 -- The exit status where headers are tried.
 use Rattle.std.proofs.Common.{◌≡◌, ◌≢◌, ◌∙◌, sym, refl, inl, inr, ◌⊎◌, ℕ, zero, suc, true, false, List, Option, None, Some, arith, cond, ◌==◌}
-use Rattle.std.specs.Prelude.{MatchOption, is_some}
-use Rattle.std.proofs.lemmas.Bool.Decides.{nat_tests}
 use Rattle.line_model.specs.declared.fault.Fault.{Fault}
 use Rattle.line_model.specs.declared.fault.Fault.TheVariants.{Memory, Trace, Read, Write, Start, Double, UnknownPiece, Missing}
-use Rattle.annotated_trace.specs.declared.rows.Rows.{Rows}
 use Rattle.trace_text.specs.Sources.{IsRefusedBy}
 use Rattle.trace_text.specs.Refusals.{IsRefusal}
 use Rattle.header_trials.specs.TriedLines.{HasTried, HasTriedPart}
-use Rattle.command_line.specs.Options.{AreAskedRows, annotates}
 use Rattle.command_line.specs.Program.{fault_status}
 use Rattle.command_line.specs.Trying.{IsTryStatus}
-
-some_status : (m : ℕ) → cond {A = ℕ} (suc m == 0) 0 1 ≡ 1
-some_status m = grind (arith, nat_tests)
+use Rattle.command_line.proofs.StatusLemmas.{some_status}
 
 pub tried_status : (text : List ℕ) (left asked before after : Option (List ℕ)) (well : Type 0) (findings status : ℕ) → HasTried text before after findings → status ≡ cond {A = ℕ} (findings == 0) 0 1 → IsTryStatus text left asked before after well status
 tried_status text left asked before after well zero status h s = record {
@@ -53,14 +47,4 @@ refused_try text left asked before after well (Trace line kind) status r same pa
   range = omega (arith, s);
 }
 refused_try text left asked before after well Write status r same part failed s = other_status text left asked before after well Write status s s r (inr (failed refl, part refl))
-refused_try text left asked before after well Memory status r same part failed s = other_status text left asked before after well Memory status s s r (inl (same (λ h. absurd cc)))
-refused_try text left asked before after well Read status r same part failed s = other_status text left asked before after well Read status s s r (inl (same (λ h. absurd cc)))
-refused_try text left asked before after well Start status r same part failed s = other_status text left asked before after well Start status s s r (inl (same (λ h. absurd cc)))
-refused_try text left asked before after well (Double i) status r same part failed s = other_status text left asked before after well (Double i) status s s r (inl (same (λ h. absurd cc)))
-refused_try text left asked before after well (UnknownPiece i) status r same part failed s = other_status text left asked before after well (UnknownPiece i) status s s r (inl (same (λ h. absurd cc)))
-refused_try text left asked before after well (Missing i) status r same part failed s = other_status text left asked before after well (Missing i) status s s r (inl (same (λ h. absurd cc)))
-
--- the options have rows to annotate where the words ask for an annotation
-pub annotating : (words : List (List ℕ)) (asked : Option Rows) → MatchOption asked (annotates words ≡ false) (λ rows. (annotates words ≡ true) × AreAskedRows words rows) → is_some asked ≡ annotates words
-annotating words None h = sym h
-annotating words (Some rows) h = sym h.0
+refused_try text left asked before after well _ status r same part failed s = other_status text left asked before after well _ status s s r (inl (same (λ h. absurd cc)))

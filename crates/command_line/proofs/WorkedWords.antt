@@ -1,194 +1,131 @@
--- What some command lines are by the rules of `clap`, by computing.
-use Rattle.std.proofs.Common.{◌≡◌, false, true, refl, codes, [], ◌∷◌, Some, None}
+-- What some command lines ask for, by computing.
+use Rattle.std.proofs.Common.{◌≡◌, List, false, true, refl, codes, [], ◌∷◌, Some, None}
+use Rattle.annotated_trace.specs.declared.rows.Rows.TheVariants.{All, Chosen}
 use Rattle.clap.proofs.OnLiterals.{clap_on_literals}
+use Rattle.clap.specs.Words.{Text}
 use Rattle.clap.specs.declared.error.kind.ErrorKind.TheVariants.{ArgumentConflict, DisplayHelp, DisplayVersion, UnknownArgument, ValueValidation}
-use Rattle.command_line.specs.Notes.{notes_refused}
-use Rattle.command_line.specs.Options.{alone, annotates, as_json, asked_word, asked_workers, asks_notes, follows, lists_calls, named_trace, prints_rows, shows_progress, tries_headers, words_fault}
+use Rattle.streams.specs.declared.progress.ShowProgress.TheVariants.{Always, Never, OnTerminal}
+use Rattle.command_line.specs.Asked.{AskedWords, Conflict, Explanation, Trace, Wrong, asked_of}
+use Rattle.command_line.specs.declared.asked.OutputForm.TheVariants.{Comments, Objects, TableObjects}
+use Rattle.command_line.specs.declared.asked.ScanMode.TheVariants.{Alone, Follow, Workers}
+use Rattle.command_line.specs.declared.asked.TraceOutput.TheVariants.{Headers, Printing, Report}
 
-no_arguments : words_fault (codes "x25scan" ∷ []) ≡ []
+-- what words after the name of the program ask for
+abbrev Ask : List Text → AskedWords → Type 0
+Ask words asked = asked_of (codes "x25scan" ∷ words) ≡ asked
+
+no_words : Ask ([]) (Trace None OnTerminal (Report (record { mode = Workers None; json = false; notes = false })))
 unfolding clap_on_literals
-no_arguments = refl
+no_words = refl
 
-both_arguments : words_fault (codes "x25scan" ∷ codes "--alone" ∷ codes "--workers" ∷ codes "64" ∷ []) ≡ []
+most_workers : Ask (codes "--workers" ∷ codes "64" ∷ []) (Trace None OnTerminal (Report (record { mode = Workers (Some 64); json = false; notes = false })))
 unfolding clap_on_literals
-both_arguments = refl
+most_workers = refl
 
-workers_unnamed : asked_workers (codes "x25scan" ∷ []) ≡ None
-unfolding clap_on_literals
-workers_unnamed = refl
-
-two_workers : asked_workers (codes "x25scan" ∷ codes "--follow" ∷ codes "--workers=2" ∷ []) ≡ Some (codes "2")
-unfolding clap_on_literals
-two_workers = refl
-
-scanned_alone : alone (codes "x25scan" ∷ codes "--workers" ∷ codes "2" ∷ codes "--alone" ∷ []) ≡ true
-unfolding clap_on_literals
-scanned_alone = refl
-
-no_progress : shows_progress (codes "x25scan" ∷ codes "--alone" ∷ []) ≡ false
-unfolding clap_on_literals
-no_progress = refl
-
-no_workers : words_fault (codes "x25scan" ∷ codes "--workers" ∷ codes "0" ∷ []) ≡ ValueValidation ∷ []
+no_workers : Ask (codes "--workers" ∷ codes "0" ∷ []) (Wrong (ValueValidation ∷ []))
 unfolding clap_on_literals
 no_workers = refl
 
-too_many_workers : words_fault (codes "x25scan" ∷ codes "--workers" ∷ codes "65" ∷ []) ≡ ValueValidation ∷ []
+too_many_workers : Ask (codes "--workers" ∷ codes "65" ∷ []) (Wrong (ValueValidation ∷ []))
 unfolding clap_on_literals
 too_many_workers = refl
 
-other_argument : words_fault (codes "x25scan" ∷ codes "--threads" ∷ []) ≡ UnknownArgument ∷ []
+other_word : Ask (codes "--threads" ∷ []) (Wrong (UnknownArgument ∷ []))
 unfolding clap_on_literals
-other_argument = refl
+other_word = refl
 
-help : words_fault (codes "x25scan" ∷ codes "--help" ∷ []) ≡ DisplayHelp ∷ []
+help : Ask (codes "--help" ∷ []) (Wrong (DisplayHelp ∷ []))
 unfolding clap_on_literals
 help = refl
 
-follow_alone : words_fault (codes "x25scan" ∷ codes "--follow" ∷ codes "--workers" ∷ codes "1" ∷ []) ≡ []
-unfolding clap_on_literals
-follow_alone = refl
-
-not_followed : follows (codes "x25scan" ∷ []) ≡ false
-unfolding clap_on_literals
-not_followed = refl
-
-not_followed_alone : follows (codes "x25scan" ∷ codes "--alone" ∷ codes "--workers" ∷ codes "64" ∷ []) ≡ false
-unfolding clap_on_literals
-not_followed_alone = refl
-
-followed : follows (codes "x25scan" ∷ codes "--follow" ∷ []) ≡ true
-unfolding clap_on_literals
-followed = refl
-
-followed_alone : follows (codes "x25scan" ∷ codes "--alone" ∷ codes "--follow" ∷ codes "--workers=2" ∷ []) ≡ true
-unfolding clap_on_literals
-followed_alone = refl
-
-explained : words_fault (codes "x25scan" ∷ codes "--explain" ∷ codes "22" ∷ []) ≡ []
-unfolding clap_on_literals
-explained = refl
-
-listed : words_fault (codes "x25scan" ∷ codes "--explain" ∷ []) ≡ []
-unfolding clap_on_literals
-listed = refl
-
-no_word_asked : asked_word (codes "x25scan" ∷ codes "--follow" ∷ []) ≡ None
-unfolding clap_on_literals
-no_word_asked = refl
-
-word_asked : asked_word (codes "x25scan" ∷ codes "--explain" ∷ codes "22" ∷ []) ≡ Some (codes "22")
-unfolding clap_on_literals
-word_asked = refl
-
-dash_asked : asked_word (codes "x25scan" ∷ codes "--explain=-" ∷ []) ≡ Some (codes "-")
-unfolding clap_on_literals
-dash_asked = refl
-
-list_asked : asked_word (codes "x25scan" ∷ codes "--explain" ∷ codes "--alone" ∷ []) ≡ Some []
-unfolding clap_on_literals
-list_asked = refl
-
-asked_twice : words_fault (codes "x25scan" ∷ codes "--explain" ∷ codes "1" ∷ codes "--explain" ∷ codes "2" ∷ []) ≡ ArgumentConflict ∷ []
-unfolding clap_on_literals
-asked_twice = refl
-
-named : named_trace (codes "x25scan" ∷ codes "--alone" ∷ codes "day.trace" ∷ []) ≡ Some (codes "day.trace")
-unfolding clap_on_literals
-named = refl
-
-named_words : words_fault (codes "x25scan" ∷ codes "day.trace" ∷ codes "--follow" ∷ []) ≡ []
-unfolding clap_on_literals
-named_words = refl
-
-dash_named : named_trace (codes "x25scan" ∷ codes "-" ∷ []) ≡ None
-unfolding clap_on_literals
-dash_named = refl
-
-nothing_named : named_trace (codes "x25scan" ∷ codes "--follow" ∷ []) ≡ None
-unfolding clap_on_literals
-nothing_named = refl
-
-two_names : words_fault (codes "x25scan" ∷ codes "a" ∷ codes "b" ∷ []) ≡ UnknownArgument ∷ []
-unfolding clap_on_literals
-two_names = refl
-
-version : words_fault (codes "x25scan" ∷ codes "--version" ∷ []) ≡ DisplayVersion ∷ []
+version : Ask (codes "--version" ∷ []) (Wrong (DisplayVersion ∷ []))
 unfolding clap_on_literals
 version = refl
 
-explained_and_named : asked_word (codes "x25scan" ∷ codes "day.trace" ∷ codes "--explain" ∷ codes "22" ∷ []) ≡ Some (codes "22")
+two_names : Ask (codes "a" ∷ codes "b" ∷ []) (Wrong (UnknownArgument ∷ []))
 unfolding clap_on_literals
-explained_and_named = refl
+two_names = refl
 
-json : as_json (codes "x25scan" ∷ codes "--json" ∷ codes "day.trace" ∷ []) ≡ true
+dash : Ask (codes "-" ∷ []) (Trace None OnTerminal (Report (record { mode = Workers None; json = false; notes = false })))
 unfolding clap_on_literals
-json = refl
+dash = refl
 
-no_json : as_json (codes "x25scan" ∷ codes "--follow" ∷ []) ≡ false
+alone : Ask (codes "--workers" ∷ codes "2" ∷ codes "--alone" ∷ codes "day.trace" ∷ []) (Trace (Some (codes "day.trace")) OnTerminal (Report (record { mode = Alone; json = false; notes = false })))
 unfolding clap_on_literals
-no_json = refl
+alone = refl
 
-followed_json : words_fault (codes "x25scan" ∷ codes "--follow" ∷ codes "--json" ∷ []) ≡ []
+followed : Ask (codes "--alone" ∷ codes "--follow" ∷ codes "--json" ∷ []) (Trace None Never (Report (record { mode = Follow; json = true; notes = false })))
 unfolding clap_on_literals
-followed_json = refl
+followed = refl
 
-annotated : annotates (codes "x25scan" ∷ codes "--annotate" ∷ codes "day.trace" ∷ []) ≡ true
+followed_with_progress : Ask (codes "--follow" ∷ codes "--progress" ∷ []) (Trace None Always (Report (record { mode = Follow; json = false; notes = false })))
+unfolding clap_on_literals
+followed_with_progress = refl
+
+explained : Ask (codes "--explain" ∷ codes "22" ∷ codes "--json" ∷ codes "day.trace" ∷ []) (Explanation (codes "22"))
+unfolding clap_on_literals
+explained = refl
+
+listed : Ask (codes "--explain" ∷ codes "--alone" ∷ []) (Explanation [])
+unfolding clap_on_literals
+listed = refl
+
+explained_twice : Ask (codes "--explain" ∷ codes "1" ∷ codes "--explain" ∷ codes "2" ∷ []) (Wrong (ArgumentConflict ∷ []))
+unfolding clap_on_literals
+explained_twice = refl
+
+annotated : Ask (codes "--annotate" ∷ codes "--progress" ∷ []) (Trace None Never (Printing (record { form = Comments; rows = All })))
 unfolding clap_on_literals
 annotated = refl
 
-annotated_call : annotates (codes "x25scan" ∷ codes "--call" ∷ codes "7" ∷ []) ≡ true
+annotated_call : Ask (codes "--call" ∷ codes "7" ∷ []) (Trace None Never (Printing (record { form = Comments; rows = Chosen None (Some 7) })))
 unfolding clap_on_literals
 annotated_call = refl
 
-not_annotated : annotates (codes "x25scan" ∷ codes "--follow" ∷ []) ≡ false
+annotated_json : Ask (codes "--annotate" ∷ codes "--json" ∷ []) Conflict
 unfolding clap_on_literals
-not_annotated = refl
+annotated_json = refl
 
-channel_of_no_interface : words_fault (codes "x25scan" ∷ codes "--channel" ∷ codes "4096" ∷ []) ≡ ValueValidation ∷ []
+channel_of_no_interface : Ask (codes "--channel" ∷ codes "4096" ∷ []) (Wrong (ValueValidation ∷ []))
 unfolding clap_on_literals
 channel_of_no_interface = refl
 
-rows_asked : prints_rows (codes "x25scan" ∷ codes "--rows" ∷ codes "--call" ∷ codes "7" ∷ []) ≡ true
+rows_of_channel : Ask (codes "--rows" ∷ codes "--channel" ∷ codes "+3" ∷ codes "--json" ∷ []) (Trace None Never (Printing (record { form = Objects; rows = Chosen (Some 3) None })))
 unfolding clap_on_literals
-rows_asked = refl
+rows_of_channel = refl
 
-no_rows_asked : prints_rows (codes "x25scan" ∷ codes "--annotate" ∷ []) ≡ false
+annotated_rows : Ask (codes "--rows" ∷ codes "--annotate" ∷ []) Conflict
 unfolding clap_on_literals
-no_rows_asked = refl
+annotated_rows = refl
 
-calls_asked : lists_calls (codes "x25scan" ∷ codes "--calls" ∷ codes "--json" ∷ []) ≡ true
+calls : Ask (codes "--calls" ∷ codes "--json" ∷ []) (Trace None Never (Printing (record { form = TableObjects; rows = All })))
 unfolding clap_on_literals
-calls_asked = refl
+calls = refl
 
-no_calls_asked : lists_calls (codes "x25scan" ∷ codes "--call" ∷ codes "7" ∷ []) ≡ false
+calls_of_channel : Ask (codes "--calls" ∷ codes "--channel" ∷ codes "3" ∷ []) Conflict
 unfolding clap_on_literals
-no_calls_asked = refl
+calls_of_channel = refl
 
-notes_of_calls : notes_refused (codes "x25scan" ∷ codes "--calls" ∷ codes "--notes" ∷ []) ≡ true
+headers : Ask (codes "--try-headers" ∷ codes "day.trace" ∷ []) (Trace (Some (codes "day.trace")) OnTerminal Headers)
 unfolding clap_on_literals
-notes_of_calls = refl
+headers = refl
 
-notes_asked : asks_notes (codes "x25scan" ∷ codes "--notes" ∷ codes "day.trace" ∷ []) ≡ true
+headers_of_rows : Ask (codes "--try-headers" ∷ codes "--rows" ∷ []) Conflict
 unfolding clap_on_literals
-notes_asked = refl
+headers_of_rows = refl
 
-notes_alone : notes_refused (codes "x25scan" ∷ codes "--notes" ∷ codes "--workers" ∷ codes "2" ∷ codes "--alone" ∷ []) ≡ false
+notes : Ask (codes "--notes" ∷ []) (Trace None OnTerminal (Report (record { mode = Alone; json = false; notes = true })))
+unfolding clap_on_literals
+notes = refl
+
+notes_alone : Ask (codes "--notes" ∷ codes "--workers" ∷ codes "2" ∷ codes "--alone" ∷ []) (Trace None OnTerminal (Report (record { mode = Alone; json = false; notes = true })))
 unfolding clap_on_literals
 notes_alone = refl
 
-notes_of_workers : notes_refused (codes "x25scan" ∷ codes "--notes" ∷ codes "--workers" ∷ codes "2" ∷ []) ≡ true
+notes_of_workers : Ask (codes "--notes" ∷ codes "--workers" ∷ codes "2" ∷ []) Conflict
 unfolding clap_on_literals
 notes_of_workers = refl
 
-notes_of_rows : notes_refused (codes "x25scan" ∷ codes "--rows" ∷ codes "--notes" ∷ []) ≡ true
+notes_of_calls : Ask (codes "--notes" ∷ codes "--calls" ∷ []) Conflict
 unfolding clap_on_literals
-notes_of_rows = refl
-
-headers_tried : tries_headers (codes "x25scan" ∷ codes "--try-headers" ∷ codes "day.trace" ∷ []) ≡ true
-unfolding clap_on_literals
-headers_tried = refl
-
-no_headers_tried : tries_headers (codes "x25scan" ∷ codes "--rows" ∷ []) ≡ false
-unfolding clap_on_literals
-no_headers_tried = refl
+notes_of_calls = refl

@@ -1,5 +1,5 @@
 -- What is printed of a trace where the table of its calls is asked for.
-use Rattle.std.specs.Prelude.{◌≡◌, ℕ, Bool, ◌||◌, List, [], Option}
+use Rattle.std.specs.Prelude.{◌≡◌, ℕ, List, [], Option}
 use Rattle.line_model.specs.basics.Records.{Report}
 use Rattle.line_model.specs.declared.fault.Fault.{Fault}
 use Rattle.line_model.specs.declared.totals.Summary.{Summary}
@@ -25,7 +25,3 @@ PrintsCalls form left after asked before taken sums = HasPassed (IsPrinted IsNot
 -- a source gave some bytes, and they are refused; the sink has nothing, or where it failed at the end of the text a first part of the table
 abbrev pub StopsCalls : TableForm → (left after asked before taken : Option (List ℕ)) → (well : Type 0) → Fault → Type 0
 StopsCalls form left after asked before taken well fault = StopsPrinting IsNothing (HasFirstPrintOf IsNothing (ClosesWithCalls form)) left after asked before taken well fault
-
--- what the table cannot be combined with: following, objects of rows, an annotation
-abbrev pub cannot_list : (follow rows annotates : Bool) → Bool
-cannot_list follow rows annotates = follow || (rows || annotates)

@@ -1,6 +1,6 @@
 pub mod Channels
 pub mod Options
-pub mod Notes
+pub mod Asked
 pub mod Pasted
 pub mod Explaining
 pub mod Faults
@@ -9,3 +9,4 @@ pub mod Stopped
 pub mod Calls
 pub mod Printing
 pub mod Trying
+pub mod Answer

@@ -1,5 +1,5 @@
 -- What the exit status of the program says of a trace whose rows or calls are printed in place of its report.
-use Rattle.std.specs.Prelude.{◌≡◌, ◌⊎◌, ℕ, Bool, true, false, List, [], Option, Some, None}
+use Rattle.std.specs.Prelude.{◌≡◌, ◌⊎◌, ℕ, List, [], Option}
 use Rattle.line_model.specs.basics.Records.{Report}
 use Rattle.line_model.specs.declared.device.Sink.{Ghosts as Sink}
 use Rattle.line_model.specs.declared.device.Source.{Ghosts as Source}
@@ -11,14 +11,13 @@ use Rattle.annotated_trace.specs.Printed.{IsPrintOf}
 use Rattle.annotated_trace.specs.Printers.{HasFirstPrintOf, IsPrinted}
 use Rattle.annotated_trace.specs.Printing.{HasPassed, StopsPrinting}
 use Rattle.annotated_trace.specs.declared.rows.Rows.{Rows}
-use Rattle.annotated_trace.specs.declared.rows.Rows.TheVariants.{All}
 use Rattle.descriptions.specs.RowObjects.{IsClosing, IsLineObject}
 use Rattle.descriptions.specs.declared.call_columns.TableForm.TheVariants as table
 use Rattle.command_line.specs.Calls.{PrintsCalls, StopsCalls}
-use Rattle.command_line.specs.Program.{IsUnread, fault_status, summary_status}
-use Rattle.command_line.specs.declared.options.OutputForm.{OutputForm}
-use Rattle.command_line.specs.declared.options.OutputForm.TheVariants.{Comments, Objects, Table, TableObjects}
-use Rattle.command_line.specs.declared.options.Printing.{Printing}
+use Rattle.command_line.specs.Program.{fault_status, summary_status}
+use Rattle.command_line.specs.declared.asked.OutputForm.{OutputForm}
+use Rattle.command_line.specs.declared.asked.OutputForm.TheVariants.{Comments, Objects, Table, TableObjects}
+use Rattle.command_line.specs.declared.asked.Printing.{Printing}
 
 -- bytes are the objects of these rows of some lines, one after the other
 abbrev pub AreRowObjects : Rows → List Line → List ℕ → Type 0
@@ -70,60 +69,3 @@ abbrev pub IsPrintStatus : Printing → (left after asked before taken : Option 
 IsPrintStatus printing left after asked before taken well status =
     ((sums : Summary) × Prints printing left after asked before taken sums × (status ≡ summary_status sums))
     ⊎ ((fault : Fault) × StopsBy printing left after asked before taken well fault × (status ≡ fault_status fault))
-
--- what can't be asked for together was: nothing was read or written
-pub record IsRefused {S K : Type 0} (source source' : S) (sink sink' : K) (status : ℕ) : Type 0 where
-  pub unasked : source' ≡ source
-  pub unwritten : sink' ≡ sink
-  pub usage : status ≡ 64
-
--- the form of the table of calls, by whether JSON is asked for
-abbrev pub table_form : (json : Bool) → OutputForm
-table_form false = Table
-table_form true = TableObjects
-
--- the same, where the table is asked for
-abbrev pub table_of : (calls json : Bool) → Option OutputForm
-table_of false json = None
-table_of true json = Some (table_form json)
-
--- what is printed, by the form of the table of calls, by whether objects are asked for and by the rows that are chosen
-abbrev pub printing_of : (table : Option OutputForm) → (objects : Bool) → Option Rows → Option Printing
-printing_of (Some form) objects rows = Some (record { form = form; rows = All })
-printing_of None true None = Some (record { form = Objects; rows = All })
-printing_of None true (Some rows) = Some (record { form = Objects; rows = rows })
-printing_of None false None = None
-printing_of None false (Some rows) = Some (record { form = Comments; rows = rows })
-
--- whether a form can't be printed with what else is asked for: comments with JSON, objects with comments, and the table of calls with any of
--- `cannot_list`
-abbrev pub is_refused : OutputForm → (json comments others : Bool) → Bool
-is_refused Comments json comments others = json
-is_refused Objects json comments others = comments
-is_refused _ json comments others = others
-
--- what is returned where a trace is printed, by whether it can't be together with what else is asked for
-abbrev pub IsPrintAnswer : {S K : Type 0} → (refused : Bool) → Printing → (source source' : S) (sink sink' : K) → (left after asked before taken : Option (List ℕ)) → (well : Type 0) → (status : ℕ) → Type 0
-IsPrintAnswer true printing source source' sink sink' left after asked before taken well status = IsRefused source source' sink sink' status
-IsPrintAnswer false printing source source' sink sink' left after asked before taken well status =
-    IsUnread source source' sink sink' status ⊎ IsPrintStatus printing left after asked before taken well status
-
--- the same of a source and a sink, before and after
-abbrev pub IsPrintAnswerTo : {S K : Type 0} → Source S → Sink K → (refused : Bool) → Printing → (trace : Option (List ℕ)) → (source source' : S) (sink sink' : K) → (status : ℕ) → Type 0
-IsPrintAnswerTo read write refused printing trace source source' sink sink' status =
-    IsPrintAnswer refused printing source source' sink sink' trace (read.left source') (read.before source') (write.taken sink) (write.taken sink') (write.failures sink' ≡ write.failures sink) status
-
--- an annotation of these rows, with which JSON can't be asked for
-abbrev pub IsAnnotateAnswer : {S K : Type 0} → Source S → Sink K → (json : Bool) → Rows → (trace : Option (List ℕ)) → (source source' : S) (sink sink' : K) → (status : ℕ) → Type 0
-IsAnnotateAnswer read write json rows trace source source' sink sink' status =
-    IsPrintAnswerTo read write json (record { form = Comments; rows = rows }) trace source source' sink sink' status
-
--- the objects of these rows, with which an annotation can't be asked for
-abbrev pub IsRowsAnswer : {S K : Type 0} → Source S → Sink K → (comments : Bool) → Rows → (trace : Option (List ℕ)) → (source source' : S) (sink sink' : K) → (status : ℕ) → Type 0
-IsRowsAnswer read write comments rows trace source source' sink sink' status =
-    IsPrintAnswerTo read write comments (record { form = Objects; rows = rows }) trace source source' sink sink' status
-
--- the table of calls, with which what `cannot_list` names can't be asked for
-abbrev pub IsCallsAnswer : {S K : Type 0} → Source S → Sink K → (refused json : Bool) → (trace : Option (List ℕ)) → (source source' : S) (sink sink' : K) → (status : ℕ) → Type 0
-IsCallsAnswer read write refused json trace source source' sink sink' status =
-    IsPrintAnswerTo read write refused (record { form = table_form json; rows = All }) trace source source' sink sink' status

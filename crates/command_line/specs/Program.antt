@@ -17,7 +17,8 @@ use Rattle.trace_scan.specs.Follow.{IsFollowRefusal, IsWrittenOf}
 use Rattle.json_lines.specs.Json.{json_text}
 use Rattle.line_model.specs.traces.Traces.{trace_report, trace_summary}
 use Rattle.command_line.specs.declared.help.TheConstants.{HELP, VERSION}
-use Rattle.command_line.specs.declared.options.Options.{Options}
+use Rattle.command_line.specs.declared.asked.ScanMode.{ScanMode}
+use Rattle.command_line.specs.declared.asked.ScanMode.TheVariants.{Follow, Workers}
 use Rattle.trace_text.specs.Refusals.{IsRefusal}
 
 -- 0 without findings, otherwise 1
@@ -52,17 +53,20 @@ abbrev pub IsAskedTextTaken : (text : Option (List ℕ)) → (before after : Opt
 IsAskedTextTaken None before after well = after ≡ before
 IsAskedTextTaken (Some text) before after well = HasFront before after text × (well → after ≡ with_more before text)
 
--- what words with these kinds of error get: the status, and the text that they ask for; or memory ran out
+-- what words with these kinds of error get: the status, and the text that they ask for
 abbrev pub IsWordsAnswer : Kinds → (before after : Option (List ℕ)) → (well : Type 0) → (status : ℕ) → Type 0
-IsWordsAnswer kinds before after well status =
-    ((status ≡ 3) × (after ≡ before))
-    ⊎ ((kind : ErrorKind) × IsAmong kind kinds × (status ≡ words_status kind) × IsAskedTextTaken (asked_text kind) before after well)
+IsWordsAnswer kinds before after well status = (kind : ErrorKind) × IsAmong kind kinds × (status ≡ words_status kind) × IsAskedTextTaken (asked_text kind) before after well
 
 -- how many of the last bytes that were read before the last call may show a faulty line: none in one thread, otherwise those of the blocks in
 -- flight
-abbrev pub lag_by : (alone : Bool) → ℕ
-lag_by true = 0
-lag_by false = in_flight
+abbrev pub lag_of : ScanMode → ℕ
+lag_of (Workers count) = in_flight
+lag_of _ = 0
+
+-- whether findings are printed while the trace is read
+abbrev pub is_followed : ScanMode → Bool
+is_followed Follow = true
+is_followed _ = false
 
 -- a text was refused by this fault, where that is a faulty line
 abbrev pub RefusesLine : (lag : ℕ) (text : List ℕ) (left asked : Option (List ℕ)) → Fault → Type 0
@@ -182,10 +186,6 @@ pub record IsReportStatus (json : Bool) (before after : Option (List ℕ)) (stat
 abbrev pub trace_of : (name : Option (List ℕ)) → (standard : Option (List ℕ)) → (named : List ℕ → Option (List ℕ)) → Option (List ℕ)
 trace_of None standard named = standard
 trace_of (Some name) standard named = named name
-
--- that which the options name
-abbrev pub trace_in : Options → (standard : Option (List ℕ)) → (named : List ℕ → Option (List ℕ)) → Option (List ℕ)
-trace_in options standard named = trace_of (option_map (λ name. name.now) options.trace) standard named
 
 -- memory ran out before the trace was read, or it could not be opened: source and sink were not asked
 pub record IsUnread {S K : Type 0} (source source' : S) (sink sink' : K) (status : ℕ) : Type 0 where

@@ -1,16 +1,30 @@
 -- What ended a run whose exit status is 3, and what was printed of it.
-use Rattle.std.specs.Prelude.{◌≡◌, ◌⊎◌, ◌<◌, ℕ, Bool, true, not, ◌||◌, List, [], ◌∷◌, Option, Some, None}
-use Rattle.clap.specs.Words.{Kinds, Text}
+use Rattle.std.specs.Prelude.{◌≡◌, ◌⊎◌, ◌<◌, ℕ, Bool, false, true, List, Option, None}
+use Rattle.clap.specs.Words.{Text}
 use Rattle.line_model.specs.declared.device.Sink.{Ghosts as Sink}
 use Rattle.line_model.specs.declared.device.Source.{Ghosts as Source}
 use Rattle.line_model.specs.declared.fault.Fault.{Fault}
 use Rattle.line_model.specs.declared.fault.Fault.TheVariants.{Memory, Trace, Read, Write, Start}
+use Rattle.command_line.specs.Asked.{AskedWords, Trace as OfTrace}
 use Rattle.command_line.specs.Faults.{IsFaultSaid, IsUnopened}
 use Rattle.command_line.specs.Program.{fault_status}
+use Rattle.command_line.specs.declared.asked.ScanMode.{ScanMode}
+use Rattle.command_line.specs.declared.asked.ScanMode.TheVariants.{Workers}
+use Rattle.command_line.specs.declared.asked.TraceOutput.{TraceOutput}
+use Rattle.command_line.specs.declared.asked.TraceOutput.TheVariants.{Report}
 
--- whether workers scan the trace
-abbrev pub has_workers : (alone followed : Bool) → Bool
-has_workers alone followed = not (alone || followed)
+-- whether workers may scan the trace in a mode, for an output, and where words ask for it
+abbrev pub has_workers : ScanMode → Bool
+has_workers (Workers count) = true
+has_workers _ = false
+
+abbrev pub output_workers : TraceOutput → Bool
+output_workers (Report report) = has_workers report.mode
+output_workers _ = false
+
+abbrev pub asked_workers : AskedWords → Bool
+asked_workers (OfTrace name progress output) = output_workers output
+asked_workers _ = false
 
 -- what shows that a run met a fault: the source failed, the sink failed, or no thread was made; of refused memory and of a faulty line nothing
 -- does
@@ -40,8 +54,7 @@ IsStopped read write print workers name source source' sink sink' errors errors'
     (IsUnopened name (print.taken errors) (print.taken errors') (print.failures errors' ≡ print.failures errors) × (source' ≡ source) × (sink' ≡ sink))
     ⊎ HaltsRun read write print workers source source' sink sink' errors errors'
 
--- the name of the trace that is opened, if one is: by the faults of the words, the word that is explained in place of a trace, and the name
-abbrev pub opened_by : Kinds → (word name : Option Text) → Option Text
-opened_by [] None name = name
-opened_by [] (Some word) name = None
-opened_by (kind ∷ kinds) word name = None
+-- the name of the trace that is opened, if one is
+abbrev pub opened_by : AskedWords → Option Text
+opened_by (OfTrace name progress output) = name
+opened_by _ = None

@@ -1,11 +1,10 @@
 -- What the exit status of the program says of a trace on which headers are tried.
-use Rattle.std.specs.Prelude.{◌≡◌, ◌⊎◌, ℕ, ◌<◌, Bool, true, false, ◌||◌, List, Option, Some}
+use Rattle.std.specs.Prelude.{◌≡◌, ◌⊎◌, ℕ, ◌<◌, List, Option, Some}
 use Rattle.line_model.specs.declared.fault.Fault.{Fault}
 use Rattle.trace_text.specs.Sources.{IsRefusedBy}
 use Rattle.trace_text.specs.Refusals.{IsRefusal}
 use Rattle.header_trials.specs.TriedLines.{HasTried, HasTriedPart}
-use Rattle.command_line.specs.Printing.{IsRefused}
-use Rattle.command_line.specs.Program.{IsFaulty, IsUnread, fault_status}
+use Rattle.command_line.specs.Program.{IsFaulty, fault_status}
 
 -- the sink accepted the lines, and the first one has findings
 pub record HasTriedWith (text : List ℕ) (before after : Option (List ℕ)) : Type 0 where
@@ -31,13 +30,3 @@ pub record IsTryStatus (text : List ℕ) (left asked before after : Option (List
 -- what it says of a trace whose text the source shows
 abbrev pub TriesOf : (trace left asked before after : Option (List ℕ)) → (well : Type 0) → (status : ℕ) → Type 0
 TriesOf trace left asked before after well status = (text : List ℕ) → trace ≡ Some text → IsTryStatus text left asked before after well status
-
--- what the trial of headers cannot be combined with: JSON, following, objects of rows, an annotation, the table of calls
-abbrev pub cannot_try : (json follow rows annotates calls : Bool) → Bool
-cannot_try json follow rows annotates calls = json || (follow || (rows || (annotates || calls)))
-
--- what is returned, by whether it cannot be combined with what else is asked for
-abbrev pub IsTryAnswer : {S K : Type 0} → (refused : Bool) → (source source' : S) (sink sink' : K) → (trace left asked before after : Option (List ℕ)) → (well : Type 0) → (status : ℕ) → Type 0
-IsTryAnswer true source source' sink sink' trace left asked before after well status = IsRefused source source' sink sink' status
-IsTryAnswer false source source' sink sink' trace left asked before after well status =
-    IsUnread source source' sink sink' status ⊎ TriesOf trace left asked before after well status

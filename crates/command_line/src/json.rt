@@ -1,10 +1,10 @@
 //! The scan whose report is printed as JSON lines.
 
 ghost use Rattle.std.specs.Prelude.{◌≡◌, ℕ, ◌<◌, ◌≤◌, ◌+◌, ◌^◌, IfErr, List, Some, true};
-ghost use Rattle.command_line.specs.Program.{IsReportStatus, IsScannedAsJson, RefusesLine, lag_by, status_of};
+ghost use Rattle.command_line.specs.Program.{IsReportStatus, IsScannedAsJson, RefusesLine, is_followed, lag_of, status_of};
 ghost use Rattle.command_line.specs.Stopped.{IsCause, has_workers};
 
-use crate::options::Options;
+use crate::asked::ScanMode;
 use crate::program::{Host, run_scan};
 use json_lines::sink::JsonSink;
 use line_model::fault::Fault;
@@ -21,7 +21,7 @@ use streams::output::Output;
 /// As `scan_json`, to the sink of an origin.
 fn scan_to<'a, S: Input, K: Output, R: Threads + Wait + Clock + Sync, B: Origin>(
     host: Host<'_, R>,
-    options: Options<'_>,
+    mode: ScanMode,
     source: &mut S,
     sink: &'a mut K,
     uncounted: &mut Uncounted,
@@ -30,18 +30,18 @@ fn scan_to<'a, S: Input, K: Output, R: Threads + Wait + Clock + Sync, B: Origin>
     requires before { (K.taken sink.now, K.failures sink.now) ≡ B.before }
     ensures name { result.0.ghost_name ≡ B.name }
     ensures shown { (text : List ℕ) → S.left source.old ≡ Some text
-        → IsScannedAsJson (lag_by options.entry.alone) options.entry.follow text (S.left source.new) (S.before source.new) B.before.0
+        → IsScannedAsJson (lag_of mode) (is_followed mode) text (S.left source.new) (S.before source.new) B.before.0
         (K.taken result.0.now) (K.failures result.0.now ≡ B.before.1) (status_of result.1) }
     ensures reported { IsReportStatus true B.before.0 (K.taken result.0.now) (status_of result.1) }
     ensures refused { (text : List ℕ) → S.left source.old ≡ Some text
-        → IfErr result.1 (RefusesLine (lag_by options.entry.alone) text (S.left source.new) (S.before source.new)) }
+        → IfErr result.1 (RefusesLine (lag_of mode) text (S.left source.new) (S.before source.new)) }
     ensures cause { IfErr result.1 (IsCause (S.failures source.old < S.failures source.new)
         (B.before.1 < K.failures result.0.now)
-        ((has_workers options.entry.alone options.entry.follow ≡ true) × (S.calls source.new ≡ S.calls source.old))) }
+        ((has_workers mode ≡ true) × (S.calls source.new ≡ S.calls source.old))) }
     ensures asked { S.calls source.new ≤ S.calls source.old + (2 ^ 30 + 1) }
 {
     let mut json = JsonSink::new(Borrowed::<K, B>::new(sink));
-    let scanned = run_scan(host, options, source, &mut json, uncounted);
+    let scanned = run_scan(host, mode, source, &mut json, uncounted);
     let (lent, answer) = json.finish();
     match answer {
         Ok(()) => (lent.give_back(), scanned),
@@ -49,27 +49,27 @@ fn scan_to<'a, S: Input, K: Output, R: Threads + Wait + Clock + Sync, B: Origin>
     }
 }
 
-/// Runs the scan that the options ask for, and prints each line of the report as an object. Where the sink failed, its
+/// Scans a trace in a mode, and prints each line of the report as an object. Where the sink failed, its
 /// fault is returned in place of another.
 pub(crate) fn scan_json<S: Input, K: Output, R: Threads + Wait + Clock + Sync>(
     host: Host<'_, R>,
-    options: Options<'_>,
+    mode: ScanMode,
     source: &mut S,
     sink: &mut K,
     uncounted: &mut Uncounted,
 ) -> Result<Summary, Fault>
     ensures shown { (text : List ℕ) → S.left source.old ≡ Some text
-        → IsScannedAsJson (lag_by options.entry.alone) options.entry.follow text (S.left source.new) (S.before source.new) (K.taken sink.old)
+        → IsScannedAsJson (lag_of mode) (is_followed mode) text (S.left source.new) (S.before source.new) (K.taken sink.old)
         (K.taken sink.new) (K.failures sink.new ≡ K.failures sink.old) (status_of result) }
     ensures reported { IsReportStatus true (K.taken sink.old) (K.taken sink.new) (status_of result) }
     ensures refused { (text : List ℕ) → S.left source.old ≡ Some text
-        → IfErr result (RefusesLine (lag_by options.entry.alone) text (S.left source.new) (S.before source.new)) }
+        → IfErr result (RefusesLine (lag_of mode) text (S.left source.new) (S.before source.new)) }
     ensures cause { IfErr result (IsCause (S.failures source.old < S.failures source.new)
         (K.failures sink.old < K.failures sink.new)
-        ((has_workers options.entry.alone options.entry.follow ≡ true) × (S.calls source.new ≡ S.calls source.old))) }
+        ((has_workers mode ≡ true) × (S.calls source.new ≡ S.calls source.old))) }
     ensures asked { S.calls source.new ≤ S.calls source.old + (2 ^ 30 + 1) }
 {
-    let (sink, scanned) = scan_to::<S, K, R, Brand>(host, options, source, sink, uncounted);
+    let (sink, scanned) = scan_to::<S, K, R, Brand>(host, mode, source, sink, uncounted);
     take_back(sink);
     scanned
 }

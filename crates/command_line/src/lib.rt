@@ -3,11 +3,14 @@
 #![tactic(auto)]
 
 pub mod annotated_scan;
+pub mod asked;
 mod channels;
+mod conflicts;
 mod explaining;
 mod faults;
 mod help;
 mod json;
+mod matches;
 mod notes;
 mod opening;
 pub mod options;

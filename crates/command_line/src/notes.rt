@@ -1,42 +1,9 @@
 //! The note on standard error of the data that was not counted.
 
-ghost use Rattle.std.specs.Prelude.{◌≡◌};
-ghost use Rattle.command_line.specs.Notes.{refused_in};
-
-use crate::options::Options;
-use crate::refusing::refuse_usage;
 use line_model::device::Sink;
 use line_model::write_buffer::write_all;
 use live_report::uncounted::{Amount, REASONS, Reason, Uncounted};
 use std::alloc::{AllocError, Global};
-
-/// Whether a note is asked for together with rows in place of the report, or with workers.
-pub(crate) fn refuses_notes(options: &Options<'_>) -> bool
-    ensures { result ≡ refused_in options.now }
-{
-    let printed = options.rows
-        || options.annotate.is_some()
-        || options.calls
-        || options.try_headers;
-    let is_alone = options.alone || options.follow;
-    options.notes && (printed || (options.crew && !is_alone))
-}
-
-/// Prints why a note can't be asked for, and returns the exit status.
-pub(crate) fn refuse_notes<E: Sink>(options: &Options<'_>, errors: &mut E) -> u8
-    ensures { result ≡ 64 }
-{
-    let text: &[u8] = if options.try_headers {
-        b"error: --notes is for a report, and --try-headers prints what each header leaves out: leave it out\n"
-    } else if options.calls {
-        b"error: --notes is for a report, and --calls prints a table of its calls: leave it out\n"
-    } else if options.rows || options.annotate.is_some() {
-        b"error: --notes is for a report, and --annotate, --rows, --channel and --call print why at each row: leave it out\n"
-    } else {
-        b"error: --notes needs a scan of one thread: name --alone in place of --workers\n"
-    };
-    refuse_usage(errors, text)
-}
 
 /// What is said of data that was not counted for a reason.
 fn words(reason: Reason) -> &'static str {

@@ -1,18 +1,15 @@
 //! The rows of the trace in place of its report: the trace once more with comments, or an object for each row; or the table of
 //! its calls.
 
-ghost use Rattle.std.specs.Prelude.{◌≡◌, ◌<◌, ◌≤◌, ◌+◌, ◌^◌, ◌⊎◌, IfErr, IfOk, false, is_some, option_map};
-ghost use Rattle.command_line.specs.Calls.{cannot_list};
-ghost use Rattle.command_line.specs.Printing.{IsPrintAnswer, IsPrintStatus, PrintsTo, StopsTo, is_refused};
-ghost use Rattle.command_line.specs.Program.{IsUnread, trace_in};
-ghost use Rattle.command_line.specs.Stopped.{HaltsRun, IsCause, IsStopped};
+ghost use Rattle.std.specs.Prelude.{◌≡◌, ◌<◌, ◌≤◌, ◌+◌, ◌^◌, IfErr, IfOk, false};
+ghost use Rattle.command_line.specs.Printing.{IsPrintStatus, PrintsTo, StopsTo};
+ghost use Rattle.command_line.specs.Stopped.{HaltsRun, IsCause};
 
 use crate::annotated_scan::annotate;
+use crate::asked::{OutputForm, Printing};
 use crate::channels::last_channel;
-use crate::opening::open_trace;
-use crate::options::{Options, OutputForm, Printing};
 use crate::program::summary_status;
-use crate::refusing::{refuse_scan, refuse_usage};
+use crate::refusing::refuse_scan;
 use annotated_trace::printing::print_trace as print_by;
 use annotated_trace::rows::Rows;
 use channel_machine::channel::PackedChannel;
@@ -30,13 +27,6 @@ use streams::output::Output;
 
 /// The observer of the trace that is printed, which keeps the row that it read last.
 type Trace = Live<Global, PackedChannel<Global>>;
-
-/// The options, and how they ask for rows in place of the report.
-#[derive(Clone, Copy)]
-pub(crate) struct AskedRows<'a> {
-    pub options: Options<'a>,
-    pub printing: Printing,
-}
 
 /// Prints how many calls the report has, where the rows of a further one were chosen.
 fn print_missing_call<E: Sink>(alloc: Global, errors: &mut E, call: u32, calls: u64) {
@@ -117,7 +107,7 @@ fn print<S: Source, K: Sink>(
 }
 
 /// Prints the trace, and returns the exit status.
-fn run_print<S: Input, K: Output, E: Sink>(
+pub(crate) fn run_print<S: Input, K: Output, E: Sink>(
     alloc: Global,
     printing: Printing,
     source: &mut S,
@@ -137,91 +127,4 @@ fn run_print<S: Input, K: Output, E: Sink>(
         }
         Err(fault) => refuse_scan(alloc, source, sink, errors, fault),
     }
-}
-
-/// Prints standard input, or the trace that is named, and returns the exit status.
-fn print_input<S: Input, K: Output, E: Sink>(
-    alloc: Global,
-    asked: AskedRows<'_>,
-    source: &mut S,
-    sink: &mut K,
-    errors: &mut E,
-) -> u8
-    ensures status { let trace = trace_in asked.entry.options (S.left source.old) (S.named source.old) in
-        IsUnread source.old source.new sink.old sink.new result
-        ⊎ IsPrintStatus asked.entry.printing trace (S.left source.new) (S.before source.new)
-        (K.taken sink.old) (K.taken sink.new) (K.failures sink.new ≡ K.failures sink.old) result }
-    ensures stopped { result ≡ 3 → IsStopped S.Source K.Sink E.Sink false
-        (option_map (λ name. name.now) asked.entry.options.trace) source.old source.new sink.old sink.new errors.old errors.new }
-    ensures range { result < 4 }
-    ensures asked { S.calls source.new ≤ S.calls source.old + (2 ^ 30 + 1) }
-{
-    match open_trace(alloc, asked.options.trace, source, errors) {
-        Ok(()) => run_print(alloc, asked.printing, source, sink, errors),
-        Err(status) => status,
-    }
-}
-
-/// Prints with which options a form can't be asked for.
-fn refuse_form<E: Sink>(errors: &mut E, form: OutputForm) -> u8
-    ensures { result ≡ 64 }
-{
-    let text: &[u8] = match form {
-        OutputForm::Comments =>
-            b"error: --json writes the report, and --annotate, --channel and --call write a trace instead\n",
-        OutputForm::Objects =>
-            b"error: --annotate prints the trace again, and --rows an object for each row: name one of them\n",
-        _ =>
-            b"error: --calls prints a table of the report's calls: leave out --follow, --rows, --annotate, --channel and --call\n",
-    };
-    refuse_usage(errors, text)
-}
-
-/// Prints standard input, or the trace that is named, in a form, and returns the exit status; refuses where it can't be
-/// printed with what else is asked for.
-pub(crate) fn print_trace<S: Input, K: Output, E: Sink>(
-    alloc: Global,
-    asked: AskedRows<'_>,
-    source: &mut S,
-    sink: &mut K,
-    errors: &mut E,
-) -> u8
-    ensures answer { let trace = trace_in asked.entry.options (S.left source.old) (S.named source.old) in
-        IsPrintAnswer (is_refused asked.entry.printing.form asked.entry.options.json asked.entry.options.comments
-        (cannot_list asked.entry.options.follow asked.entry.options.rows (is_some asked.entry.options.annotate)))
-        asked.entry.printing source.old source.new sink.old sink.new
-        trace (S.left source.new) (S.before source.new) (K.taken sink.old) (K.taken sink.new)
-        (K.failures sink.new ≡ K.failures sink.old) result }
-    ensures stopped { result ≡ 3 → IsStopped S.Source K.Sink E.Sink false
-        (option_map (λ name. name.now) asked.entry.options.trace) source.old source.new sink.old sink.new errors.old errors.new }
-    ensures unwritten { result ≡ 64 → sink.new ≡ sink.old }
-    ensures asked { S.calls source.new ≤ S.calls source.old + (2 ^ 30 + 1) }
-{
-    let AskedRows { options, printing } = asked;
-    if is_refused(printing.form, &options) {
-        refuse_form(errors, printing.form)
-    } else {
-        print_input(alloc, asked, source, sink, errors)
-    }
-}
-
-/// Whether a form can't be printed with what else is asked for: JSON with comments, comments with objects, or following or
-/// rows with the table of calls.
-fn is_refused(form: OutputForm, options: &Options<'_>) -> bool
-    ensures { result ≡ is_refused form options.now.json options.now.comments
-        (cannot_list options.now.follow options.now.rows (is_some options.now.annotate)) }
-{
-    match form {
-        OutputForm::Comments => options.json,
-        OutputForm::Objects => options.comments,
-        OutputForm::Table => cannot_list(options),
-        OutputForm::TableObjects => cannot_list(options),
-    }
-}
-
-/// Whether the table of calls can't be asked for with what else is.
-fn cannot_list(options: &Options<'_>) -> bool
-    ensures { result ≡ cannot_list options.now.follow options.now.rows (is_some options.now.annotate) }
-{
-    options.follow || options.rows || options.annotate.is_some()
 }

@@ -58,13 +58,7 @@ pub fn end_channels<A: Allocator + Copy, C: Channel<A>>(
     let mut events = Vec::new(alloc);
     while let Some((channel, entry)) = open_channels.table.pop_first() {
         if let Some(entry) = entry {
-            let report = end_channel(
-                entry,
-                open_channels.gap,
-                &mut events,
-                out.pieces(),
-                end,
-            )?;
+            let report = end_channel(entry, open_channels.gap, &mut events, out.pieces(), end)?;
             out.add(report)?;
         }
     }

@@ -149,7 +149,10 @@ impl RowOutcome {
         if self.judge.is_accepted() {
             return None;
         }
-        reason_of(&self.row(item), events)
+        if is_data(&item.packet) {
+            return reason_of(&self.row(item), events);
+        }
+        None
     }
 }
 

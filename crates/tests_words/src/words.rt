@@ -3,7 +3,6 @@
 mod runs;
 
 use crate::words::runs::{NamedText, run, run_in_memory};
-use command_line::options::parse;
 use std::alloc::Global;
 use std::process::Abort;
 use std::sync::Wait;
@@ -138,34 +137,4 @@ fn help_that_is_not_taken_ends_well(rt: HostRuntime) {
         assert_eq!(rt; ran.status, 0);
         assert_eq!(rt; ran.errors_taken.as_slice(), b"".as_slice());
     }
-}
-
-#[test]
-fn the_words_choose_the_threads(rt: HostRuntime) -> Result<(), Fail> {
-    for (words, workers, alone, follow) in [
-        (["x25scan"].as_slice(), 4, false, false),
-        (["x25scan", "--alone"].as_slice(), 4, true, false),
-        (["x25scan", "--follow"].as_slice(), 4, false, true),
-        (["x25scan", "--workers", "1"].as_slice(), 1, false, false),
-        (
-            ["x25scan", "--workers=64", "--alone"].as_slice(),
-            64,
-            true,
-            false,
-        ),
-        (
-            ["x25scan", "--follow", "--workers=2"].as_slice(),
-            2,
-            false,
-            true,
-        ),
-    ] {
-        let Ok(options) = parse(rt.alloc(), words) else {
-            return Err(Fail::new("refused"));
-        };
-        assert_eq!(rt; options.workers, workers);
-        assert_eq!(rt; options.alone, alone);
-        assert_eq!(rt; options.follow, follow);
-    }
-    Ok(())
 }

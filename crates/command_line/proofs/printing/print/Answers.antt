@@ -1,7 +1,7 @@
 use Rattle.std.proofs.Common.{◌≡◌, subst, sym}
 use Rattle.std.specs.Prelude.{IfErr, IfOk}
 use Rattle.command_line.specs.Printing.{PrintsRows, PrintsTo, StopsRows, StopsTo}
-use Rattle.command_line.specs.declared.options.OutputForm.{OutputForm}
+use Rattle.command_line.specs.declared.asked.OutputForm.{OutputForm}
 use Rattle.command_line.proofs.StopLemmas.{printing_scan, scan_cause}
 use Rattle.command_line.proofs.printing.print.Goals as goal
 

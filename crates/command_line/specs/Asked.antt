@@ -1,0 +1,133 @@
+-- What the words ask for (profile).
+use Rattle.std.specs.Prelude.{◌-◌, ◌^◌, ℕ, Bool, false, true, not, ◌&&◌, ◌||◌, List, [], ◌∷◌, Option, None, Some, codes, is_some, option_map, if◌then◌else◌}
+use Rattle.std.specs.Str.Parse.{digits_value, without_leading_plus}
+use Rattle.annotated_trace.specs.declared.rows.Rows.{Rows}
+use Rattle.annotated_trace.specs.declared.rows.Rows.TheVariants.{All, Chosen}
+use Rattle.clap.specs.ValueTests.{accepts}
+use Rattle.clap.specs.Words.{Kinds, Text, first_of, first_value, found_of, matches_of}
+use Rattle.clap.specs.declared.builder.value_parser.ValueParser.TheVariants.{Unsigned}
+use Rattle.clap.specs.declared.parser.matches.ArgMatches.{ArgMatches}
+use Rattle.streams.specs.declared.progress.ShowProgress.{ShowProgress}
+use Rattle.streams.specs.declared.progress.ShowProgress.TheVariants.{Always, Never, OnTerminal}
+use Rattle.command_line.specs.Options.{command, is_given, named_by, words_fault}
+use Rattle.command_line.specs.declared.asked.Asked as declared
+use Rattle.command_line.specs.declared.asked.OutputForm.{OutputForm}
+use Rattle.command_line.specs.declared.asked.OutputForm.TheVariants.{Comments, Objects, Table, TableObjects}
+use Rattle.command_line.specs.declared.asked.ScanMode.{ScanMode}
+use Rattle.command_line.specs.declared.asked.ScanMode.TheVariants.{Alone, Follow, Workers}
+use Rattle.command_line.specs.declared.asked.TraceOutput.{TraceOutput}
+use Rattle.command_line.specs.declared.asked.TraceOutput.TheVariants.{Headers, Printing, Report}
+
+-- what words ask for; the faults of words by the rules of `clap`, with `--help` and `--version` among them, come first
+pub data AskedWords : Type 0 where
+  Wrong : Kinds → AskedWords
+  Conflict : AskedWords
+  Explanation : Text → AskedWords
+  Trace : (name : Option Text) → ShowProgress → TraceOutput → AskedWords
+
+-- the first value of each argument, by its name
+abbrev pub Values : Type 0
+Values = Text → Option Text
+
+-- whether a flag is set
+abbrev pub has : Values → Text → Bool
+has values name = is_given (values name)
+
+-- the number of so many bits that a text writes; a plus may come first
+abbrev pub number_of : (bits : ℕ) → Option Text → Option ℕ
+number_of bits None = None
+number_of bits (Some text) = if accepts false (Unsigned 0 (2 ^ bits - 1)) text then Some (digits_value 10 (without_leading_plus text)) else None
+
+-- the rows of the channel and of the call that are named, and all where neither is
+abbrev pub rows_by : (channel call : Option Text) → Rows
+rows_by None None = All
+rows_by channel call = Chosen (number_of 16 channel) (number_of 32 call)
+
+abbrev pub rows_of : Values → Rows
+rows_of values = rows_by (values (codes "channel")) (values (codes "call"))
+
+-- whether an annotation is asked for: a channel or a call that is named asks for one too
+abbrev pub annotates : Values → Bool
+annotates values = has values (codes "annotate") || is_some (values (codes "channel")) || is_some (values (codes "call"))
+
+-- whether one thread scans the trace, which a note needs
+abbrev pub is_alone : Values → Bool
+is_alone values = has values (codes "alone") || has values (codes "notes")
+
+-- how the trace is scanned
+abbrev pub mode_of : Values → ScanMode
+mode_of values = if has values (codes "follow") then Follow else if is_alone values then Alone else Workers (number_of 8 (values (codes "workers")))
+
+-- the form of the table of calls
+abbrev pub table_of : Values → OutputForm
+table_of values = if has values (codes "json") then TableObjects else Table
+
+abbrev pub report_of : Values → TraceOutput
+report_of values = Report (record { mode = mode_of values; json = has values (codes "json"); notes = has values (codes "notes") })
+
+-- what is printed of the trace: the first of these that is asked for, and otherwise the report
+abbrev pub output_of : Values → TraceOutput
+output_of values =
+    if has values (codes "try-headers") then Headers
+    else if has values (codes "calls") then Printing (record { form = table_of values; rows = All })
+    else if has values (codes "rows") then Printing (record { form = Objects; rows = rows_of values })
+    else if annotates values then Printing (record { form = Comments; rows = rows_of values })
+    else report_of values
+
+-- when progress is printed: of a trace that is followed only where it is asked for, since its reader waits for more
+abbrev pub progress_by : (asked followed : Bool) → TraceOutput → ShowProgress
+progress_by asked followed (Printing printing) = Never
+progress_by asked followed output = if asked then Always else if followed then Never else OnTerminal
+
+-- whether a form can't be printed with what else is asked for: comments with JSON, objects with comments, and the table of calls with following, rows or comments
+abbrev pub excludes_form : OutputForm → Values → Bool
+excludes_form Comments values = has values (codes "json")
+excludes_form Objects values = has values (codes "annotate")
+excludes_form form values = has values (codes "follow") || has values (codes "rows") || annotates values
+
+-- whether an output can't be printed with what else is asked for; headers are tried with none of the others
+abbrev pub excludes : TraceOutput → Values → Bool
+excludes (Report report) values = false
+excludes (Printing printing) values = excludes_form printing.form values
+excludes Headers values = has values (codes "json") || has values (codes "follow") || has values (codes "rows") || annotates values || has values (codes "calls")
+
+-- whether a note of the data that was not counted can't be printed with an output: it is for a report that one thread makes
+abbrev pub excludes_notes : TraceOutput → Values → Bool
+excludes_notes (Report report) values = is_some (values (codes "workers")) && not (has values (codes "alone") || has values (codes "follow"))
+excludes_notes output values = true
+
+-- whether words ask for what can't be asked for together
+abbrev pub conflicts : TraceOutput → Values → Bool
+conflicts output values = (has values (codes "notes") && excludes_notes output values) || excludes output values
+
+-- what is printed of a trace, or a conflict
+abbrev pub trace_by : Values → TraceOutput → AskedWords
+trace_by values output =
+    if conflicts output values then Conflict
+    else Trace (named_by (values (codes "trace"))) (progress_by (has values (codes "progress")) (has values (codes "follow")) output) output
+
+-- an explanation in place of all else
+abbrev pub explained_by : (word : Option Text) → AskedWords → AskedWords
+explained_by None asked = asked
+explained_by (Some word) asked = Explanation word
+
+-- what the values of the arguments ask for
+abbrev pub asked_by : Values → AskedWords
+asked_by values = explained_by (values (codes "explain")) (trace_by values (output_of values))
+
+-- words that have faults are wrong
+abbrev pub unless_wrong : Kinds → AskedWords → AskedWords
+unless_wrong [] asked = asked
+unless_wrong (kind ∷ kinds) asked = Wrong (kind ∷ kinds)
+
+abbrev pub asked_of : List Text → AskedWords
+asked_of words = unless_wrong (words_fault words) (asked_by (λ name. first_of name (matches_of command words)))
+
+-- the same of the values that were found, and of what was read of them
+abbrev pub values_in : ArgMatches → Values
+values_in found name = first_value (found_of found) name
+
+abbrev pub asked_words : declared.Asked → AskedWords
+asked_words (declared.TheVariants.Conflict text) = Conflict
+asked_words (declared.TheVariants.Explanation word) = Explanation word.now
+asked_words (declared.TheVariants.Trace trace) = Trace (option_map (λ name. name.now) trace.name) trace.progress trace.output

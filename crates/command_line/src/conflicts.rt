@@ -1,0 +1,97 @@
+//! What can't be asked for together, and what is printed of it.
+
+ghost use Rattle.std.specs.Prelude.{◌≡◌, ◌&&◌, codes, is_some};
+ghost use Rattle.command_line.specs.Asked.{conflicts, excludes, excludes_form, excludes_notes, has, values_in};
+
+use crate::asked::{OutputForm, TraceOutput};
+use crate::matches::{annotates, is_given};
+use clap::ArgMatches;
+
+/// What is printed where a note of the data that was not counted is asked for with a form.
+fn note_text(form: OutputForm) -> &'static str {
+    match form {
+        OutputForm::Table | OutputForm::TableObjects =>
+            "error: --notes is for a report, and --calls prints a table of its calls: leave it out\n",
+        _ =>
+            "error: --notes is for a report, and --annotate, --rows, --channel and --call print why at each row: leave it out\n",
+    }
+}
+
+/// Why a note of the data that was not counted can't be printed with an output, if it can't.
+fn note_conflict(matches: &ArgMatches<'_>, output: TraceOutput) -> Option<&'static str>
+    ensures { is_some result ≡ excludes_notes output (values_in matches.now) }
+{
+    match output {
+        TraceOutput::Headers => Some(
+            "error: --notes is for a report, and --try-headers prints what each header leaves out: leave it out\n",
+        ),
+        TraceOutput::Printing(printing) => Some(note_text(printing.form)),
+        TraceOutput::Report(_) => {
+            let is_alone = is_given(matches, "alone") || is_given(matches, "follow");
+            let has_workers = matches.get_str("workers").is_some();
+            (has_workers && !is_alone).then_some(
+                "error: --notes needs a scan of one thread: name --alone in place of --workers\n",
+            )
+        }
+    }
+}
+
+/// Why a form can't be printed with what else is asked for, if it can't.
+fn form_conflict(matches: &ArgMatches<'_>, form: OutputForm) -> Option<&'static str>
+    ensures { is_some result ≡ excludes_form form (values_in matches.now) }
+{
+    match form {
+        OutputForm::Comments => is_given(matches, "json").then_some(
+            "error: --json writes the report, and --annotate, --channel and --call write a trace instead\n",
+        ),
+        OutputForm::Objects => is_given(matches, "annotate").then_some(
+            "error: --annotate prints the trace again, and --rows an object for each row: name one of them\n",
+        ),
+        _ => {
+            let is_refused = is_given(matches, "follow")
+                || is_given(matches, "rows")
+                || annotates(matches);
+            is_refused.then_some(
+                "error: --calls prints a table of the report's calls: leave out --follow, --rows, --annotate, --channel and --call\n",
+            )
+        }
+    }
+}
+
+/// Why headers can't be tried with what else is asked for, if they can't.
+fn headers_conflict(matches: &ArgMatches<'_>) -> Option<&'static str>
+    ensures { is_some result ≡ excludes TraceOutput.Headers (values_in matches.now) }
+{
+    let is_refused = is_given(matches, "json")
+        || is_given(matches, "follow")
+        || is_given(matches, "rows")
+        || annotates(matches)
+        || is_given(matches, "calls");
+    is_refused.then_some(
+        "error: --try-headers prints a line for each header: leave out --json, --follow, --rows, --annotate, --calls, --channel and --call\n",
+    )
+}
+
+/// Why an output can't be printed with what else is asked for, if it can't.
+fn output_conflict(matches: &ArgMatches<'_>, output: TraceOutput) -> Option<&'static str>
+    ensures { is_some result ≡ excludes output (values_in matches.now) }
+{
+    match output {
+        TraceOutput::Report(_) => None,
+        TraceOutput::Printing(printing) => form_conflict(matches, printing.form),
+        TraceOutput::Headers => headers_conflict(matches),
+    }
+}
+
+/// Why what is asked for can't be printed together, if it can't. A conflict with a note comes first.
+pub(crate) fn conflict(matches: &ArgMatches<'_>, output: TraceOutput) -> Option<&'static str>
+    ensures { is_some result ≡ conflicts output (values_in matches.now) }
+{
+    if !is_given(matches, "notes") {
+        return output_conflict(matches, output);
+    }
+    match note_conflict(matches, output) {
+        Some(text) => Some(text),
+        None => output_conflict(matches, output),
+    }
+}
