@@ -1,6 +1,6 @@
 //! The lines of a trace that come before its rows.
 
-ghost use Rattle.std.specs.Prelude.{◌≡◌, ◌++◌, OnOk};
+ghost use Rattle.std.specs.Prelude.{◌≡◌, ◌++◌, OnOk, codes};
 ghost use Rattle.capture_report.specs.HeaderTexts.{IsHead, channel_numbers, comment_text, estimate, first_estimates, first_numbers, form_word, head_text, header_line, is_first_form, joining, last_name, named, size_source, window_source};
 ghost use Rattle.capture_report.specs.declared.header.Seen.{Seen as AnySeen};
 ghost use Rattle.line_model.specs.declared.interface.Interface.{Interface as AnyInterface};
@@ -163,15 +163,22 @@ fn append_comment(header: &Interface, seen: &Seen, out: &mut Vec<u8>) -> Result<
     )
 }
 
+/// Ends a line.
+fn end_line(out: &mut Vec<u8>) -> Result<(), AllocError>
+    ensures { OnOk result (out.new.items ≡ out.old.items ++ codes "\n") }
+{
+    out.extend_from_slice(b"\n")
+}
+
 /// Appends the lines that come before the rows: a comment that says what the numbers were estimated from, and the header.
 /// Fails only when memory is refused.
 pub fn print_head(header: &Interface, seen: &Seen, out: &mut Vec<u8>) -> Result<(), AllocError>
     ensures { OnOk result (out.new.items ≡ out.old.items ++ head_text header.now seen.now) }
 {
     append_comment(header, seen, out)?;
-    out.extend_from_slice(b"\n")?;
+    end_line(out)?;
     append_header(header, out)?;
-    out.extend_from_slice(b"\n")
+    end_line(out)
 }
 
 /// These lines are a comment, and a line that is read as the header.

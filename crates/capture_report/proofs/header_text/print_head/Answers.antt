@@ -4,6 +4,4 @@ use Rattle.capture_report.proofs.HeaderTextLemmas.{four_more}
 use Rattle.capture_report.proofs.header_text.print_head.Goals as goal
 
 pub returns : goal.returns
-returns c =
-    on_ok_weaker c.extend_from_slice-2.result (λ e. four_more _ _ _ _ _ _ _ _ _ c.in_ok-append_comment.ensures c.in_ok-extend_from_slice.ensures.items c.in_ok-append_header.ensures e)
-    c.extend_from_slice-2.ensures.items
+returns c = on_ok_weaker c.end_line-2.result (λ e. four_more _ _ _ _ _ _ _ _ _ c.in_ok-append_comment.ensures c.in_ok-end_line.ensures c.in_ok-append_header.ensures e) c.end_line-2.ensures
