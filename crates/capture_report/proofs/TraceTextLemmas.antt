@@ -3,7 +3,7 @@ use Rattle.std.proofs.Common.{◌≡◌, ◌∙◌, sym, ap, subst, refl, ℕ, �
 use Rattle.std.specs.Prelude.{codes, decimal, nat_le, if◌then◌else◌}
 use Rattle.std.specs.List.{filter_map}
 use Rattle.std.specs.Option.{option_or}
-use Rattle.std.proofs.lemmas.Bool.{leb-true}
+use Rattle.std.proofs.lemmas.Bool.{le-leb, leb-true}
 use Rattle.line_model.specs.basics.Records as trace
 use Rattle.line_model.specs.declared.interface.Interface.{Interface}
 use Rattle.line_model.specs.observer.Report.{report}
@@ -21,7 +21,7 @@ use Rattle.trace_text.proofs.EndLemmas.{end-header, end-header-rows}
 use Rattle.trace_text.proofs.FeedLemmas.{early-none, no_fault}
 use Rattle.lapb_link.specs.declared.frames.Place.{Place}
 use Rattle.capture_report.specs.Contents.{Content, Gap, Packet, Row}
-use Rattle.capture_report.specs.Laws.{CaptureLaw, HasRows, IsHeader, TextLaw}
+use Rattle.capture_report.specs.Laws.{CaptureLaw, HasRows, IsHeader, NumberLaw, TextLaw}
 use Rattle.capture_report.specs.Rows.{rows_from}
 use Rattle.capture_report.specs.Texts.{Page, after_row, channel_text, content_text, first_printer, least_number, number_if, number_of, numbered, numbered_text, place_text, rows_printed}
 use Rattle.capture_report.specs.TraceRows.{AreRows as AreCaptureRows, AreWithin, IsRow, IsWithin, row_numbered, trace_row, trace_rows}
@@ -29,6 +29,7 @@ use Rattle.capture_report.specs.declared.print.Printer.{Printer}
 use Rattle.capture_report.proofs.CaptureRowLemmas.{rows_law}
 use Rattle.capture_report.proofs.PlaceLemmas.{place_line, place_part}
 use Rattle.capture_report.proofs.RowWordLemmas.{content_line, row_line}
+use mathlib.Core.Bool.{and-false}
 
 -- ---- the lines of a row
 
@@ -66,6 +67,22 @@ numbers_rise p r n h = at _ _ refl h
         let same : max (p.last + 1) (least_number p.by_frames r.place.frame r.content) ≡ n = cc in
         let most = leb-true (number_of p r) 999999999 e in
         (omega (arith, same), omega (arith, same, most))
+
+abbrev number_by : (gap : Bool) → ℕ → Option ℕ
+number_by gap n = if gap then None else if nat_le n 999999999 then Some n else None
+
+abbrev number_within : (few : Bool) → ℕ → Option ℕ
+number_within few n = if few then Some n else None
+
+abbrev number_after : (last frame : ℕ) → (by_frames : Bool) → ℕ
+number_after last frame by_frames = max (last + 1) (if by_frames then frame else 0)
+
+pub number_law : NumberLaw
+number_law p place s octets by rises few =
+    let most : max (p.last + 1) place.frame ≡ place.frame = omega (arith, rises) in
+    ap (λ gap. number_by gap (number_after p.last place.frame p.by_frames)) (and-false p.is_in_gap)
+    ∙ ap (number_by false) (ap (number_after p.last place.frame) by ∙ most)
+    ∙ ap (λ b. number_within b place.frame) (le-leb place.frame 999999999 few)
 
 -- ---- the lines of rows
 

@@ -1,9 +1,10 @@
 -- What the observer reads from the trace of a capture.
-use Rattle.std.specs.Prelude.{◌≡◌, ℕ, ◌≤◌, Bool, List, [], ◌∷◌, ◌++◌, Option, None, Some, IfSome, length}
+use Rattle.std.specs.Prelude.{◌≡◌, ℕ, ◌<◌, ◌≤◌, Bool, true, List, [], ◌∷◌, ◌++◌, Option, None, Some, IfSome, length}
 use Rattle.std.specs.List.{AllByRecursion}
 use Rattle.hex.specs.Hex.{IsBytes}
 use Rattle.line_model.specs.basics.Records as trace
 use Rattle.line_model.specs.declared.interface.Interface.{Interface}
+use Rattle.line_model.specs.declared.state.Side.{Side}
 use Rattle.line_model.specs.observer.Report.{report}
 use Rattle.line_model.specs.packets.Says.{items_of}
 use Rattle.line_model.specs.text.Header.{interface_of}
@@ -12,14 +13,16 @@ use Rattle.line_model.specs.traces.Traces.{trace_report}
 use Rattle.capture_model.specs.Frames.{Frame}
 use Rattle.lapb_link.specs.Links.{new_link}
 use Rattle.lapb_link.specs.declared.ends.Ends.{Ends}
+use Rattle.lapb_link.specs.declared.frames.Place.{Place}
 use Rattle.lapb_link.specs.declared.modulus.Modulus.{Modulus}
 use Rattle.capture_rows.specs.declared.line.Line.{Line}
-use Rattle.capture_report.specs.Contents.{Row}
+use Rattle.capture_report.specs.Contents.{Packet, Row}
 use Rattle.capture_report.specs.Records.{Record}
 use Rattle.capture_report.specs.Rows.{place_of, rows_from}
-use Rattle.capture_report.specs.Texts.{first_printer, rows_printed}
+use Rattle.capture_report.specs.Texts.{first_printer, number_if, rows_printed}
 use Rattle.capture_report.specs.TraceRows.{AreRows, AreWithin, IsPlace, trace_rows}
 use Rattle.capture_report.specs.Traces.{text_left}
+use Rattle.capture_report.specs.declared.print.Printer.{Printer}
 use Rattle.capture_report.specs.declared.reader.Order.{Order}
 use Rattle.capture_report.specs.declared.reader.Reader.{Reader}
 
@@ -43,6 +46,11 @@ abbrev pub TextLaw : Type 0
 TextLaw = (i : Interface) (header : List ℕ) (by_frames : Bool) (rs : List Row) → IsHeader i header → AreRows rs → AreWithin i rs
     → length (header ++ rows_printed (first_printer by_frames) rs) ≤ text_limit
     → HasRows (header ++ rows_printed (first_printer by_frames) rs) i (trace_rows (first_printer by_frames) rs)
+
+-- where numbers rise, a packet has the number of its frame
+abbrev pub NumberLaw : Type 0
+NumberLaw = (p : Printer) (place : Place) (s : Side) (octets : List ℕ) → p.by_frames ≡ true → p.last < place.frame → place.frame ≤ 999999999
+    → number_if p (record { place = place; content = Packet s octets }) ≡ Some place.frame
 
 -- octets are octets, and the number and the time are in the ranges of their types
 pub record IsFrame (f : Frame) : Type 0 where

@@ -1,11 +1,12 @@
 //! Theorems about the definitions alone.
 
-ghost use Rattle.capture_report.specs.Laws.{CaptureLaw, RowsLaw, TextLaw};
+ghost use Rattle.capture_report.specs.Laws.{CaptureLaw, NumberLaw, RowsLaw, TextLaw};
 
 /// The observer reads the text of rows, after that of a header, as these rows: with the numbers of the page, each packet
 /// with its side and its octets, each gap with its channel. Its report is that of one observer over them.
 pub fn text_is_read()
     ensures text { TextLaw }
+    ensures numbers { NumberLaw }
     ensures capture { CaptureLaw }
 {}
 
