@@ -96,7 +96,7 @@ impl<'a, R: Opener, E: Eprint> Recordings<'a, R, E> {
 
 /// What is advised on an estimated header.
 const ADVICE: &str =
-    "Data that broke a smaller WIN or SIZE is no finding: where you know them, x25trace --win N --size N FILE | x25scan";
+    "Data that broke smaller numbers is no finding: where you know WIN and SIZE, x25trace --win N --size N FILE | x25scan";
 
 impl<R: Opener, E: Eprint> Opener for Recordings<'_, R, E> {
     ghost use Rattle.capture_report.specs.Recordings.{recorded};
