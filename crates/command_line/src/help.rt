@@ -10,7 +10,7 @@ Reports what an observer of an X.25 interface finds in a trace: which side broke
 Usage: x25scan [OPTIONS] [FILE]
 
 Arguments:
-  [FILE]  The trace; - or no file is standard input
+  [FILE]  The trace, or a capture of one line (pcap, pcapng); - or no file is standard input
 
 Options:
       --workers <N>       Scan with this many worker threads, 1 to 64 (default: 4)

@@ -110,7 +110,7 @@ const REFUSALS: [Explanation; 11] = [
         topic: Topic::Refusal,
         word: "open",
         name: "cannot open FILE",
-        meaning: "The trace of this name could not be opened: no such file, permission denied, it is a directory, or the system refuses it. A second line has what the system says.",
+        meaning: "The trace of this name could not be opened: no such file, permission denied, it is a directory, the system refuses it, or it is a capture that x25scan does not read, and the line says what reads it. A second line has what the system says.",
         when: "With status 3, before anything was read, standard input too.",
         clause: "profile",
         example: "x25scan: cannot open day.trace: no such file",
