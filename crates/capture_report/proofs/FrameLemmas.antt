@@ -10,13 +10,13 @@ use Rattle.capture_model.specs.declared.frame.Direction.{Direction}
 use Rattle.capture_model.specs.declared.frame.Direction.TheVariants as direction
 use Rattle.capture_model.specs.declared.reason.Reason.{Reason}
 use Rattle.capture_model.specs.declared.reason.Reason.TheVariants as reason
-use Rattle.capture_links.specs.Devices.{device_octets, device_packet, device_word}
-use Rattle.capture_links.specs.Ethernet.{after, by_cooked, by_protocol, by_type, by_type_of, is_tag, lapb_of, two_octets, untagged}
-use Rattle.capture_links.specs.HeaderViews.{LinkHeader}
-use Rattle.capture_links.specs.LinkHeaders.{by_ppp_of, cisco, directed_by, direction_of, has_control, has_lapb_address, header_by, header_of, index_of, plain, ppp, protocol_at}
-use Rattle.capture_links.specs.Views.{Carried, CheckedLapb, Cut, Device, Internet, Lapb, Other, Packet, Payload, Unknown}
-use Rattle.capture_links.specs.declared.kind.LinkKind.{LinkKind}
-use Rattle.capture_links.specs.declared.kind.LinkKind.TheVariants as kind
+use Rattle.capture_model.specs.Devices.{device_octets, device_packet, device_word}
+use Rattle.capture_model.specs.Ethernet.{after, by_cooked, by_protocol, by_type, by_type_of, is_tag, lapb_of, two_octets, untagged}
+use Rattle.capture_model.specs.HeaderViews.{LinkHeader}
+use Rattle.capture_model.specs.LinkHeaders.{by_ppp_of, cisco, directed_by, direction_of, has_control, has_lapb_address, header_by, header_of, index_of, plain, ppp, protocol_at}
+use Rattle.capture_model.specs.Views.{Carried, CheckedLapb, Cut, Device, Internet, Lapb, Other, Packet, Payload, Unknown}
+use Rattle.capture_model.specs.declared.kind.LinkKind.{LinkKind}
+use Rattle.capture_model.specs.declared.kind.LinkKind.TheVariants as kind
 use Rattle.lapb_link.specs.Checks.{checked_end, unflagged, unframed}
 use Rattle.lapb_link.specs.Links as links
 use Rattle.lapb_link.specs.Links.{LinkFrame}
