@@ -3,7 +3,7 @@
 ghost use Rattle.std.specs.Prelude.{◌≡◌, ◌⊎◌, ◌<◌, ◌≤◌, ◌+◌, OnErr};
 ghost use Rattle.line_model.specs.channels.FlowControl.{Counts, count_interrupt, count_receive, count_confirm, count_data, no_counts};
 ghost use Rattle.line_model.specs.channels.Channels.{of_side, with_side};
-ghost use Rattle.data_transfer.specs.FlowResidues.{IsDirection, ResiduesRepresent, Answers};
+ghost use Rattle.data_transfer.specs.FlowResidues.{IsDirection, ResiduesRepresent, Answers, outstanding};
 ghost use Rattle.data_transfer.specs.Directions.{direction_of, with_direction};
 
 use crate::direction::{Direction, residue};
@@ -186,6 +186,14 @@ impl Flow {
             window,
             interrupted: unconfirmed,
         }
+    }
+
+    /// Returns how many packets of a side are unacknowledged.
+    pub fn outstanding(&self, side: Side) -> u8
+        ensures { result ≡ outstanding self.now.modulus (of_side side self.now.sent)
+            (of_side side self.now.acknowledged) }
+    {
+        self.direction(side).outstanding(self.modulus)
     }
 
     /// Returns the modulus of the numbers, 8 or 128.

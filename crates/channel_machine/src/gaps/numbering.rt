@@ -1,8 +1,8 @@
 //! The numbers of data packets on a settled channel.
 
-ghost use Rattle.std.specs.Prelude.{◌≡◌, ◌⊎◌, ◌<◌, IfOk, false, true};
+ghost use Rattle.std.specs.Prelude.{◌≡◌, ◌<◌, IfOk, false, true};
 ghost use Rattle.line_model.specs.channels.FlowControl.{Counts, count_data};
-ghost use Rattle.data_transfer.specs.FlowResidues.{ResiduesRepresent, outstanding};
+ghost use Rattle.data_transfer.specs.FlowResidues.{ResiduesRepresent};
 ghost use Rattle.channel_machine.specs.SettledNumbers.{AreNumbered, IsFirst, IsWidest};
 
 use data_transfer::flow::Flow;
@@ -47,8 +47,7 @@ pub(crate) fn judge_next(
     ensures widest { IfOk result (λ f. IsWidest f) }
     ensures modulus { IfOk result (λ f. f.modulus ≡ flow.modulus) }
 {
-    let numbers = flow.send_window(side);
-    if outstanding(flow.modulus(), numbers.next, numbers.lowest) >= window {
+    if flow.outstanding(side) >= window {
         return Err(INVALID_P_S);
     }
     let mut flow = flow;
@@ -56,18 +55,4 @@ pub(crate) fn judge_next(
         return Err(code);
     }
     Ok(flow)
-}
-
-/// How many packets are unacknowledged, by the number of the next packet and that of the first unacknowledged one.
-fn outstanding(modulus: u8, next: u8, lowest: u8) -> u8
-    requires eight { (modulus ≡ 8) ⊎ (modulus ≡ 128) }
-    requires next { next < modulus }
-    requires lowest { lowest < modulus }
-    ensures { result ≡ outstanding modulus next lowest }
-{
-    if next >= lowest {
-        next - lowest
-    } else {
-        next + (modulus - lowest)
-    }
 }
