@@ -1,5 +1,5 @@
 -- The number that a text writes.
-use Rattle.std.proofs.Common.{◌≡◌, ap, refl, ℕ, ◌-◌, ◌^◌, ◌<◌, ◌≤◌, Bool, false, true, Option, Some, None, Result, Ok, Err, arith}
+use Rattle.std.proofs.Common.{◌≡◌, ap, refl, ℕ, ◌-◌, ◌^◌, ◌<◌, ◌≤◌, Bool, false, true, Some, None, Result, Ok, Err, arith}
 use Rattle.std.specs.Result.{result_ok}
 use Rattle.std.specs.Str.Parse.{ParsesUnsigned}
 use Rattle.clap.specs.ValueTests.{accepts}

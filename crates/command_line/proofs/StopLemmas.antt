@@ -1,16 +1,16 @@
 -- What ended a run whose status is 3.
-use Rattle.std.proofs.Common.{◌≡◌, ◌≢◌, ◌∙◌, sym, ap, ℕ, ◌<◌, Bool, true, false, List, [], Option, Some, None, Result, Ok, Err, inl, inr, ◌⊎◌, refl, subst, arith, cond, ◌==◌}
+use Rattle.std.proofs.Common.{◌≡◌, ◌≢◌, ◌∙◌, sym, ℕ, Bool, List, Option, Result, Ok, Err, refl, subst, arith, cond, ◌==◌}
 use Rattle.std.specs.Prelude.{IfErr}
 use Rattle.line_model.specs.declared.device.Sink.{Ghosts as Sink}
 use Rattle.line_model.specs.declared.device.Source.{Ghosts as Source}
 use Rattle.line_model.specs.declared.fault.Fault.{Fault}
-use Rattle.line_model.specs.declared.fault.Fault.TheVariants.{Memory, Trace, Read, Write, Start, Double, UnknownPiece, Missing}
+use Rattle.line_model.specs.declared.fault.Fault.TheVariants.{Memory, Trace, Read, Write, Start}
 use Rattle.live_report.specs.Reports.{IsScanFault}
 use Rattle.annotated_trace.specs.Printing.{IsPrintingFault}
 use Rattle.trace_scan.specs.Threaded.{IsWorkedFault}
 use Rattle.command_line.specs.Faults.{IsFaultSaid, IsSaid, fault_line}
 use Rattle.command_line.specs.Program.{fault_status}
-use Rattle.command_line.specs.Stopped.{HaltsRun, IsCause, IsHalted, IsStopped, has_workers, opened_by}
+use Rattle.command_line.specs.Stopped.{HaltsRun, IsCause, IsHalted}
 use Rattle.command_line.proofs.StatusLemmas.{small}
 
 -- the line of another fault than a failed write is printed

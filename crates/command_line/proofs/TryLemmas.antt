@@ -1,7 +1,7 @@
 -- The exit status where headers are tried.
-use Rattle.std.proofs.Common.{◌≡◌, ◌≢◌, ◌∙◌, sym, refl, inl, inr, ◌⊎◌, ℕ, zero, suc, true, false, List, Option, None, Some, arith, cond, ◌==◌}
+use Rattle.std.proofs.Common.{◌≡◌, ◌≢◌, ◌∙◌, sym, refl, inl, inr, ◌⊎◌, ℕ, zero, suc, List, Option, arith, cond, ◌==◌}
 use Rattle.line_model.specs.declared.fault.Fault.{Fault}
-use Rattle.line_model.specs.declared.fault.Fault.TheVariants.{Memory, Trace, Read, Write, Start, Double, UnknownPiece, Missing}
+use Rattle.line_model.specs.declared.fault.Fault.TheVariants.{Trace, Write}
 use Rattle.trace_text.specs.Sources.{IsRefusedBy}
 use Rattle.trace_text.specs.Refusals.{IsRefusal}
 use Rattle.header_trials.specs.TriedLines.{HasTried, HasTriedPart}

@@ -1,5 +1,5 @@
 -- What the exit status of the program says, by what the words ask for.
-use Rattle.std.specs.Prelude.{◌≡◌, ◌⊎◌, ℕ, List, Option}
+use Rattle.std.specs.Prelude.{◌≡◌, ℕ, List, Option}
 use Rattle.line_model.specs.declared.device.Sink.{Ghosts as Sink}
 use Rattle.line_model.specs.declared.device.Source.{Ghosts as Source}
 use Rattle.command_line.specs.Asked.{AskedWords, Conflict, Explanation, Trace, Wrong}

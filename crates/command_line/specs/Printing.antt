@@ -15,7 +15,6 @@ use Rattle.descriptions.specs.RowObjects.{IsClosing, IsLineObject}
 use Rattle.descriptions.specs.declared.call_columns.TableForm.TheVariants as table
 use Rattle.command_line.specs.Calls.{PrintsCalls, StopsCalls}
 use Rattle.command_line.specs.Program.{fault_status, summary_status}
-use Rattle.command_line.specs.declared.asked.OutputForm.{OutputForm}
 use Rattle.command_line.specs.declared.asked.OutputForm.TheVariants.{Comments, Objects, Table, TableObjects}
 use Rattle.command_line.specs.declared.asked.Printing.{Printing}
 

@@ -1,7 +1,7 @@
 //! What can't be asked for together, and what is printed of it.
 
-ghost use Rattle.std.specs.Prelude.{◌≡◌, ◌&&◌, codes, is_some};
-ghost use Rattle.command_line.specs.Asked.{conflicts, excludes, excludes_form, excludes_notes, has, values_in};
+ghost use Rattle.std.specs.Prelude.{◌≡◌, ◌&&◌, is_some};
+ghost use Rattle.command_line.specs.Asked.{conflicts, excludes, excludes_form, excludes_notes, values_in};
 
 use crate::asked::{OutputForm, TraceOutput};
 use crate::matches::{annotates, is_given};

@@ -1,8 +1,8 @@
 //! What the matches of the command ask for.
 
-ghost use Rattle.std.specs.Prelude.{◌≡◌, ◌&&◌, codes, is_some, option_map};
+ghost use Rattle.std.specs.Prelude.{◌≡◌, codes, option_map};
 ghost use Rattle.command_line.specs.Options.{named_by};
-ghost use Rattle.command_line.specs.Asked.{annotates, asked_by, asked_words, conflicts, excludes, excludes_form, excludes_notes, has, mode_of, number_of, output_of, progress_by, report_of, rows_of, table_of, trace_by, values_in};
+ghost use Rattle.command_line.specs.Asked.{annotates, asked_by, asked_words, has, mode_of, number_of, output_of, progress_by, report_of, rows_of, table_of, trace_by, values_in};
 
 use crate::asked::{Asked, AskedReport, AskedTrace, OutputForm, Printing, ScanMode, TraceOutput};
 use crate::conflicts::conflict;

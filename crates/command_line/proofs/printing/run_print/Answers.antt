@@ -1,4 +1,3 @@
-use Rattle.std.proofs.Common.{arith}
 use Rattle.command_line.proofs.StopLemmas.{halted, more_cause, unhalted}
 use Rattle.command_line.proofs.printing.run_print.Goals as goal
 

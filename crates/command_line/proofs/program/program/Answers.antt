@@ -1,7 +1,7 @@
-use Rattle.std.proofs.Common.{◌≡◌, inr, refl, subst, map}
+use Rattle.std.proofs.Common.{inr, refl, subst}
 use Rattle.std.specs.Prelude.{◌⊎◌}
 use Rattle.command_line.specs.Answer.{IsAnswerTo}
-use Rattle.command_line.specs.Asked.{AskedWords, asked_by}
+use Rattle.command_line.specs.Asked.{AskedWords}
 use Rattle.command_line.specs.Program.{IsUnread}
 use Rattle.command_line.specs.Stopped.{IsStopped, asked_workers, opened_by}
 use Rattle.line_model.specs.declared.fault.Fault.TheVariants.{Memory}

@@ -1,5 +1,5 @@
-use Rattle.std.proofs.Common.{◌≡◌, ℕ, List, subst, sym}
-use Rattle.command_line.specs.Program.{IsReportStatus, IsStatusOf, is_followed, lag_of}
+use Rattle.std.proofs.Common.{◌≡◌, subst, sym}
+use Rattle.command_line.specs.Program.{IsReportStatus, is_followed, lag_of}
 use Rattle.command_line.proofs.FaultLemmas.{says_fault, says_none}
 use Rattle.command_line.proofs.StatusLemmas.{status_range, wider_line, wider_scan}
 use Rattle.command_line.proofs.StopLemmas.{halted, more_cause, unhalted}

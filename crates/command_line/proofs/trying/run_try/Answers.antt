@@ -1,4 +1,4 @@
-use Rattle.std.proofs.Common.{◌∙◌, ℕ, ap, arith, Err}
+use Rattle.std.proofs.Common.{ℕ, ap, arith, Err}
 use Rattle.command_line.proofs.StatusLemmas.{status_range}
 use Rattle.command_line.proofs.StopLemmas.{halted, scan_cause, unhalted}
 use Rattle.command_line.proofs.TryLemmas.{refused_try, tried_status}
