@@ -32,16 +32,16 @@ use streams::opener::Opener;
 
 /// Opens recordings: a capture of a line as the trace of its rows, and any other file as it is.
 #[derive(Drop)]
-pub struct Recordings<'a, 'b, R: Opener, E: Eprint> {
+pub struct Recordings<'a, R: Opener, E: Eprint + Drop> {
     alloc: Global,
     system: &'a R,
-    errors: &'b E,
+    errors: E,
 }
 
-impl<'a, 'b, R: Opener, E: Eprint> Recordings<'a, 'b, R, E> {
+impl<'a, R: Opener, E: Eprint + Drop> Recordings<'a, R, E> {
     /// Returns the recordings among the files of a system. What the header of a capture was estimated from is printed to
     /// the errors.
-    pub fn new(alloc: Global, system: &'a R, errors: &'b E) -> Self
+    pub fn new(alloc: Global, system: &'a R, errors: E) -> Self
         ensures { result.system.now ≡ system.entry.now }
     {
         Recordings {
@@ -98,7 +98,7 @@ impl<'a, 'b, R: Opener, E: Eprint> Recordings<'a, 'b, R, E> {
 const ADVICE: &str =
     "Data that broke smaller numbers is no finding: where you know WIN and SIZE, x25trace --win N --size N FILE | x25scan";
 
-impl<R: Opener, E: Eprint> Opener for Recordings<'_, '_, R, E> {
+impl<R: Opener, E: Eprint + Drop> Opener for Recordings<'_, R, E> {
     ghost use Rattle.capture_report.specs.Recordings.{recorded};
 
     type File = Recording<R::File>;
@@ -120,7 +120,7 @@ impl<R: Opener, E: Eprint> Opener for Recordings<'_, '_, R, E> {
     }
 }
 
-impl<R: Opener + Clock, E: Eprint> Clock for Recordings<'_, '_, R, E> {
+impl<R: Opener + Clock, E: Eprint + Drop> Clock for Recordings<'_, R, E> {
     fn monotonic(&self) -> io::Result<Duration> {
         self.system.monotonic()
     }

@@ -87,9 +87,9 @@ impl Opener for OneFile {
 }
 
 /// Returns all that a recording gives, or why it is refused.
-fn recorded<E: Eprint>(
+fn recorded<E: Eprint + Drop>(
     alloc: Global,
-    errors: &E,
+    errors: E,
     bytes: &'static [u8],
 ) -> Result<Vec<u8>, OpenRefusal> {
     let files = OneFile { bytes };
@@ -102,8 +102,8 @@ fn recorded<E: Eprint>(
 #[test]
 fn gaps_are_placed_in_recordings_and_noticed_in_one_reading(rt: HostRuntime) -> Result<(), Fail> {
     let alloc = rt.alloc();
-    assert!(rt; recorded(alloc, &rt, FILE).is_ok_and(|text| text.as_slice().ends_with(PLACED)));
-    assert!(rt; recorded(alloc, &rt, PLACED).is_ok_and(|text| text.as_slice() == PLACED));
+    assert!(rt; recorded(alloc, rt.stderr(), FILE).is_ok_and(|text| text.as_slice().ends_with(PLACED)));
+    assert!(rt; recorded(alloc, rt.stderr(), PLACED).is_ok_and(|text| text.as_slice() == PLACED));
     assert!(rt; noticed(alloc)?.as_slice() == NOTICED);
     Ok(())
 }

@@ -20,7 +20,7 @@ fn run_streams<R: Threads + Wait + Clock + Sync>(
     words: &[&str],
 ) -> u8 {
     let system = System::new(rt);
-    let recordings = Recordings::new(rt.alloc(), &system, rt);
+    let recordings = Recordings::new(rt.alloc(), &system, rt.stderr());
     let mut source = FileInput::new(
         rt.alloc(),
         &recordings,
