@@ -102,7 +102,9 @@ fn recorded<E: Eprint + Drop>(
 #[test]
 fn gaps_are_placed_in_recordings_and_noticed_in_one_reading(rt: HostRuntime) -> Result<(), Fail> {
     let alloc = rt.alloc();
-    assert!(rt; recorded(alloc, rt.stderr(), FILE).is_ok_and(|text| text.as_slice().ends_with(PLACED)));
+    assert!(rt;
+        recorded(alloc, rt.stderr(), FILE).is_ok_and(|text| text.as_slice().ends_with(PLACED))
+    );
     assert!(rt; recorded(alloc, rt.stderr(), PLACED).is_ok_and(|text| text.as_slice() == PLACED));
     assert!(rt; noticed(alloc)?.as_slice() == NOTICED);
     Ok(())
