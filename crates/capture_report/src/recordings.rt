@@ -32,17 +32,17 @@ use streams::opener::Opener;
 
 /// Opens recordings: a capture of a line as the trace of its rows, and any other file as it is.
 #[derive(Drop)]
-pub struct Recordings<'a, R: Opener, E: Eprint + Drop> {
+pub struct Recordings<R: Opener + Drop, E: Eprint + Drop> {
     alloc: Global,
-    system: &'a R,
+    system: R,
     errors: E,
 }
 
-impl<'a, R: Opener, E: Eprint + Drop> Recordings<'a, R, E> {
+impl<R: Opener + Drop, E: Eprint + Drop> Recordings<R, E> {
     /// Returns the recordings among the files of a system. What the header of a capture was estimated from is printed to
     /// the errors.
-    pub fn new(alloc: Global, system: &'a R, errors: E) -> Self
-        ensures { result.system.now ≡ system.entry.now }
+    pub fn new(alloc: Global, system: R, errors: E) -> Self
+        ensures { result.system ≡ system }
     {
         Recordings {
             alloc,
@@ -63,7 +63,8 @@ impl<'a, R: Opener, E: Eprint + Drop> Recordings<'a, R, E> {
         }
     }
 
-    /// Opens a capture that was begun.
+    /// Opens a capture that was begun. It is not inlined: its room on the stack would be that of each scan.
+    #[inline(never)]
     fn open_capture(
         &self,
         name: &str,
@@ -98,12 +99,12 @@ impl<'a, R: Opener, E: Eprint + Drop> Recordings<'a, R, E> {
 const ADVICE: &str =
     "Data that broke smaller numbers is no finding: where you know WIN and SIZE, x25trace --win N --size N FILE | x25scan";
 
-impl<R: Opener, E: Eprint + Drop> Opener for Recordings<'_, R, E> {
+impl<R: Opener + Drop, E: Eprint + Drop> Opener for Recordings<R, E> {
     ghost use Rattle.capture_report.specs.Recordings.{recorded};
 
     type File = Recording<R::File>;
 
-    ghost named = { λ s name. recorded (R.named s.system.now name) };
+    ghost named = { λ s name. recorded (R.named s.system name) };
 
     fn open(&self, name: &str) -> Result<Recording<R::File>, OpenRefusal> {
         let file = self.system.open(name)?;
@@ -120,7 +121,7 @@ impl<R: Opener, E: Eprint + Drop> Opener for Recordings<'_, R, E> {
     }
 }
 
-impl<R: Opener + Clock, E: Eprint + Drop> Clock for Recordings<'_, R, E> {
+impl<R: Opener + Clock + Drop, E: Eprint + Drop> Clock for Recordings<R, E> {
     fn monotonic(&self) -> io::Result<Duration> {
         self.system.monotonic()
     }

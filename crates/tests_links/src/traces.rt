@@ -92,8 +92,8 @@ fn recorded<E: Eprint + Drop>(
     errors: E,
     bytes: &'static [u8],
 ) -> Result<Vec<u8>, OpenRefusal> {
-    let files = OneFile { bytes };
-    let mut file = Recordings::new(alloc, &files, errors).open("day")?;
+    let recordings = Recordings::new(alloc, OneFile { bytes }, errors);
+    let mut file = recordings.open("day")?;
     let mut text = Vec::new(alloc);
     file.read_to_end(&mut text).map_err(OpenRefusal::by_system)?;
     Ok(text)

@@ -19,8 +19,7 @@ fn run_streams<R: Threads + Wait + Clock + Sync>(
     threads: &R,
     words: &[&str],
 ) -> u8 {
-    let system = System::new(rt);
-    let recordings = Recordings::new(rt.alloc(), &system, rt.stderr());
+    let recordings = Recordings::new(rt.alloc(), System::new(rt), rt.stderr());
     let mut source = FileInput::new(
         rt.alloc(),
         &recordings,
