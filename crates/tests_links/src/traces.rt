@@ -1,12 +1,13 @@
 //! Traces of captures.
 
-use capture_report::file_frames::file_trace;
+use capture_report::file_frames::{FileFrames, file_trace};
 use capture_report::header::Seen;
 use capture_report::header_text::print_head;
+use capture_report::plan::Plan;
 use capture_report::print::Page;
 use capture_report::reader::{Order, Reader};
-use capture_report::recordings::Recordings;
 use capture_report::row::{Content, Row};
+use capture_report::survey::Survey;
 use capture_rows::choices::Choices;
 use capture_rows::line::Line;
 use capture_rows::station::StationBy;
@@ -15,10 +16,7 @@ use lapb_link::frames::Place;
 use line_model::device::{SliceSource, Source};
 use line_model::state::Side;
 use std::alloc::Global;
-use std::io::{Eprint, Read};
 use std::test::Fail;
-use streams::input::OpenRefusal;
-use streams::opener::Opener;
 
 /// A pcap file of link type 207: a frame of the DTE, one of the DCE, and one of the DCE that acknowledges a frame of the DTE
 /// that was not recorded.
@@ -47,10 +45,17 @@ fn line(alloc: Global) -> Result<Line, Fail> {
     Ok(Line::new(alloc, choices, None, Ends::by_address())?)
 }
 
-/// Returns the text of the trace, as it is read once.
-fn noticed(alloc: Global) -> Result<Vec<u8>, Fail> {
-    let page = Page::new(Vec::new(alloc), true);
-    let reader = Reader::new(line(alloc)?, Order::Noticed, page);
+/// The frames of the file.
+fn frames(alloc: Global) -> Result<FileFrames<SliceSource<'static>>, Fail> {
+    match FileFrames::open(alloc, SliceSource::new(FILE), true, 0) {
+        Ok(frames) => Ok(frames),
+        Err(_) => Err(Fail::from("no capture")),
+    }
+}
+
+/// Returns the text of the trace.
+fn text(alloc: Global, order: Order) -> Result<Vec<u8>, Fail> {
+    let reader = Reader::new(line(alloc)?, order, Page::new(Vec::new(alloc), true));
     let Ok(mut trace) = file_trace(alloc, SliceSource::new(FILE), true, 0, reader) else {
         return Err(Fail::from("no capture"));
     };
@@ -64,49 +69,17 @@ fn noticed(alloc: Global) -> Result<Vec<u8>, Fail> {
     Ok(text)
 }
 
-/// The one file that there is.
-#[derive(Clone, Copy)]
-struct OneFile {
-    bytes: &'static [u8],
-}
-
-impl Opener for OneFile {
-    ghost use Rattle.std.specs.Prelude.{Some};
-
-    type File = &'static [u8];
-
-    ghost named = { λ s name. Some s.bytes.now };
-
-    fn open(&self, _name: &str) -> Result<&'static [u8], OpenRefusal> {
-        Ok(self.bytes)
-    }
-
-    fn lasts(&self, _name: &str) -> bool {
-        true
-    }
-}
-
-/// Returns all that a recording gives, or why it is refused.
-fn recorded<E: Eprint + Drop>(
-    alloc: Global,
-    errors: E,
-    bytes: &'static [u8],
-) -> Result<Vec<u8>, OpenRefusal> {
-    let recordings = Recordings::new(alloc, OneFile { bytes }, errors);
-    let mut file = recordings.open("day")?;
-    let mut text = Vec::new(alloc);
-    file.read_to_end(&mut text).map_err(OpenRefusal::by_system)?;
-    Ok(text)
-}
-
 #[test]
-fn gaps_are_placed_in_recordings_and_noticed_in_one_reading(rt: HostRuntime) -> Result<(), Fail> {
+fn gaps_are_placed_after_a_first_reading_and_noticed_without_one(
+    rt: HostRuntime,
+) -> Result<(), Fail> {
     let alloc = rt.alloc();
-    assert!(rt;
-        recorded(alloc, rt.stderr(), FILE).is_ok_and(|text| text.as_slice().ends_with(PLACED))
-    );
-    assert!(rt; recorded(alloc, rt.stderr(), PLACED).is_ok_and(|text| text.as_slice() == PLACED));
-    assert!(rt; noticed(alloc)?.as_slice() == NOTICED);
+    let mut survey = Survey::new(alloc, None);
+    let Ok(plan) = Plan::read(alloc, line(alloc)?, &mut frames(alloc)?, &mut survey) else {
+        return Err(Fail::from("no plan"));
+    };
+    assert!(rt; text(alloc, Order::Placed(plan))?.as_slice() == PLACED);
+    assert!(rt; text(alloc, Order::Noticed)?.as_slice() == NOTICED);
     Ok(())
 }
 
