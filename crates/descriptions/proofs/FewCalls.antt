@@ -58,7 +58,7 @@ few_calls i rs few = omega (arith, few, one_each (walk_events (x25 i) (start i) 
 
 -- the rows that an observer has walked are few
 pub few_rows : {A C : Type 0} {interface_of : C → Interface} {number_of : C → ℕ} {represents : C → GapChannel → Type 0} (i : Interface) (rs : List Item) (o : Observing A C) → Represents interface_of number_of represents i rs o → length rs < 2 ^ 32
-few_rows i rs o h = omega (arith, h.walked.cut.packets, h.walked.bounds.rows, h.walked.bounds.last)
+few_rows i rs o h = omega (arith, h.cut.packets, h.bounds.rows, h.bounds.last)
 
 pub few_walked : {A C : Type 0} {interface_of : C → Interface} {number_of : C → ℕ} {represents : C → GapChannel → Type 0} (i : Interface) (rs : List Item) (o : Observing A C) → Represents interface_of number_of represents i rs o → AreFewCalls (events i rs)
 few_walked i rs o h = few_calls i rs (few_rows i rs o h)

@@ -1,6 +1,9 @@
 pub mod ReactionLemmas
 pub mod RankLemmas
+pub mod TrialLemmas
 pub mod WalkedLemmas
 pub mod TrialsLemmas
 pub mod TriedLemmas
+pub mod ChannelLemmas
+pub mod EventLemmas
 pub mod HeaderLemmas

@@ -87,7 +87,7 @@ all_on_way m (suc n) own items more (i ∷ is) [] le all = absurd all
 pub tried_all : {A C : Type 0} (m : Machine C A) (own : Interface) (items : SaidRows) (is : List Interface) (ts : List (Trial A C)) → AreTrials m own items is ts → map tried_by ts ≡ map (λ (h : Interface). tried_with h (items h)) is
 tried_all m own items [] [] all = refl
 tried_all m own items (i ∷ is) (t ∷ ts) all =
-    let here : tried_by t ≡ tried_with i (items i) = λ j. record { header = (all.0.walked.holds.interface ∙ all.0.walked.cut.interface) j; tally = all.0.tally j; reactions = reactions_in (all.0.watch j) } in
+    let here : tried_by t ≡ tried_with i (items i) = λ j. record { header = all.0.interface j; tally = all.0.tally j; reactions = reactions_in (all.0.watch j) } in
     (λ j. here j ∷ tried_all m own items is ts all.2 j)
 tried_all m own items [] (t ∷ ts) all = absurd all
 tried_all m own items (i ∷ is) [] all = absurd all

@@ -188,15 +188,10 @@ watched_after Stays reaction w = noted 0 reaction w
 
 -- ---- what some rows do
 
--- what a row does where the observer is
-abbrev pub effect_at : Observer GapInterfaceState GapChannel → Item → ChannelEffect
-effect_at o r = effect_of r.packet (routing o.level r).route
-
-abbrev pub reaction_after : Interface → Observer GapInterfaceState GapChannel → Item → Reaction
-reaction_after i o r = reaction_on (effect_at o r) i o.level (routing o.level r).after o.states r
-
 abbrev pub watched_next : Interface → Observer GapInterfaceState GapChannel → Item → Watched → Watched
-watched_next i o r w = watched_after (effect_at o r) (reaction_after i o r) w
+watched_next i o r w =
+    let effect : ChannelEffect = effect_of r.packet (routing o.level r).route in
+    watched_after effect (reaction_on effect i o.level (routing o.level r).after o.states r) w
 
 abbrev pub watched_from : Interface → Observer GapInterfaceState GapChannel → Watched → List Item → Watched
 watched_from i o w [] = w

@@ -6,7 +6,7 @@ mod headers;
 mod reactions;
 mod trial;
 mod trials;
-mod tried_channel;
+mod tried_channels;
 mod tried_lines;
 mod tried_text;
 pub mod trying;

@@ -1,35 +1,33 @@
 //! The counts of a trace's rows under one header.
 
-ghost use Rattle.std.specs.Prelude.{◌≡◌, ℕ, ◌+◌, ◌<◌, ◌≤◌, ◌^◌, ◌++◌, ◌∷◌, [], List, IfErr, OnOk, length, option_to_list, sum};
+ghost use Rattle.std.specs.Prelude.{◌≡◌, ◌≢◌, ℕ, ◌+◌, ◌<◌, ◌≤◌, ◌^◌, ◌++◌, ◌∷◌, [], List, IfErr, IfOk, IfSome, OnOk, length, option_to_list, sum, if◌then◌else◌, true};
+ghost use Rattle.line_model.specs.basics.Bounds.{IsItem};
 ghost use Rattle.line_model.specs.basics.Records as records;
-ghost use Rattle.line_model.specs.channels.GapRestart.{routing};
-ghost use Rattle.line_model.specs.declared.event.Event.{Event as AnyEvent};
+ghost use Rattle.line_model.specs.channels.Gaps.{GapChannel};
 ghost use Rattle.line_model.specs.declared.fault.Fault.TheVariants.{Memory};
 ghost use Rattle.line_model.specs.declared.interface.Interface.{Interface as AnyInterface};
+ghost use Rattle.line_model.specs.observer.Report.{findings_of};
 ghost use Rattle.line_model.specs.packets.Says.{item_read};
-ghost use Rattle.restart_epochs.specs.Cutting.{observer};
-ghost use Rattle.live_report.specs.Effects.{with_data};
-ghost use Rattle.live_report.specs.JudgedRows.{IsJudgedRow, judged_row};
+ghost use Rattle.line_model.specs.pieces.Plan.{has_some};
+ghost use Rattle.restart_epochs.specs.Walks.{channel_in};
+ghost use Rattle.restart_epochs.specs.declared.walk.ChannelEffect.TheVariants.{ToAll};
 ghost use Rattle.live_report.specs.Observing.{AreItems};
-ghost use Rattle.header_trials.specs.Reactions.{reaction_after, reactions_in};
-ghost use Rattle.header_trials.specs.Tried.{HasWalked, MayWalk, octets_left};
+ghost use Rattle.header_trials.specs.Reactions.{reaction_on, reactions_in};
+ghost use Rattle.header_trials.specs.Tried.{AreChannels, HasWalked, MayWalk, events_after, no_channels, states_after, uncounted_in};
 
 use crate::reactions::{self, Reaction, Reactions, Watch};
-use crate::tried_channel::TriedChannel;
+use crate::tried_channels::TriedChannels;
 use channel_run::run::Channel;
-use channel_run::status_word::view_in;
 use line_model::event::Event;
 use line_model::fault::Fault;
 use line_model::finding::Finding;
 use line_model::interface::Interface;
 use line_model::items::ItemRef;
 use line_model::row::ReadRow;
-use live_report::judged_row::{Judge, RowOutcome};
-use live_report::open_channels::OpenChannels;
-use live_report::uncounted::user_octets;
-use packet_decode::decode::item_of_row;
+use live_report::uncounted;
+use packet_decode::decode::{header_length, item_of_row};
 use restart_epochs::restart::Restart;
-use restart_epochs::walk::EpochWalk;
+use restart_epochs::walk::{ChannelEffect, EpochWalk};
 use std::alloc::Allocator;
 
 /// The counts of the rows.
@@ -55,69 +53,78 @@ impl TrialCounts {
         }
     }
 
-    /// Counts a row, by its finding and its user data that was left out.
-    fn count(&mut self, finding: Option<Finding>, left_out: Option<u32>)
-        requires findings { self.old.findings + 1 < 2 ^ 32 }
-        requires packets { self.old.packets + 1 < 2 ^ 32 }
-        requires octets { self.old.octets + sum (option_to_list left_out) < 2 ^ 32 }
-        ensures { self.new ≡ record {
-          findings = self.old.findings + length (option_to_list finding);
-          packets = self.old.packets + length (option_to_list left_out);
-          octets = self.old.octets + sum (option_to_list left_out);
+    /// Counts a finding, if a row has one.
+    fn count_finding(&mut self, found: bool)
+        requires { self.old.findings + 1 < 2 ^ 32 }
+        ensures { self.new ≡ record self.old {
+          findings = self.old.findings + (if found then 1 else 0);
         } }
     {
-        if let Some(_) = finding {
+        if found {
             self.findings += 1;
         }
-        if let Some(octets) = left_out {
-            self.packets += 1;
-            self.octets += octets;
+    }
+
+    /// Counts the user data of a row, where it was left out.
+    fn count_data(&mut self, octets: Option<u32>)
+        requires packets { self.old.packets + 1 < 2 ^ 32 }
+        requires octets { self.old.octets + sum (option_to_list octets) < 2 ^ 32 }
+        ensures { self.new ≡ record self.old {
+          packets = self.old.packets + length (option_to_list octets);
+          octets = self.old.octets + sum (option_to_list octets);
+        } }
+    {
+        match octets {
+            Some(octets) => {
+                self.packets += 1;
+                self.octets += octets;
+            }
+            None => {}
         }
     }
 }
 
-/// The length of the user data of a row, where it is a data packet that was not counted.
-fn octets_left_out(
-    interface: &Interface,
-    item: &ItemRef<'_>,
-    outcome: &RowOutcome,
-    events: &[Event],
-) -> Option<u32>
-    requires { item.now.length < 2 ^ 32 }
-    ensures left { (i : AnyInterface) (epoch : ℕ) (earlier : List records.Item)
-        → IsJudgedRow i earlier item.now (judged_row item.now outcome.now)
-        (with_data epoch outcome.now.judge item.now events.now)
-        → interface.now ≡ i
-        → result ≡ octets_left i (observer i earlier) item.now }
-    ensures few { sum (option_to_list result) ≤ item.now.length }
-{
-    match outcome.reason(item, events) {
-        Some(_) => Some(user_octets(interface, item.length) as u32),
-        None => None,
+impl TrialCounts {
+    /// Counts a row: what the restart machine found on it, and the events of the logical channel that it went to.
+    fn count(
+        &mut self,
+        interface: &Interface,
+        item: &ItemRef<'_>,
+        finding: Option<Finding>,
+        events: &[Event],
+    )
+        requires findings { self.old.findings + 1 < 2 ^ 32 }
+        requires packets { self.old.packets + 1 < 2 ^ 32 }
+        requires octets { self.old.octets + item.now.length < 2 ^ 32 }
+        ensures findings { length (option_to_list finding ++ findings_of events.now) ≤ 1
+            → self.new.findings ≡ self.old.findings
+            + length (option_to_list finding ++ findings_of events.now) }
+        ensures packets { self.new.packets ≡ self.old.packets
+            + length (uncounted_in interface.now item.now events.now) }
+        ensures octets { self.new.octets ≡ self.old.octets
+            + sum (uncounted_in interface.now item.now events.now) }
+    {
+        self.count_finding(finding.is_some() || has_finding(events));
+        self.count_data(octets_left_out(interface, item, events));
     }
 }
 
-/// What a row does to an owed indication, on its logical channel or in the restart machine before and after it.
-fn reaction_to(
-    before: &Restart,
-    after: &Restart,
-    outcome: &RowOutcome,
-    item: &ItemRef<'_>,
-) -> Reaction
-    ensures { (i : AnyInterface) (earlier : List records.Item) (events : List AnyEvent)
-        → IsJudgedRow i earlier item.now (judged_row item.now outcome.now) events
-        → before.now ≡ (observer i earlier).level
-        → after.now ≡ (routing (observer i earlier).level item.now).after
-        → result ≡ reaction_after i (observer i earlier) item.now }
+/// Whether events have a finding.
+fn has_finding(events: &[Event]) -> bool
+    ensures { result ≡ has_some (findings_of events.now) }
 {
-    match &outcome.judge {
-        Judge::Channel { before, after, .. } => {
-            let before = view_in(before);
-            let after = view_in(after);
-            reactions::channel_reaction(&before, after.owed, item)
-        }
-        Judge::Restart { .. } => reactions::restart_reaction(before, after, item),
+    uncounted::has_finding(events)
+}
+
+/// The length of the user data of a row, where it is a data packet and its events count no data.
+fn octets_left_out(interface: &Interface, item: &ItemRef<'_>, events: &[Event]) -> Option<u32>
+    requires octets { item.now.length < 2 ^ 32 }
+    ensures { option_to_list result ≡ uncounted_in interface.now item.now events.now }
+{
+    if uncounted::is_data(&item.packet) && !uncounted::counts_data(events) {
+        return Some(item.length.saturating_sub(header_length(interface)) as u32);
     }
+    None
 }
 
 /// The rows of a trace so far, under one header. It keeps the states of the logical channels and the counts, and no
@@ -126,7 +133,7 @@ fn reaction_to(
 pub struct Trial<A: Allocator, C: Channel<A>> {
     walk: EpochWalk<A>,
     /// The logical channels that have rows in the epoch that goes on.
-    channels: OpenChannels<A, TriedChannel<C>>,
+    channels: TriedChannels<A, C>,
     pub tally: TrialCounts,
     watch: Watch<A>,
 }
@@ -138,7 +145,7 @@ impl<A: Allocator + Copy, C: Channel<A>> Trial<A, C> {
     {
         Trial {
             walk: EpochWalk::new(alloc, header),
-            channels: OpenChannels::new(alloc),
+            channels: TriedChannels::new(alloc),
             tally: TrialCounts::none(),
             watch: Watch::new(alloc),
         }
@@ -158,6 +165,69 @@ impl<A: Allocator + Copy, C: Channel<A>> Trial<A, C> {
         self.watch.reactions()
     }
 
+    /// Steps the logical channels that a row goes to, and returns what the row does to an owed indication, there or in
+    /// the restart machine; `after` is that machine after the row. The caller lends the list `events`, which has the
+    /// events of the row afterwards.
+    fn apply(
+        &mut self,
+        effect: ChannelEffect,
+        after: &Restart,
+        item: &ItemRef<'_>,
+        events: &mut Vec<Event, A>,
+    ) -> Result<Reaction, Fault>
+        requires item { IfSome (channel_in effect) (λ k. IsItem self.old.walk.interface k item.now) }
+        requires gap { effect ≡ ToAll → self.old.walk.interface.gaps ≡ true }
+        requires gaps { self.old.channels.gaps + 1 < 2 ^ 32 }
+        requires channels { (states : ℕ → GapChannel)
+            × AreChannels C.Channel self.old.walk.interface self.old.walk.start
+            self.old.walk.epoch states self.old.channels }
+        ensures walk { self.new.walk ≡ self.old.walk }
+        ensures tally { self.new.tally ≡ self.old.tally }
+        ensures watch { self.new.watch ≡ self.old.watch }
+        ensures gaps { self.new.channels.gaps ≤ self.old.channels.gaps + 1 }
+        ensures channels { (states : ℕ → GapChannel)
+            → AreChannels C.Channel self.old.walk.interface self.old.walk.start
+            self.old.walk.epoch states self.old.channels
+            → OnOk result (AreChannels C.Channel self.old.walk.interface self.old.walk.start
+            self.old.walk.epoch (states_after effect self.old.walk.interface states item.now) self.new.channels) }
+        ensures events { (states : ℕ → GapChannel)
+            → AreChannels C.Channel self.old.walk.interface self.old.walk.start
+            self.old.walk.epoch states self.old.channels
+            → OnOk result (events.new.items ≡ events_after effect self.old.walk.interface
+            self.old.walk.epoch states item.now) }
+        ensures reaction { (states : ℕ → GapChannel)
+            → AreChannels C.Channel self.old.walk.interface self.old.walk.start
+            self.old.walk.epoch states self.old.channels
+            → IfOk result (λ reaction. reaction ≡ reaction_on effect self.old.walk.interface
+            self.old.walk.machine after.now states item.now) }
+        ensures memory { IfErr result (λ fault. fault ≡ Memory) }
+    {
+        events.clear();
+        match effect {
+            ChannelEffect::ToChannel(channel) => self
+                .channels
+                .step(&self.walk, channel, item, events),
+            ChannelEffect::ToAll => {
+                self.channels.take_gap();
+                Ok(reactions::restart_reaction(&self.walk.machine, after, item))
+            }
+            _ => Ok(reactions::restart_reaction(&self.walk.machine, after, item)),
+        }
+    }
+
+    /// Makes all logical channels fresh where a further epoch begins.
+    fn renew(&mut self, epoch: u32)
+        ensures walk { self.new.walk ≡ self.old.walk }
+        ensures tally { self.new.tally ≡ self.old.tally }
+        ensures watch { self.new.watch ≡ self.old.watch }
+        ensures same { epoch ≡ self.old.walk.epoch → self.new.channels ≡ self.old.channels }
+        ensures renewed { epoch ≢ self.old.walk.epoch → self.new.channels ≡ no_channels }
+    {
+        if epoch != self.walk.epoch {
+            self.channels = TriedChannels::new(*self.walk.findings.allocator());
+        }
+    }
+
     /// Walks the next row. Fails only when memory is refused; drop the trial then.
     pub fn take(&mut self, row: &ReadRow<A>, events: &mut Vec<Event, A>) -> Result<(), Fault>
         requires next { MayWalk C.Channel row.now self.old }
@@ -168,11 +238,10 @@ impl<A: Allocator + Copy, C: Channel<A>> Trial<A, C> {
     {
         let item = item_of_row(&self.walk.interface, row);
         let step = self.walk.step(&item)?;
-        let outcome = self.channels.apply(&self.walk, &step, &item, events)?;
-        let reaction = reaction_to(&self.walk.machine, &step.machine, &outcome, &item);
-        let left_out = octets_left_out(&self.walk.interface, &item, &outcome, events.as_slice());
-        self.tally.count(outcome.finding, left_out);
+        let reaction = self.apply(step.effect, &step.machine, &item, events)?;
+        self.tally.count(&self.walk.interface, &item, step.finding, events.as_slice());
         self.watch.take(step.effect, reaction)?;
+        self.renew(step.epoch);
         self.walk.advance(step);
         self.walk.findings.clear();
         Ok(())

@@ -38,9 +38,9 @@ no_rows_found (Some j) rows h = ap (λ rs. (report_of j (items_of j rs)).finding
 pub nothing_found : (text : List ℕ) → early_rows text ≡ [] → found text ≡ []
 nothing_found text h = no_rows_found (early_head text) (early_rows text) h
 
-pub at_most_one : {A : Type 0} (o : Option A) → length (option_to_list o) ≤ 1
+pub at_most_one : (o : Option Finding) → length (option_to_list o) ≤ 1
 at_most_one None = omega arith
-at_most_one (Some x) = omega arith
+at_most_one (Some f) = omega arith
 
 -- ---- lists that grow alike
 

@@ -58,10 +58,10 @@ taker_is i None o more (judge.Channel k before after accepted) h = absurd h
 taker_is i (Some n) o more (judge.Restart before after) h = absurd h
 taker_is i (Some n) o more (judge.Channel k before after accepted) h = ap (λ m. Some m) h.0
 
-pub no_row : (before : List Item) (r : Item) → [] ≡ before ++ r ∷ [] → ⊥
-no_row before r e = omega (arith, ap (λ (l : List Item). length l) e, length-append before (r ∷ []))
+pub no_row : (i : Interface) (last : Option JudgedRow) (events : List Event) → KnowsLast i [] last events
+no_row i last events before r e = absurd (omega (arith, ap (λ (l : List Item). length l) e, length-append before (r ∷ [])))
 
-pub knows : (i : Interface) (rs : List Item) (r : Item) (l : JudgedRow) (last : Option JudgedRow) (events : List Event) → last ≡ Some l → IsJudgedRow i rs r l events → KnowsLast i (rs ++ r ∷ []) last events
+knows : (i : Interface) (rs : List Item) (r : Item) (l : JudgedRow) (last : Option JudgedRow) (events : List Event) → last ≡ Some l → IsJudgedRow i rs r l events → KnowsLast i (rs ++ r ∷ []) last events
 knows i rs r l last events is h before x e =
     let same = same_last rs before r x e in
     subst (λ o. MatchOption o ⊥ (λ m. IsJudgedRow i before x m events)) (sym is)
@@ -81,12 +81,12 @@ passed_judges true walk gap machine rows after by h = h
 passed_judges false walk gap machine rows after by h = h
 
 -- by what the row did to the channels
-pub judged_as : {B : Type 0} → (i : Interface) (rs : List Item) (c a : Cutting) (r : Item) (step : Step) (v : EpochWalk B) (gap : ℕ) (row : JudgedRow) (events : List Event)
+pub last_known : {B : Type 0} → (i : Interface) (rs : List Item) (c a : Cutting) (r : Item) (step : Step) (v : EpochWalk B) (gap : ℕ) (row : JudgedRow) (last : Option JudgedRow) (events : List Event)
     → IsCutterOf i rs c → IsCutterOf i (rs ++ r ∷ []) a → IsTakenBy r step c a → IsSaid c.interface r → IsStep c.level c.epoch r step
-    → epoch_of v ≡ epoch_at c → gap ≡ c.gap → v.machine ≡ c.level → c.gap ≤ r.number → Judged step.effect r v gap step.machine c.open_rows a.open_rows row events
-    → (report_of i (rs ++ r ∷ [])).findings ≡ (report_of i rs).findings ++ option_to_list row.finding → IsJudgedRow i rs r row events
-judged_as {B} i rs c a r step v gap row events s grown taken said is same same_gap same_machine earlier judged finding =
-    at (routing c.level r).route refl (subst (λ t. Judged t r v gap step.machine c.open_rows a.open_rows row events) is.effect judged)
+    → epoch_of v ≡ epoch_at c → gap ≡ c.gap → v.machine ≡ c.level → c.gap ≤ r.number → last ≡ Some row → Judged step.effect r v gap step.machine c.open_rows a.open_rows row events
+    → (report_of i (rs ++ r ∷ [])).findings ≡ (report_of i rs).findings ++ option_to_list row.finding → KnowsLast i (rs ++ r ∷ []) last events
+last_known {B} i rs c a r step v gap row last events s grown taken said is same same_gap same_machine earlier last_is judged finding =
+    knows i rs r row last events last_is (at (routing c.level r).route refl (subst (λ t. Judged t r v gap step.machine c.open_rows a.open_rows row events) is.effect judged))
   where
     k : ℕ
     k = packet_channel r.packet

@@ -1,7 +1,9 @@
 -- The open channels return one by one the results of their pieces so far.
 use Rattle.std.proofs.Common.{◌≡◌, ◌∙◌, sym, ap, subst, ℕ, true, List, [], ◌∷◌, ◌++◌, map, length, Some, None, append_assoc, append-nil, length-append}
 use Rattle.std.specs.List.{AllByRecursion}
-use Rattle.line_model.specs.basics.Records.{PieceReport, Piece}
+use Rattle.line_model.specs.declared.interface.Interface.{Interface}
+use Rattle.line_model.specs.basics.Records.{PieceReport}
+use Rattle.line_model.specs.channels.Gaps.{GapChannel}
 use Rattle.line_model.specs.pieces.Plan.{has_some}
 use Rattle.line_model.specs.pieces.Plans.{result_of}
 use Rattle.restart_epochs.specs.Cutting.{items_out}
@@ -37,6 +39,6 @@ pub reporting_all : (e : OpenEpoch) (gap : ℕ) (rows : OpenRows) (first out : L
 reporting_all e gap rows first out left t none = sym (append-nil out) ∙ ap (λ ks. out ++ map result_of (pieces_of e gap None rows (length out) ks)) (sym none) ∙ t.values
 
 -- a channel that has an open channel
-pub reported_open : {K : Type 0} → (R : K → Piece → Type 0) (e : OpenEpoch) (rows : OpenRows) (k : ℕ) (table : ChannelTables (OpenChannel K)) (entry : OpenChannel K)
-    → OpenChannelsFor R e rows table → Some entry ≡ value_at table k → OpenChannelFor R (begun_piece e k (rows_of rows k)) (Some entry)
-reported_open R e rows k table entry f some = subst (OpenChannelFor R (begun_piece e k (rows_of rows k))) (sym some) (f.each k)
+pub reported_open : {A C : Type 0} → (I : C → Interface) (N : C → ℕ) (S : C → GapChannel → Type 0) (e : OpenEpoch) (rows : OpenRows) (k : ℕ) (table : ChannelTables (OpenChannel A C)) (entry : OpenChannel A C)
+    → OpenChannelsFor I N S e rows table → Some entry ≡ value_at table k → OpenChannelFor I N S (begun_piece e k (rows_of rows k)) (Some entry)
+reported_open I N S e rows k table entry f some = subst (OpenChannelFor I N S (begun_piece e k (rows_of rows k))) (sym some) (f.each k)

@@ -4,7 +4,7 @@ use Rattle.std.proofs.lemmas.List.Elements.{filter-append}
 use Rattle.std.proofs.lemmas.List.Sums.{sum_by-append, sum_by-cons, sum_by_push}
 use Rattle.line_model.specs.declared.event.Event.{Event}
 use Rattle.line_model.specs.declared.interface.Interface.{Interface}
-use Rattle.line_model.specs.basics.Records.{Item, Piece}
+use Rattle.line_model.specs.basics.Records.{Item}
 use Rattle.line_model.specs.channels.Gaps.{GapChannel}
 use Rattle.line_model.specs.channels.GapRestart.{GapInterfaceState}
 use Rattle.line_model.specs.observer.Machine.{Observer, after, routed, walk}
@@ -14,13 +14,12 @@ use Rattle.channel_run.specs.StatusWord.{view_in}
 use Rattle.channel_run.specs.Views.{IsViewOf, is_adrift}
 use Rattle.data_transfer.specs.Packed.{Packed}
 use Rattle.restart_epochs.specs.Cutting.{observer}
-use Rattle.restart_epochs.specs.declared.walk.EpochWalk.{EpochWalk}
 use Rattle.live_report.specs.JudgedRows.{IsJudge, IsJudgedRow}
-use Rattle.live_report.specs.Observing.{AreItems, Walked}
+use Rattle.live_report.specs.Observing.{AreItems, Represents}
 use Rattle.live_report.specs.Uncounted.{AreFew, LeftOut, amount_of, amounts_of, grown, is_data, is_same, left_out, left_out_at, left_out_by, none_left_out, counts_data, has_finding, reason_of_state, reason_at, reason_by, reason_on, is_data_event, trace_uncounted, uncounted_of, user_octets, with_one}
 use Rattle.live_report.specs.declared.judged_row.Judge.TheVariants as judge
 use Rattle.live_report.specs.declared.judged_row.JudgedRow.{JudgedRow}
-use Rattle.live_report.specs.declared.open_channels.OpenChannels.{OpenChannels}
+use Rattle.live_report.specs.declared.observer.Observer.{Observer as Running}
 use Rattle.live_report.specs.declared.uncounted.Amount.{Amount}
 use Rattle.live_report.specs.declared.uncounted.Reason.{Reason}
 use Rattle.live_report.specs.declared.uncounted.Reason.TheVariants.{Finding, Owed, NotInTransfer, Discarded, Unknown, Restart}
@@ -82,7 +81,7 @@ was_counted i earlier r row events k before after accepted l by counted =
 -- ---- rows one by one
 
 -- those of some rows and of one more
-pub left_out_more : (i : Interface) (o : Observer GapInterfaceState GapChannel) (rs : List Item) (r : Item) → left_out i o (rs ++ r ∷ []) ≡ left_out i o rs ++ left_out_at i (walk (x25 i) o rs) r
+left_out_more : (i : Interface) (o : Observer GapInterfaceState GapChannel) (rs : List Item) (r : Item) → left_out i o (rs ++ r ∷ []) ≡ left_out i o rs ++ left_out_at i (walk (x25 i) o rs) r
 left_out_more i o [] r = append-nil (left_out_at i o r)
 left_out_more i o (x ∷ rs) r =
     ap (λ ds. left_out_at i o x ++ ds) (left_out_more i (after (x25 i) o x) rs r)
@@ -204,8 +203,8 @@ uncounted_same i earlier r came =
     ∙ ap amounts_of (sym (left_out_more i (start i) earlier r))
 
 -- the rows of a trace are few
-pub few_with : {A K : Type 0} {R : K → Piece → Type 0} {i : Interface} {rs : List Item} {walk : EpochWalk A} {channels : OpenChannels A K} (r : Item) → Walked R i rs walk channels → AreItems i (rs ++ r ∷ []) → AreFew (rs ++ r ∷ [])
-few_with {A} {K} {R} {i} {rs} r w sound = record { rows = omega (arith, length-append rs (r ∷ []), w.cut.packets, w.bounds.rows, w.bounds.last); octets = omega (arith, sound.octets) }
+pub few_with : {A C : Type 0} → (I : C → Interface) (N : C → ℕ) (S : C → GapChannel → Type 0) (i : Interface) (rs : List Item) (r : Item) (o : Running A C) → Represents I N S i rs o → AreItems i (rs ++ r ∷ []) → AreFew (rs ++ r ∷ [])
+few_with I N S i rs r o s sound = record { rows = omega (arith, length-append rs (r ∷ []), s.cut.packets, s.bounds.rows, s.bounds.last); octets = omega (arith, sound.octets) }
 
 -- what was not counted of the rows of a trace text
 pub of_the_text : {T E : Type 0} → (answer : Result T E) (text : List ℕ) (i : Interface) (rs : List Item) (u : Uncounted) → OnOk answer (u ≡ uncounted_of i rs) → head text ≡ Some i → items_of i (rows text) ≡ rs → OnOk answer (u ≡ trace_uncounted text)

@@ -11,6 +11,7 @@ use Rattle.restart_epochs.specs.declared.walk.EpochWalk.{EpochWalk}
 use Rattle.restart_epochs.specs.declared.walk.Step.{Step}
 use Rattle.restart_epochs.specs.declared.walk.ChannelEffect.{ChannelEffect}
 use Rattle.restart_epochs.specs.declared.walk.ChannelEffect.TheVariants.{ToChannel}
+use Rattle.channel_run.specs.declared.run.Channel.{Ghosts as Machine}
 use Rattle.channel_run.specs.Live.{channel_so_far}
 use Rattle.channel_run.specs.Run.{data_events, row_events}
 use Rattle.live_report.specs.declared.judged_row.Judge.{Judge}
@@ -29,8 +30,8 @@ abbrev pub reached_piece : {B : Type 0} → EpochWalk B → (gap channel : ℕ) 
 reached_piece walk gap channel rows = begun_piece (epoch_of walk) channel (with_gap gap (rows_of rows channel))
 
 -- of any rows of the open epoch of a walk that open channels represent
-abbrev pub OfOpenChannels : {A B K : Type 0} → (K → Piece → Type 0) → EpochWalk B → OpenChannels A K → (OpenRows → Type 0) → Type 0
-OfOpenChannels R walk open_channels Fact = (rows : OpenRows) → ChannelsRepresent R (epoch_of walk) rows open_channels → ArePieces (epoch_of walk) open_channels.gap rows → Fact rows
+abbrev pub OfOpenChannels : {A B C : Type 0} → Machine C A → EpochWalk B → OpenChannels A C → (OpenRows → Type 0) → Type 0
+OfOpenChannels m walk open_channels Fact = (rows : OpenRows) → ChannelsRepresent m (epoch_of walk) rows open_channels → ArePieces (epoch_of walk) open_channels.gap rows → Fact rows
 
 -- a channel of the open epoch that read a row: these are the rows before and after it
 abbrev pub TakesOn : {B : Type 0} → EpochWalk B → (gap channel : ℕ) → (rows after : OpenRows) → Judge → Type 0
@@ -38,12 +39,12 @@ TakesOn walk gap channel rows after by =
     IsTaker walk.interface channel (channel_so_far (reached_piece walk gap channel rows)) (channel_so_far (begun_piece (epoch_of walk) channel (rows_of after channel))) by
 
 -- the open channels of a walk represent the rows of its open epoch
-abbrev pub RepresentsAt : {A B K : Type 0} → (K → Piece → Type 0) → EpochWalk B → OpenRows → OpenChannels A K → Type 0
-RepresentsAt R walk rows open_channels = ChannelsRepresent R (epoch_of walk) rows open_channels × ArePieces (epoch_of walk) open_channels.gap rows × IsListing rows
+abbrev pub RepresentsAt : {A B C : Type 0} → Machine C A → EpochWalk B → OpenRows → OpenChannels A C → Type 0
+RepresentsAt m walk rows open_channels = ChannelsRepresent m (epoch_of walk) rows open_channels × ArePieces (epoch_of walk) open_channels.gap rows × IsListing rows
 
 -- of any rows that they represent
-abbrev pub OfOpen : {A B K : Type 0} → (K → Piece → Type 0) → EpochWalk B → OpenChannels A K → (OpenRows → Type 0) → Type 0
-OfOpen R walk open_channels Fact = (rows : OpenRows) → RepresentsAt R walk rows open_channels → Fact rows
+abbrev pub OfOpen : {A B C : Type 0} → Machine C A → EpochWalk B → OpenChannels A C → (OpenRows → Type 0) → Type 0
+OfOpen m walk open_channels Fact = (rows : OpenRows) → RepresentsAt m walk rows open_channels → Fact rows
 
 -- a row that goes to a channel can be one of its piece
 abbrev pub MayAffect : ChannelEffect → Interface → (gap : ℕ) → Item → OpenRows → Type 0

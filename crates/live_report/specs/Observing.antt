@@ -3,24 +3,21 @@ use Rattle.std.specs.Prelude.{◌≡◌, ℕ, ◌≤◌, ◌^◌, Bool, true, fa
 use Rattle.std.specs.List.Sorted.{IsStrictlyIncreasing}
 use Rattle.line_model.specs.declared.interface.Interface.{Interface}
 use Rattle.line_model.specs.declared.finding.Finding.{Finding}
-use Rattle.line_model.specs.basics.Records.{Item, Piece, ReadRow, Report}
+use Rattle.line_model.specs.basics.Records.{Item, Piece, PieceReport, ReadRow, Report}
 use Rattle.line_model.specs.packets.Says.{item_read}
 use Rattle.line_model.specs.basics.Bounds.{AreSaid}
 use Rattle.line_model.specs.channels.Gaps.{GapChannel}
 use Rattle.line_model.specs.observer.Report.{report_of}
-use Rattle.line_model.specs.pieces.Plans.{level_findings, result_of}
+use Rattle.line_model.specs.pieces.Plans.{result_of}
 use Rattle.line_model.specs.text.Text.{last_or}
 use Rattle.channel_run.specs.declared.run.Channel.{Ghosts as Machine}
-use Rattle.channel_run.specs.Live.{Represents as IsLive}
-use Rattle.restart_epochs.specs.declared.walk.EpochWalk.{EpochWalk}
 use Rattle.restart_epochs.specs.Cutting.{Cutting, IsCutting, Represents as IsCutterOf, given_of, items_out}
 use Rattle.report_merge.specs.Gathered.{gathered}
 use Rattle.live_report.specs.declared.observer.Observer.{Observer}
 use Rattle.live_report.specs.JudgedRows.{KnowsLast}
 use Rattle.live_report.specs.Uncounted.{uncounted_of}
 use Rattle.live_report.specs.declared.uncounted.Uncounted.{Uncounted}
-use Rattle.live_report.specs.OpenChannels.{ChannelsRepresent, OpenEpoch, begun_piece}
-use Rattle.live_report.specs.declared.open_channels.OpenChannels.{OpenChannels}
+use Rattle.live_report.specs.OpenChannels.{OpenChannelsFor, OpenEpoch, begun_piece}
 
 -- what rows of an interface say, as a trace has them: their numbers rise, and their octets are few
 pub record AreItems (i : Interface) (rs : List Item) : Type 0 where
@@ -38,39 +35,38 @@ last_item i true row = item_read i row ∷ []
 abbrev pub epoch_at : Cutting → OpenEpoch
 epoch_at c = record { interface = c.interface; number = c.epoch; start = c.start }
 
--- a walk and open channels hold what a cutter does, with an open channel in place of the rows of each channel of the open
--- epoch
-pub record Holds {A K : Type 0} (R : K → Piece → Type 0) (c : Cutting) (walk : EpochWalk A) (channels : OpenChannels A K) : Type 0 where
-  pub interface : walk.interface ≡ c.interface
-  pub level : walk.machine ≡ c.level
-  pub epoch : walk.epoch ≡ c.epoch
-  pub start : walk.start ≡ c.start
-  pub packets : walk.packets ≡ c.packets
-  pub gaps : walk.gaps ≡ c.gaps
-  pub gap : channels.gap ≡ c.gap
-  pub open_channels : ChannelsRepresent R (epoch_at c) c.open_rows channels
+-- an observer holds what a cutter does, with an open channel in place of the rows of each channel of the open epoch, and
+-- what these reports of the pieces give whose epochs have ended
+pub record Holds {A C : Type 0} (interface_of : C → Interface) (number_of : C → ℕ) (represents : C → GapChannel → Type 0)
+    (c : Cutting) (reports : List PieceReport) (o : Observer A C) : Type 0 where
+  pub interface : o.walk.interface ≡ c.interface
+  pub level : o.walk.machine ≡ c.level
+  pub epoch : o.walk.epoch ≡ c.epoch
+  pub start : o.walk.start ≡ c.start
+  pub packets : o.walk.packets ≡ c.packets
+  pub gaps : o.walk.gaps ≡ c.gaps
+  pub findings : o.walk.findings.items ≡ c.findings
+  pub ended : o.ended ≡ gathered reports
+  pub gap : o.open_channels.gap ≡ c.gap
+  pub open_channels : OpenChannelsFor interface_of number_of represents (epoch_at c) c.open_rows o.open_channels.table
 
--- they have walked these rows of an interface: they hold what a cutter of them does
-pub record Walked {A K : Type 0} (R : K → Piece → Type 0) (i : Interface) (rs : List Item) (walk : EpochWalk A) (channels : OpenChannels A K) : Type 0 where
+-- an observer has read these rows of an interface: it holds what a cutter of them does, and the results of the complete pieces
+pub record Represents {A C : Type 0} (interface_of : C → Interface) (number_of : C → ℕ) (represents : C → GapChannel → Type 0)
+    (i : Interface) (rs : List Item) (o : Observer A C) : Type 0 where
   pub sound : AreItems i rs
   pub cutting : Cutting
   pub cut : IsCutterOf i rs cutting
   pub bounds : IsCutting cutting
   pub last : cutting.last ≡ last_or 0 (map (λ r. r.number) rs)
   pub octets : cutting.octets ≡ sum_by (λ r. r.length) rs
-  pub holds : Holds R cutting walk channels
-
--- an observer has read these rows of an interface: it has walked them, and holds their findings and the results of the
--- complete pieces
-pub record Represents {A C : Type 0} (interface_of : C → Interface) (number_of : C → ℕ) (represents : C → GapChannel → Type 0)
-    (i : Interface) (rs : List Item) (o : Observer A C) : Type 0 where
-  pub walked : Walked (IsLive interface_of number_of represents) i rs o.walk o.open_channels
-  pub findings : o.walk.findings.items ≡ level_findings i rs
-  pub ended : o.ended ≡ gathered (map result_of (given_of i rs))
+  pub holds : Holds interface_of number_of represents cutting (map result_of (given_of i rs)) o
   pub row : o.keeps_rows ≡ true → KnowsLast i rs o.last o.events.items
   pub uncounted : o.uncounted ≡ uncounted_of i rs
 
--- the same by the members of a machine of one channel
+-- the same two by the members of a machine of one channel
+abbrev pub IsHolding : {A C : Type 0} → Machine C A → Cutting → List PieceReport → Observer A C → Type 0
+IsHolding m c reports o = Holds m.interface_of m.number_of m.represents c reports o
+
 abbrev pub HasWalked : {A C : Type 0} → Machine C A → Interface → List Item → Observer A C → Type 0
 HasWalked m i rows o = Represents m.interface_of m.number_of m.represents i rows o
 

@@ -5,6 +5,7 @@ use Rattle.line_model.specs.declared.finding.Finding.{Finding}
 use Rattle.line_model.specs.declared.gap.EpochStart.{EpochStart}
 use Rattle.line_model.specs.declared.piece.PieceEnd.{PieceEnd}
 use Rattle.line_model.specs.basics.Records.{Item, Piece}
+use Rattle.line_model.specs.channels.Gaps.{GapChannel}
 use Rattle.line_model.specs.observer.Report.{findings_of}
 use Rattle.line_model.specs.pieces.Plan.{has_some}
 use Rattle.restart_epochs.specs.OpenRows.{OpenRows, last_number, rows_of, with_channel}
@@ -12,7 +13,6 @@ use Rattle.restart_epochs.specs.ChannelTables.{ChannelTables, value_at}
 use Rattle.channel_run.specs.declared.run.Channel.{Ghosts as Machine}
 use Rattle.channel_run.specs.Live.{Represents as IsLive, channel_so_far}
 use Rattle.channel_run.specs.Run.{row_events}
-use Rattle.channel_run.specs.declared.live.LiveChannel.{LiveChannel}
 use Rattle.live_report.specs.declared.open_channels.OpenChannel.{OpenChannel}
 use Rattle.live_report.specs.declared.open_channels.OpenChannels.{OpenChannels}
 
@@ -30,36 +30,38 @@ ended_piece id e end k items = record { id = id; interface = e.interface; epoch 
 abbrev pub begun_piece : OpenEpoch → (channel : ℕ) → List Item → Piece
 begun_piece e k items = ended_piece 0 e None k items
 
--- what is kept of an open channel represents a piece, whose last row has its number
-pub record OpenFor {K : Type 0} (R : K → Piece → Type 0) (entry : OpenChannel K) (p : Piece) : Type 0 where
-  pub kept : R entry.kept p
+-- an open channel represents a piece, whose last row has its number
+pub record OpenFor {A C : Type 0} (interface_of : C → Interface) (number_of : C → ℕ) (represents : C → GapChannel → Type 0) (entry : OpenChannel A C) (p : Piece) : Type 0 where
+  pub live : IsLive interface_of number_of represents entry.live p
   pub last : entry.last ≡ last_number p.items
 
-abbrev pub IsOpenFor : {K : Type 0} → (K → Piece → Type 0) → OpenEpoch → (channel : ℕ) → List Item → OpenChannel K → Type 0
-IsOpenFor R e channel items entry = OpenFor R entry (begun_piece e channel items)
-
 -- what is in the place of a channel: nothing where it has no rows, otherwise an open channel that represents them
-abbrev pub OpenChannelFor : {K : Type 0} → (K → Piece → Type 0) → Piece → Option (OpenChannel K) → Type 0
-OpenChannelFor R p None = p.items ≡ []
-OpenChannelFor R p (Some entry) = (has_some p.items ≡ true) × OpenFor R entry p
+abbrev pub OpenChannelFor : {A C : Type 0} → (C → Interface) → (C → ℕ) → (C → GapChannel → Type 0) → Piece → Option (OpenChannel A C) → Type 0
+OpenChannelFor interface_of number_of represents p None = p.items ≡ []
+OpenChannelFor interface_of number_of represents p (Some entry) = (has_some p.items ≡ true) × OpenFor interface_of number_of represents entry p
 
 -- the open channels of an epoch represent the rows of its channels
-pub record OpenChannelsFor {K : Type 0} (R : K → Piece → Type 0) (e : OpenEpoch) (rows : OpenRows) (table : ChannelTables (OpenChannel K)) : Type 0 where
+pub record OpenChannelsFor {A C : Type 0} (interface_of : C → Interface) (number_of : C → ℕ) (represents : C → GapChannel → Type 0)
+    (e : OpenEpoch) (rows : OpenRows) (table : ChannelTables (OpenChannel A C)) : Type 0 where
   pub channels : table.channels ≡ rows.channels
-  pub each : (k : ℕ) → OpenChannelFor R (begun_piece e k (rows_of rows k)) (value_at table k)
-
-abbrev pub ChannelsRepresent : {A K : Type 0} → (K → Piece → Type 0) → OpenEpoch → OpenRows → OpenChannels A K → Type 0
-ChannelsRepresent R e rows open_channels = OpenChannelsFor R e rows open_channels.table
+  pub each : (k : ℕ) → OpenChannelFor interface_of number_of represents (begun_piece e k (rows_of rows k)) (value_at table k)
 
 -- an open channel was removed from its place, or begun where it had no rows; it is listed
-pub record IsOut {K : Type 0} (R : K → Piece → Type 0) (e : OpenEpoch) (channel : ℕ) (rows : OpenRows) (entry : OpenChannel K) (table : ChannelTables (OpenChannel K)) : Type 0 where
-  pub represented : IsOpenFor R e channel (rows_of rows channel) entry
-  pub others : (k : ℕ) → k ≢ channel → OpenChannelFor R (begun_piece e k (rows_of rows k)) (value_at table k)
+pub record IsOutFor {A C : Type 0} (interface_of : C → Interface) (number_of : C → ℕ) (represents : C → GapChannel → Type 0)
+    (e : OpenEpoch) (channel : ℕ) (rows : OpenRows) (entry : OpenChannel A C) (table : ChannelTables (OpenChannel A C)) : Type 0 where
+  pub represented : OpenFor interface_of number_of represents entry (begun_piece e channel (rows_of rows channel))
+  pub others : (k : ℕ) → k ≢ channel → OpenChannelFor interface_of number_of represents (begun_piece e k (rows_of rows k)) (value_at table k)
   pub channels : table.channels ≡ with_channel (rows_of rows channel) channel rows.channels
 
--- what an observer keeps of a channel: its machine, and what is counted of its rows
-abbrev pub live_of : {A C : Type 0} → Machine C A → LiveChannel A C → Piece → Type 0
-live_of m = IsLive m.interface_of m.number_of m.represents
+-- the same three by the members of a machine of one channel
+abbrev pub IsOpenFor : {A C : Type 0} → Machine C A → OpenEpoch → (channel : ℕ) → List Item → OpenChannel A C → Type 0
+IsOpenFor m e channel items entry = OpenFor m.interface_of m.number_of m.represents entry (begun_piece e channel items)
+
+abbrev pub ChannelsRepresent : {A C : Type 0} → Machine C A → OpenEpoch → OpenRows → OpenChannels A C → Type 0
+ChannelsRepresent m e rows open_channels = OpenChannelsFor m.interface_of m.number_of m.represents e rows open_channels.table
+
+abbrev pub IsOut : {A C : Type 0} → Machine C A → OpenEpoch → (channel : ℕ) → OpenRows → OpenChannel A C → OpenChannels A C → Type 0
+IsOut m e channel rows entry open_channels = IsOutFor m.interface_of m.number_of m.represents e channel rows entry open_channels.table
 
 -- the finding on the next row of a piece
 abbrev pub FindsOn : Piece → Item → Option Finding → Type 0

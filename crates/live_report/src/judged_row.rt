@@ -7,14 +7,13 @@ ghost use Rattle.line_model.specs.basics.Records.{Item};
 ghost use Rattle.line_model.specs.declared.event.Event.{Event};
 ghost use Rattle.live_report.specs.JudgedRows.{judged_row, taker};
 ghost use Rattle.live_report.specs.Effects.{with_data};
-ghost use Rattle.live_report.specs.declared.judged_row.Judge.TheVariants.{Channel as OfChannel, Restart};
+ghost use Rattle.live_report.specs.declared.judged_row.Judge.TheVariants.{Channel as OfChannel};
 
 use data_transfer::packed::FlowWord;
 use line_model::finding::Finding;
 use line_model::items::ItemRef;
 use line_model::packet::Packet;
 use line_model::state::{RState, Side};
-use restart_epochs::walk::Step;
 
 /// The machine that judged a row, and what it knew before and after the row.
 #[derive(Clone, Copy)]
@@ -67,30 +66,14 @@ pub struct JudgedRow {
 
 /// What came of a row.
 #[derive(Clone, Copy)]
-pub struct RowOutcome {
+pub(crate) struct RowOutcome {
     /// The machine that judged it.
-    pub judge: Judge,
+    pub(crate) judge: Judge,
     /// What it found.
-    pub finding: Option<Finding>,
+    pub(crate) finding: Option<Finding>,
 }
 
 impl RowOutcome {
-    /// What came of a row that goes to no channel, which the restart machine judged in a state.
-    pub(crate) fn on_level(before: RState, step: &Step) -> Self
-        ensures { result ≡ record {
-          judge = Restart before step.now.machine.level.state;
-          finding = step.now.finding;
-        } }
-    {
-        RowOutcome {
-            judge: Judge::Restart {
-                before,
-                after: step.machine.state(),
-            },
-            finding: step.finding,
-        }
-    }
-
     /// Returns the row of this outcome as it was judged.
     #[inline(always)]
     pub(crate) fn row(&self, item: &ItemRef<'_>) -> JudgedRow

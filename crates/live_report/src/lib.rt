@@ -4,13 +4,12 @@
 mod ending;
 pub mod follow;
 pub mod judged_row;
-pub mod kept_channel;
 pub mod laws;
 pub mod live;
 mod live_observer;
 pub mod observer;
 mod observing;
-pub mod open_channels;
+mod open_channels;
 mod read_rows;
 mod reporting;
 mod row_ref;

@@ -8,13 +8,14 @@ ghost use Rattle.line_model.specs.packets.Says.{gap_of, item_read};
 ghost use Rattle.line_model.specs.pieces.Plans.{end_at, result_of};
 ghost use Rattle.restart_epochs.specs.OpenRows.{OpenRows};
 ghost use Rattle.restart_epochs.specs.Walks.{step_to, IsStep};
-ghost use Rattle.restart_epochs.specs.Cutting.{ended_by, gap_by_effect, observer, HasEffect};
+ghost use Rattle.restart_epochs.specs.Cutting.{Cutting, ended_by, gap_by_effect, observer, HasEffect};
 ghost use Rattle.report_merge.specs.Gathered.{gathered};
-ghost use Rattle.live_report.specs.OpenChannels.{ChannelsRepresent, live_of};
+ghost use Rattle.live_report.specs.OpenChannels.{ChannelsRepresent};
 ghost use Rattle.live_report.specs.JudgedRows.{IsJudgedRow, judged_row};
 ghost use Rattle.live_report.specs.Uncounted.{AreFew, uncounted_of};
+ghost use Rattle.live_report.specs.declared.judged_row.Judge.TheVariants.{Restart};
 ghost use Rattle.live_report.specs.Effects.{FindsBy, HasEvents, JudgesBy, MayAffect, OfOpen, RepresentsAt, epoch_of, with_data};
-ghost use Rattle.live_report.specs.Observing.{HasKept, HasWalked, IsObserver, MayWalk, ReturnsFinding, ReturnsReport, WalksOn};
+ghost use Rattle.live_report.specs.Observing.{HasKept, HasWalked, IsHolding, IsObserver, MayWalk, ReturnsFinding, ReturnsReport, WalksOn};
 
 use crate::ending::end_channels;
 use crate::judged_row::{Judge, JudgedRow, RowOutcome};
@@ -22,7 +23,6 @@ use crate::open_channels::OpenChannels;
 use crate::reporting::report_channels;
 use crate::row_ref::RowRef;
 use crate::uncounted::Uncounted;
-use channel_run::live::LiveChannel;
 use channel_run::run::Channel;
 use line_model::event::{Event, What};
 use line_model::fault::Fault;
@@ -31,6 +31,7 @@ use line_model::interface::Interface;
 use line_model::items::ItemRef;
 use line_model::report::Report;
 use line_model::row::{ReadRow, said_octets};
+use line_model::state::RState;
 use report_merge::parts::Parts;
 use report_merge::row_counts::RowCounts;
 use restart_epochs::parts::end_at;
@@ -44,7 +45,7 @@ pub struct Observer<A: Allocator, C: Channel<A>> {
     /// The results of the pieces whose epochs have ended.
     ended: Parts<A>,
     /// The channels that have rows in the epoch that has not ended.
-    open_channels: OpenChannels<A, LiveChannel<A, C>>,
+    open_channels: OpenChannels<A, C>,
     /// Whether it keeps each row as it was judged, with its events.
     pub(crate) keeps_rows: bool,
     /// The row that was read last, as it was judged, where rows are kept.
@@ -53,6 +54,22 @@ pub struct Observer<A: Allocator, C: Channel<A>> {
     events: Vec<Event, A>,
     /// The data of the rows that was not counted.
     uncounted: Uncounted,
+}
+
+/// What came of a row that goes to no channel, which the restart machine judged in a state.
+fn judged_on_level(before: RState, step: &Step) -> RowOutcome
+    ensures { result ≡ record {
+      judge = Restart before step.now.machine.level.state;
+      finding = step.now.finding;
+    } }
+{
+    RowOutcome {
+        judge: Judge::Restart {
+            before,
+            after: step.machine.state(),
+        },
+        finding: step.finding,
+    }
 }
 
 /// Returns the counts of a walk's rows.
@@ -93,34 +110,42 @@ impl<A: Allocator + Copy, C: Channel<A>> Observer<A, C> {
     #[inline(always)]
     fn apply(&mut self, step: &Step, item: &ItemRef<'_>) -> Result<RowOutcome, Fault>
         requires room { (rows : OpenRows) × (reports : List records.PieceReport)
-            × RepresentsAt (live_of C.Channel) self.old.walk rows self.old.open_channels × (self.old.ended ≡ gathered reports)
+            × RepresentsAt C.Channel self.old.walk rows self.old.open_channels × (self.old.ended ≡ gathered reports)
             × MayAffect step.now.effect self.old.walk.interface self.old.open_channels.gap item.now rows }
         requires pieces { self.old.ended.pieces + length self.old.open_channels.table.channels < 2 ^ 32 }
         ensures walk { self.new.walk ≡ self.old.walk }
         ensures uncounted { self.new.uncounted ≡ self.old.uncounted }
         ensures keeps { self.new.keeps_rows ≡ self.old.keeps_rows }
         ensures gap { OnOk result (self.new.open_channels.gap ≡ gap_by_effect step.now.effect item.now self.old.open_channels.gap) }
-        ensures open_channels { OfOpen (live_of C.Channel) self.old.walk self.old.open_channels (λ rows. (after : OpenRows)
+        ensures open_channels { OfOpen C.Channel self.old.walk self.old.open_channels (λ rows. (after : OpenRows)
             → MayAffect step.now.effect self.old.walk.interface self.old.open_channels.gap item.now rows
             → HasEffect step.now.effect item.now self.old.open_channels.gap rows after
-            → OnOk result (ChannelsRepresent (live_of C.Channel) (epoch_of self.old.walk) after self.new.open_channels)) }
-        ensures ended { OfOpen (live_of C.Channel) self.old.walk self.old.open_channels (λ rows. (reports : List records.PieceReport)
+            → OnOk result (ChannelsRepresent C.Channel (epoch_of self.old.walk) after self.new.open_channels)) }
+        ensures ended { OfOpen C.Channel self.old.walk self.old.open_channels (λ rows. (reports : List records.PieceReport)
             → self.old.ended ≡ gathered reports
             → OnOk result (self.new.ended ≡ gathered (reports ++ map result_of (ended_by step.now.effect
             self.old.walk.interface self.old.walk.epoch self.old.walk.start (end_at item.now) (length reports)
             self.old.open_channels.gap rows)))) }
-        ensures judge { OfOpen (live_of C.Channel) self.old.walk self.old.open_channels (λ rows. (after : OpenRows)
+        ensures judge { OfOpen C.Channel self.old.walk self.old.open_channels (λ rows. (after : OpenRows)
             → MayAffect step.now.effect self.old.walk.interface self.old.open_channels.gap item.now rows
             → HasEffect step.now.effect item.now self.old.open_channels.gap rows after
             → IfOk result (λ row. JudgesBy step.now.effect self.old.walk self.old.open_channels.gap step.now.machine rows after row.judge)) }
-        ensures finding { OfOpen (live_of C.Channel) self.old.walk self.old.open_channels (λ rows.
+        ensures finding { OfOpen C.Channel self.old.walk self.old.open_channels (λ rows.
             IfOk result (λ row. FindsBy step.now self.old.walk self.old.open_channels.gap rows item.now row.finding)) }
-        ensures events { OfOpen (live_of C.Channel) self.old.walk self.old.open_channels (λ rows.
+        ensures events { OfOpen C.Channel self.old.walk self.old.open_channels (λ rows.
             IfOk result (λ row. HasEvents step.now.effect self.old.walk self.old.open_channels.gap rows item.now
             (with_data self.old.walk.epoch row.judge item.now self.new.events.items))) }
         ensures memory { IfErr result (λ fault. fault ≡ Memory) }
     {
         match step.effect {
+            ChannelEffect::ToChannel(channel) => {
+                self.open_channels
+                    .step(&self.walk, channel, item, &mut self.events)
+            }
+            ChannelEffect::ToAll => {
+                self.open_channels.gap = item.number;
+                Ok(judged_on_level(self.walk.machine.state(), step))
+            }
             ChannelEffect::Ends => {
                 let alloc = *self.events.allocator();
                 end_channels(
@@ -129,11 +154,9 @@ impl<A: Allocator + Copy, C: Channel<A>> Observer<A, C> {
                     &mut self.open_channels,
                     &mut self.ended,
                 )?;
-                Ok(RowOutcome::on_level(self.walk.machine.state(), step))
+                Ok(judged_on_level(self.walk.machine.state(), step))
             }
-            _ => self
-                .open_channels
-                .apply(&self.walk, step, item, &mut self.events),
+            ChannelEffect::Stays => Ok(judged_on_level(self.walk.machine.state(), step)),
         }
     }
 

@@ -5,87 +5,105 @@ ghost use Rattle.line_model.specs.basics.Bounds.{IsPiece};
 ghost use Rattle.line_model.specs.basics.Records.{Item};
 ghost use Rattle.line_model.specs.declared.fault.Fault.TheVariants.{Memory};
 ghost use Rattle.line_model.specs.packets.Says.{gap_item};
+ghost use Rattle.line_model.specs.pieces.Plans.{result_of};
 ghost use Rattle.restart_epochs.specs.ChannelTables.{no_open_channels, HasListed};
-ghost use Rattle.restart_epochs.specs.Cutting.{HasEffect, gap_by_effect};
 ghost use Rattle.restart_epochs.specs.OpenRows.{OpenRows, rows_of, with_gap, HasMore};
 ghost use Rattle.channel_run.specs.Live.{channel_so_far};
 ghost use Rattle.channel_run.specs.Run.{row_events};
 ghost use Rattle.live_report.specs.AddedPieces.{ArePieces};
-ghost use Rattle.live_report.specs.OpenChannels.{ChannelsRepresent, OpenEpoch, IsOpenFor, IsOut, FindsOn};
-ghost use Rattle.live_report.specs.Effects.{FindsBy, HasEvents, JudgesBy, MayAffect, OfOpen, OfOpenChannels, RepresentsAt, TakesOn, epoch_of, reached_piece, with_data};
+ghost use Rattle.live_report.specs.OpenChannels.{ChannelsRepresent, OpenEpoch, IsOpenFor, IsOut, ended_piece, FindsOn};
+ghost use Rattle.live_report.specs.Effects.{OfOpenChannels, TakesOn, epoch_of, reached_piece, with_data};
 
 use crate::judged_row::{Judge, RowOutcome};
-use crate::kept_channel::KeptChannel;
+use channel_run::live::LiveChannel;
+use channel_run::run::Channel;
 use line_model::event::Event;
 use line_model::fault::Fault;
 use line_model::items::ItemRef;
+use line_model::piece::{PieceEnd, PieceReport};
 use restart_epochs::channel_table::ChannelTable;
-use restart_epochs::walk::{ChannelEffect, EpochWalk, Step};
+use restart_epochs::walk::EpochWalk;
 use std::alloc::Allocator;
 use std::boxed::Box;
 
 /// A logical channel that has rows in the open epoch. A gap of all channels is applied to it before its next row, or as
 /// the epoch ends.
 #[derive(Drop)]
-pub struct OpenChannel<K> {
-    pub(crate) kept: K,
+pub struct OpenChannel<A: Allocator, C: Channel<A>> {
+    pub(crate) live: LiveChannel<A, C>,
     /// The number of the last row that stepped it, or 0.
     last: u32,
 }
 
-/// Steps a channel by the last gap of all channels of the epoch, where it has had no row since. Fails only when memory
-/// is refused.
-#[inline(always)]
-pub(crate) fn take_gap<A: Allocator + Copy, K: KeptChannel<A>>(
-    entry: &mut OpenChannel<K>,
-    gap: u32,
-    events: &mut Vec<Event, A>,
-) -> Result<(), Fault>
-    requires room { (e : OpenEpoch) × (k : ℕ) × (items : List Item)
-        × IsOpenFor K.represents e k items entry.old
-        × IsPiece e.interface k (with_gap gap items) }
-    ensures represented { (e : OpenEpoch) (k : ℕ) (items : List Item)
-        → IsOpenFor K.represents e k items entry.old
-        → IsPiece e.interface k (with_gap gap items)
-        → OnOk result (IsOpenFor K.represents e k (with_gap gap items) entry.new) }
-    ensures memory { IfErr result (λ fault. fault ≡ Memory) }
-{
-    if entry.last < gap {
-        return step_over(entry, gap, events);
+impl<A: Allocator + Copy, C: Channel<A>> OpenChannel<A, C> {
+    /// Steps the channel by the last gap of all channels of the epoch, where it has had no row since. Fails only when
+    /// memory is refused.
+    #[inline(always)]
+    fn take_gap(&mut self, gap: u32, events: &mut Vec<Event, A>) -> Result<(), Fault>
+        requires room { (e : OpenEpoch) × (k : ℕ) × (items : List Item)
+            × IsOpenFor C.Channel e k items self.old
+            × IsPiece e.interface k (with_gap gap items) }
+        ensures represented { (e : OpenEpoch) (k : ℕ) (items : List Item)
+            → IsOpenFor C.Channel e k items self.old
+            → IsPiece e.interface k (with_gap gap items)
+            → OnOk result (IsOpenFor C.Channel e k (with_gap gap items) self.new) }
+        ensures memory { IfErr result (λ fault. fault ≡ Memory) }
+    {
+        if self.last < gap {
+            return self.step_over(gap, events);
+        }
+        Ok(())
     }
-    Ok(())
+
+    /// Steps the channel by a gap of all channels.
+    #[inline(never)]
+    fn step_over(&mut self, gap: u32, events: &mut Vec<Event, A>) -> Result<(), Fault>
+        requires room { (e : OpenEpoch) × (k : ℕ) × (items : List Item)
+            × IsOpenFor C.Channel e k items self.old
+            × IsPiece e.interface k (items ++ gap_item gap ∷ []) }
+        ensures represented { (e : OpenEpoch) (k : ℕ) (items : List Item)
+            → IsOpenFor C.Channel e k items self.old
+            → IsPiece e.interface k (items ++ gap_item gap ∷ [])
+            → OnOk result (IsOpenFor C.Channel e k (items ++ gap_item gap ∷ []) self.new) }
+        ensures memory { IfErr result (λ fault. fault ≡ Memory) }
+    {
+        self.live.take(&ItemRef::gap_of_all(gap), events)?;
+        self.last = gap;
+        Ok(())
+    }
+
+    /// Returns the result of the channel as its epoch ends, in which the last gap of all channels has this number.
+    /// Fails only when memory is refused.
+    pub(crate) fn end(
+        mut entry: Box<Self, A>,
+        gap: u32,
+        events: &mut Vec<Event, A>,
+        id: u32,
+        end: Option<PieceEnd>,
+    ) -> Result<PieceReport<A>, Fault>
+        requires room { (e : OpenEpoch) × (k : ℕ) × (items : List Item)
+            × IsOpenFor C.Channel e k items entry.value
+            × IsPiece e.interface k (with_gap gap items) }
+        ensures value { IfOk result (λ report. (e : OpenEpoch) (k : ℕ) (items : List Item)
+            → IsOpenFor C.Channel e k items entry.value
+            → IsPiece e.interface k (with_gap gap items)
+            → report ≡ result_of (ended_piece id e end k (with_gap gap items))) }
+        ensures memory { IfErr result (λ fault. fault ≡ Memory) }
+    {
+        entry.take_gap(gap, events)?;
+        Box::into_inner(entry).live.end(id, end)
+    }
 }
 
-/// Steps a channel by a gap of all channels.
-#[inline(never)]
-fn step_over<A: Allocator + Copy, K: KeptChannel<A>>(
-    entry: &mut OpenChannel<K>,
-    gap: u32,
-    events: &mut Vec<Event, A>,
-) -> Result<(), Fault>
-    requires room { (e : OpenEpoch) × (k : ℕ) × (items : List Item)
-        × IsOpenFor K.represents e k items entry.old
-        × IsPiece e.interface k (items ++ gap_item gap ∷ []) }
-    ensures represented { (e : OpenEpoch) (k : ℕ) (items : List Item)
-        → IsOpenFor K.represents e k items entry.old
-        → IsPiece e.interface k (items ++ gap_item gap ∷ [])
-        → OnOk result (IsOpenFor K.represents e k (items ++ gap_item gap ∷ []) entry.new) }
-    ensures memory { IfErr result (λ fault. fault ≡ Memory) }
-{
-    entry.kept.take(&ItemRef::gap_of_all(gap), events)?;
-    entry.last = gap;
-    Ok(())
-}
-
-/// The logical channels that have rows in the open epoch, by what is kept of each.
+/// The logical channels that have rows in the open epoch.
 #[derive(Drop)]
-pub struct OpenChannels<A: Allocator, K> {
-    pub(crate) table: ChannelTable<OpenChannel<K>, A>,
+pub struct OpenChannels<A: Allocator, C: Channel<A>> {
+    pub(crate) table: ChannelTable<OpenChannel<A, C>, A>,
     /// The number of the last gap of all channels in the epoch; 0 where there was none.
     pub(crate) gap: u32,
 }
 
-impl<A: Allocator + Copy, K: KeptChannel<A>> OpenChannels<A, K> {
+impl<A: Allocator + Copy, C: Channel<A>> OpenChannels<A, C> {
     /// Returns a value in which no channel has a row. Allocates nothing.
     pub fn new(alloc: A) -> Self
         ensures table { result.table ≡ no_open_channels }
@@ -104,9 +122,9 @@ impl<A: Allocator + Copy, K: KeptChannel<A>> OpenChannels<A, K> {
         alloc: A,
         walk: &EpochWalk<A>,
         channel: u16,
-    ) -> Result<Box<OpenChannel<K>, A>, Fault>
-        ensures out { OfOpenChannels K.represents walk.now self.old (λ rows.
-            IfOk result (λ entry. IsOut K.represents (epoch_of walk.now) channel rows entry.value self.new.table)) }
+    ) -> Result<Box<OpenChannel<A, C>, A>, Fault>
+        ensures out { OfOpenChannels C.Channel walk.now self.old (λ rows.
+            IfOk result (λ entry. IsOut C.Channel (epoch_of walk.now) channel rows entry.value self.new)) }
         ensures gap { OnOk result (self.new.gap ≡ self.old.gap) }
         ensures room { OnOk result (channel < length self.new.table.open_channels) }
         ensures memory { IfErr result (λ fault. fault ≡ Memory) }
@@ -124,43 +142,43 @@ impl<A: Allocator + Copy, K: KeptChannel<A>> OpenChannels<A, K> {
         alloc: A,
         walk: &EpochWalk<A>,
         channel: u16,
-    ) -> Result<Box<OpenChannel<K>, A>, Fault>
+    ) -> Result<Box<OpenChannel<A, C>, A>, Fault>
         ensures listed { OnOk result (HasListed channel self.old.table self.new.table) }
-        ensures fresh { IfOk result (λ entry. IsOpenFor K.represents (epoch_of walk.now) channel [] entry.value) }
+        ensures fresh { IfOk result (λ entry. IsOpenFor C.Channel (epoch_of walk.now) channel [] entry.value) }
         ensures gap { OnOk result (self.new.gap ≡ self.old.gap) }
         ensures memory { IfErr result (λ fault. fault ≡ Memory) }
     {
         self.table.list(channel)?;
-        let kept = K::fresh(alloc, &walk.interface, channel, walk.epoch, walk.start)?;
-        let entry = Box::new(alloc, OpenChannel { kept, last: 0 })?;
+        let live = LiveChannel::fresh(alloc, &walk.interface, channel, walk.epoch, walk.start)?;
+        let entry = Box::new(alloc, OpenChannel { live, last: 0 })?;
         Ok(entry)
     }
 
     /// Steps a channel by its next row, and returns what came of it. The list has the row's events, except that of
     /// accepted data with Q 0. Fails only when memory is refused.
     #[inline(always)]
-    pub(crate) fn step(
+    pub fn step(
         &mut self,
         walk: &EpochWalk<A>,
         channel: u16,
         item: &ItemRef<'_>,
         events: &mut Vec<Event, A>,
     ) -> Result<RowOutcome, Fault>
-        requires room { (rows : OpenRows) × ChannelsRepresent K.represents (epoch_of walk.now) rows self.old
+        requires room { (rows : OpenRows) × ChannelsRepresent C.Channel (epoch_of walk.now) rows self.old
             × ArePieces (epoch_of walk.now) self.old.gap rows
             × IsPiece walk.now.interface channel (with_gap self.old.gap (rows_of rows channel) ++ item.now ∷ []) }
         ensures gap { OnOk result (self.new.gap ≡ self.old.gap) }
-        ensures represented { OfOpenChannels K.represents walk.now self.old (λ rows. (after : OpenRows)
+        ensures represented { OfOpenChannels C.Channel walk.now self.old (λ rows. (after : OpenRows)
             → HasMore self.old.gap channel item.now rows after
             → IsPiece walk.now.interface channel (rows_of after channel)
-            → OnOk result (ChannelsRepresent K.represents (epoch_of walk.now) after self.new)) }
-        ensures judge { OfOpenChannels K.represents walk.now self.old (λ rows. (after : OpenRows)
+            → OnOk result (ChannelsRepresent C.Channel (epoch_of walk.now) after self.new)) }
+        ensures judge { OfOpenChannels C.Channel walk.now self.old (λ rows. (after : OpenRows)
             → HasMore self.old.gap channel item.now rows after
             → IsPiece walk.now.interface channel (rows_of after channel)
             → IfOk result (λ row. TakesOn walk.now self.old.gap channel rows after row.judge)) }
-        ensures finding { OfOpenChannels K.represents walk.now self.old (λ rows.
+        ensures finding { OfOpenChannels C.Channel walk.now self.old (λ rows.
             IfOk result (λ row. FindsOn (reached_piece walk.now self.old.gap channel rows) item.now row.finding)) }
-        ensures events { OfOpenChannels K.represents walk.now self.old (λ rows.
+        ensures events { OfOpenChannels C.Channel walk.now self.old (λ rows.
             IfOk result (λ row. with_data walk.now.epoch row.judge item.now events.new.items
             ≡ row_events walk.now.interface walk.now.epoch channel
             (channel_so_far (reached_piece walk.now self.old.gap channel rows)) item.now)) }
@@ -168,10 +186,10 @@ impl<A: Allocator + Copy, K: KeptChannel<A>> OpenChannels<A, K> {
     {
         let alloc = *events.allocator();
         let mut entry = self.take_out(alloc, walk, channel)?;
-        take_gap(&mut *entry, self.gap, events)?;
-        let before = entry.kept.word();
-        let taken = entry.kept.take(item, events)?;
-        let after = entry.kept.word();
+        entry.take_gap(self.gap, events)?;
+        let before = entry.live.word();
+        let taken = entry.live.take(item, events)?;
+        let after = entry.live.word();
         entry.last = item.number;
         self.table.put(channel, entry);
         Ok(RowOutcome {
@@ -183,47 +201,5 @@ impl<A: Allocator + Copy, K: KeptChannel<A>> OpenChannels<A, K> {
             },
             finding: taken.finding,
         })
-    }
-
-    /// Does to the channels what the step of a row says, and returns what came of the row: steps the channel that it
-    /// goes to, as `step` does, or forgets all of them as their epoch ends. Fails only when memory is refused.
-    pub fn apply(
-        &mut self,
-        walk: &EpochWalk<A>,
-        step: &Step,
-        item: &ItemRef<'_>,
-        events: &mut Vec<Event, A>,
-    ) -> Result<RowOutcome, Fault>
-        requires room { (rows : OpenRows) × RepresentsAt K.represents walk.now rows self.old
-            × MayAffect step.now.effect walk.now.interface self.old.gap item.now rows }
-        ensures gap { OnOk result (self.new.gap ≡ gap_by_effect step.now.effect item.now self.old.gap) }
-        ensures represented { OfOpen K.represents walk.now self.old (λ rows. (after : OpenRows)
-            → MayAffect step.now.effect walk.now.interface self.old.gap item.now rows
-            → HasEffect step.now.effect item.now self.old.gap rows after
-            → OnOk result (ChannelsRepresent K.represents (epoch_of walk.now) after self.new)) }
-        ensures judge { OfOpen K.represents walk.now self.old (λ rows. (after : OpenRows)
-            → MayAffect step.now.effect walk.now.interface self.old.gap item.now rows
-            → HasEffect step.now.effect item.now self.old.gap rows after
-            → IfOk result (λ row. JudgesBy step.now.effect walk.now self.old.gap step.now.machine rows after row.judge)) }
-        ensures finding { OfOpen K.represents walk.now self.old (λ rows.
-            IfOk result (λ row. FindsBy step.now walk.now self.old.gap rows item.now row.finding)) }
-        ensures events { OfOpen K.represents walk.now self.old (λ rows.
-            IfOk result (λ row. HasEvents step.now.effect walk.now self.old.gap rows item.now
-            (with_data walk.now.epoch row.judge item.now events.new.items))) }
-        ensures memory { IfErr result (λ fault. fault ≡ Memory) }
-    {
-        let on_level = RowOutcome::on_level(walk.machine.state(), step);
-        match step.effect {
-            ChannelEffect::ToChannel(channel) => self.step(walk, channel, item, events),
-            ChannelEffect::ToAll => {
-                self.gap = item.number;
-                Ok(on_level)
-            }
-            ChannelEffect::Ends => {
-                *self = OpenChannels::new(*events.allocator());
-                Ok(on_level)
-            }
-            ChannelEffect::Stays => Ok(on_level),
-        }
     }
 }

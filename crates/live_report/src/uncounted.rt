@@ -71,8 +71,8 @@ impl Reason {
     }
 }
 
-/// Whether a packet is a data packet.
-fn is_data(packet: &Packet) -> bool
+/// Returns whether a packet is a data packet.
+pub fn is_data(packet: &Packet) -> bool
     ensures { result ≡ is_data packet.now }
 {
     match packet {
@@ -81,8 +81,8 @@ fn is_data(packet: &Packet) -> bool
     }
 }
 
-/// Whether data was counted.
-fn counts_data(events: &[Event]) -> bool
+/// Returns whether data was counted.
+pub fn counts_data(events: &[Event]) -> bool
     ensures { result ≡ counts_data events.now }
 {
     for event in events {
@@ -93,8 +93,8 @@ fn counts_data(events: &[Event]) -> bool
     false
 }
 
-/// Whether something was found.
-fn has_finding(events: &[Event]) -> bool
+/// Returns whether something was found.
+pub fn has_finding(events: &[Event]) -> bool
     ensures { result ≡ has_finding events.now }
 {
     for event in events {
@@ -136,28 +136,8 @@ pub fn reason_of(row: &JudgedRow, events: &[Event]) -> Option<Reason>
     }
 }
 
-impl RowOutcome {
-    /// Returns why the data of a row was not counted, by its events, except that of accepted data with Q 0; none where
-    /// the row has no data, or it was counted.
-    #[inline(always)]
-    pub fn reason(&self, item: &ItemRef<'_>, events: &[Event]) -> Option<Reason>
-        ensures { (i : AnyInterface) (epoch : ℕ) (earlier : List Item)
-            → IsJudgedRow i earlier item.now (judged_row item.now self.now)
-            (with_data epoch self.now.judge item.now events.now)
-            → result ≡ reason_at i (observer i earlier) item.now }
-    {
-        if self.judge.is_accepted() {
-            return None;
-        }
-        if is_data(&item.packet) {
-            return reason_of(&self.row(item), events);
-        }
-        None
-    }
-}
-
-/// Returns how many octets of user data a data packet has, by its length.
-pub fn user_octets(interface: &Interface, length: usize) -> u64
+/// How many octets of user data a data packet has.
+fn user_octets(interface: &Interface, length: usize) -> u64
     ensures { result ≡ user_octets interface.now length }
 {
     length.saturating_sub(header_length(interface)) as u64
@@ -264,7 +244,10 @@ impl Uncounted {
             → self.old ≡ uncounted_of i earlier
             → self.new ≡ uncounted_of i (earlier ++ item.now ∷ []) }
     {
-        if let Some(reason) = outcome.reason(item, events) {
+        if outcome.judge.is_accepted() {
+            return;
+        }
+        if let Some(reason) = reason_of(&outcome.row(item), events) {
             self.add(reason, user_octets(interface, item.length));
         }
     }

@@ -3,7 +3,7 @@ use Rattle.line_model.specs.pieces.Plans.{result_of}
 use Rattle.restart_epochs.specs.Cutting.{items_out}
 use Rattle.restart_epochs.specs.OpenRows.{rows_of}
 use Rattle.report_merge.specs.Gathered.{gathered}
-use Rattle.live_report.specs.OpenChannels.{begun_piece, ended_piece, live_of}
+use Rattle.live_report.specs.OpenChannels.{begun_piece, ended_piece}
 use Rattle.live_report.proofs.GapLemmas.{value_so_far}
 use Rattle.live_report.proofs.ReportingLemmas.{reporting_none, reporting_more, reporting_all, reported_open}
 use Rattle.live_report.proofs.reporting.report_channels.Goals as goal
@@ -15,7 +15,7 @@ report-requires g c =
     record {
       represented = (
         begun_piece room.0 k (rows_of room.1 k),
-        (reported_open (live_of g.C.Channel) room.0 room.1 k c.args.open_channels.now.table c.in-Some-get.entry.now room.3 c.in-Some-get.ensures).1.kept,
+        (reported_open g.C.Channel.interface_of g.C.Channel.number_of g.C.Channel.represents room.0 room.1 k c.args.open_channels.now.table c.in-Some-get.entry.now room.3 c.in-Some-get.ensures).1.live,
       );
     }
 
@@ -28,9 +28,9 @@ loop-channel-preserved-in-Continue-branch-2 g c =
       reporting = λ e rows first f l is.
           let k = c.in-Some.channel.now in
           let was = c.loop-channel.invariant.reporting e rows first f l is in
-          let entry = reported_open (live_of g.C.Channel) e rows k c.args.open_channels.now.table c.in-Some-get.entry.now f c.in-Some-get.ensures in
+          let entry = reported_open g.C.Channel.interface_of g.C.Channel.number_of g.C.Channel.represents e rows k c.args.open_channels.now.table c.in-Some-get.entry.now f c.in-Some-get.ensures in
           let value_is =
-          c.in_ok-report.ensures.value (begun_piece e k (rows_of rows k)) entry.1.kept
+          c.in_ok-report.ensures.value (begun_piece e k (rows_of rows k)) entry.1.live
           ∙ sym (value_so_far c.args.open_channels.now.gap (ended_piece c.pieces.result e None k (rows_of rows k)))
           ∙ ap (λ n. result_of (ended_piece n e None k (items_out c.args.open_channels.now.gap rows k))) (c.pieces.ensures ∙ ap (λ p. p.pieces) was.2) in (
             was.0 ++ c.in_ok-report.report ∷ [],

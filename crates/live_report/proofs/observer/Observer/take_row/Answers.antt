@@ -21,19 +21,19 @@ take_item-requires g c =
     let room = c.requires.room in
     let s = room.2 in
     let read : ReadRow = record { number = c.row.inside.number; side = c.row.inside.side; length = c.row.inside.length; octets = c.row.inside.octets.now; gap = c.row.inside.gap } in
-    let said = says room.0 c.args.self.now.walk.interface read c.args.row c.packet-packet.result c.said_octets.result.now c.packet-packet.ensures (s.walked.holds.interface ∙ s.walked.cut.interface) c.said_octets.ensures c.row.view_is in
+    let said = says room.0 c.args.self.now.walk.interface read c.args.row c.packet-packet.result c.said_octets.result.now c.packet-packet.ensures (s.holds.interface ∙ s.cut.interface) c.said_octets.ensures c.row.view_is in
     record { room = (room.0, room.1, s, subst (λ r. AreItems room.0 (room.1 ++ r ∷ [])) (sym said) room.3) }
 
 pub returns-clause-represented : goal.returns-clause-represented
 returns-clause-represented g c i rs s sound =
     let read : ReadRow = record { number = c.row.inside.number; side = c.row.inside.side; length = c.row.inside.length; octets = c.row.inside.octets.now; gap = c.row.inside.gap } in
-    let said = says i c.args.self.now.walk.interface read c.args.row c.packet-packet.result c.said_octets.result.now c.packet-packet.ensures (s.walked.holds.interface ∙ s.walked.cut.interface) c.said_octets.ensures c.row.view_is in
+    let said = says i c.args.self.now.walk.interface read c.args.row c.packet-packet.result c.said_octets.result.now c.packet-packet.ensures (s.holds.interface ∙ s.cut.interface) c.said_octets.ensures c.row.view_is in
     subst (λ r. OnOk c.take_item.result (HasWalked g.C.Channel i (rs ++ r ∷ []) c.take_item.new.self)) said
     (c.take_item.ensures.represented i rs s (subst (λ r. AreItems i (rs ++ r ∷ [])) (sym said) sound))
 
 pub returns-clause-finding : goal.returns-clause-finding
 returns-clause-finding g c i rs s =
     let read : ReadRow = record { number = c.row.inside.number; side = c.row.inside.side; length = c.row.inside.length; octets = c.row.inside.octets.now; gap = c.row.inside.gap } in
-    let said = says i c.args.self.now.walk.interface read c.args.row c.packet-packet.result c.said_octets.result.now c.packet-packet.ensures (s.walked.holds.interface ∙ s.walked.cut.interface) c.said_octets.ensures c.row.view_is in
+    let said = says i c.args.self.now.walk.interface read c.args.row c.packet-packet.result c.said_octets.result.now c.packet-packet.ensures (s.holds.interface ∙ s.cut.interface) c.said_octets.ensures c.row.view_is in
     subst (λ r. IfOk c.take_item.result (λ found. (report_of i (rs ++ r ∷ [])).findings ≡ (report_of i rs).findings ++ option_to_list found)) said
     (c.take_item.ensures.finding i rs s)
