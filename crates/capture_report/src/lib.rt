@@ -2,7 +2,9 @@
 #![tactic(auto)]
 
 pub mod begun_file;
+pub mod capture_text;
 pub mod file_frames;
+mod first_reading;
 pub mod frames;
 mod gaps;
 pub mod header;
