@@ -9,16 +9,20 @@ use Rattle.lapb_link.specs.declared.receiver.Shown.{Shown}
 use Rattle.capture_model.specs.Frames.{Frame}
 use Rattle.capture_rows.specs.Lines.{FrameRead}
 use Rattle.capture_rows.specs.declared.line.Line.{Line}
+use Rattle.capture_report.specs.Contents.{Row}
 use Rattle.capture_report.specs.Plans.{AreSame, Plan, accepted_of, is_accepted, is_doubtful, range_of}
-use Rattle.capture_report.specs.Readings.{HasRead, IsPlanOf, IsReadOn, IsReadUpTo, IsTaken}
+use Rattle.capture_report.specs.Readings.{HasRead, IsPlanOf, IsReadOn, IsReadUpTo, IsSeen, IsSeenOn, IsSeenUpTo, IsTaken}
 use Rattle.capture_report.specs.Records.{Record}
 use Rattle.capture_report.specs.Rows.{after_record, dropped_rows, place_of, placed, record_given, record_rows, record_shown, rows_from, rows_given, settled, settled_rows, shown_from}
+use Rattle.capture_report.specs.Sights.{Sight, record_sight, rows_seen, rows_sight, sight_from, sight_of}
 use Rattle.capture_report.specs.Texts.{Page, rows_printed, with_rows}
 use Rattle.capture_report.specs.Traces.{GoesOn}
 use Rattle.capture_report.specs.declared.plan.Marks.{Marks}
 use Rattle.capture_report.specs.declared.reader.Order.{Order}
 use Rattle.capture_report.specs.declared.reader.Order.TheVariants.{Placed}
+use Rattle.capture_report.specs.declared.header.Seen.{Seen}
 use Rattle.capture_report.specs.declared.reader.Reader.{Reader}
+use Rattle.capture_report.specs.declared.survey.Survey.{Survey}
 use Rattle.capture_report.proofs.TextLemmas.{printed_on}
 
 -- what comes next is shown before the rest
@@ -93,3 +97,35 @@ made_more old new next rest line order page = record {
       ∙ (ap (λ (o : Order). new.page.text ++ rows_printed new.page.printer (rows_from o (after_record next old.line) rest)) (sym order)
       ∙ ap (λ (l : Line). new.page.text ++ rows_printed new.page.printer (rows_from new.order l rest)) (sym line)));
 }
+
+-- ---- what is seen of a capture
+
+rows_seen_append : (xs ys : List Row) (v : Seen) → rows_seen (xs ++ ys) v ≡ rows_seen ys (rows_seen xs v)
+rows_seen_append [] ys v = refl
+rows_seen_append (x ∷ xs) ys v = rows_seen_append xs ys _
+
+pub sight_append : (xs ys : List Row) (s : Sight) → rows_sight (xs ++ ys) s ≡ rows_sight ys (rows_sight xs s)
+sight_append xs ys s = ap (λ (v : Seen). let t : Sight = record s { seen = v } in t) (rows_seen_append xs ys s.seen)
+
+pub seen_none : (left : Option (List Record)) (line : Line) (survey : Survey) → IsSeenUpTo left left line line survey survey
+seen_none left line survey = λ records e. (records, e, refl)
+
+pub seen_more : (before middle after : Option (List Record)) (first line next : Line) (old survey more : Survey) → IsSeenUpTo before middle first line old survey → IsSeenOn middle after line next survey more true
+    → IsSeenUpTo before after first next old more
+seen_more before middle after first line next old survey more s t = λ records e.
+    let a = s records e in
+    let b = t a.0 a.1 in
+    let step = b.2 in (
+      b.0,
+      b.1,
+      a.2
+          ∙ ap (λ rs. sight_from line rs (sight_of survey)) step.split
+          ∙ ap (λ v. sight_from (after_record step.next line) b.0 v) (sym step.sight)
+          ∙ ap (λ l. sight_from l b.0 (sight_of more)) (sym step.line_after),
+    )
+
+pub seen_all : (before middle after : Option (List Record)) (first line next : Line) (old survey more : Survey) → IsSeenUpTo before middle first line old survey → IsSeenOn middle after line next survey more false
+    → IsSeen before first old more
+seen_all before middle after first line next old survey more s t = λ records e.
+    let a = s records e in
+    ap sight_of t.1 ∙ sym (a.2 ∙ ap (λ rs. sight_from line rs (sight_of survey)) (t.0 a.0 a.1))

@@ -1,6 +1,8 @@
 //! Files as the program reads them: a trace as it is, and a capture of a line as its trace.
 
-ghost use Rattle.std.specs.Prelude.{◌≡◌, IfErr};
+ghost use Rattle.std.specs.Prelude.{◌≡◌, IfErr, IfOk, true};
+ghost use Rattle.std.specs.Option.{option_and_then};
+ghost use Rattle.capture_files.specs.CaptureFiles.{records_of};
 ghost use Rattle.streams.specs.OpenFaults.{IsByItsReason};
 
 use crate::begun_file::BegunFile;
@@ -23,6 +25,9 @@ pub struct Recordings<R: Opener + Drop, E: Eprint + Drop> {
 }
 
 impl<R: Opener + Drop, E: Eprint + Drop> Recordings<R, E> {
+    ghost use Rattle.capture_report.specs.CaptureTexts.{IsLastReading, captured};
+    ghost use Rattle.capture_report.specs.Recordings.{begun_left, capture_left};
+
     /// Returns the recordings among the files of a system. What the header of a capture was estimated from is printed to
     /// the errors.
     pub fn new(alloc: Global, system: R, errors: E) -> Self
@@ -38,7 +43,9 @@ impl<R: Opener + Drop, E: Eprint + Drop> Recordings<R, E> {
     /// Reads a capture a first time, from what was begun; and once more from its first octet where its link type is
     /// unknown and its first frame shows one.
     fn read_first(&self, name: &str, begun: BegunFile<R::File>) -> Result<FirstReading, OpenRefusal>
-        ensures { IfErr result IsByItsReason }
+        requires { begun_left R.File.remaining begun ≡ R.named self.now.system name.now }
+        ensures read { IfOk result (IsLastReading (option_and_then (records_of true 0) (R.named self.now.system name.now))) }
+        ensures reason { IfErr result IsByItsReason }
     {
         let first = FirstReading::read(self.alloc, begun, None)?;
         match first.survey.likely() {
@@ -54,7 +61,9 @@ impl<R: Opener + Drop, E: Eprint + Drop> Recordings<R, E> {
         name: &str,
         begun: BegunFile<R::File>,
     ) -> Result<CaptureText<R::File>, OpenRefusal>
-        ensures { IfErr result IsByItsReason }
+        requires { begun_left R.File.remaining begun ≡ R.named self.now.system name.now }
+        ensures left { IfOk result (λ text. capture_left R.File.Read text ≡ captured (R.named self.now.system name.now)) }
+        ensures reason { IfErr result IsByItsReason }
     {
         if !self.system.lasts(name) {
             return Err(OpenRefusal::of_capture(CaptureFault::Piped));
@@ -131,7 +140,7 @@ pub enum Recording<F: Read + Drop> {
 impl<F: Read + Drop> Read for Recording<F> {
     ghost use Rattle.capture_report.specs.Recordings.{recording_left};
 
-    ghost remaining = { recording_left F.remaining };
+    ghost remaining = { recording_left F.Read };
 
     fn read(&mut self, buf: &mut [u8]) -> io::Result<usize> {
         match self {

@@ -6,6 +6,7 @@ use capture_report::header_text::print_head;
 use capture_report::plan::Plan;
 use capture_report::print::Page;
 use capture_report::reader::{Order, Reader};
+use capture_report::recordings::Recordings;
 use capture_report::row::{Content, Row};
 use capture_report::survey::Survey;
 use capture_rows::choices::Choices;
@@ -16,7 +17,11 @@ use lapb_link::frames::Place;
 use line_model::device::{SliceSource, Source};
 use line_model::state::Side;
 use std::alloc::Global;
+use std::io;
+use std::io::{ErrorKind, Read};
 use std::test::Fail;
+use streams::input::OpenRefusal;
+use streams::opener::Opener;
 
 /// A pcap file of link type 207: a frame of the DTE, one of the DCE, and one of the DCE that acknowledges a frame of the DTE
 /// that was not recorded.
@@ -69,6 +74,46 @@ fn text(alloc: Global, order: Order) -> Result<Vec<u8>, Fail> {
     Ok(text)
 }
 
+/// A file whose octets are read one by one, and then a connection that is reset.
+#[derive(Drop)]
+struct ResetFile {
+    rest: &'static [u8],
+}
+
+impl Read for ResetFile {
+    fn read(&mut self, buf: &mut [u8]) -> io::Result<usize> {
+        let [first, rest @ ..] = self.rest else {
+            return Err(io::Error::from(ErrorKind::ConnectionReset));
+        };
+        let Some(room) = buf.first_mut() else {
+            return Ok(0);
+        };
+        *room = *first;
+        self.rest = rest;
+        Ok(1)
+    }
+}
+
+/// A system whose files are all this one.
+#[derive(Drop)]
+struct ResetSystem {}
+
+impl Opener for ResetSystem {
+    ghost use Rattle.std.specs.Prelude.{None};
+
+    type File = ResetFile;
+
+    ghost named = { λ s name. None };
+
+    fn open(&self, _name: &str) -> Result<ResetFile, OpenRefusal> {
+        Ok(ResetFile { rest: FILE })
+    }
+
+    fn lasts(&self, _name: &str) -> bool {
+        true
+    }
+}
+
 #[test]
 fn gaps_are_placed_after_a_first_reading_and_noticed_without_one(
     rt: HostRuntime,
@@ -80,6 +125,15 @@ fn gaps_are_placed_after_a_first_reading_and_noticed_without_one(
     };
     assert!(rt; text(alloc, Order::Placed(plan))?.as_slice() == PLACED);
     assert!(rt; text(alloc, Order::Noticed)?.as_slice() == NOTICED);
+    // A reading that fails is refused for the reason of the system.
+    let recordings = Recordings::new(alloc, ResetSystem {}, rt.stderr());
+    let Err(refusal) = recordings.open("lost.pcap") else {
+        return Err(Fail::from("no refusal"));
+    };
+    let Some(reason) = refusal.reason else {
+        return Err(Fail::from("no reason"));
+    };
+    assert!(rt; reason.kind() == ErrorKind::ConnectionReset);
     Ok(())
 }
 
