@@ -1,23 +1,21 @@
 -- The trace of a pcap file has the rows of its records, where it has no fault.
-use Rattle.std.proofs.Common.{◌≡◌, ◌∙◌, sym, ap, subst, refl, ℕ, ◌+◌, ◌*◌, ◌^◌, ◌<◌, Bool, true, false, List, [], ◌∷◌, ◌++◌, length, Option, None, Some, arith, drop, take}
+use Rattle.std.proofs.Common.{◌≡◌, ◌∙◌, sym, ap, subst, refl, ℕ, ◌+◌, ◌*◌, ◌^◌, ◌<◌, Bool, true, false, List, [], ◌∷◌, ◌++◌, length, Option, None, Some, arith, drop}
 use Rattle.std.specs.Prelude.{if◌then◌else◌}
 use Rattle.std.specs.List.{AllByRecursion}
 use Rattle.std.specs.Option.{option_and_then}
 use Rattle.std.proofs.Math.Seq.{drop-append_seam, take-append_seam}
 use Rattle.hex.specs.Hex.{IsBytes}
-use Rattle.line_model.specs.text.Header.{interface_with}
 use Rattle.line_model.specs.text.Text.{fault}
 use Rattle.capture_files.specs.CaptureFiles.{records_of}
 use Rattle.capture_files.specs.Numbers.{next_number, number}
 use Rattle.capture_files.specs.PcapFiles.{AreRecords, pcap_records}
 use Rattle.capture_files.specs.PcapHeaders.{form_of}
-use Rattle.capture_files.specs.PcapRecords.{header_size, line_length, nanoseconds, pcap_frame}
+use Rattle.capture_files.specs.PcapRecords.{header_size, line_length, pcap_frame}
 use Rattle.capture_files.specs.declared.pcap.PcapForm.{PcapForm}
 use Rattle.capture_files.proofs.PcapLaw.{records_law}
 use Rattle.lapb_link.specs.Ends.{by_address}
 use Rattle.capture_report.specs.CaptureTexts.{capture_rows, capture_text, has_frame_numbers, head_lines, line_by, numbered_rows, sight_in, unknown_of}
 use Rattle.capture_report.specs.HeaderTexts.{head_text, header_line}
-use Rattle.capture_report.specs.Headers.{numbers_seen}
 use Rattle.capture_report.specs.Laws.{FileLaw, HasRows, IsFrame, IsRecord}
 use Rattle.capture_report.specs.Plans.{plan_of}
 use Rattle.capture_report.specs.Records.{Record}

@@ -1,12 +1,13 @@
 -- The text of a trace, given part by part.
-use Rattle.std.proofs.Common.{◌≡◌, ◌∙◌, sym, ap, ℕ, ◌+◌, ◌-◌, ◌<◌, ◌≤◌, ◌⊎◌, inl, inr, List, [], ◌++◌, Option, None, Some, append_assoc, arith, drop, length, min, refl, take, true, false}
+use Rattle.std.proofs.Common.{◌≡◌, ◌∙◌, sym, ap, ℕ, ◌+◌, ◌-◌, ◌<◌, ◌≤◌, ◌⊎◌, inl, inr, List, [], ◌++◌, Option, None, Some, append_assoc, arith, drop, length, min, refl, subst, take, true, false}
 use Rattle.std.specs.Prelude.{option_map}
 use Rattle.std.specs.Io.KnownBytes.{Consumes}
+use Rattle.std.proofs.Math.Seq.{take-append_seam}
 use Rattle.std.proofs.lemmas.Bool.{cases_lt}
-use Rattle.std.proofs.lemmas.List.{append-nil, drop-drop, drop_all, length-drop, length-take, nil_from_length, take-append-drop}
+use Rattle.std.proofs.lemmas.List.{drop-drop, drop_all, length-drop, length-take, take-append-drop}
 use Rattle.line_model.specs.basics.Device.{Gives}
 use Rattle.capture_report.specs.Records.{Record}
-use Rattle.capture_report.specs.Traces.{bytes_left, GoesOn, IsFilled, IsFilling, IsMade, IsReady, Stands, rows_text, text_left}
+use Rattle.capture_report.specs.Traces.{bytes_left, IsFilled, IsFilling, IsMade, IsReady, rows_text, text_left}
 use Rattle.capture_report.specs.declared.reader.Reader.{Reader}
 
 pub filled_none : (left : Option (List Record)) (r : Reader) → IsFilling left left r r
@@ -130,3 +131,18 @@ bytes_given given from count next latest bytes (Some rest) is few to same = at (
     at : (given < length latest) ⊎ (length latest ≤ given) → drop given latest ++ rest ≡ bytes ++ (drop next latest ++ rest)
     at (inl less) = let here : given ≡ from = omega (arith, is, less) in beyond (ap (λ k. drop k latest) here)
     at (inr all) = let end : length latest ≤ from = omega (arith, is, all) in beyond (drop_all given latest all ∙ sym (drop_all from latest end))
+
+-- what was copied to the front of a room
+pub room_has : (count from : ℕ) (front rest latest : List ℕ) → front ≡ take (from + count - from) (drop from latest) → length front ≡ count → take count (front ++ rest) ≡ take count (drop from latest)
+room_has count from front rest latest is whole =
+    let same : from + count - from ≡ count = omega arith in
+    ap (λ k. take k (front ++ rest)) (sym whole) ∙ take-append_seam front rest ∙ is ∙ ap (λ k. take k (drop from latest)) same
+
+-- a read that changed nothing of what is left, and then gave bytes
+pub consumed : (old middle new : Option (List ℕ)) (bytes : List ℕ) → ((text : List ℕ) → old ≡ Some text → middle ≡ Some text) → Consumes middle new bytes → Consumes old new bytes
+consumed None middle new bytes same given = tt
+consumed (Some text) middle new bytes same given = subst (λ o. Consumes o new bytes) (same text refl) given
+
+pub ended : (old new : Option (List ℕ)) → ((text : List ℕ) → old ≡ Some text → new ≡ Some text) → new ≡ Some [] → Consumes old new []
+ended None new same end = tt
+ended (Some text) new same end = let is : new ≡ Some text = same text refl in subst (λ o. Consumes (Some text) o []) (sym is) refl

@@ -57,12 +57,12 @@ opened left file now front b first parts end chain is = record {
 -- ---- the trace of a capture
 
 pub opened_trace : (bytes left : Option (List ℕ)) (is : Bool) → is ≡ false → ((octets : List ℕ) → bytes ≡ Some octets → is ≡ begins_as_capture octets) → left ≡ bytes → left ≡ recorded bytes
-opened_trace None left is no kind same = same
-opened_trace (Some octets) left is no kind same = same ∙ sym (ap (λ b. if b then captured (Some octets) else Some octets) (sym (kind octets refl) ∙ no))
+opened_trace None left is other kind same = same
+opened_trace (Some octets) left is other kind same = same ∙ sym (ap (λ b. if b then captured (Some octets) else Some octets) (sym (kind octets refl) ∙ other))
 
 pub opened_capture : (bytes left : Option (List ℕ)) (is : Bool) → is ≡ true → ((octets : List ℕ) → bytes ≡ Some octets → is ≡ begins_as_capture octets) → left ≡ captured bytes → left ≡ recorded bytes
-opened_capture None left is yes kind same = same
-opened_capture (Some octets) left is yes kind same = same ∙ sym (ap (λ b. if b then captured (Some octets) else Some octets) (sym (kind octets refl) ∙ yes))
+opened_capture None left is begun kind same = same
+opened_capture (Some octets) left is begun kind same = same ∙ sym (ap (λ b. if b then captured (Some octets) else Some octets) (sym (kind octets refl) ∙ begun))
 
 pub last_reading : (left : Option (List Record)) (first last : FirstReading) (look : Option LinkKind) → IsFirstReading left first → first.unknown ≡ None → look ≡ likely (sight_of first.survey) → IsFirstReading left last → last.unknown ≡ look → IsLastReading left last
 last_reading left first last look shown none is again same = λ records e.

@@ -38,9 +38,9 @@ pub record IsOpened {F : Type 0} (left : F → Option (List ℕ)) (bytes : Optio
   pub whole : begun_left left b ≡ bytes
   pub kind : (octets : List ℕ) → bytes ≡ Some octets → b.is_capture ≡ begins_as_capture octets
 
--- what is left of the trace of a capture
+-- what is left of the trace of a capture: nothing once its end was reached
 abbrev pub capture_left : {F : Type 0} (read : Read F) → CaptureText F read → Option (List ℕ)
-capture_left read t = bytes_left t.given t.trace.made.latest (if t.trace.has_failed then t.trace.before.value.left else t.trace.made.left)
+capture_left read t = if t.is_done then Some [] else bytes_left t.given t.trace.made.latest (if t.trace.has_failed then t.trace.before.value.left else t.trace.made.left)
 
 -- what is left of a recording
 abbrev pub recording_left : {F : Type 0} (read : Read F) → Recording F read → Option (List ℕ)

@@ -1,6 +1,6 @@
 //! The trace of a capture that is read a second time.
 
-ghost use Rattle.std.specs.Prelude.{◌≡◌, ◌<◌, ◌≤◌, ℕ, List, [], ◌++◌, IfErr, IfOk, OnOk, Some, length, option_map, take, true};
+ghost use Rattle.std.specs.Prelude.{◌≡◌, ◌<◌, ◌≤◌, ℕ, List, [], ◌++◌, IfErr, IfOk, OnOk, Some, false, length, option_map, take, true};
 ghost use Rattle.std.specs.Io.KnownBytes.{Consumes};
 ghost use Rattle.std.specs.Option.{option_and_then};
 ghost use Rattle.capture_files.specs.CaptureFiles.{records_of};
@@ -30,6 +30,8 @@ pub struct CaptureText<F: Read + Drop> {
     trace: CaptureTrace<FileFrames<ReaderSource<F>>>,
     /// How many of the latest bytes of the trace were given.
     given: usize,
+    /// Whether its end was reached.
+    is_done: bool,
     /// The number of the last frame in the first reading.
     last: u64,
 }
@@ -63,36 +65,53 @@ impl<F: Read + Drop> CaptureText<F> {
         Ok(CaptureText {
             trace: CaptureTrace::new(alloc, frames, reader),
             given: 0,
+            is_done: false,
             last,
         })
     }
 
     /// Reads the next bytes of the trace, where all were given. Fails where the capture has other frames now than
     /// before.
+    #[tactic(auto, using(crate::proofs::GivingLemmas::bytes_kept, crate::proofs::GivingLemmas::bytes_more, crate::proofs::GivingLemmas::bytes_end))]
     fn refill(&mut self) -> io::Result<()>
-        requires { length self.old.trace.made.latest ≤ self.old.given }
+        requires all { length self.old.trace.made.latest ≤ self.old.given }
+        requires begun { self.old.is_done ≡ false }
         ensures same { (text : List ℕ) → capture_left F.Read self.old ≡ Some text → capture_left F.Read self.new ≡ Some text }
-        ensures end { OnOk result (self.new.trace.made.latest ≡ [] → (text : List ℕ) → capture_left F.Read self.old ≡ Some text → text ≡ []) }
-        ensures first { OnOk result (self.new.given ≡ 0) }
+        ensures some { OnOk result (self.new.is_done ≡ false → self.new.given < length self.new.trace.made.latest) }
     {
         if self.trace.read().is_err() {
             self.given = self.trace.latest().len();
             return Err(self.trace.frames().source().reason());
         }
         self.given = 0;
-        if self.trace.latest().is_empty() && self.trace.frames().number() != self.last {
+        if !self.trace.latest().is_empty() {
+            return Ok(());
+        }
+        if self.trace.frames().number() != self.last {
             return Err(io::Error::other("the capture has changed"));
         }
+        self.is_done = true;
         Ok(())
     }
 
+    /// Has bytes to give, unless the end was reached.
+    fn prepare(&mut self) -> io::Result<()>
+        ensures same { (text : List ℕ) → capture_left F.Read self.old ≡ Some text → capture_left F.Read self.new ≡ Some text }
+        ensures some { OnOk result (self.new.is_done ≡ false → self.new.given < length self.new.trace.made.latest) }
+    {
+        if self.is_done || self.given < self.trace.latest().len() {
+            return Ok(());
+        }
+        self.refill()
+    }
+
     /// Gives more of the bytes that were read last, and returns how many.
-    #[tactic(auto, using(crate::proofs::GivingLemmas::bytes_given))]
     fn give(&mut self, buf: &mut [u8]) -> usize
+        requires begun { self.old.is_done ≡ false }
+        requires some { self.old.given < length self.old.trace.made.latest }
         ensures few { result ≤ length buf.new }
         ensures given { Consumes (capture_left F.Read self.old) (capture_left F.Read self.new) (take result buf.new) }
-        ensures none { result ≡ 0 → 0 < length buf.new → length self.old.trace.made.latest ≤ self.old.given }
-        ensures latest { self.new.trace ≡ self.old.trace }
+        ensures none { result ≡ 0 → length buf.new ≡ 0 }
     {
         let latest = self.trace.latest();
         let from = self.given.min(latest.len());
@@ -108,9 +127,11 @@ impl<F: Read + Drop> Read for CaptureText<F> {
 
     ghost remaining = { capture_left F.Read };
 
+    #[tactic(auto, using(crate::proofs::GivingLemmas::consumed, crate::proofs::GivingLemmas::ended))]
     fn read(&mut self, buf: &mut [u8]) -> io::Result<usize> {
-        if self.given >= self.trace.latest().len() {
-            self.refill()?;
+        self.prepare()?;
+        if self.is_done {
+            return Ok(0);
         }
         Ok(self.give(buf))
     }

@@ -48,12 +48,7 @@ impl<S: RoomSource + Drop> Model for FileFrames<S> {
 impl<S: RoomSource + Drop> FileFrames<S> {
     /// Opens the capture in a source. `may_wait` and `number` are those of `CaptureFile::open`. Fails where the source
     /// does, when memory is refused, and where it has no capture; the source is returned then.
-    pub fn open(
-        alloc: Global,
-        source: S,
-        may_wait: bool,
-        number: u64,
-    ) -> Result<Self, (Refusal, S)>
+    pub fn open(alloc: Global, source: S, may_wait: bool, number: u64) -> Result<Self, (Refusal, S)>
         ensures left { IfOk result (λ frames. frames.left ≡ option_and_then (records_of may_wait number) (S.left source)) }
         ensures latest { IfOk result (λ frames. frames.latest ≡ None) }
     {
