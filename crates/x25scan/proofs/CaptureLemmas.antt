@@ -24,7 +24,7 @@ use Rattle.x25scan.specs.Captures.{HasCaptureReport, IsCapture, ReportsCaptures,
 
 -- what a capture shows
 shown_text : (octets : List ℕ) (records : List Record) (file : Option (List ℕ)) → file ≡ Some octets → IsCapture octets records → recorded file ≡ Some (capture_text records)
-shown_text octets records file is c = ap recorded is ∙ ap (λ b. if b then captured (Some octets) else Some octets) c.begins ∙ ap (λ (o : Option (List Record)). option_map capture_text o) c.records
+shown_text octets records file is c = ap recorded is ∙ ap (λ b. if b then captured (Some octets) else Some octets) c.begins ∙ ap (λ (o : Option (List Record)). option_map capture_text o) c.whole
 
 -- a status below 2 is that of a report
 scanned : (lag : ℕ) (followed : Bool) (text : List ℕ) (left asked before after : Option (List ℕ)) (well : Type 0) (status : ℕ) → IsScanned lag followed text left asked before after well status → status < 2
@@ -66,7 +66,7 @@ reports read write print named files is asked source source′ sink sink′ erro
     let text = capture_text records in
     let there : named name ≡ Some text = is name ∙ shown_text octets records (files name) shows c in
     let said = reported (lag_of report.mode) report.json (is_followed report.mode) text (read.left source′) (read.before source′) (write.taken sink) (write.taken sink′) (write.failures sink′ ≡ write.failures sink) status (output.shown text there) few in
-    let law = file_law octets records c.bytes c.records said.0 in
+    let law = file_law octets records c.bytes c.whole said.0 in
     record {
       interface = law.0;
       seen = law.1;

@@ -25,7 +25,7 @@ rows_report true i rows = json_text (report i (items_of i rows))
 pub record IsCapture (octets : List ℕ) (records : List Record) : Type 0 where
   pub bytes : IsBytes octets
   pub begins : begins_as_capture octets ≡ true
-  pub records : records_of true 0 octets ≡ Some records
+  pub whole : records_of true 0 octets ≡ Some records
 
 -- a sink accepted the report of one observer over the rows of a capture, under the interface that was seen
 pub record HasCaptureReport (records : List Record) (json : Bool) (before after : Option (List ℕ)) : Type 0 where
