@@ -9,8 +9,8 @@ ghost use Rattle.line_model.specs.packets.Says.{gap_of};
 ghost use Rattle.descriptions.specs.Facts.{IsFateOf};
 ghost use Rattle.descriptions.specs.Follows.{is_renewing};
 ghost use Rattle.descriptions.specs.Lines.{Puts, PutsForm};
-ghost use Rattle.descriptions.specs.Members.{IsFurther, IsText, IsValue};
-ghost use Rattle.descriptions.specs.RowObjects.{call_member, call_word, counted_word, named_channel};
+ghost use Rattle.descriptions.specs.Members.{IsFurther, IsText, IsValue, call_member, call_word};
+ghost use Rattle.descriptions.specs.RowObjects.{counted_word, named_channel};
 ghost use Rattle.descriptions.specs.RowCalls.{AreQuiet};
 ghost use Rattle.descriptions.specs.CommonObjects.{IsCommonObject, amount_word, is_quiet, is_settled, common_head};
 

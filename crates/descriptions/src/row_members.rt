@@ -5,9 +5,9 @@ ghost use Rattle.std.specs.Prelude.{◌≡◌, None};
 ghost use Rattle.line_model.specs.packets.Says.{gap_of};
 ghost use Rattle.descriptions.specs.CallTable.{cell_text};
 ghost use Rattle.descriptions.specs.declared.call_columns.TableForm.TheVariants.{Objects};
-ghost use Rattle.descriptions.specs.Members.{IsFurther, IsValue};
+ghost use Rattle.descriptions.specs.Members.{IsFurther, IsOfCall, IsValue, call_member, call_word};
 ghost use Rattle.descriptions.specs.RowCalls.{row_call};
-ghost use Rattle.descriptions.specs.RowObjects.{IsOfCall, IsRest, call_member, call_word};
+ghost use Rattle.descriptions.specs.RowObjects.{IsRest};
 ghost use Rattle.descriptions.specs.Writing.{Adds, These};
 
 use crate::facts::{Fate, RowFacts, gap_of};
@@ -79,7 +79,7 @@ fn further_members<O: Out>(
 )
     ensures { Adds O.has (IsOfCall (row_call facts.now.calls)) json.old.out json.new.out }
 {
-    call_member(json, facts.calls.of_row());
+    call_member(json, u64::from(facts.calls.of_row()));
     other_members(json, facts, ended, recorded, digits);
 }
 
@@ -142,7 +142,7 @@ fn state_value(state: StateName) -> Value<'static> {
 }
 
 /// Writes the member of a call by its number, null for 0.
-fn call_member<O: Out>(json: &mut Json<O>, call: u32)
+pub fn call_member<O: Out>(json: &mut Json<O>, call: u64)
     ensures { Adds O.has (These (call_member call)) json.old.out json.new.out }
 {
     json.raw(b",\"call\":");
@@ -150,12 +150,12 @@ fn call_member<O: Out>(json: &mut Json<O>, call: u32)
 }
 
 /// The number of a call, null for 0.
-fn call_value(call: u32) -> Value<'static>
+fn call_value(call: u64) -> Value<'static>
     ensures { cell_text Objects result ≡ call_word call }
 {
     match call {
         0 => Value::Null,
-        call => Value::Number(u64::from(call)),
+        call => Value::Number(call),
     }
 }
 

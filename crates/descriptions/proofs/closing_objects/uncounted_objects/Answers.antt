@@ -1,4 +1,4 @@
-use Rattle.std.proofs.Common.{[], refl, subst, sym}
+use Rattle.std.proofs.Common.{refl, subst, sym}
 use Rattle.descriptions.specs.Closing.{AreUncounted}
 use Rattle.descriptions.specs.Writing.{Adds}
 use Rattle.descriptions.proofs.MemberLemmas.{nothing_put}
@@ -7,7 +7,7 @@ use Rattle.descriptions.proofs.closing_objects.uncounted_objects.Goals.{then-amo
 use Rattle.descriptions.proofs.closing_objects.uncounted_objects.Goals as goal
 
 pub loop-reason-init : goal.loop-reason-init
-loop-reason-init g c = nothing_put (0, ([], refl, refl, tt))
+loop-reason-init g c = nothing_put (0, refl)
 
 pub loop-reason-preserved : goal.loop-reason-preserved
 loop-reason-preserved g c = elim c.if-amount-ne0.branch [
