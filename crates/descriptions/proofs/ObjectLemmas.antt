@@ -1,9 +1,7 @@
 -- The objects of rows, as they are appended.
-use Rattle.std.proofs.Common.{◌≡◌, ◌∙◌, sym, ap, subst, refl, ℕ, ◌+◌, ◌<◌, map, get_or, Bool, false, List, [], ◌∷◌, ◌++◌, take, length, Option, Some, None, Result, Ok, Err, OnOk, append_assoc, append-nil}
+use Rattle.std.proofs.Common.{◌≡◌, ◌∙◌, sym, ap, subst, refl, ℕ, ◌+◌, Bool, false, List, [], ◌∷◌, ◌++◌, Option, Some, None, Result, Ok, Err, OnOk, append-nil}
 use Rattle.std.specs.Prelude.{codes}
 use Rattle.std.specs.Option.{option_to_list}
-use Rattle.std.proofs.lemmas.Grind.{flat_map-append}
-use Rattle.std.proofs.lemmas.List.{map-append, take_more}
 use Rattle.line_model.specs.basics.Records.{Item, Row}
 use Rattle.line_model.specs.declared.interface.Interface.{Interface}
 use Rattle.line_model.specs.channels.Gaps.{GapChannel}
@@ -32,7 +30,6 @@ use Rattle.annotated_trace.specs.declared.rows.Rows.{Rows}
 use Rattle.descriptions.specs.CallTable.{maybe_number}
 use Rattle.descriptions.specs.Choosing.{picked_where}
 use Rattle.descriptions.specs.Facts.{AreFactsOf}
-use Rattle.descriptions.specs.Follows.{follows_at}
 use Rattle.descriptions.specs.RowCalls.{call_of, row_call}
 use Rattle.descriptions.specs.RowObjects.{IsObjectOf, IsObjectWhere, IsRest, IsRowObject, counted_word, events_at, finding_word, gap_head, head_by, known_word, named_channel, number_word, owed_after, owed_at, packet_head, place_members, row_head, state_at, state_members, word_after, word_before}
 use Rattle.descriptions.specs.Writing.{Adds, These}

@@ -1,5 +1,4 @@
-use Rattle.std.proofs.Common.{◌∙◌, ap, decimal, subst}
-use Rattle.descriptions.specs.CommonObjects.{amount_word}
+use Rattle.std.proofs.Common.{ap, decimal, subst}
 use Rattle.descriptions.specs.Facts.{IsFateOf}
 use Rattle.descriptions.proofs.LineLemmas.{counted_is}
 use Rattle.descriptions.proofs.ValueLemmas.{these_same, these_then}

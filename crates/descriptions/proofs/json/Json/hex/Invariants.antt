@@ -1,5 +1,5 @@
 use Rattle.descriptions.specs.Members.{IsText}
-use Rattle.descriptions.specs.Writing.{Adds, These}
+use Rattle.descriptions.specs.Writing.{Adds}
 use Rattle.descriptions.proofs.json.Json.hex.Given as goal
 
 abbrev pub invariant-loop-octet : goal.invariant-loop-octet
