@@ -74,11 +74,13 @@ form_then a b c join first later = record {
 
 -- ---- what was counted
 
+pub counted_is : (lengths : List ℕ) (octets segments : ℕ) → IsFateOf lengths (Counted octets segments) → amount_word octets segments ≡ counted_word lengths
+counted_is [] octets segments h = absurd h
+counted_is (n ∷ ns) octets segments h = (λ t. amount_word (h.0 t) (h.1 t))
+
 pub counted_put : (lengths : List ℕ) (octets segments : ℕ) (a b : Option (List ℕ)) → IsFateOf lengths (Counted octets segments)
     → Puts (amount_word octets segments) a b → Puts (counted_word lengths) a b
-counted_put [] octets segments a b h put = absurd h
-counted_put (n ∷ ns) octets segments a b h put =
-    subst (λ word. Puts word a b) (λ t. amount_word (h.0 t) (h.1 t)) put
+counted_put lengths octets segments a b h put = subst (λ word. Puts word a b) (counted_is lengths octets segments h) put
 
 -- ---- the beginning of an object
 

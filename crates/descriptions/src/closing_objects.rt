@@ -23,7 +23,7 @@ use line_model::device::Sink;
 use line_model::event::How;
 use line_model::fault::Fault;
 use line_model::lending::{Borrowed, Origin, take_back};
-use live_report::uncounted::{Amount, REASONS, Reason, Uncounted};
+use live_report::uncounted::{REASONS, Uncounted};
 use report_merge::words::how_word;
 use std::alloc::Allocator;
 use std::marker::Brand;
@@ -48,18 +48,6 @@ impl<A: Allocator + Copy> Rest<A> {
             None
         }
     }
-}
-
-/// The objects after those of the report.
-fn rest_objects<O: Out, A: Allocator + Copy>(
-    json: &mut Json<O>,
-    rest: &Rest<A>,
-    records: &[CallRecord<A>],
-)
-    ensures { Adds O.has (AreClosingObjects (length records.now)) json.old.out json.new.out }
-{
-    uncounted_objects(json, &rest.uncounted);
-    call_objects(json, rest, records);
 }
 
 /// An object for each call of the report, in order.
@@ -94,7 +82,8 @@ fn write_to<'a, A: Allocator + Copy, K: Sink, B: Origin>(
     let mut json = Json {
         out: Sending::new(Borrowed::<K, B>::new(sink)),
     };
-    rest_objects(&mut json, rest, records);
+    uncounted_objects(&mut json, &rest.uncounted);
+    call_objects(&mut json, rest, records);
     let (lent, answer) = json.out.finish();
     (lent.give_back(), answer)
 }
@@ -125,20 +114,13 @@ fn uncounted_objects<O: Out>(json: &mut Json<O>, uncounted: &Uncounted)
     for reason in &REASONS {
         let amount = uncounted.amount(*reason);
         if amount.packets != 0 {
-            uncounted_object(json, *reason, &amount);
+            json.raw(b"{\"line\":\"not_counted\"");
+            json.member(",\"reason\":", Value::Text(reason_word(*reason)));
+            json.member(",\"packets\":", Value::Number(amount.packets));
+            json.member(",\"octets\":", Value::Number(amount.octets));
+            json.raw(b"}\n");
         }
     }
-}
-
-/// What was not counted for a reason.
-fn uncounted_object<O: Out>(json: &mut Json<O>, reason: Reason, amount: &Amount)
-    ensures { Adds O.has (IsObjectLine (codes "not_counted") IsFurther) json.old.out json.new.out }
-{
-    json.raw(b"{\"line\":\"not_counted\"");
-    json.member(",\"reason\":", Value::Text(reason_word(reason)));
-    json.member(",\"packets\":", Value::Number(amount.packets));
-    json.member(",\"octets\":", Value::Number(amount.octets));
-    json.raw(b"}\n");
 }
 
 /// Writes what a call's line of the report does not say: who pays, the side that cleared it, null where none did, and
@@ -155,17 +137,13 @@ fn call_object<O: Out, A: Allocator + Copy>(
     call_member(json, number as u64);
     json.member(",\"pays\":", Value::Text(payer_word(record.reverse)));
     json.member(",\"payer\":", Value::address(payer(record).as_bytes()));
-    json.member(",\"cleared_by\":", clearer(record.how));
+    let clearer = match record.how {
+        Some(How::T | How::N) => Value::Text(how_word(record.how)),
+        _ => Value::Null,
+    };
+    json.member(",\"cleared_by\":", clearer);
     memory_members(json, number, rest);
     json.raw(b"}\n");
-}
-
-/// The side that cleared a call, null where none did.
-fn clearer(how: Option<How>) -> Value<'static> {
-    match how {
-        Some(How::T | How::N) => Value::Text(how_word(how)),
-        _ => Value::Null,
-    }
 }
 
 /// What is remembered of a call's rows, where something is.
