@@ -18,7 +18,7 @@ use line_model::device::{SliceSource, Source};
 use line_model::state::Side;
 use std::alloc::Global;
 use std::io;
-use std::io::{ErrorKind, Read};
+use std::io::{Eprint, ErrorKind, Read};
 use std::test::Fail;
 use streams::input::OpenRefusal;
 use streams::opener::Opener;
@@ -114,6 +114,18 @@ impl Opener for ResetSystem {
     }
 }
 
+/// Returns the kind of the system's error for which a capture is refused.
+fn refusal_kind<E: Eprint + Drop>(alloc: Global, errors: E) -> Result<ErrorKind, Fail> {
+    let recordings = Recordings::new(alloc, ResetSystem {}, errors);
+    let Err(refusal) = recordings.open("lost.pcap") else {
+        return Err(Fail::from("no refusal"));
+    };
+    match refusal.reason {
+        Some(reason) => Ok(reason.kind()),
+        None => Err(Fail::from("no reason")),
+    }
+}
+
 #[test]
 fn gaps_are_placed_after_a_first_reading_and_noticed_without_one(
     rt: HostRuntime,
@@ -126,14 +138,7 @@ fn gaps_are_placed_after_a_first_reading_and_noticed_without_one(
     assert!(rt; text(alloc, Order::Placed(plan))?.as_slice() == PLACED);
     assert!(rt; text(alloc, Order::Noticed)?.as_slice() == NOTICED);
     // A reading that fails is refused for the reason of the system.
-    let recordings = Recordings::new(alloc, ResetSystem {}, rt.stderr());
-    let Err(refusal) = recordings.open("lost.pcap") else {
-        return Err(Fail::from("no refusal"));
-    };
-    let Some(reason) = refusal.reason else {
-        return Err(Fail::from("no reason"));
-    };
-    assert!(rt; reason.kind() == ErrorKind::ConnectionReset);
+    assert!(rt; refusal_kind(alloc, rt.stderr())? == ErrorKind::ConnectionReset);
     Ok(())
 }
 
