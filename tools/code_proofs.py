@@ -77,7 +77,7 @@ def setting(edit: str) -> Proof:
 
 RESTART, CALL, TRANSFER = "The restart tables", "The call tables", "The data transfer tables"
 PROOFS = {
-    "1": compared_number("data", "is_next", "window_is_not_judged"),
+    "1": compared_number("data_within", "is_next", "window_is_not_judged"),
     "2": compared_number("ack", "acknowledges", "any_residue_is_acknowledged"),
     **{code: table(RESTART, "restart_confirmation") for code in ("17", "18")},
     "19": owed(RESTART),

@@ -81,8 +81,7 @@ codes name the same edit. Three codes are of the DCE alone: `table_n` returns th
 `Flow` judges P(S) and P(R) of every channel, by a comparison of the numbers of one direction (`is_send_valid` and
 `count_acknowledged` in the definition); the proof and the edit of codes 1 and 2 are those of the comparison. The scans keep
 the `Flow` of a channel in one word, which they read and write back. More than the window may be outstanding on a settled
-channel of a recording with gaps: [numbering.rt](../crates/channel_machine/src/gaps/numbering.rt) compares the window there
-before its `Flow` judges.
+channel of a recording with gaps: its `Flow` has the widest windows, and `data_within` judges in that of the call.
 
 | code | rule | definition | function | proof | edit | trace | also given by |
 |---|---|---|---|---|---|---|---|

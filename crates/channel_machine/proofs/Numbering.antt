@@ -1,6 +1,7 @@
 -- The numbers of a data packet on a settled channel.
 use Rattle.std.proofs.Common.{◌≡◌, ◌⊎◌, ◌<◌, ◌≤◌, ◌-◌, ◌%◌, ◌+◌, ℕ, Bool, true, false, refl, sym, ◌∙◌, ap, subst, arith, Option, Some, None, Result, Ok, Err}
-use Rattle.std.specs.Prelude.{◌==◌, ◌++◌, replicate}
+use Rattle.std.specs.Prelude.{◌==◌, ◌++◌, min, replicate}
+use Rattle.std.proofs.Math.Nat.{min-eq_left}
 use Rattle.line_model.specs.packets.Formats.{window_in_force}
 use Rattle.std.proofs.lemmas.Bool.Decides.{nat_tests}
 use Rattle.line_model.specs.declared.diagnostic.TheConstants.{INVALID_P_S, INVALID_P_R}
@@ -10,8 +11,7 @@ use Rattle.line_model.specs.channels.Channels.{Channel, Sides, of_side, other, w
 use Rattle.line_model.specs.channels.FlowControl.{Counts, count_acknowledged, count_data, is_send_valid, sent}
 use Rattle.line_model.specs.channels.Gaps.{Doubts, of_both}
 use Rattle.line_model.specs.channels.GapStep.{edge_in_doubt}
-use Rattle.data_transfer.specs.FlowResidues.{Answers, DirectionRepresents, FlowResidues, ResiduesRepresent, outstanding}
-use Rattle.data_transfer.proofs.FlowLemmas.{outstanding_by_residue}
+use Rattle.data_transfer.specs.FlowResidues.{Answers, DirectionRepresents, FlowResidues, ResiduesRepresent}
 use Rattle.line_model.specs.declared.packet.DataHeader.{DataHeader}
 use Rattle.line_model.specs.declared.interface.Interface.{Interface}
 use Rattle.line_model.specs.channels.ChannelStep.{counts_of}
@@ -121,35 +121,6 @@ edged N m v g f count old e modulus windows h above below is set =
       unconfirmed = h.unconfirmed;
     })
 
--- where the window in force has room, the widest has too
-room_valid : (m w S a s : ℕ) → S - a < w → w < m → is_send_valid m (m - 1) S a s ≡ is_send_valid m w S a s
-room_valid m w S a s room below = grind (arith, nat_tests, room, below)
-
-no_room : (m w S a s : ℕ) → w ≤ S - a → is_send_valid m w S a s ≡ false
-no_room m w S a s full = grind (arith, nat_tests, full)
-
-in_window : (m w : ℕ) (x : Side) (s n : ℕ) (c : Counts) → of_side x c.sent - of_side x c.acknowledged < w → w < m → count_data m (m - 1) c x s n ≡ count_data m w c x s n
-in_window m w x s n c room below =
-    data_is m (m - 1) x s n c
-    ∙ ap (λ v. data_by x v (acknowledged_by m x n c) c) (room_valid m w (of_side x c.sent) (of_side x c.acknowledged) s room below)
-    ∙ sym (data_is m w x s n c)
-
-out_of_window : (m w : ℕ) (x : Side) (s n : ℕ) (c : Counts) → w ≤ of_side x c.sent - of_side x c.acknowledged → count_data m w c x s n ≡ Err INVALID_P_S
-out_of_window m w x s n c full =
-    data_is m w x s n c ∙ ap (λ v. data_by x v (acknowledged_by m x n c) c) (no_room m w (of_side x c.sent) (of_side x c.acknowledged) s full)
-
--- how many are outstanding, by what is kept
-outstanding_is : (x : Side) (m : ℕ) (f : FlowResidues) (c : Counts) → (m ≡ 8) ⊎ (m ≡ 128) → f.modulus ≡ m → f.windows ≡ of_both (m - 1) → ResiduesRepresent f c →
-    outstanding m (of_side x f.sent) (of_side x f.acknowledged) ≡ of_side x c.sent - of_side x c.acknowledged
-outstanding_is T m f c e modulus windows h =
-    let d : DirectionRepresents m (m - 1) c.sent.of_t c.acknowledged.of_t f.sent.of_t f.acknowledged.of_t =
-    subst (λ (q : ℕ × Sides ℕ). DirectionRepresents q.0 q.1.of_t c.sent.of_t c.acknowledged.of_t f.sent.of_t f.acknowledged.of_t) (λ j. (modulus j, windows j)) h.of_t in
-    outstanding_by_residue m c.sent.of_t c.acknowledged.of_t f.sent.of_t f.acknowledged.of_t e (record { sent_is = d.sent_is; acknowledged_is = d.acknowledged_is; ordered = d.ordered; below = omega (arith, e, d.within) })
-outstanding_is N m f c e modulus windows h =
-    let d : DirectionRepresents m (m - 1) c.sent.of_n c.acknowledged.of_n f.sent.of_n f.acknowledged.of_n =
-    subst (λ (q : ℕ × Sides ℕ). DirectionRepresents q.0 q.1.of_n c.sent.of_n c.acknowledged.of_n f.sent.of_n f.acknowledged.of_n) (λ j. (modulus j, windows j)) h.of_n in
-    outstanding_by_residue m c.sent.of_n c.acknowledged.of_n f.sent.of_n f.acknowledged.of_n e (record { sent_is = d.sent_is; acknowledged_is = d.acknowledged_is; ordered = d.ordered; below = omega (arith, e, d.within) })
-
 windows_of : (x : Side) (f : FlowResidues) → f.windows ≡ of_both (f.modulus - 1) → of_side x f.windows ≡ f.modulus - 1
 windows_of T f e = ap (λ v. v.of_t) e
 windows_of N f e = ap (λ v. v.of_n) e
@@ -197,27 +168,18 @@ first_fails U e x s n next f0 f1 f2 c wide first set answer =
     (at_widest {U = U} (Err e) f0 f1 f2 x s n (all_acknowledged x c) wide (ap (λ (f : FlowResidues). f.modulus) set) (ap (λ (f : FlowResidues). f.windows) set) answer)
 
 -- a data packet of a side whose next P(S) is certain
-fewer : (x : Side) (w k : ℕ) (f : FlowResidues) (c : Counts) → IsWidest f → ResiduesRepresent f c → k ≡ outstanding f.modulus (of_side x f.sent) (of_side x f.acknowledged) → k ≡ of_side x c.sent - of_side x c.acknowledged
-fewer x w k f c wide represented is = is ∙ outstanding_is x f.modulus f c wide.eight refl wide.windows represented
+next_answers : {U : Type 0} (r : Result U ℕ) (x : Side) (w s n : ℕ) (f g : FlowResidues) (c : Counts) → IsWidest f → w < f.modulus →
+    Answers r f g (count_data f.modulus (min w (of_side x f.windows)) c x s n) → Answers r f g (count_data f.modulus w c x s n)
+next_answers r x w s n f g c wide below answer =
+    subst (λ k. Answers r f g (count_data f.modulus k c x s n)) (ap (λ k. min w k) (windows_of x f wide.windows) ∙ min-eq_left (omega (arith, below))) answer
 
-pub next_full : (x : Side) (w k s n : ℕ) (f : FlowResidues) (c : Counts) → IsWidest f → ResiduesRepresent f c → k ≡ outstanding f.modulus (of_side x f.sent) (of_side x f.acknowledged) → w ≤ k → count_data f.modulus w c x s n ≡ Err INVALID_P_S
-next_full x w k s n f c wide represented is full = out_of_window f.modulus w x s n c (subst (λ j. w ≤ j) (fewer x w k f c wide represented is) full)
+pub next_passes : {U : Type 0} (u : U) (x : Side) (w s n : ℕ) (f g : FlowResidues) (c : Counts) → IsWidest f → w < f.modulus →
+    Answers (Ok u) f g (count_data f.modulus (min w (of_side x f.windows)) c x s n) → AreNumbered (Ok g) f.modulus false x (count_data f.modulus w c x s n)
+next_passes u x w s n f g c wide below answer = answered_ok u f g (count_data f.modulus w c x s n) (next_answers (Ok u) x w s n f g c wide below answer)
 
-next_answers : {U : Type 0} (r : Result U ℕ) (x : Side) (w k s n : ℕ) (f g : FlowResidues) (c : Counts) → IsWidest f → ResiduesRepresent f c → k ≡ outstanding f.modulus (of_side x f.sent) (of_side x f.acknowledged) → k < w → w < f.modulus →
-    Answers r f g (count_data f.modulus (of_side x f.windows) c x s n) → Answers r f g (count_data f.modulus w c x s n)
-next_answers r x w k s n f g c wide represented is room below answer =
-    subst (λ a. Answers r f g a) (in_window f.modulus w x s n c (subst (λ j. j < w) (fewer x w k f c wide represented is) room) below)
-    (at_widest r f f g x s n c wide refl refl answer)
-
-pub next_passes : {U : Type 0} (u : U) (x : Side) (w k s n : ℕ) (f g : FlowResidues) (c : Counts) → IsWidest f → ResiduesRepresent f c → k ≡ outstanding f.modulus (of_side x f.sent) (of_side x f.acknowledged) → k < w → w < f.modulus →
-    Answers (Ok u) f g (count_data f.modulus (of_side x f.windows) c x s n) → AreNumbered (Ok g) f.modulus false x (count_data f.modulus w c x s n)
-next_passes u x w k s n f g c wide represented is room below answer =
-    answered_ok u f g (count_data f.modulus w c x s n) (next_answers (Ok u) x w k s n f g c wide represented is room below answer)
-
-pub next_fails : (U : Type 0) (e : ℕ) (x : Side) (w k s n : ℕ) (f g : FlowResidues) (c : Counts) → IsWidest f → ResiduesRepresent f c → k ≡ outstanding f.modulus (of_side x f.sent) (of_side x f.acknowledged) → k < w → w < f.modulus →
-    Answers {A = U} (Err e) f g (count_data f.modulus (of_side x f.windows) c x s n) → count_data f.modulus w c x s n ≡ Err e
-next_fails U e x w k s n f g c wide represented is room below answer =
-    (answered_err U e f g (count_data f.modulus w c x s n) (next_answers {U = U} (Err e) x w k s n f g c wide represented is room below answer)).0
+pub next_fails : (U : Type 0) (e : ℕ) (x : Side) (w s n : ℕ) (f g : FlowResidues) (c : Counts) → IsWidest f → w < f.modulus →
+    Answers {A = U} (Err e) f g (count_data f.modulus (min w (of_side x f.windows)) c x s n) → count_data f.modulus w c x s n ≡ Err e
+next_fails U e x w s n f g c wide below answer = (answered_err U e f g (count_data f.modulus w c x s n) (next_answers {U = U} (Err e) x w s n f g c wide below answer)).0
 
 -- how many packets of a side a channel has that was completed for it
 abbrev count_completed : ℕ → Bool → ℕ → ℕ → ℕ

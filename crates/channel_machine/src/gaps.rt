@@ -6,7 +6,6 @@ pub mod channel;
 mod doubts;
 pub(crate) mod kinds;
 mod largest;
-mod numbering;
 mod reading;
 mod rows;
 mod settled;

@@ -1,5 +1,6 @@
 -- A data packet counts as its P(R) does and adds one packet sent.
-use Rattle.std.proofs.Common.{◌≡◌, ◌⊎◌, ◌<◌, ◌-◌, ◌%◌, ◌+◌, ℕ, true, sym, subst, arith, Option, Some, None, Result, Ok, Err, rules}
+use Rattle.std.proofs.Common.{◌≡◌, ◌⊎◌, ◌<◌, ◌-◌, ◌%◌, ◌+◌, ℕ, true, sym, subst, arith, Option, Some, None, Result, Ok, Err, min, rules}
+use Rattle.std.proofs.Math.Nat.{min-le_right}
 use Rattle.line_model.specs.declared.diagnostic.TheConstants.{INVALID_P_R}
 use Rattle.line_model.specs.declared.state.Side.{Side}
 use Rattle.line_model.specs.declared.state.Side.TheVariants.{T, N}
@@ -61,31 +62,32 @@ counted_receive T u old mid c receive e h l m w r = received T u old mid c _ e h
 counted_receive N u old mid c receive e h l m w r = received N u old mid c _ e h l m w r
 
 -- a data packet whose numbers are valid
-pub counted : {A : Type 0} (x : Side) (u : A) (old mid : FlowResidues) (c : Counts) (send receive : ℕ) →
+pub counted : {A : Type 0} (x : Side) (u : A) (old mid : FlowResidues) (c : Counts) (window send receive : ℕ) →
     (old.modulus ≡ 8) ⊎ (old.modulus ≡ 128) → of_side x old.windows < old.modulus → ResiduesRepresent old c →
-    ((s a : ℕ) → Residues old.modulus s a (of_side x old.sent) (of_side x old.acknowledged) → true ≡ is_send_valid old.modulus (of_side x old.windows) s a send) →
+    ((s a : ℕ) → Residues old.modulus s a (of_side x old.sent) (of_side x old.acknowledged) → true ≡ is_send_valid old.modulus (min window (of_side x old.windows)) s a send) →
     mid.modulus ≡ old.modulus → mid.windows ≡ old.windows →
     Answers (Ok u) old mid (count_receive old.modulus c x receive) →
     Answers (Ok u) old (with_direction x (record (direction_of x old) { sent = (of_side x old.sent + 1) % old.modulus }) mid)
-    (count_data old.modulus (of_side x old.windows) c x send receive)
-counted x u old mid c send receive e b h v m w r =
-    let valid : is_send_valid old.modulus (of_side x old.windows) (of_side x c.sent) (of_side x c.acknowledged) send ≡ true
+    (count_data old.modulus (min window (of_side x old.windows)) c x send receive)
+counted x u old mid c window send receive e b h v m w r =
+    let valid : is_send_valid old.modulus (min window (of_side x old.windows)) (of_side x c.sent) (of_side x c.acknowledged) send ≡ true
     = sym (v _ _ (residues_of x old c h b)) in
-    rw (valid, Answers) (counted_receive x u old mid c receive e h (room _ _ _ _ _ valid) m w r)
+    let free : of_side x c.sent - of_side x c.acknowledged < of_side x old.windows = omega (arith, room old.modulus (min window (of_side x old.windows)) (of_side x c.sent) (of_side x c.acknowledged) send valid, min-le_right window (of_side x old.windows)) in
+    rw (valid, Answers) (counted_receive x u old mid c receive e h free m w r)
 
 -- the same in the words of the code: the numbers of the side are read, and written back with one more
-pub counted_by : {A : Type 0} (x : Side) (u : A) (old mid new : FlowResidues) (d : Direction) (m n : ℕ) (c : Counts) (send receive : ℕ) →
+pub counted_by : {A : Type 0} (x : Side) (u : A) (old mid new : FlowResidues) (d : Direction) (m n : ℕ) (c : Counts) (window send receive : ℕ) →
     m ≡ old.modulus → d ≡ direction_of x old → n ≡ (d.sent + 1) % m → new ≡ with_direction x (record d { sent = n }) mid →
     IsDirection old.modulus d.window d.sent d.acknowledged → (m ≡ 8) ⊎ (m ≡ 128) →
-    ((s a : ℕ) → Residues m s a d.sent d.acknowledged → true ≡ is_send_valid m d.window s a send) →
+    ((s a : ℕ) → Residues m s a d.sent d.acknowledged → true ≡ is_send_valid m (min window d.window) s a send) →
     mid.modulus ≡ old.modulus → mid.windows ≡ old.windows → ResiduesRepresent old c →
     Answers (Ok u) old mid (count_receive old.modulus c x receive) →
-    Answers (Ok u) old new (count_data old.modulus (of_side x old.windows) c x send receive)
-counted_by x u old mid new d m n c send receive same is more into range e v w k h r =
+    Answers (Ok u) old new (count_data old.modulus (min window (of_side x old.windows)) c x send receive)
+counted_by x u old mid new d m n c window send receive same is more into range e v w k h r =
     let P : Direction → Type 0 = λ d'. IsDirection old.modulus d'.window d'.sent d'.acknowledged →
-    ((s a : ℕ) → Residues old.modulus s a d'.sent d'.acknowledged → true ≡ is_send_valid old.modulus d'.window s a send) →
-    Answers (Ok u) old (with_direction x (record d' { sent = (d'.sent + 1) % old.modulus }) mid) (count_data old.modulus (of_side x old.windows) c x send receive) in
+    ((s a : ℕ) → Residues old.modulus s a d'.sent d'.acknowledged → true ≡ is_send_valid old.modulus (min window d'.window) s a send) →
+    Answers (Ok u) old (with_direction x (record d' { sent = (d'.sent + 1) % old.modulus }) mid) (count_data old.modulus (min window (of_side x old.windows)) c x send receive) in
     let eight : (old.modulus ≡ 8) ⊎ (old.modulus ≡ 128) = rw same at e in
-    let at_d : P d = subst P (sym is) (λ g q. counted x u old mid c send receive eight g.window_below h q w k r) in
-    let Q : ℕ → Type 0 = λ m'. (s a : ℕ) → Residues m' s a d.sent d.acknowledged → true ≡ is_send_valid m' d.window s a send in
+    let at_d : P d = subst P (sym is) (λ g q. counted x u old mid c window send receive eight g.window_below h q w k r) in
+    let Q : ℕ → Type 0 = λ m'. (s a : ℕ) → Residues m' s a d.sent d.acknowledged → true ≡ is_send_valid m' (min window d.window) s a send in
     rw (into, more, same) (at_d range (subst Q same v))

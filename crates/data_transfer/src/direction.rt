@@ -1,6 +1,6 @@
 //! The sequence numbers of one direction of transfer, by their residues.
 
-ghost use Rattle.std.specs.Prelude.{◌≡◌, ◌⊎◌, ◌<◌, ◌≤◌, ℕ, ◌+◌, ◌%◌, false, IsTrue};
+ghost use Rattle.std.specs.Prelude.{◌≡◌, ◌⊎◌, ◌<◌, ◌≤◌, ℕ, ◌+◌, ◌%◌, false, min, IsTrue};
 ghost use Rattle.line_model.specs.channels.FlowControl.{is_send_valid};
 ghost use Rattle.data_transfer.specs.FlowResidues.{outstanding, IsDirection, Residues, IsAcknowledged};
 
@@ -66,17 +66,17 @@ impl Direction {
             && residue(number + (modulus - self.acknowledged), modulus) <= self.outstanding(modulus)
     }
 
-    /// Returns whether a P(S) is the next number and lies in the window.
-    pub(crate) fn is_next(self, modulus: u8, number: u8) -> bool
+    /// Returns whether a P(S) is the next number and lies in a window, which may be narrower than that of the direction.
+    pub(crate) fn is_next(self, modulus: u8, window: u8, number: u8) -> bool
         requires eight { (modulus ≡ 8) ⊎ (modulus ≡ 128) }
         requires sent_below { self.sent < modulus }
         requires acknowledged_below { self.acknowledged < modulus }
         ensures room { IsTrue result → outstanding modulus self.sent self.acknowledged
             < self.window }
         ensures counts { (s a : ℕ) → Residues modulus s a self.sent self.acknowledged
-            → result ≡ is_send_valid modulus self.window s a number }
+            → result ≡ is_send_valid modulus (min window self.window) s a number }
     {
-        number == self.sent && self.outstanding(modulus) < self.window
+        number == self.sent && self.outstanding(modulus) < window.min(self.window)
     }
 
     /// Returns whether these are a window and two residues, with no more packets unacknowledged than the window.

@@ -1,9 +1,9 @@
 //! The windows and interrupts of a logical channel in data transfer.
 
-ghost use Rattle.std.specs.Prelude.{◌≡◌, ◌⊎◌, ◌<◌, ◌≤◌, ◌+◌, OnErr};
+ghost use Rattle.std.specs.Prelude.{◌≡◌, ◌⊎◌, ◌<◌, ◌≤◌, ◌+◌, min, OnErr};
 ghost use Rattle.line_model.specs.channels.FlowControl.{Counts, count_interrupt, count_receive, count_confirm, count_data, no_counts};
 ghost use Rattle.line_model.specs.channels.Channels.{of_side, with_side};
-ghost use Rattle.data_transfer.specs.FlowResidues.{IsDirection, ResiduesRepresent, Answers, outstanding};
+ghost use Rattle.data_transfer.specs.FlowResidues.{IsDirection, ResiduesRepresent, Answers};
 ghost use Rattle.data_transfer.specs.Directions.{direction_of, with_direction};
 
 use crate::direction::{Direction, residue};
@@ -80,8 +80,22 @@ impl Flow {
             → Answers result self.old self.new
             (count_data self.old.modulus (of_side side self.old.windows) c side send receive) }
     {
+        self.data_within(side, self.direction(side).window, send, receive)
+    }
+
+    /// Judges a data packet of a side as `data` does, in a window that may be narrower than that of the flow.
+    #[inline(always)]
+    pub fn data_within(&mut self, side: Side, window: u8, send: u8, receive: u8) -> Result<(), u8>
+        ensures modulus { self.new.modulus ≡ self.old.modulus }
+        ensures windows { self.new.windows ≡ self.old.windows }
+        ensures interrupts { self.new.unconfirmed ≡ self.old.unconfirmed }
+        ensures unchanged { OnErr result (self.new ≡ self.old) }
+        ensures counts { (c : Counts) → ResiduesRepresent self.old c
+            → Answers result self.old self.new (count_data self.old.modulus
+            (min window (of_side side self.old.windows)) c side send receive) }
+    {
         let sender = self.direction(side);
-        if !sender.is_next(self.modulus, send) {
+        if !sender.is_next(self.modulus, window, send) {
             return Err(INVALID_P_S);
         }
         let sent = residue(sender.sent + 1, self.modulus);
@@ -186,14 +200,6 @@ impl Flow {
             window,
             interrupted: unconfirmed,
         }
-    }
-
-    /// Returns how many packets of a side are unacknowledged.
-    pub fn outstanding(&self, side: Side) -> u8
-        ensures { result ≡ outstanding self.now.modulus (of_side side self.now.sent)
-            (of_side side self.now.acknowledged) }
-    {
-        self.direction(side).outstanding(self.modulus)
     }
 
     /// Returns the modulus of the numbers, 8 or 128.

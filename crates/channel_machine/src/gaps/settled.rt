@@ -5,7 +5,7 @@ ghost use Rattle.line_model.specs.declared.fault.Fault.TheVariants.{Memory};
 ghost use Rattle.line_model.specs.declared.state.Side.{Side as AnySide};
 ghost use Rattle.line_model.specs.channels.Channels.{AcceptedData, Channel, of_side, other, with_side};
 ghost use Rattle.line_model.specs.channels.ChannelStep.{counts_of};
-ghost use Rattle.line_model.specs.channels.FlowControl.{count_confirm, count_interrupt, count_receive};
+ghost use Rattle.line_model.specs.channels.FlowControl.{Counts, count_confirm, count_data, count_interrupt, count_receive};
 ghost use Rattle.line_model.specs.channels.Gaps.{of_both};
 ghost use Rattle.line_model.specs.channels.GapStep.{acknowledged_data, completed_for_receive, completed_to, count_settled, doubts_after_data, is_mixed, may_be_begun, receive_by, settled_doubts, transferring_in_doubt, with_interrupt};
 ghost use Rattle.line_model.specs.basics.Records.{Item};
@@ -15,14 +15,13 @@ ghost use Rattle.data_transfer.specs.Assembler.{begun_on};
 ghost use Rattle.data_transfer.specs.Assembly.{Holds, is_like};
 ghost use Rattle.data_transfer.specs.FlowResidues.{ResiduesRepresent};
 ghost use Rattle.channel_machine.specs.Settling.{settled_after, settling_by};
-ghost use Rattle.channel_machine.specs.SettledNumbers.{IsCountedInDoubt, IsNumbered, IsRestarted, IsWidest, NumbersRepresent, SequencesRepresent};
+ghost use Rattle.channel_machine.specs.SettledNumbers.{AreNumbered, IsCountedInDoubt, IsFirst, IsNumbered, IsRestarted, IsWidest, NumbersRepresent, SequencesRepresent};
 ghost use Rattle.channel_machine.specs.SettledSteps.{IsControlled};
 ghost use Rattle.channel_machine.specs.SettledSequences.{IsCompleted, IsContinued, kept_after};
 
 use crate::format::header_of;
 use crate::gaps::carried::WhileAdrift;
 use crate::gaps::doubts::Doubts;
-use crate::gaps::numbering::{judge_first, judge_next};
 use data_transfer::assembler::Assembler;
 use data_transfer::flow::Flow;
 use data_transfer::sequence::{DataField, UserData};
@@ -147,12 +146,14 @@ impl<A: Allocator + Clone> SettledNumbers<A> {
         ensures widest { IfOk result (λ f. IsWidest f) }
         ensures modulus { IfOk result (λ f. f.modulus ≡ self.now.flow.modulus) }
     {
-        let flow = self.presumed(side.other(), header.receive);
+        let mut flow = self.presumed(side.other(), header.receive);
         if self.doubts.of(side).number {
-            judge_first(flow, side, header)
-        } else {
-            judge_next(flow, side, header, window)
+            return judge_first(flow, side, header);
         }
+        if let Err(code) = flow.data_within(side, window, header.send, header.receive) {
+            return Err(code);
+        }
+        Ok(flow)
     }
 
     /// Accepts an interrupt, an interrupt confirmation, or the P(R) of an RR or RNR, or returns its fault and changes
@@ -354,6 +355,28 @@ impl<A: Allocator + Clone> SettledNumbers<A> {
         }
         flow
     }
+}
+
+/// Judges a data packet of a side whose next P(S) is in doubt, and returns the numbers after it: `INVALID_P_R`, or
+/// `INVALID_P_S` where P(S) is not below the modulus.
+fn judge_first(flow: Flow, side: Side, header: &DataHeader) -> Result<Flow, u8>
+    requires widest { IsWidest flow }
+    ensures numbers { (c : Counts) → IsFirst flow side header.now.send c
+        → AreNumbered result flow.modulus true side
+        (count_data flow.modulus flow.modulus c side header.now.send header.now.receive) }
+    ensures widest { IfOk result (λ f. IsWidest f) }
+    ensures modulus { IfOk result (λ f. f.modulus ≡ flow.modulus) }
+{
+    let mut flow = flow;
+    let lowest = flow.send_window(side).lowest;
+    let next = header.send % flow.modulus();
+    flow.set_numbers(side, next, next);
+    if let Err(code) = flow.data(side, header.send, header.receive) {
+        return Err(code);
+    }
+    let after = flow.send_window(side).next;
+    flow.set_numbers(side, after, lowest);
+    Ok(flow)
 }
 
 /// The numbers that a packet which settles a channel makes certain.

@@ -2,7 +2,7 @@ use Rattle.std.proofs.Common.{◌%◌, ap}
 use Rattle.data_transfer.specs.FlowResidues.{ResiduesRepresent}
 use Rattle.channel_machine.specs.SettledNumbers.{all_acknowledged}
 use Rattle.channel_machine.proofs.Numbering.{first_fails, first_passes, first_represents}
-use Rattle.channel_machine.proofs.gaps.numbering.judge_first.Goals as goal
+use Rattle.channel_machine.proofs.gaps.settled.judge_first.Goals as goal
 
 pub returns-in-Err-clause-numbers : goal.returns-in-Err-clause-numbers
 returns-in-Err-clause-numbers c k first =

@@ -1,0 +1,4 @@
+pub mod Numbers
+pub mod Datagrams
+pub mod Segments
+pub mod Views
