@@ -1,4 +1,4 @@
-mod CaptureFileLemmas
+pub mod CaptureFileLemmas
 mod CaptureRowLemmas
 mod FileLemmas
 mod FrameLemmas

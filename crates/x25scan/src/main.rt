@@ -1,17 +1,49 @@
 //! Reads the recorded packets of an X.25 interface, and reports what an observer of it finds.
 #![tactic(auto)]
 
+ghost use Rattle.std.specs.Prelude.{map};
+ghost use Rattle.command_line.specs.Asked.{asked_of};
+ghost use Rattle.x25scan.specs.Captures.{ReportsCaptures};
+
 use capture_report::recordings::Recordings;
 use command_line::program::{OTHER_FAULT, USAGE, program};
+use line_model::device::Sink;
+use std::alloc::Global;
 use std::env;
-use std::io::{ErrorKind, IsTerminal};
+use std::io::{Eprint, ErrorKind, IsTerminal, Read, Write};
 use std::process::ExitCode;
 use std::sync::Wait;
 use std::thread::Threads;
 use std::time::Clock;
 use streams::io::{FileInput, WriteSink};
+use streams::opener::Opener;
+use streams::output::Output;
 use streams::progress::Progress;
 use streams::system::System;
+
+/// Runs the program over recordings. Where the words ask for the report of a file, and the system shows that it is a pcap
+/// file without damage, a status below 2 says that the sink accepted the report of one observer over the rows of the
+/// capture.
+fn run_over<
+    O: Opener + Clock + Drop,
+    P: Eprint + Drop,
+    I: Read + Drop,
+    W: Write + Drop,
+    K: Output,
+    E: Sink,
+    R: Threads + Wait + Clock + Sync,
+>(
+    threads: &R,
+    alloc: Global,
+    words: &[&str],
+    source: &mut FileInput<'_, Recordings<O, P>, I, W>,
+    sink: &mut K,
+    errors: &mut E,
+) -> u8
+    ensures { ReportsCaptures (O.named source.old.system.now.system) (asked_of (map (λ word. word.now) words.now)) (K.taken sink.old) (K.taken sink.new) result }
+{
+    program(threads, alloc, words, source, sink, errors)
+}
 
 /// Runs the program over the streams of the process.
 fn run_streams<R: Threads + Wait + Clock + Sync>(
@@ -29,7 +61,7 @@ fn run_streams<R: Threads + Wait + Clock + Sync>(
     );
     let mut sink = WriteSink::new(rt.stdout());
     let mut errors = WriteSink::new(rt.stderr());
-    program(
+    run_over(
         threads,
         rt.alloc(),
         words,

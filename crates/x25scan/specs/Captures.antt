@@ -1,0 +1,41 @@
+-- What the program writes of a capture.
+use Rattle.std.specs.Prelude.{◌≡◌, ℕ, ◌<◌, Bool, true, false, List, Option, Some}
+use Rattle.hex.specs.Hex.{IsBytes}
+use Rattle.line_model.specs.basics.Device.{with_more}
+use Rattle.line_model.specs.basics.Records.{Row}
+use Rattle.line_model.specs.declared.interface.Interface.{Interface}
+use Rattle.line_model.specs.observer.Report.{report}
+use Rattle.line_model.specs.packets.Says.{items_of}
+use Rattle.json_lines.specs.Json.{json_text}
+use Rattle.streams.specs.declared.progress.ShowProgress.{ShowProgress}
+use Rattle.capture_files.specs.CaptureFiles.{records_of}
+use Rattle.capture_report.specs.CaptureTexts.{interface_seen, numbered_rows}
+use Rattle.capture_report.specs.Recordings.{begins_as_capture}
+use Rattle.capture_report.specs.Records.{Record}
+use Rattle.command_line.specs.Asked.{AskedWords, Trace}
+use Rattle.command_line.specs.declared.asked.AskedReport.{AskedReport}
+use Rattle.command_line.specs.declared.asked.TraceOutput.TheVariants.{Report}
+
+-- the report of one observer over rows, or the objects of its lines
+abbrev pub rows_report : (json : Bool) → Interface → List Row → List ℕ
+rows_report false i rows = report i (items_of i rows)
+rows_report true i rows = json_text (report i (items_of i rows))
+
+-- octets are those of a pcap file without damage, which has these records
+pub record IsCapture (octets : List ℕ) (records : List Record) : Type 0 where
+  pub bytes : IsBytes octets
+  pub begins : begins_as_capture octets ≡ true
+  pub whole : records_of true 0 octets ≡ Some records
+
+-- a sink accepted the report of one observer over the rows of a capture, under the interface that was seen
+pub record HasCaptureReport (records : List Record) (json : Bool) (before after : Option (List ℕ)) : Type 0 where
+  pub interface : Interface
+  pub seen : interface_seen records ≡ Some interface
+  pub taken : after ≡ with_more before (rows_report json interface (numbered_rows records))
+
+-- where the words ask for the report of a file, and the system shows that it is such a capture, a status below 2 says that the sink accepted
+-- the report of its rows
+abbrev pub ReportsCaptures : (files : List ℕ → Option (List ℕ)) → AskedWords → (before after : Option (List ℕ)) → (status : ℕ) → Type 0
+ReportsCaptures files asked before after status =
+    (name : List ℕ) (progress : ShowProgress) (report : AskedReport) (octets : List ℕ) (records : List Record) → asked ≡ Trace (Some name) progress (Report report) → files name ≡ Some octets → IsCapture octets records
+    → status < 2 → HasCaptureReport records report.json before after
