@@ -180,7 +180,7 @@ GAPS = [
     (THIRD_HEADER + b"5 ? 1\n5 ? 2\n", 3, NUMBER, "The row's number is 5, and that of the row before is 5: numbers rise."),
     (THIRD_HEADER + b"1 ? 1 2\n", 2, LINE_FORM, "The line has 4 words, and a row has three: its number, its side and its octets."),
     (MANY_GAPS + b"30000 X -\n", 30001, SIDE, NO_SIDE.format("X")),
-    (MANY_GAPS + b"30000 ? 5\n", 30001, HEX, "The third word of a gap row is a logical channel from 1 to the header's OUT, or * for all."),
+    (MANY_GAPS + b"30000 ? 5\n", 30001, HEX, NO_CHANNEL.format("5")),
     (HEADER + MANY + b"20000 ? 1\n", 20001, SIDE, NO_SIDE.format("?")),
 ]
 

@@ -16,15 +16,15 @@ read_text-requires-clause-expected g c = plan_expected g.P.Plan.pieces g.P.Trace
 
 -- ---- the source has ended
 
-pub take_rest-requires-clause-held : goal.take_rest-requires-clause-held
-take_rest-requires-clause-held g c = c.in-Ok.ensures.whole.fed.held
+pub take_room-requires-clause-held : goal.take_room-requires-clause-held
+take_room-requires-clause-held g c = c.in-Ok.ensures.whole.fed.held
 
-pub returns-in-Err-take_rest-clause-read : goal.returns-in-Err-take_rest-clause-read
-returns-in-Err-take_rest-clause-read g c =
+pub returns-in-Err-take_room-clause-read : goal.returns-in-Err-take_room-clause-read
+returns-in-Err-take_room-clause-read g c =
     let w = c.in-Ok.ensures.whole in
-    let refused = c.in-Err-take_rest.fault in
-    let within = subst (λ n. IsFaultWithin g.P.TraceText.text n refused) (sym w.fed.size) c.in-Err-take_rest.ensures.refused in
-    has_read g.P.TraceText.text (g.S.Source.left c.args.source.now) (g.S.Source.left c.read_text.new.source) (g.S.Source.before c.read_text.new.source) _ _ c.take_rest.new.pass.pieces (Err refused) c.requires.text w (λ all e. tt) tt
+    let refused = c.in-Err-take_room.fault in
+    let within = subst (λ n. IsFaultWithin g.P.TraceText.text n refused) (sym w.fed.size) c.in-Err-take_room.ensures.refused in
+    has_read g.P.TraceText.text (g.S.Source.left c.args.source.now) (g.S.Source.left c.read_text.new.source) (g.S.Source.before c.read_text.new.source) _ _ c.take_room.new.pass.pieces (Err refused) c.requires.text w (λ all e. tt) tt
     (λ all e. end_stopped g.P.TraceText.text _ _ _ _ refused all c.requires.text w within e) within.kinds
 
 pub finish-requires-clause-ready : goal.finish-requires-clause-ready
