@@ -53,7 +53,7 @@ ROWS = [
     (b"9 T 1000FB0000\n# a comment\n7 N 1000FF\n", 4, NUMBER, "The row's number is 7, and that of the row before is 9: numbers rise."),
     (MANY + b"19999 T -\n1 N -\n", 20001, NUMBER, "The row's number is 19999, and that of the row before is 19999: numbers rise."),
     (MANY + b"19999 T -\n" + MORE, 20001, NUMBER, "The row's number is 19999, and that of the row before is 19999: numbers rise."),
-    (MANY + COMMENTS + b"19999 T -\n" + MORE, 40001, NUMBER, None),
+    (MANY + COMMENTS + b"19999 T -\n" + MORE, 40001, NUMBER, "The row's number is 19999, and that of the row before is 19999: numbers rise."),
     (MANY + b"20000 T 1G\n" + MORE, 20001, HEX, 'Column 10 has "G", which is not a hex digit.'),
     (MANY + MORE + b"90000 X 10\n" + MANY, 90000, SIDE, 'The side is "X": T for the DTE or N for the DCE belongs there.'),
     (b"\n", 2, LINE_FORM, LAST_EMPTY),

@@ -127,7 +127,9 @@ fn size_fault(start: u32, lf: usize, len: usize) -> Option<Kind>
 }
 
 impl<A: Allocator> Lines<A> {
-    ghost use Rattle.std.specs.Prelude.{◌≡◌, ℕ, true, ◌+◌, ◌<◌, ◌^◌, ◌++◌, [], List, Some, None, Err, OnOk, OnErr, IfErr, IfOk, IfSome, MatchOption, length, is_some, ◌≤◌};
+    ghost use Rattle.std.specs.Prelude.{◌≡◌, ℕ, true, ◌+◌, ◌<◌, ◌^◌, ◌++◌, [], List, Some, None, Err, OnOk, OnErr, IfErr, IfOk, IfSome, MatchOption, length, is_some, ◌≤◌, false};
+    ghost use Rattle.std.specs.Option.{option_or};
+    ghost use Rattle.line_model.specs.text.Header.{interface_of};
     ghost use Rattle.line_model.specs.text.Text.{early, early_head, early_rows, ended_lines as lines_ended, fault, head, lines_of, rows as rows_of_text, rows_in};
     ghost use Rattle.trace_text.specs.Progress.{Progress, bytes_fed};
     ghost use Rattle.trace_text.specs.Represents.{Represents, IsFaultOf, IsHeadKept, IsTextFault, EndsText, AreKnown, ReadsChunk, TakesRow, last_row};
@@ -203,22 +205,31 @@ impl<A: Allocator> Lines<A> {
         }
     }
 
+    /// Returns the interface of the header, also where the last line is the header.
+    fn last_interface(&self) -> Option<Interface>
+        ensures { result ≡ option_or self.now.interface (interface_of self.now.begun) }
+    {
+        if let Some(interface) = self.interface {
+            return Some(interface);
+        }
+        match read_header(self.begun.as_slice()) {
+            Ok(interface) => Some(interface),
+            Err(_) => None,
+        }
+    }
+
     /// Returns the last line that was read: the one by which the text was refused, or the one that no LF has ended. Its
     /// interface is that of the header, also where the last line is the header.
     pub fn last_line(&self) -> LastLine<'_>
         ensures text { result.text.now ≡ self.now.begun }
         ensures number { result.number_before ≡ self.now.last }
-        ensures header { is_some self.now.interface ≡ true → result.interface ≡ self.now.interface }
+        ensures interface { result.interface ≡ option_or self.now.interface (interface_of self.now.begun) }
     {
-        let interface = match self.interface {
-            Some(interface) => Some(interface),
-            None => read_header(self.begun.as_slice()).ok(),
-        };
         LastLine {
             first: self.first.as_slice(),
             text: self.begun.as_slice(),
             number_before: self.last,
-            interface,
+            interface: self.last_interface(),
         }
     }
 
