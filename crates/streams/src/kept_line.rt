@@ -19,7 +19,7 @@ pub struct KeptLine {
 impl KeptLine {
     /// Returns a copy of a line; `None` where memory is refused.
     pub fn of(alloc: Global, line: LastLine<'_>) -> Option<KeptLine>
-        ensures { IfSome result (IsCopyOf line) }
+        ensures { IfSome result (IsCopyOf line.entry) }
     {
         let mut first = Vec::new(alloc);
         first.extend_from_slice(line.first).ok()?;
