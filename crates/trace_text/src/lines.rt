@@ -653,14 +653,10 @@ impl<A: Allocator + Clone> Lines<A> {
         }
         self.keep_first(chunk);
         let before = self.bytes();
-        match self.feed_rows(chunk, out) {
-            Ok(()) => Ok(()),
-            Err(fault) => {
-                self.keep_refused(chunk, before, true);
-                self.refused = Some(fault);
-                Err(fault)
-            }
-        }
+        let fed = self.feed_rows(chunk, out);
+        self.keep_refused(chunk, before, fed.is_err());
+        self.refused = fed.err();
+        fed
     }
 
     /// Ends the text. Returns its header, and appends the row of a last line that no LF ended. Fails with the first
