@@ -14,7 +14,7 @@ use annotated_trace::rows::Rows;
 use channel_machine::channel::PackedChannel;
 use descriptions::call_table::{CallTable, Csv, Objects};
 use descriptions::row_objects::RowObjects;
-use line_model::device::{LastLine, Sink, Source};
+use line_model::device::{Sink, Source};
 use line_model::fault::Fault;
 use line_model::totals::Summary;
 use line_model::write_buffer::write_all;
@@ -46,7 +46,10 @@ fn print_missing_channel<S: Input, E: Sink>(
     channel: u16,
     source: &S,
 ) {
-    let Some(LastLine { interface: Some(interface), .. }) = source.last_line() else {
+    let Some(line) = source.last_line() else {
+        return;
+    };
+    let Some(interface) = line.interface else {
         return;
     };
     let last = interface.svc;

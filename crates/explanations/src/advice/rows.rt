@@ -76,11 +76,7 @@ fn word_count_advice(alloc: Global, line: &[u8]) -> Result<Option<String>, Alloc
 }
 
 /// Returns what is wrong with a number after that of the row before, if it is wrong.
-fn number_advice(
-    alloc: Global,
-    word: &[u8],
-    before: u32,
-) -> Result<Option<String>, AllocError> {
+fn number_advice(alloc: Global, word: &[u8], before: u32) -> Result<Option<String>, AllocError> {
     match number_in(word) {
         None => quoting_sentence(
             alloc,

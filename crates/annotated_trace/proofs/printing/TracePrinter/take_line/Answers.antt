@@ -5,8 +5,8 @@ use Rattle.annotated_trace.specs.Printed.{HasAppended}
 use Rattle.annotated_trace.proofs.PrintLemmas.{ended_by, line_printed, none_begun, whole_line}
 use Rattle.annotated_trace.proofs.printing.TracePrinter.take_line.Goals as goal
 
-pub returns-in_default-clause-fed : goal.returns-in_default-clause-fed
-returns-in_default-clause-fed g c choice text front s k one =
+pub returns-clause-fed : goal.returns-clause-fed
+returns-clause-fed g c choice text front s k one =
     let end = c.args.end.now in
     let l = begun_line text ++ front in
     let lines = ended_by text front end k one in
@@ -21,8 +21,8 @@ returns-in_default-clause-fed g c choice text front s k one =
       begun = c.in_ok-print_line.ensures.begun ∙ sym (ap (λ e. begun_line (text ++ e)) k ∙ none_begun text front);
     }
 
-pub returns-in_default-clause-held : goal.returns-in_default-clause-held
-returns-in_default-clause-held g c choice text front sent s k one h =
+pub returns-clause-held : goal.returns-clause-held
+returns-clause-held g c choice text front sent s k one h =
     let end = c.args.end.now in
     let l = begun_line text ++ front in
     let lines = ended_by text front end k one in
