@@ -1,14 +1,17 @@
 -- The channels of a line as they are kept, and the ranges of a header.
-use Rattle.std.proofs.Common.{◌≡◌, ◌∙◌, ap, refl, ℕ, zero, suc, ◌+◌, ◌-◌, ◌<◌, ◌≤◌, Bool, true, false, List, [], ◌∷◌, ◌++◌, length, length-append, append-nil, append_assoc, replicate, Some, arith, sym}
-use Rattle.std.specs.Prelude.{◌==◌, ◌||◌, min, nat_lt, if◌then◌else◌}
+use Rattle.std.proofs.Common.{◌≡◌, ◌∙◌, ap, refl, ℕ, zero, suc, ◌+◌, ◌-◌, ◌<◌, ◌≤◌, Bool, true, false, List, [], ◌∷◌, ◌++◌, length, length-append, append-nil, append_assoc, replicate, Option, None, Some, arith, find, sym, unwrap_or}
+use Rattle.std.specs.Prelude.{◌==◌, ◌||◌, min, nat_le, nat_lt, if◌then◌else◌}
+use Rattle.std.specs.List.{list_any}
 use Rattle.std.proofs.lemmas.Bool.{le-leb, lt-ltb}
-use Rattle.line_model.specs.basics.Limits.{IsInterface, is_numbering}
+use Rattle.std.proofs.Math.Bool.{or-true}
+use Rattle.std.proofs.lemmas.Bool.Decides.{nat_tests}
+use Rattle.line_model.specs.basics.Limits.{IsInterface, is_numbering, packet_sizes}
 use Rattle.line_model.specs.declared.interface.Interface.{Interface}
 use Rattle.line_model.specs.text.Header.{HeaderNumbers, interface_with}
 use Rattle.trace_text.proofs.HeaderLemmas.{numbers_of, own_numbers}
 use Rattle.packet_decode.specs.Shown.{IsPacketSize}
 use Rattle.capture_report.specs.HeaderChannels.{ChannelList, channel_at, last_below, widened}
-use Rattle.capture_report.specs.Headers.{modulus_seen}
+use Rattle.capture_report.specs.Headers.{last_channel, modulus_seen, numbers_seen, permanent_seen, size_seen, smallest_size, window_seen}
 use Rattle.capture_report.specs.declared.header.Seen.{Seen}
 use Rattle.capture_report.specs.declared.header_channels.SeenChannel.{SeenChannel}
 
@@ -74,3 +77,40 @@ pub header_is : (i : Interface) (n : HeaderNumbers) → i.modulus ≡ n.modulus 
 header_is i n m w s p a t v j g =
     let same : numbers_of i ≡ n = λ k. record { modulus = m k; window = w k; size = s k; pvc = p k; incoming = a k; two_way = t k; svc = v k; join = j k; gaps = g k } in
     sym (ap interface_with same) ∙ own_numbers i
+
+-- ---- what was seen has a header
+
+found_in : (n a : ℕ) (xs : List ℕ) → find (λ size. nat_le n size) xs ≡ Some a → list_any (λ m. a == m) xs ≡ true
+found_in n a [] e = cc e
+found_in n a (x ∷ xs) e = at (nat_le n x) (found_in n a xs) e
+  where
+    at : (b : Bool) → (find (λ size. nat_le n size) xs ≡ Some a → list_any (λ m. a == m) xs ≡ true) → (if b then Some x else find (λ size. nat_le n size) xs) ≡ Some a → ((a == x) || list_any (λ m. a == m) xs) ≡ true
+    at true later e = let same : (a == x) ≡ true = (let is : a ≡ x = cc e in grind (arith, nat_tests, is)) in rw same refl
+    at false later e = rw (later e) (or-true (a == x))
+
+size_listed : (v : Seen) → IsPacketSize (size_seen v)
+size_listed v = at (v.largest == 0)
+  where
+    of : (o : Option ℕ) → ((a : ℕ) → o ≡ Some a → list_any (λ m. a == m) packet_sizes ≡ true) → IsPacketSize (unwrap_or o 4096)
+    of None h = refl
+    of (Some a) h = h a refl
+
+    at : (b : Bool) → IsPacketSize (if b then 128 else smallest_size v.largest)
+    at true = refl
+    at false = of (find (λ size. nat_le v.largest size) packet_sizes) (λ a. found_in v.largest a packet_sizes)
+
+window_there : (v : Seen) → is_numbering (modulus_seen v) (window_seen v) ≡ true
+window_there v = at (v.most == 0) refl
+  where
+    at : (b : Bool) → (v.most == 0) ≡ b → is_numbering (modulus_seen v) (if b then 2 else min v.most (modulus_seen v - 1)) ≡ true
+    at true e = default_window v
+    at false e = window_in_range v v.most (grind (arith, nat_tests, e))
+
+pub header_there : (v : Seen) → (i : Interface) × (interface_with (numbers_seen v) ≡ Some i)
+header_there v =
+    let n = numbers_seen v in
+    let last = last_channel v in
+    let few : permanent_seen v ≤ last = omega (arith, last_few v.channels (min v.first_call (last + 1))) in
+    let lawful = in_range (modulus_seen v) (window_seen v) (size_seen v) (permanent_seen v) last (window_there v) (size_listed v) few (omega arith) (omega arith) in
+    let i : Interface = record { modulus = n.modulus; window = n.window; size = n.size; pvc = n.pvc; incoming = n.incoming; two_way = n.two_way; svc = n.svc; join = n.join; gaps = n.gaps; lawful = lawful } in
+    (i, header_is i n refl refl refl refl refl refl refl refl refl)

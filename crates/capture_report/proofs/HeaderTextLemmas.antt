@@ -12,7 +12,7 @@ use Rattle.std.proofs.lemmas.Str.Parse.{IsDigitsTest, numerals_by_value}
 use Rattle.line_model.specs.basics.Limits.{is_channels, is_numbering, packet_sizes}
 use Rattle.line_model.specs.declared.interface.Interface.{Interface}
 use Rattle.line_model.specs.text.Header.{HeaderNumbers, header_numbers, interface_of, interface_with, number_of, numbers_in, words_of}
-use Rattle.line_model.specs.text.Text.{Line, begun_line, ended_lines}
+use Rattle.line_model.specs.text.Text.{Line, begun_line, content_of, ended_lines}
 use Rattle.line_model.proofs.TextLemmas.{HasNoLf, begun-lf, begun-more, ended-lf, ended-more}
 use Rattle.trace_text.specs.Cuts.{Lacks}
 use Rattle.trace_text.proofs.BlockLemmas.{seam}
@@ -320,6 +320,21 @@ comment_part i v s =
 one_line : (l : Line) → HasNoLf l → ended_lines (l ++ 10 ∷ []) ≡ l ∷ []
 one_line l h = ended-lf l ∙ ap (λ ls. ls ++ begun_line l ∷ []) (ended-more [] l h) ∙ ap (λ (x : Line). x ∷ []) (begun-more [] l h)
 
+head_lines : (i : Interface) (v : Seen) → IsSmall i → ended_lines (head_text i v) ≡ comment_text i v ∷ header_line i ∷ []
+head_lines i v s =
+    let c = comment_part i v s in
+    let same : head_text i v ≡ (comment_text i v ++ 10 ∷ []) ++ (header_line i ++ 10 ∷ []) = sym (append_assoc (comment_text i v) (10 ∷ []) (header_line i ++ 10 ∷ [])) in
+    let two = seam (comment_text i v ++ 10 ∷ []) (header_line i ++ 10 ∷ []) (begun-lf (comment_text i v)) in
+    ap ended_lines same ∙ two.lines ∙ ap (λ ls. ls ++ ended_lines (header_line i ++ 10 ∷ [])) (one_line (comment_text i v) c.no_lf)
+    ∙ ap (λ ls. comment_text i v ∷ ls) (one_line (header_line i) (line_has_no_lf i s))
+
+-- one of its lines is no comment: that of the header
+pub head_content : (i : Interface) (v : Seen) → content_of (ended_lines (head_text i v)) ≡ header_line i ∷ []
+head_content i v = ap content_of (head_lines i v (is_small i))
+
+pub header_read : (i : Interface) → interface_of (header_line i) ≡ Some i
+header_read i = line_interface i (is_small i)
+
 head_is : (i : Interface) (v : Seen) → IsSmall i → IsHead i (head_text i v)
 head_is i v s =
     let c = comment_part i v s in
@@ -329,8 +344,7 @@ head_is i v s =
     record {
       comment = comment_text i v;
       header = header_line i;
-      lines = ap ended_lines same ∙ two.lines ∙ ap (λ ls. ls ++ ended_lines (header_line i ++ 10 ∷ [])) (one_line (comment_text i v) c.no_lf)
-          ∙ ap (λ ls. comment_text i v ∷ ls) (one_line (header_line i) (line_has_no_lf i s));
+      lines = head_lines i v s;
       whole = ap begun_line same ∙ two.begun ∙ begun-lf (header_line i);
       is_comment = refl;
       interface = line_interface i s;

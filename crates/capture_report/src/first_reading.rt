@@ -1,6 +1,11 @@
 //! The first reading of a capture that a file system has.
 
-ghost use Rattle.std.specs.Prelude.{IfErr};
+ghost use Rattle.std.specs.Prelude.{◌≡◌, IfErr, IfOk, None, true};
+ghost use Rattle.std.specs.Option.{option_and_then};
+ghost use Rattle.line_model.specs.text.Header.{interface_with};
+ghost use Rattle.capture_files.specs.CaptureFiles.{records_of};
+ghost use Rattle.capture_report.specs.CaptureTexts.{head_lines, line_by};
+ghost use Rattle.capture_report.specs.Headers.{numbers_seen};
 ghost use Rattle.streams.specs.OpenFaults.{IsByItsReason};
 
 use crate::file_frames::FileFrames;
@@ -15,7 +20,6 @@ use capture_rows::choices::Choices;
 use capture_rows::line::Line;
 use capture_rows::station::StationBy;
 use lapb_link::ends::Ends;
-use line_model::fault::Fault;
 use line_model::state::Side;
 use std::alloc::Global;
 use std::io;
@@ -34,13 +38,17 @@ pub(crate) struct FirstReading {
 }
 
 impl FirstReading {
+    ghost use Rattle.capture_report.specs.CaptureTexts.{IsFirstReading};
+
     /// Reads a capture to its end.
     pub fn read<F: Read + Drop>(
         alloc: Global,
         file: F,
         unknown: Option<LinkKind>,
     ) -> Result<FirstReading, OpenRefusal>
-        ensures { IfErr result IsByItsReason }
+        ensures read { IfOk result (IsFirstReading (option_and_then (records_of true 0) (F.remaining file))) }
+        ensures unknown { IfOk result (λ first. first.unknown ≡ unknown) }
+        ensures reason { IfErr result IsByItsReason }
     {
         let mut frames = open_frames(alloc, file)?;
         let line = line(alloc, unknown)?;
@@ -52,7 +60,7 @@ impl FirstReading {
                 unknown,
                 last: frames.number(),
             }),
-            Err(fault) => Err(by_fault(fault)),
+            Err(_) => Err(OpenRefusal::by_system(frames.source().reason())),
         }
     }
 }
@@ -62,18 +70,21 @@ pub(crate) fn open_frames<F: Read + Drop>(
     alloc: Global,
     file: F,
 ) -> Result<FileFrames<ReaderSource<F>>, OpenRefusal>
-    ensures { IfErr result IsByItsReason }
+    ensures left { IfOk result (λ frames. frames.left ≡ option_and_then (records_of true 0) (F.remaining file)) }
+    ensures latest { IfOk result (λ frames. frames.latest ≡ None) }
+    ensures reason { IfErr result IsByItsReason }
 {
     match FileFrames::open(alloc, ReaderSource::new(alloc, file), true, 0) {
         Ok(frames) => Ok(frames),
-        Err(Refusal::Fault(fault)) => Err(by_fault(fault)),
+        Err((Refusal::Fault(_), source)) => Err(OpenRefusal::by_system(source.reason())),
         Err(_) => Err(OpenRefusal::of_capture(CaptureFault::Damaged)),
     }
 }
 
 /// Returns the line of a capture, of which nothing was read. By default the addresses show its ends.
 pub(crate) fn line(alloc: Global, unknown: Option<LinkKind>) -> Result<Line, OpenRefusal>
-    ensures { IfErr result IsByItsReason }
+    ensures line { IfOk result (λ line. line ≡ line_by unknown) }
+    ensures reason { IfErr result IsByItsReason }
 {
     let choices = Choices {
         unknown,
@@ -84,27 +95,25 @@ pub(crate) fn line(alloc: Global, unknown: Option<LinkKind>) -> Result<Line, Ope
     };
     match Line::new(alloc, choices, None, Ends::by_address()) {
         Ok(line) => Ok(line),
-        Err(_) => Err(by_fault(Fault::Memory)),
+        Err(_) => Err(of_memory()),
     }
 }
 
 /// Returns the lines of a trace that come before its rows.
 pub(crate) fn head(alloc: Global, seen: &Seen) -> Result<Vec<u8>, OpenRefusal>
-    ensures { IfErr result IsByItsReason }
+    ensures text { IfOk result (λ head. head.items ≡ head_lines seen.now (interface_with (numbers_seen seen.now))) }
+    ensures reason { IfErr result IsByItsReason }
 {
     let mut head = Vec::new(alloc);
     match print_head(&seen.header(), seen, &mut head) {
         Ok(()) => Ok(head),
-        Err(_) => Err(by_fault(Fault::Memory)),
+        Err(_) => Err(of_memory()),
     }
 }
 
-/// Returns the refusal of a file that a fault kept from being read.
-fn by_fault(fault: Fault) -> OpenRefusal
+/// Returns the refusal of a file where memory is refused.
+fn of_memory() -> OpenRefusal
     ensures { IsByItsReason result }
 {
-    OpenRefusal::by_system(match fault {
-        Fault::Memory => io::Error::from(ErrorKind::OutOfMemory),
-        _ => io::Error::other("reading failed"),
-    })
+    OpenRefusal::by_system(io::Error::from(ErrorKind::OutOfMemory))
 }
