@@ -6,8 +6,11 @@ ghost use Rattle.json_lines.specs.Json.{json_text};
 ghost use Rattle.line_model.specs.basics.Device.{with_more};
 ghost use Rattle.line_model.specs.text.Text.{early, fault};
 ghost use Rattle.line_model.specs.traces.Traces.{trace_report};
+ghost use Rattle.live_report.specs.Found.{HasFound, found as findings_of};
+ghost use Rattle.live_report.specs.Lives.{WasFed};
 ghost use Rattle.live_report.specs.Reports.{IsRefusal};
 ghost use Rattle.trace_text.specs.EndedPart.{ended_part as ended};
+ghost use Rattle.trace_text.specs.Represents.{IsFaultOf};
 ghost use Rattle.x25scan_c.specs.Sound.{Brings, EndsRows, IsSound, WasRead, has_ended, packet_line, prints_rows};
 ghost use Rattle.x25scan_c.specs.Waits.{waiting};
 
@@ -37,6 +40,55 @@ pub enum Reading<A: Allocator, C: Channel<A>> {
     Refused(Fault),
     /// The trace has ended.
     Ended,
+}
+
+/// Reads the next bytes of a trace text, as `Live::feed`, and appends what their rows found.
+fn feed_live<A: Allocator + Copy, C: Channel<A>>(
+    live: &mut Live<A, C>,
+    chunk: &[u8],
+    found: &mut Waiting<Finding, A>,
+) -> Result<(), Fault>
+    requires { IsSound C.Channel (Reading.Report live.old) }
+    ensures sound { IsSound C.Channel (Reading.Report live.new) }
+    ensures fed { (text : List ℕ) → WasFed C.Channel text live.old
+        → OnOk result (WasFed C.Channel (text ++ chunk.now) live.new) }
+    ensures found { (text : List ℕ) → WasFed C.Channel text live.old → OnOk result
+        (HasFound (waiting found.old) (waiting found.new) (findings_of text) (findings_of (text ++ chunk.now))) }
+    ensures refused { (text : List ℕ) → WasFed C.Channel text live.old
+        → IfErr result (IsFaultOf (early (text ++ chunk.now))) }
+{
+    live.feed(chunk)?;
+    found.append(live.found())?;
+    Ok(())
+}
+
+/// Reads a packet, as `Live::packet`, and appends what it found.
+#[inline(always)]
+fn live_packet<A: Allocator + Copy, C: Channel<A>>(
+    live: &mut Live<A, C>,
+    number: u32,
+    side: Side,
+    octets: &[u8],
+    found: &mut Waiting<Finding, A>,
+) -> Result<bool, Fault>
+    requires { IsSound C.Channel (Reading.Report live.old) }
+    ensures sound { IsSound C.Channel (Reading.Report live.new) }
+    ensures taken { (text : List ℕ) → WasFed C.Channel text live.old → result ≡ Ok true
+        → WasFed C.Channel (text ++ packet_line number side octets.now) live.new }
+    ensures passed { (text : List ℕ) → WasFed C.Channel text live.old → result ≡ Ok false
+        → WasFed C.Channel text live.new }
+    ensures found { (text : List ℕ) → WasFed C.Channel text live.old → result ≡ Ok true
+        → HasFound (waiting found.old) (waiting found.new) (findings_of text)
+        (findings_of (text ++ packet_line number side octets.now)) }
+    ensures unfound { result ≡ Ok false → found.new ≡ found.old }
+{
+    if !live.packet(number, side, octets)? {
+        return Ok(false);
+    }
+    if !live.found().is_empty() {
+        found.append(live.found())?;
+    }
+    Ok(true)
 }
 
 impl<A: Allocator + Copy, C: Channel<A>> Reading<A, C> {
@@ -84,11 +136,7 @@ impl<A: Allocator + Copy, C: Channel<A>> Reading<A, C> {
             → IfErr result (IsRefusalOf (early (text ++ chunk.now))) }
     {
         match self {
-            Reading::Report(live) => {
-                live.feed(chunk)?;
-                found.append(live.found())?;
-                Ok(())
-            }
+            Reading::Report(live) => feed_live(live, chunk, found),
             Reading::Rows(printer) => match printer.feed(chunk, rows) {
                 Ok(()) => Ok(()),
                 Err(fault) => {
@@ -120,16 +168,10 @@ impl<A: Allocator + Copy, C: Channel<A>> Reading<A, C> {
         ensures unfound { result ≡ Ok false → found.new ≡ found.old }
         ensures form { prints_rows self.new ≡ prints_rows self.old }
     {
-        let Reading::Report(live) = self else {
-            return Ok(false);
-        };
-        if !live.packet(number, side, octets)? {
-            return Ok(false);
+        match self {
+            Reading::Report(live) => live_packet(live, number, side, octets, found),
+            _ => Ok(false),
         }
-        if !live.found().is_empty() {
-            found.append(live.found())?;
-        }
-        Ok(true)
     }
 
     /// Writes the report of the lines that have ended, as `Live::report`, or where rows are printed its objects.
