@@ -1,15 +1,6 @@
--- The channels of a line as they are kept, and the ranges of a header.
-use Rattle.std.proofs.Common.{◌≡◌, ◌∙◌, ap, refl, ℕ, zero, suc, ◌+◌, ◌-◌, ◌<◌, ◌≤◌, Bool, true, false, List, [], ◌∷◌, ◌++◌, length, length-append, append-nil, append_assoc, replicate, Some, arith, sym}
-use Rattle.std.specs.Prelude.{◌==◌, ◌||◌, min, nat_lt, if◌then◌else◌}
-use Rattle.std.proofs.lemmas.Bool.{le-leb, lt-ltb}
-use Rattle.line_model.specs.basics.Limits.{IsInterface, is_numbering}
-use Rattle.line_model.specs.declared.interface.Interface.{Interface}
-use Rattle.line_model.specs.text.Header.{HeaderNumbers, interface_with}
-use Rattle.trace_text.proofs.HeaderLemmas.{numbers_of, own_numbers}
-use Rattle.packet_decode.specs.Shown.{IsPacketSize}
+-- The channels of a line as they are kept.
+use Rattle.std.proofs.Common.{◌≡◌, ◌∙◌, ap, refl, ℕ, suc, ◌+◌, ◌-◌, ◌<◌, ◌≤◌, true, false, List, [], ◌∷◌, ◌++◌, length, length-append, append-nil, append_assoc, replicate, arith}
 use Rattle.capture_report.specs.HeaderChannels.{ChannelList, channel_at, last_below, widened}
-use Rattle.capture_report.specs.Headers.{modulus_seen}
-use Rattle.capture_report.specs.declared.header.Seen.{Seen}
 use Rattle.capture_report.specs.declared.header_channels.SeenChannel.{SeenChannel}
 
 -- a channel more is one of those that the list lacks
@@ -36,41 +27,3 @@ last_used c n some h = let more : n ≡ suc (n - 1) = omega (arith, some) in ap 
 
 pub last_unused : (c : ChannelList) (n : ℕ) → 0 < n → (channel_at c (n - 1)).is_used ≡ false → last_below c n ≡ last_below c (n - 1)
 last_unused c n some h = let more : n ≡ suc (n - 1) = omega (arith, some) in ap (last_below c) more ∙ rw h refl
-
-pub last_few : (c : ChannelList) (n : ℕ) → last_below c n ≤ n - 1
-last_few c zero = omega arith
-last_few c (suc n) = below (channel_at c n).is_used (last_few c n)
-  where
-    below : (b : Bool) → last_below c n ≤ n - 1 → (if b then n else last_below c n) ≤ suc n - 1
-    below true few = omega arith
-    below false few = omega (arith, few)
-
--- ---- the ranges of a header
-
-numbered : (m w : ℕ) → ((m == 8) || (m == 128)) ≡ true → 1 ≤ w → w < m → is_numbering m w ≡ true
-numbered m w h some few = rw (h, le-leb 1 w some, lt-ltb w m few) refl
-
-pub default_window : (v : Seen) → is_numbering (modulus_seen v) 2 ≡ true
-default_window v = by (nat_lt v.of_8 v.of_128)
-  where
-    by : (b : Bool) → is_numbering (if b then 128 else 8) 2 ≡ true
-    by true = refl
-    by false = refl
-
-pub window_in_range : (v : Seen) (n : ℕ) → 0 < n → is_numbering (modulus_seen v) (min n (modulus_seen v - 1)) ≡ true
-window_in_range v n some = by (nat_lt v.of_8 v.of_128)
-  where
-    by : (b : Bool) → is_numbering (if b then 128 else 8) (min n ((if b then 128 else 8) - 1)) ≡ true
-    by true = numbered 128 (min n (128 - 1)) refl (omega (arith, some)) (omega arith)
-    by false = numbered 8 (min n (8 - 1)) refl (omega (arith, some)) (omega arith)
-
-pub in_range : (m w s p l : ℕ) → is_numbering m w ≡ true → IsPacketSize s → p ≤ l → 1 ≤ l → l ≤ 4095 → IsInterface m w s p p l l
-in_range m w s p l numbering size few some most =
-    rw (numbering, size, le-leb 1 l some, le-leb l 4095 most, le-leb p p (omega arith), le-leb p l few, le-leb l l (omega arith)) refl
-
--- the header of these numbers
-pub header_is : (i : Interface) (n : HeaderNumbers) → i.modulus ≡ n.modulus → i.window ≡ n.window → i.size ≡ n.size → i.pvc ≡ n.pvc → i.incoming ≡ n.incoming → i.two_way ≡ n.two_way → i.svc ≡ n.svc → i.join ≡ n.join → i.gaps ≡ n.gaps
-    → interface_with n ≡ Some i
-header_is i n m w s p a t v j g =
-    let same : numbers_of i ≡ n = λ k. record { modulus = m k; window = w k; size = s k; pvc = p k; incoming = a k; two_way = t k; svc = v k; join = j k; gaps = g k } in
-    sym (ap interface_with same) ∙ own_numbers i

@@ -40,12 +40,12 @@ impl<F: Read + Drop> CaptureText<F> {
     {
         let FirstReading {
             plan,
-            unknown,
+            options,
             last,
             ..
         } = first;
         let frames = open_frames(alloc, file)?;
-        let line = line(alloc, unknown)?;
+        let line = line(alloc, &options)?;
         let page = Page::new(head, last <= MOST_NUMBERED);
         let reader = Reader::new(line, Order::Placed(plan), page);
         Ok(CaptureText {

@@ -4,19 +4,15 @@ ghost use Rattle.std.specs.Prelude.{IfErr};
 ghost use Rattle.streams.specs.OpenFaults.{IsByItsReason};
 
 use crate::file_frames::FileFrames;
-use crate::header::Seen;
 use crate::header_text::print_head;
+use crate::options::CaptureOptions;
 use crate::plan::Plan;
 use crate::reader_source::ReaderSource;
 use crate::survey::Survey;
 use capture_files::refusal::Refusal;
-use capture_model::kind::LinkKind;
-use capture_rows::choices::Choices;
 use capture_rows::line::Line;
-use capture_rows::station::StationBy;
 use lapb_link::ends::Ends;
 use line_model::fault::Fault;
-use line_model::state::Side;
 use std::alloc::Global;
 use std::io;
 use std::io::{ErrorKind, Read};
@@ -27,8 +23,8 @@ use streams::input::{CaptureFault, OpenRefusal};
 pub(crate) struct FirstReading {
     pub plan: Plan,
     pub survey: Survey,
-    /// The link header of unknown link types.
-    pub unknown: Option<LinkKind>,
+    /// How the capture was read.
+    pub options: CaptureOptions,
     /// The number of the last frame.
     pub last: u64,
 }
@@ -38,18 +34,18 @@ impl FirstReading {
     pub fn read<F: Read + Drop>(
         alloc: Global,
         file: F,
-        unknown: Option<LinkKind>,
+        options: CaptureOptions,
     ) -> Result<FirstReading, OpenRefusal>
         ensures { IfErr result IsByItsReason }
     {
         let mut frames = open_frames(alloc, file)?;
-        let line = line(alloc, unknown)?;
-        let mut survey = Survey::new(alloc, unknown);
+        let line = line(alloc, &options)?;
+        let mut survey = Survey::new(alloc, options.choices);
         match Plan::read(alloc, line, &mut frames, &mut survey) {
             Ok(plan) => Ok(FirstReading {
                 plan,
                 survey,
-                unknown,
+                options,
                 last: frames.number(),
             }),
             Err(fault) => Err(by_fault(fault)),
@@ -71,29 +67,30 @@ pub(crate) fn open_frames<F: Read + Drop>(
     }
 }
 
-/// Returns the line of a capture, of which nothing was read. By default the addresses show its ends.
-pub(crate) fn line(alloc: Global, unknown: Option<LinkKind>) -> Result<Line, OpenRefusal>
+/// Returns the line of a capture, of which nothing was read. The addresses show its ends.
+pub(crate) fn line(alloc: Global, options: &CaptureOptions) -> Result<Line, OpenRefusal>
     ensures { IfErr result IsByItsReason }
 {
-    let choices = Choices {
-        unknown,
-        carrier: None,
-        interface: None,
-        station_by: StationBy::Either,
-        host: Side::T,
-    };
-    match Line::new(alloc, choices, None, Ends::by_address()) {
+    match Line::new(alloc, options.choices, options.modulus, Ends::by_address()) {
         Ok(line) => Ok(line),
         Err(_) => Err(by_fault(Fault::Memory)),
     }
 }
 
-/// Returns the lines of a trace that come before its rows.
-pub(crate) fn head(alloc: Global, seen: &Seen) -> Result<Vec<u8>, OpenRefusal>
+/// Why a header is refused whose numbers are given.
+const NO_HEADER: &str =
+    "the numbers of the header do not go together: WIN is below MOD, and PVC, IN, TWO and OUT do not fall";
+
+/// Returns the lines of a trace that come before its rows. Fails where numbers that are given are not those of an interface.
+pub(crate) fn head(alloc: Global, first: &FirstReading) -> Result<Vec<u8>, OpenRefusal>
     ensures { IfErr result IsByItsReason }
 {
+    let (seen, given) = (first.survey.seen(), &first.options.header);
+    let Some(header) = seen.header(given) else {
+        return Err(OpenRefusal::by_system(io::Error::other(NO_HEADER)));
+    };
     let mut head = Vec::new(alloc);
-    match print_head(&seen.header(), seen, &mut head) {
+    match print_head(&header, seen, given, &mut head) {
         Ok(()) => Ok(head),
         Err(_) => Err(by_fault(Fault::Memory)),
     }

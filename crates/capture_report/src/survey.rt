@@ -11,6 +11,7 @@ use capture_model::carried::Carried;
 use capture_model::frame::Frame;
 use capture_model::header::read_header;
 use capture_model::kind::{LinkKind, kind_of_link};
+use capture_rows::choices::Choices;
 use capture_rows::given::Given;
 use capture_rows::line::FrameRead;
 use lapb_link::frames::Place;
@@ -22,8 +23,8 @@ use streams::input::CaptureFault;
 /// What was seen of a capture as a whole.
 #[derive(Drop)]
 pub struct Survey {
-    /// The link header of frames whose link type is unknown.
-    unknown: Option<LinkKind>,
+    /// How the frames are read.
+    choices: Choices,
     /// The link header that the first frame of an unknown link type looks like, where that is one for private use.
     likely: Option<LinkKind>,
     seen: Seen,
@@ -38,10 +39,10 @@ pub struct Survey {
 }
 
 impl Survey {
-    /// Returns the survey of a capture of which nothing was seen. `unknown` is the link header of unknown link types.
-    pub fn new(alloc: Global, unknown: Option<LinkKind>) -> Survey {
+    /// Returns the survey of a capture of which nothing was seen.
+    pub fn new(alloc: Global, choices: Choices) -> Survey {
         Survey {
-            unknown,
+            choices,
             likely: None,
             seen: Seen::new(alloc),
             interface: None,
@@ -85,11 +86,21 @@ impl Survey {
     /// Sees the gap of frames that were dropped.
     fn see_dropped(&mut self, dropped: Option<Dropped>) -> Result<(), AllocError> {
         match dropped {
-            Some(dropped) if dropped.count > 0 => self.seen.see(&Row::gap_of_all(Place {
-                frame: dropped.number,
-                time: dropped.time,
-            })),
+            Some(dropped) if dropped.count > 0 && self.is_on(dropped.interface) => {
+                self.seen.see(&Row::gap_of_all(Place {
+                    frame: dropped.number,
+                    time: dropped.time,
+                }))
+            }
             _ => Ok(()),
+        }
+    }
+
+    /// Returns whether frames of an interface are read.
+    fn is_on(&self, interface: u32) -> bool {
+        match self.choices.interface {
+            Some(chosen) => chosen == interface,
+            None => true,
         }
     }
 
@@ -103,7 +114,7 @@ impl Survey {
 
     /// Sees what a frame carries, and whether it gives a packet.
     fn see_carried(&mut self, frame: &Frame<'_>, is_packet: bool) {
-        let Some(kind) = kind_of_link(frame.link).or(self.unknown) else {
+        let Some(kind) = kind_of_link(frame.link).or(self.choices.unknown) else {
             self.see_unknown(frame);
             return;
         };

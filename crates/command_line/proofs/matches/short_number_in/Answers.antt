@@ -1,5 +1,5 @@
 use Rattle.std.proofs.Common.{◌∙◌, ap, arith}
-use Rattle.command_line.specs.Asked.{number_of}
+use Rattle.command_line.specs.Numbers.{number_of}
 use Rattle.command_line.proofs.NumberLemmas.{number_read}
 use Rattle.command_line.proofs.matches.workers_in.Goals as goal
 
