@@ -146,6 +146,24 @@ class Places(unittest.TestCase):
         self.add(Missing(7, None, since=2), Missing(7, None, channel=4))
         self.assertEqual(self.shown(), [1, -2, 2, -3, 3, -4, 6, -7, -7])
 
+    def test_late_packet_between_gaps(self):
+        """Gaps that follow each other are one, unless a late packet comes between them."""
+        self.packets(1, 2)
+        self.add(Missing(4, None, since=2), Missing(6, None, since=2), Missing(7, None, since=2))
+        self.packets(4)
+        self.assertEqual(self.shown(), [1, 2, -4, 4, -6])
+
+    def test_late_packet_in_a_range(self):
+        self.packets(1, 2)
+        self.add(Missing(6, None, since=3))
+        self.packets(6, 5, 3)
+        self.assertEqual(self.shown(), [1, 2, 3, -5, 5, -6, 6])
+
+    def test_gap_before_the_gap_of_a_packet(self):
+        self.packets(1)
+        self.add(Missing(2, None, channel=4), Missing(3, None, since=1))
+        self.assertEqual(self.shown(), [1, -2, -2, -3])
+
     def test_other_link(self):
         self.packets(1, 2)
         other = Line(Carrier.LAPB, lapb=self.line.lapb)

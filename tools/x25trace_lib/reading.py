@@ -182,16 +182,17 @@ class Reading:
 
     def from_packet(self, frame: Frame, carried: Carried, at: int) -> Sequence[Item]:
         """A packet without a link header, or its gap; before one of a Linux device an octet says what it is."""
-        if self.is_damaged:
-            # Such packets have no link numbers that would show whether one is missing.
-            self.is_damaged = False
-            return [Missing(frame.number, frame.time), *self.from_packet(frame, carried, at)]
         octets = frame.octets
         if carried is Carried.DEVICE and len(octets) > at and octets[at] < 4:
             if octets[at]:
                 self.ledger.left_out(Reason.DEVICE_WORD)
                 return ()
             at += 1
+            carried = Carried.X25
+        if self.is_damaged:
+            # Such packets have no link numbers that would show whether one is missing.
+            self.is_damaged = False
+            return [Missing(frame.number, frame.time), *self.from_packet(frame, carried, at)]
         side = self.side(frame)
         if side is None:
             self.ledger.left_out(Reason.NO_SIDE)

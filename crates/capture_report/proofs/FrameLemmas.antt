@@ -1,5 +1,5 @@
 -- What a frame gives has its octets, and at most 4,200 of them.
-use Rattle.std.proofs.Common.{◌≡◌, ℕ, suc, ◌+◌, ◌-◌, ◌*◌, ◌%◌, ◌≤◌, ◌&&◌, ◌||◌, Bool, true, false, min, List, [], ◌∷◌, length, Option, None, Some, drop, take, refl, arith}
+use Rattle.std.proofs.Common.{◌≡◌, ℕ, suc, ◌+◌, ◌-◌, ◌*◌, ◌%◌, ◌<◌, ◌≤◌, ◌&&◌, ◌||◌, Bool, true, false, min, List, [], ◌∷◌, length, Option, None, Some, drop, take, refl, arith}
 use Rattle.std.specs.Prelude.{IfSome, nat_le, nat_lt, slice_index, unwrap_or, ◌==◌, if◌then◌else◌}
 use Rattle.std.specs.Option.{option_map}
 use Rattle.std.proofs.lemmas.Bool.Decides.{nat_tests}
@@ -152,7 +152,7 @@ header_carried kind.DirectedPacket d p h = directed_carried p.octets (Packet (af
 
 abbrev pub IsGiven : Given → Type 0
 IsGiven (given.Packet s octets) = IsBytes octets × (length octets ≤ 4200)
-IsGiven (given.Gap c r) = IfSome c (λ k. 1 ≤ k)
+IsGiven (given.Gap c r) = IfSome c (λ k. (1 ≤ k) × (k ≤ 4095))
 IsGiven (given.Held s octets cut) = IsBytes octets
 IsGiven (given.OfLink k) = Unit {0}
 IsGiven (given.LeftOut r) = Unit {0}
@@ -160,24 +160,24 @@ IsGiven (given.LeftOut r) = Unit {0}
 abbrev channel_if : Bool → ℕ → Option ℕ
 channel_if none n = if none then None else Some n
 
-some_channel_is : (n : ℕ) → IfSome (some_channel n) (λ k. 1 ≤ k)
-some_channel_is n = at (n == 0) refl
+some_channel_is : (n : ℕ) → n ≤ 4095 → IfSome (some_channel n) (λ k. (1 ≤ k) × (k ≤ 4095))
+some_channel_is n few = at (n == 0) refl
   where
-    at : (none : Bool) → (n == 0) ≡ none → IfSome (channel_if none n) (λ k. 1 ≤ k)
+    at : (none : Bool) → (n == 0) ≡ none → IfSome (channel_if none n) (λ k. (1 ≤ k) × (k ≤ 4095))
     at true e = tt
-    at false e = grind (arith, nat_tests, e)
+    at false e = (grind (arith, nat_tests, e), few)
 
-lost_given : (octets : List ℕ) (r : Reason) → IsGiven (lost octets r)
-lost_given [] r = tt
-lost_given (a ∷ []) r = tt
-lost_given (a ∷ b ∷ xs) r = some_channel_is (a % 16 * 256 + b)
+lost_given : (octets : List ℕ) (r : Reason) → IsBytes octets → IsGiven (lost octets r)
+lost_given [] r h = tt
+lost_given (a ∷ []) r h = tt
+lost_given (a ∷ b ∷ xs) r h = let low : b < 256 = h 1 in some_channel_is (a % 16 * 256 + b) (omega (arith, low))
 
 pub packet_given : (s : Side) (octets : List ℕ) (cut : Bool) → IsBytes octets → IsGiven (packet_or_gap s octets cut)
-packet_given s octets true h = lost_given octets reason.CutPacket
+packet_given s octets true h = lost_given octets reason.CutPacket h
 packet_given s octets false h = at (nat_lt 4200 (length octets)) refl
   where
     at : (b : Bool) → nat_lt 4200 (length octets) ≡ b → IsGiven (if b then lost octets reason.LongPacket else given.Packet s octets)
-    at true e = lost_given octets reason.LongPacket
+    at true e = lost_given octets reason.LongPacket h
     at false e = (h, grind (arith, nat_tests, e))
 
 pub record IsFrameRead (r : Read) : Type 0 where
@@ -194,9 +194,9 @@ nothing_read r l h = record { after = h; shown = tt; given = tt }
 
 as_given_is : (s : Option Sender) (cut : Bool) (w : links.What) → IsWhat w → IsGiven (as_given s cut w)
 as_given_is (Some s) cut (links.Packet p) h = packet_given s.side p cut h
-as_given_is None cut (links.Packet p) h = lost_given p reason.NoSide
+as_given_is None cut (links.Packet p) h = lost_given p reason.NoSide h
 as_given_is (Some s) cut (links.Held p) h = h
-as_given_is None cut (links.Held p) h = lost_given p reason.NoSide
+as_given_is None cut (links.Held p) h = lost_given p reason.NoSide h
 as_given_is s cut (links.OfLink k) h = tt
 as_given_is s cut (links.LeftOut r) h = tt
 
@@ -240,7 +240,7 @@ unframed_bytes p h = at (nat_lt (length p.octets) p.length)
     at false = cut (checked_end (unflagged p.octets))
 
 packet_by_given : (s : Option Side) (p : Payload) → IsBytes p.octets → IsGiven (packet_by s p)
-packet_by_given None p h = lost_given p.octets reason.NoSide
+packet_by_given None p h = lost_given p.octets reason.NoSide h
 packet_by_given (Some s) p h = packet_given s p.octets (nat_lt (length p.octets) p.length) h
 
 packet_is : (d : Direction) (p : Payload) (l : Line) → IsBytes p.octets → HoldsFrames l.link → IsFrameRead (packet_read d p l)

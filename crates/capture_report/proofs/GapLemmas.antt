@@ -1,8 +1,7 @@
 -- Ranges that are passed one by one.
-use Rattle.std.specs.Prelude.{◌≡◌, ℕ, ◌+◌, ◌<◌, ◌≤◌, ◌&&◌, ◌||◌, max, nat_le, nat_lt, Bool, true, false, List, ◌++◌, Option, None, Some, length, take, drop, refl}
-use Rattle.std.specs.List.{list_any, slice_index_or}
-use Rattle.std.specs.List.Sorted.{IsNonDecreasingBy}
-use Rattle.std.proofs.Common.{sym, ◌∙◌, ap, subst, arith, rules}
+use Rattle.std.specs.Prelude.{◌≡◌, ℕ, ◌+◌, ◌<◌, ◌≤◌, ◌||◌, Bool, true, false, List, Option, None, Some, length, take, drop, refl}
+use Rattle.std.specs.List.{slice_index_or}
+use Rattle.std.proofs.Common.{sym, ◌∙◌, ap, arith}
 use Rattle.std.proofs.lemmas.List.{get_or-drop, length-drop, take-append-drop}
 use Rattle.std.proofs.lemmas.List.Folds.{list_any-append, list_any_more, list_any_none}
 use Rattle.capture_report.specs.Gaps.{ArePassed, InOrder, IsNextBefore, NoneBefore, further, holds_frame, is_in, reaches}

@@ -1,9 +1,13 @@
 -- The text of a trace, given part by part.
-use Rattle.std.proofs.Common.{◌≡◌, ◌∙◌, sym, ap, ℕ, ◌+◌, ◌-◌, ◌<◌, ◌≤◌, List, [], ◌++◌, Option, None, Some, append_assoc, arith, drop, length, min, refl, take, true, false}
-use Rattle.std.proofs.lemmas.List.{append-nil, drop-drop, drop_all, length-drop, length-take, nil_from_length, take-append-drop}
+use Rattle.std.proofs.Common.{◌≡◌, ◌∙◌, sym, ap, ℕ, ◌+◌, ◌-◌, ◌<◌, ◌≤◌, ◌⊎◌, inl, inr, List, [], ◌++◌, Option, None, Some, append_assoc, arith, drop, length, min, refl, subst, take, true, false}
+use Rattle.std.specs.Prelude.{option_map}
+use Rattle.std.specs.Io.KnownBytes.{Consumes}
+use Rattle.std.proofs.Math.Seq.{take-append_seam}
+use Rattle.std.proofs.lemmas.Bool.{cases_lt}
+use Rattle.std.proofs.lemmas.List.{drop-drop, drop_all, length-drop, length-take, take-append-drop}
 use Rattle.line_model.specs.basics.Device.{Gives}
 use Rattle.capture_report.specs.Records.{Record}
-use Rattle.capture_report.specs.Traces.{GoesOn, IsFilled, IsFilling, IsMade, IsReady, Stands, rows_text, text_left}
+use Rattle.capture_report.specs.Traces.{bytes_left, IsFilled, IsFilling, IsMade, IsReady, rows_text, text_left}
 use Rattle.capture_report.specs.declared.reader.Reader.{Reader}
 
 pub filled_none : (left : Option (List Record)) (r : Reader) → IsFilling left left r r
@@ -85,3 +89,60 @@ given_next left after r place ahead to count ready within is_ahead is_count is_t
           ∙ ap (λ xs. xs ++ rows_text r s.0) (drop_all place r.page.text all)
           ∙ ap (λ rs. rows_text r rs) (s.2.some all);
     }
+
+-- ---- the bytes that are passed on
+
+pub bytes_first : (records : Option (List Record)) (r : Reader) (latest : List ℕ) (left : Option (List ℕ)) → latest ≡ [] → left ≡ text_left records r 0 → bytes_left 0 latest left ≡ option_map (λ rs. r.page.text ++ rows_text r rs) records
+bytes_first records r latest left none is = ap (λ xs. bytes_left 0 xs left) none ∙ ap (bytes_left 0 []) is ∙ at records
+  where
+    at : (records : Option (List Record)) → bytes_left 0 [] (text_left records r 0) ≡ option_map (λ rs. r.page.text ++ rows_text r rs) records
+    at None = refl
+    at (Some rs) = refl
+
+-- all were given
+all_given : (given : ℕ) (latest text : List ℕ) (left : Option (List ℕ)) → length latest ≤ given → bytes_left given latest left ≡ Some text → left ≡ Some text
+all_given given latest text None all e = cc e
+all_given given latest text (Some rest) all e = ap (λ xs. Some (xs ++ rest)) (sym (drop_all given latest all)) ∙ e
+
+pub bytes_kept : (given : ℕ) (latest now : List ℕ) (left after : Option (List ℕ)) → length latest ≤ given → after ≡ left → (text : List ℕ) → bytes_left given latest left ≡ Some text → bytes_left (length now) now after ≡ Some text
+bytes_kept given latest now left after all same text e =
+    ap (bytes_left (length now) now) (same ∙ all_given given latest text left all e) ∙ ap (λ xs. Some (xs ++ text)) (drop_all (length now) now (omega arith))
+
+pub bytes_more : (given : ℕ) (latest now : List ℕ) (left after : Option (List ℕ)) → length latest ≤ given → Gives left after now → (text : List ℕ) → bytes_left given latest left ≡ Some text → bytes_left 0 now after ≡ Some text
+bytes_more given latest now left after all gives text e =
+    let more = gives.shown text (all_given given latest text left all e) in
+    ap (bytes_left 0 now) more.1 ∙ ap Some (sym more.2)
+
+pub bytes_end : (given : ℕ) (latest now : List ℕ) (left after : Option (List ℕ)) → length latest ≤ given → Gives left after now → now ≡ [] → (text : List ℕ) → bytes_left given latest left ≡ Some text → text ≡ []
+bytes_end given latest now left after all gives none text e = gives.end text (all_given given latest text left all e) none
+
+pub bytes_given : (given from count next : ℕ) (latest bytes : List ℕ) (left : Option (List ℕ)) → from ≡ min given (length latest) → count ≤ length latest - from → next ≡ from + count → bytes ≡ take count (drop from latest)
+    → Consumes (bytes_left given latest left) (bytes_left next latest left) bytes
+bytes_given given from count next latest bytes None is few to same = tt
+bytes_given given from count next latest bytes (Some rest) is few to same = at (cases_lt given (length latest))
+  where
+    beyond : drop given latest ≡ drop from latest → drop given latest ++ rest ≡ bytes ++ (drop next latest ++ rest)
+    beyond e =
+        ap (λ xs. xs ++ rest) (e ∙ sym (take-append-drop count (drop from latest)))
+        ∙ append_assoc (take count (drop from latest)) (drop count (drop from latest)) rest
+        ∙ ap (λ xs. take count (drop from latest) ++ (xs ++ rest)) (drop-drop count from latest ∙ ap (λ k. drop k latest) (sym to))
+        ∙ ap (λ xs. xs ++ (drop next latest ++ rest)) (sym same)
+
+    at : (given < length latest) ⊎ (length latest ≤ given) → drop given latest ++ rest ≡ bytes ++ (drop next latest ++ rest)
+    at (inl less) = let here : given ≡ from = omega (arith, is, less) in beyond (ap (λ k. drop k latest) here)
+    at (inr all) = let end : length latest ≤ from = omega (arith, is, all) in beyond (drop_all given latest all ∙ sym (drop_all from latest end))
+
+-- what was copied to the front of a room
+pub room_has : (count from : ℕ) (front rest latest : List ℕ) → front ≡ take (from + count - from) (drop from latest) → length front ≡ count → take count (front ++ rest) ≡ take count (drop from latest)
+room_has count from front rest latest is whole =
+    let same : from + count - from ≡ count = omega arith in
+    ap (λ k. take k (front ++ rest)) (sym whole) ∙ take-append_seam front rest ∙ is ∙ ap (λ k. take k (drop from latest)) same
+
+-- a read that changed nothing of what is left, and then gave bytes
+pub consumed : (old middle new : Option (List ℕ)) (bytes : List ℕ) → ((text : List ℕ) → old ≡ Some text → middle ≡ Some text) → Consumes middle new bytes → Consumes old new bytes
+consumed None middle new bytes same given = tt
+consumed (Some text) middle new bytes same given = subst (λ o. Consumes o new bytes) (same text refl) given
+
+pub ended : (old new : Option (List ℕ)) → ((text : List ℕ) → old ≡ Some text → new ≡ Some text) → new ≡ Some [] → Consumes old new []
+ended None new same end = tt
+ended (Some text) new same end = let is : new ≡ Some text = same text refl in subst (λ o. Consumes (Some text) o []) (sym is) refl

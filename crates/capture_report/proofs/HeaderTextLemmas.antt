@@ -12,7 +12,7 @@ use Rattle.std.proofs.lemmas.Str.Parse.{IsDigitsTest, numerals_by_value}
 use Rattle.line_model.specs.basics.Limits.{is_channels, is_numbering, packet_sizes}
 use Rattle.line_model.specs.declared.interface.Interface.{Interface}
 use Rattle.line_model.specs.text.Header.{HeaderNumbers, header_numbers, interface_of, interface_with, number_of, numbers_in, words_of}
-use Rattle.line_model.specs.text.Text.{Line, begun_line, ended_lines, is_comment}
+use Rattle.line_model.specs.text.Text.{Line, begun_line, content_of, ended_lines, is_comment}
 use Rattle.line_model.proofs.TextLemmas.{HasNoLf, begun-lf, begun-more, ended-lf, ended-more}
 use Rattle.trace_text.specs.Cuts.{Lacks}
 use Rattle.trace_text.proofs.BlockLemmas.{seam}
@@ -344,6 +344,22 @@ comment_is i v g s = by (is_whole g)
 one_line : (l : Line) → HasNoLf l → ended_lines (l ++ 10 ∷ []) ≡ l ∷ []
 one_line l h = ended-lf l ∙ ap (λ ls. ls ++ begun_line l ∷ []) (ended-more [] l h) ∙ ap (λ (x : Line). x ∷ []) (begun-more [] l h)
 
+head_lines : (i : Interface) (v : Seen) (g : GivenHeader) → IsSmall i → ended_lines (head_text i v g) ≡ comment_text i v g ∷ header_line i ∷ []
+head_lines i v g s =
+    let c = (comment_is i v g s).part in
+    let same : head_text i v g ≡ (comment_text i v g ++ 10 ∷ []) ++ (header_line i ++ 10 ∷ []) = sym (append_assoc (comment_text i v g) (10 ∷ []) (header_line i ++ 10 ∷ [])) in
+    let two = seam (comment_text i v g ++ 10 ∷ []) (header_line i ++ 10 ∷ []) (begun-lf (comment_text i v g)) in
+    ap ended_lines same ∙ two.lines ∙ ap (λ ls. ls ++ ended_lines (header_line i ++ 10 ∷ [])) (one_line (comment_text i v g) c.no_lf)
+    ∙ ap (λ ls. comment_text i v g ∷ ls) (one_line (header_line i) (line_has_no_lf i s))
+
+-- one of its lines is no comment: that of the header
+pub head_content : (i : Interface) (v : Seen) (g : GivenHeader) → content_of (ended_lines (head_text i v g)) ≡ header_line i ∷ []
+head_content i v g =
+    ap content_of (head_lines i v g (is_small i)) ∙ ap (λ b. if b then header_line i ∷ [] else comment_text i v g ∷ header_line i ∷ []) (comment_is i v g (is_small i)).is_comment
+
+pub header_read : (i : Interface) → interface_of (header_line i) ≡ Some i
+header_read i = line_interface i (is_small i)
+
 head_is : (i : Interface) (v : Seen) (g : GivenHeader) → IsSmall i → IsHead i (head_text i v g)
 head_is i v g s =
     let commented = comment_is i v g s in
@@ -354,8 +370,7 @@ head_is i v g s =
     record {
       comment = comment_text i v g;
       header = header_line i;
-      lines = ap ended_lines same ∙ two.lines ∙ ap (λ ls. ls ++ ended_lines (header_line i ++ 10 ∷ [])) (one_line (comment_text i v g) c.no_lf)
-          ∙ ap (λ ls. comment_text i v g ∷ ls) (one_line (header_line i) (line_has_no_lf i s));
+      lines = head_lines i v g s;
       whole = ap begun_line same ∙ two.begun ∙ begun-lf (header_line i);
       is_comment = commented.is_comment;
       interface = line_interface i s;

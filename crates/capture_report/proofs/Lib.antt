@@ -1,3 +1,4 @@
+mod CaptureFileLemmas
 mod CaptureRowLemmas
 mod FileLemmas
 mod FrameLemmas

@@ -1,6 +1,7 @@
 -- What is read of a capture, step by step.
-use Rattle.std.specs.Prelude.{◌≡◌, List, [], ◌∷◌, ◌++◌, Option, None, Some, refl}
+use Rattle.std.specs.Prelude.{◌≡◌, List, [], ◌∷◌, ◌++◌, Option, None, Some, refl, Result, Ok, Err, OnOk}
 use Rattle.std.specs.List.{flat_map}
+use Rattle.std.specs.Option.{option_to_list}
 use Rattle.std.specs.Prelude.{true, false}
 use Rattle.std.proofs.Common.{sym, ◌∙◌, ap, append_assoc, subst}
 use Rattle.std.proofs.lemmas.List.{append-nil}
@@ -9,16 +10,20 @@ use Rattle.lapb_link.specs.declared.receiver.Shown.{Shown}
 use Rattle.capture_model.specs.Frames.{Frame}
 use Rattle.capture_rows.specs.Lines.{FrameRead}
 use Rattle.capture_rows.specs.declared.line.Line.{Line}
+use Rattle.capture_report.specs.Contents.{Row}
 use Rattle.capture_report.specs.Plans.{AreSame, Plan, accepted_of, is_accepted, is_doubtful, range_of}
-use Rattle.capture_report.specs.Readings.{HasRead, IsPlanOf, IsReadOn, IsReadUpTo, IsTaken}
-use Rattle.capture_report.specs.Records.{Record}
+use Rattle.capture_report.specs.Readings.{HasRead, IsPlanOf, IsReadOn, IsReadUpTo, IsSeen, IsSeenOn, IsSeenUpTo, IsTaken}
+use Rattle.capture_report.specs.Records.{Follows, Record}
 use Rattle.capture_report.specs.Rows.{after_record, dropped_rows, place_of, placed, record_given, record_rows, record_shown, rows_from, rows_given, settled, settled_rows, shown_from}
+use Rattle.capture_report.specs.Sights.{Sight, frame_sight, rows_seen, rows_sight, sight_from, sight_of}
 use Rattle.capture_report.specs.Texts.{Page, rows_printed, with_rows}
 use Rattle.capture_report.specs.Traces.{GoesOn}
 use Rattle.capture_report.specs.declared.plan.Marks.{Marks}
 use Rattle.capture_report.specs.declared.reader.Order.{Order}
-use Rattle.capture_report.specs.declared.reader.Order.TheVariants.{Placed}
+use Rattle.capture_report.specs.declared.reader.Order.TheVariants.{Noticed, Placed}
+use Rattle.capture_report.specs.declared.header.Seen.{Seen}
 use Rattle.capture_report.specs.declared.reader.Reader.{Reader}
+use Rattle.capture_report.specs.declared.survey.Survey.{Survey}
 use Rattle.capture_report.proofs.TextLemmas.{printed_on}
 
 -- what comes next is shown before the rest
@@ -93,3 +98,61 @@ made_more old new next rest line order page = record {
       ∙ (ap (λ (o : Order). new.page.text ++ rows_printed new.page.printer (rows_from o (after_record next old.line) rest)) (sym order)
       ∙ ap (λ (l : Line). new.page.text ++ rows_printed new.page.printer (rows_from new.order l rest)) (sym line)));
 }
+
+-- ---- what is seen of a capture
+
+rows_seen_append : (xs ys : List Row) (v : Seen) → rows_seen (xs ++ ys) v ≡ rows_seen ys (rows_seen xs v)
+rows_seen_append [] ys v = refl
+rows_seen_append (x ∷ xs) ys v = rows_seen_append xs ys _
+
+pub sight_append : (xs ys : List Row) (s : Sight) → rows_sight (xs ++ ys) s ≡ rows_sight ys (rows_sight xs s)
+sight_append xs ys s = ap (λ (v : Seen). let t : Sight = record s { seen = v } in t) (rows_seen_append xs ys s.seen)
+
+pub seen_behind : {T E : Type 0} (r : Result T E) (shown behind : List Row) (old middle new : Sight) → middle ≡ rows_sight shown old → OnOk r (new ≡ rows_sight behind middle) → OnOk r (new ≡ rows_sight (shown ++ behind) old)
+seen_behind (Ok x) shown behind old middle new is h = h ∙ ap (rows_sight behind) is ∙ sym (sight_append shown behind old)
+seen_behind (Err e) shown behind old middle new is h = tt
+
+-- what comes next was seen
+pub seen_next : (before after : Option (List Record)) (latest : Option Record) (line line_after : Line) (old dropped more : Survey) (next : Record) (shown : List Shown) (read : Option FrameRead) → Follows before after latest → latest ≡ Some next
+    → line_after ≡ after_record next line → shown ≡ record_shown next line → read ≡ record_given next line → sight_of dropped ≡ rows_sight (dropped_rows next.dropped line) (sight_of old)
+    → sight_of more ≡ frame_sight next.frame (rows_sight (rows_given Noticed next.frame shown read) (sight_of dropped)) → IsSeenOn before after line line_after old more true
+seen_next before after latest line line_after old dropped more next shown read follows is moved shown_is read_is dropped_is seen = λ records e.
+    let f = follows.shown records e in
+    let rows = rows_given Noticed next.frame (record_shown next line) (record_given next line) in (
+      f.0,
+      f.1,
+      record {
+        next = next;
+        split = f.2 ∙ ap (λ o. option_to_list o ++ f.0) is;
+        line_after = moved;
+        sight =
+            seen
+            ∙ ap (λ xs. frame_sight next.frame (rows_sight (rows_given Noticed next.frame xs read) (sight_of dropped))) shown_is
+            ∙ ap (λ r. frame_sight next.frame (rows_sight (rows_given Noticed next.frame (record_shown next line) r) (sight_of dropped))) read_is
+            ∙ ap (λ s. frame_sight next.frame (rows_sight rows s)) dropped_is
+            ∙ ap (frame_sight next.frame) (sym (sight_append (dropped_rows next.dropped line) rows (sight_of old)));
+      },
+    )
+
+pub seen_none : (left : Option (List Record)) (line : Line) (survey : Survey) → IsSeenUpTo left left line line survey survey
+seen_none left line survey = λ records e. (records, e, refl)
+
+pub seen_more : (before middle after : Option (List Record)) (first line next : Line) (old survey more : Survey) → IsSeenUpTo before middle first line old survey → IsSeenOn middle after line next survey more true
+    → IsSeenUpTo before after first next old more
+seen_more before middle after first line next old survey more s t = λ records e.
+    let a = s records e in
+    let b = t a.0 a.1 in
+    let step = b.2 in (
+      b.0,
+      b.1,
+      a.2
+          ∙ ap (λ rs. sight_from line rs (sight_of survey)) step.split
+          ∙ ap (λ v. sight_from (after_record step.next line) b.0 v) (sym step.sight)
+          ∙ ap (λ l. sight_from l b.0 (sight_of more)) (sym step.line_after),
+    )
+
+pub seen_all : (before middle after : Option (List Record)) (first line next : Line) (old survey more : Survey) → IsSeenUpTo before middle first line old survey → IsSeenOn middle after line next survey more false
+    → IsSeen before first old more
+seen_all before middle after first line next old survey more s t = λ records e.
+    let a = s records e in
+    ap sight_of t.1 ∙ sym (a.2 ∙ ap (λ rs. sight_from line rs (sight_of survey)) (t.0 a.0 a.1))

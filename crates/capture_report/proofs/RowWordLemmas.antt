@@ -141,7 +141,7 @@ Fits i c = IsContent c × IsWithin i c
 
 channel_of : (i : Interface) (c : Option ℕ) → Fits i (Gap c) → HasChannel i c
 channel_of i None h = tt
-channel_of i (Some k) h = (h.0, h.1.1)
+channel_of i (Some k) h = (h.0.0, h.1.1)
 
 abbrev pub letter_of : Content → ℕ
 letter_of (Packet s octets) = side_letter s

@@ -1,6 +1,6 @@
 -- Rows that are written one after the other.
 use Rattle.std.specs.Prelude.{◌≡◌, List, [], ◌∷◌, ◌++◌, refl}
-use Rattle.std.proofs.Common.{sym, ◌∙◌, ap, append_assoc}
+use Rattle.std.proofs.Common.{sym, ◌∙◌, append_assoc}
 use Rattle.capture_report.specs.Contents.{Row}
 use Rattle.capture_report.specs.Texts.{Page, row_printed, rows_printed, with_row, with_rows}
 

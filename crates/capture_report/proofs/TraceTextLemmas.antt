@@ -1,22 +1,24 @@
 -- The text of rows, as the observer reads it.
-use Rattle.std.proofs.Common.{◌≡◌, ◌∙◌, sym, ap, subst, refl, ℕ, ◌+◌, ◌<◌, ◌≤◌, inl, inr, Bool, true, false, max, List, [], ◌∷◌, ◌++◌, length, Option, None, Some, arith, drop, append_assoc, append-nil}
-use Rattle.std.specs.Prelude.{codes, decimal, nat_le, if◌then◌else◌}
+use Rattle.std.proofs.Common.{◌≡◌, ◌∙◌, sym, ap, subst, refl, ℕ, ◌+◌, ◌<◌, ◌≤◌, ◌⊎◌, inl, inr, Bool, true, false, max, List, [], ◌∷◌, ◌++◌, length, Option, None, Some, arith, drop, append_assoc, append-nil}
+use Rattle.std.specs.Prelude.{codes, decimal, nat_le, not, if◌then◌else◌}
 use Rattle.std.specs.List.{filter_map}
 use Rattle.std.specs.Option.{option_or}
 use Rattle.std.proofs.lemmas.Bool.{le-leb, leb-true}
+use Rattle.std.proofs.lemmas.List.Elements.{filter-append}
 use Rattle.line_model.specs.basics.Records as trace
 use Rattle.line_model.specs.declared.interface.Interface.{Interface}
 use Rattle.line_model.specs.observer.Report.{report}
 use Rattle.line_model.specs.packets.Says.{items_of}
+use Rattle.line_model.specs.text.Header.{interface_of}
 use Rattle.line_model.specs.text.RowLine.{row_of}
-use Rattle.line_model.specs.text.Text.{Line, begun_kind, begun_line, ended_lines, first_fault, has_header, head_in, head_of, last_number, last_or, line_or_none, lines_of, row_number, rows, rows_in, size_kind, size_of}
+use Rattle.line_model.specs.text.Text.{Line, begun_kind, begun_line, content_of, ended_lines, fault, first_fault, good_lines, has_header, head, head_in, head_of, is_comment, last_number, last_or, line_or_none, lines_of, row_number, rows, rows_in, size_kind, size_of}
 use Rattle.line_model.proofs.LineLemmas.{size_kind-zero}
 use Rattle.line_model.proofs.TextLemmas.{begun-lf, begun-more, ended-lf, ended-more, first_fault-append, size_of-append, size_of-ended}
 use Rattle.trace_text.specs.Cuts.{Lacks}
 use Rattle.trace_text.specs.Progress.{Progress}
 use Rattle.trace_text.specs.Represents.{EndsText}
 use Rattle.trace_text.specs.RowTexts.{octets_word, side_letter}
-use Rattle.trace_text.proofs.BlockLemmas.{AreRows, Follows, follows, seam}
+use Rattle.trace_text.proofs.BlockLemmas.{AreRows, Follows, WritesRow, follows, seam}
 use Rattle.trace_text.proofs.EndLemmas.{end-header, end-header-rows}
 use Rattle.trace_text.proofs.FeedLemmas.{early-none, no_fault}
 use Rattle.lapb_link.specs.declared.frames.Place.{Place}
@@ -24,7 +26,7 @@ use Rattle.capture_report.specs.Contents.{Content, Gap, Packet, Row}
 use Rattle.capture_report.specs.Laws.{CaptureLaw, HasRows, IsHeader, NumberLaw, TextLaw}
 use Rattle.capture_report.specs.Rows.{rows_from}
 use Rattle.capture_report.specs.Texts.{Page, after_row, channel_text, content_text, first_printer, least_number, number_if, number_of, numbered, numbered_text, place_text, rows_printed}
-use Rattle.capture_report.specs.TraceRows.{AreRows as AreCaptureRows, AreWithin, IsRow, IsWithin, row_numbered, trace_row, trace_rows}
+use Rattle.capture_report.specs.TraceRows.{AreRows as AreCaptureRows, AreWithin, IsContent, IsRow, IsWithin, row_numbered, trace_row, trace_rows}
 use Rattle.capture_report.specs.declared.print.Printer.{Printer}
 use Rattle.capture_report.proofs.CaptureRowLemmas.{rows_law}
 use Rattle.capture_report.proofs.PlaceLemmas.{place_line, place_part}
@@ -178,6 +180,57 @@ text_read i header text rs h lines room =
       same_rows = same;
       report = ap (λ o. elim o as (λ _. List ℕ) [ None ↦ [] | Some i ↦ report i (items_of i (rows (header ++ text))) ]) sound.1 ∙ ap (λ xs. report i (items_of i xs)) same;
     }
+
+-- ---- a text without a fault
+
+rows_written : (i : Interface) (last : ℕ) (ls : List Line) (rs : List trace.Row) → AreRows i last ls rs → filter_map row_of (content_of ls) ≡ rs
+rows_written i last [] rs h = sym h
+rows_written i last (l ∷ ls) rs h = at (rows_written i last ls rs) (λ n rest. rows_written i n ls rest) h.1
+  where
+    at : (AreRows i last ls rs → filter_map row_of (content_of ls) ≡ rs) → ((n : ℕ) (rest : List trace.Row) → AreRows i n ls rest → filter_map row_of (content_of ls) ≡ rest)
+        → ((is_comment l ≡ true) × AreRows i last ls rs) ⊎ ((row : trace.Row) × (rest : List trace.Row) × WritesRow i l row × (last < row.number) × (rs ≡ row ∷ rest) × AreRows i row.number ls rest)
+        → filter_map row_of (content_of (l ∷ ls)) ≡ rs
+    at same later (inl c) = rw (c.0) (same c.1)
+    at same later (inr r) = let w = r.2 in rw (w.plain, w.writes) (ap (λ rest. r.0 ∷ rest) (later r.0.number r.1 r.5) ∙ sym r.4)
+
+-- an interface with all channels and with gaps: the lines of rows say the same whatever the interface
+all_gaps : Interface
+all_gaps = record { modulus = 8; window = 2; size = 128; pvc = 0; incoming = 0; two_way = 4095; svc = 4095; join = false; gaps = true; lawful = refl }
+
+has_all_gaps : (c : Content) → IsContent c → IsWithin all_gaps c
+unfolding all_gaps
+has_all_gaps (Packet s octets) h = tt
+has_all_gaps (Gap None) h = (refl, tt)
+has_all_gaps (Gap (Some k)) h = (refl, h.1)
+
+have_all_gaps : (rs : List Row) → AreCaptureRows rs → AreWithin all_gaps rs
+have_all_gaps [] h = tt
+have_all_gaps (r ∷ rs) h = (has_all_gaps r.content h.0.content, have_all_gaps rs h.1)
+
+sound_read : (i wide : Interface) (header text : List ℕ) (line : Line) (rs : List trace.Row) → content_of (ended_lines header) ≡ line ∷ [] → interface_of line ≡ Some i → begun_line header ≡ []
+    → AreLines wide 0 text rs → fault (header ++ text) ≡ None → HasRows (header ++ text) i rs
+unfolding head rows head_of rows_in
+sound_read i wide header text line rs one interface whole lines sound =
+    let es = ended_lines header in
+    let ls = ended_lines text in
+    let s = seam header text whole in
+    let begun : begun_line (header ++ text) ≡ [] = s.begun ∙ lines.whole in
+    let all : lines_of (header ++ text) ≡ es ++ ls = ap (λ b. ended_lines (header ++ text) ++ line_or_none b) begun ∙ append-nil (ended_lines (header ++ text)) ∙ s.lines in
+    let content : content_of (es ++ ls) ≡ line ∷ content_of ls = filter-append (λ l. not (is_comment l)) es ls ∙ ap (λ (xs : List Line). xs ++ content_of ls) one in
+    let first : head (header ++ text) ≡ Some i = ap (λ o. head_of (good_lines o (lines_of (header ++ text)))) sound ∙ ap head_of all ∙ ap head_in content ∙ interface in
+    let same : rows (header ++ text) ≡ rs =
+    ap (λ o. rows_in (good_lines o (lines_of (header ++ text)))) sound ∙ ap rows_in all ∙ ap (λ (ls : List Line). filter_map row_of (drop 1 ls)) content ∙ rows_written wide 0 ls rs lines.lines in
+    record {
+      sound = sound;
+      header = first;
+      same_rows = same;
+      report = ap (λ o. elim o as (λ _. List ℕ) [ None ↦ [] | Some i ↦ report i (items_of i (rows (header ++ text))) ]) first ∙ ap (λ xs. report i (items_of i xs)) same;
+    }
+
+pub sound_law : (i : Interface) (header : List ℕ) (line : Line) (by_frames : Bool) (rs : List Row) → content_of (ended_lines header) ≡ line ∷ [] → interface_of line ≡ Some i → begun_line header ≡ [] → AreCaptureRows rs
+    → fault (header ++ rows_printed (first_printer by_frames) rs) ≡ None → HasRows (header ++ rows_printed (first_printer by_frames) rs) i (trace_rows (first_printer by_frames) rs)
+sound_law i header line by_frames rs one interface whole are sound =
+    sound_read i all_gaps header (rows_printed (first_printer by_frames) rs) line (trace_rows (first_printer by_frames) rs) one interface whole (are_lines all_gaps (first_printer by_frames) rs are (have_all_gaps rs are)) sound
 
 pub text_law : TextLaw
 text_law i header by_frames rs h are within room = text_read i header (rows_printed (first_printer by_frames) rs) (trace_rows (first_printer by_frames) rs) h (are_lines i (first_printer by_frames) rs are within) room

@@ -16,12 +16,15 @@ use Rattle.lapb_link.specs.declared.ends.Ends.{Ends}
 use Rattle.lapb_link.specs.declared.frames.Place.{Place}
 use Rattle.lapb_link.specs.declared.modulus.Modulus.{Modulus}
 use Rattle.capture_rows.specs.declared.line.Line.{Line}
+use Rattle.capture_files.specs.CaptureFiles.{records_of}
+use Rattle.capture_report.specs.CaptureTexts.{capture_text, interface_seen, numbered_rows}
 use Rattle.capture_report.specs.Contents.{Packet, Row}
 use Rattle.capture_report.specs.Records.{Record}
 use Rattle.capture_report.specs.Rows.{place_of, rows_from}
 use Rattle.capture_report.specs.Texts.{first_printer, number_if, rows_printed}
 use Rattle.capture_report.specs.TraceRows.{AreRows, AreWithin, IsPlace, trace_rows}
 use Rattle.capture_report.specs.Traces.{text_left}
+use Rattle.capture_report.specs.declared.options.CaptureOptions.{CaptureOptions}
 use Rattle.capture_report.specs.declared.print.Printer.{Printer}
 use Rattle.capture_report.specs.declared.reader.Order.{Order}
 use Rattle.capture_report.specs.declared.reader.Reader.{Reader}
@@ -76,3 +79,11 @@ CaptureLaw = (i : Interface) (header : List ℕ) (by_frames : Bool) (r : Reader)
     → r.page ≡ record { printer = first_printer by_frames; text = header } → IsFresh r.line → AllByRecursion IsRecord records → AreWithin i (rows_from r.order r.line records)
     → text_left (Some records) r 0 ≡ Some text → length text ≤ text_limit
     → HasRows text i (trace_rows (first_printer by_frames) (rows_from r.order r.line records))
+
+-- ---- a file
+
+-- where the trace of an undamaged pcap file has no fault, the observer reads it as the rows of the capture, under the interface of what is
+-- given and what was seen
+abbrev pub FileLaw : Type 0
+FileLaw = (o : CaptureOptions) (octets : List ℕ) (records : List Record) (text : List ℕ) → IsBytes octets → records_of true 0 octets ≡ Some records → capture_text o records ≡ Some text → fault text ≡ None
+    → (i : Interface) × (interface_seen o records ≡ Some i) × HasRows text i (numbered_rows o records)

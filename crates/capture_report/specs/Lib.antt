@@ -14,3 +14,5 @@ pub mod Headers
 pub mod HeaderTexts
 pub mod TraceRows
 pub mod Laws
+pub mod Sights
+pub mod CaptureTexts

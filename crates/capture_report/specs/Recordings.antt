@@ -1,11 +1,16 @@
 -- Files as the program reads them: a trace as it is, and a capture as its trace.
 use Rattle.std.specs.Prelude.{◌≡◌, ℕ, ◌==◌, nat_lt, Bool, true, false, List, [], ◌∷◌, Option, None, Some, length, if◌then◌else◌}
 use Rattle.std.specs.List.{list_any}
+use Rattle.std.specs.declared.io.traits.Read.{Ghosts as Read}
 use Rattle.std.specs.Io.Chain.{chain_remaining}
 use Rattle.std.specs.Io.Cursor.{cursor_remaining}
 use Rattle.streams.specs.Shown.{shown}
 use Rattle.capture_files.specs.Numbers.{number}
+use Rattle.capture_report.specs.CaptureTexts.{captured}
+use Rattle.capture_report.specs.Traces.{bytes_left}
 use Rattle.capture_report.specs.declared.begun_file.BegunFile.{BegunFile}
+use Rattle.capture_report.specs.declared.capture_text.CaptureText.{CaptureText}
+use Rattle.capture_report.specs.declared.options.CaptureOptions.{CaptureOptions}
 use Rattle.capture_report.specs.declared.recordings.Recording.{Recording}
 use Rattle.capture_report.specs.declared.recordings.Recording.TheVariants.{Trace, Capture}
 
@@ -20,10 +25,10 @@ is_magic n = list_any (λ m. m == n) magics
 abbrev pub begins_as_capture : List ℕ → Bool
 begins_as_capture octets = if nat_lt (length octets) 4 then false else is_magic (number true octets)
 
--- what a file shows that is opened as a recording: its bytes, where it is no capture
-abbrev pub recorded : Option (List ℕ) → Option (List ℕ)
-recorded None = None
-recorded (Some bytes) = if begins_as_capture bytes then None else Some bytes
+-- what a file shows that is opened as a recording: the trace of a capture, and otherwise its bytes
+abbrev pub recorded : CaptureOptions → Option (List ℕ) → Option (List ℕ)
+recorded o None = None
+recorded o (Some bytes) = if begins_as_capture bytes then captured o (Some bytes) else Some bytes
 
 -- what is left of a file that was begun, where it showed its bytes as it was opened
 abbrev pub begun_left : {F : Type 0} → (F → Option (List ℕ)) → BegunFile F → Option (List ℕ)
@@ -31,10 +36,14 @@ begun_left left b = shown (left b.first.value) (chain_remaining (cursor_remainin
 
 -- a file that was begun has all that it showed, and whether it is a capture is known
 pub record IsOpened {F : Type 0} (left : F → Option (List ℕ)) (bytes : Option (List ℕ)) (b : BegunFile F) : Type 0 where
-  pub trace : b.is_capture ≡ false → begun_left left b ≡ recorded bytes
-  pub capture : b.is_capture ≡ true → None ≡ recorded bytes
+  pub whole : begun_left left b ≡ bytes
+  pub kind : (octets : List ℕ) → bytes ≡ Some octets → b.is_capture ≡ begins_as_capture octets
+
+-- what is left of the trace of a capture: nothing once its end was reached
+abbrev pub capture_left : {F : Type 0} (read : Read F) → CaptureText F read → Option (List ℕ)
+capture_left read t = if t.is_done then Some [] else bytes_left t.given t.trace.made.latest (if t.trace.has_failed then t.trace.before.value.left else t.trace.made.left)
 
 -- what is left of a recording
-abbrev pub recording_left : {F : Type 0} → (F → Option (List ℕ)) → Recording F → Option (List ℕ)
-recording_left left (Trace begun) = begun_left left begun
-recording_left left (Capture text) = None
+abbrev pub recording_left : {F : Type 0} (read : Read F) → Recording F read → Option (List ℕ)
+recording_left read (Trace begun) = begun_left read.remaining begun
+recording_left read (Capture text) = capture_left read text

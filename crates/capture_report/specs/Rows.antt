@@ -1,7 +1,6 @@
 -- The rows of a capture, in their order.
 use Rattle.std.specs.Prelude.{ℕ, ◌==◌, ◌&&◌, ◌||◌, nat_lt, Bool, true, false, List, [], ◌∷◌, ◌++◌, Option, Some, None, if◌then◌else◌}
 use Rattle.std.specs.List.{flat_map, list_any}
-use Rattle.line_model.specs.declared.state.Side.{Side}
 use Rattle.capture_files.specs.declared.entry.Dropped.{Dropped}
 use Rattle.capture_model.specs.Frames.{Frame}
 use Rattle.lapb_link.specs.declared.frames.Place.{Place}
@@ -12,7 +11,7 @@ use Rattle.capture_rows.specs.Givens as given
 use Rattle.capture_rows.specs.Givens.{Given, packet_or_gap}
 use Rattle.capture_rows.specs.Lines.{FrameRead, frame_read}
 use Rattle.capture_rows.specs.declared.line.Line.{Line}
-use Rattle.capture_report.specs.Contents.{Content, Gap, Packet, Row, gap_of_all}
+use Rattle.capture_report.specs.Contents.{Gap, Packet, Row, gap_of_all}
 use Rattle.capture_report.specs.Plans.{Plan, is_accepted, is_doubtful, plan_of}
 use Rattle.capture_report.specs.Records.{Record}
 use Rattle.capture_report.specs.declared.reader.Order.{Order}

@@ -16,10 +16,10 @@ pub record IsPlace (p : Place) : Type 0 where
   pub frame : p.frame < 2 ^ 64
   pub time : IfSome p.time (λ t. unsigned_abs t.count < 2 ^ 128)
 
--- a packet of at most 4,200 octets, or a gap of a channel from 1 on or of all
+-- a packet of at most 4,200 octets, or a gap of a channel from 1 to 4,095 or of all
 abbrev pub IsContent : Content → Type 0
 IsContent (Packet s octets) = IsBytes octets × (length octets ≤ 4200)
-IsContent (Gap c) = IfSome c (λ k. 1 ≤ k)
+IsContent (Gap c) = IfSome c (λ k. (1 ≤ k) × (k ≤ 4095))
 
 pub record IsRow (r : Row) : Type 0 where
   pub place : IsPlace r.place

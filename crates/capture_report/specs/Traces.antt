@@ -1,5 +1,5 @@
 -- The text of a trace that is made of the frames of a capture.
-use Rattle.std.specs.Prelude.{◌≡◌, ℕ, ◌≤◌, Bool, true, false, List, [], ◌++◌, Option, None, Some, drop, length}
+use Rattle.std.specs.Prelude.{◌≡◌, ℕ, ◌≤◌, Bool, true, false, List, [], ◌++◌, Option, None, Some, drop, length, option_map}
 use Rattle.capture_report.specs.Records.{Record}
 use Rattle.capture_report.specs.Rows.{rows_from}
 use Rattle.capture_report.specs.Texts.{rows_printed}
@@ -45,3 +45,7 @@ pub record Stands (text : List ℕ) (reader : Reader) (place : ℕ) (rest : List
 
 abbrev pub IsReady : (left : Option (List ℕ)) → Option (List Record) → Reader → (place : ℕ) → Type 0
 IsReady left after reader place = (text : List ℕ) → left ≡ Some text → (rest : List Record) × (after ≡ Some rest) × Stands text reader place rest
+
+-- the bytes that are left of a trace, where some of those that it made last were passed on
+abbrev pub bytes_left : (given : ℕ) (latest : List ℕ) → (left : Option (List ℕ)) → Option (List ℕ)
+bytes_left given latest left = option_map (λ rest. drop given latest ++ rest) left

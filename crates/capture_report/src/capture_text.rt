@@ -1,6 +1,12 @@
 //! The trace of a capture that is read a second time.
 
-ghost use Rattle.std.specs.Prelude.{IfErr};
+ghost use Rattle.std.specs.Prelude.{◌≡◌, ◌<◌, ◌≤◌, ℕ, List, [], ◌++◌, IfErr, IfOk, OnOk, Some, false, length, option_map, take, true};
+ghost use Rattle.std.specs.Io.KnownBytes.{Consumes};
+ghost use Rattle.std.specs.Option.{option_and_then};
+ghost use Rattle.capture_files.specs.CaptureFiles.{records_of};
+ghost use Rattle.capture_report.specs.CaptureTexts.{has_frame_numbers, line_by};
+ghost use Rattle.capture_report.specs.Rows.{rows_from};
+ghost use Rattle.capture_report.specs.Texts.{first_printer, rows_printed};
 ghost use Rattle.streams.specs.OpenFaults.{IsByItsReason};
 
 use crate::file_frames::FileFrames;
@@ -24,11 +30,15 @@ pub struct CaptureText<F: Read + Drop> {
     trace: CaptureTrace<FileFrames<ReaderSource<F>>>,
     /// How many of the latest bytes of the trace were given.
     given: usize,
+    /// Whether its end was reached.
+    is_done: bool,
     /// The number of the last frame in the first reading.
     last: u64,
 }
 
 impl<F: Read + Drop> CaptureText<F> {
+    ghost use Rattle.capture_report.specs.Recordings.{capture_left};
+
     /// Returns the trace of a capture by its first reading.
     pub(crate) fn new(
         alloc: Global,
@@ -36,8 +46,12 @@ impl<F: Read + Drop> CaptureText<F> {
         first: FirstReading,
         head: Vec<u8>,
     ) -> Result<CaptureText<F>, OpenRefusal>
-        ensures { IfErr result IsByItsReason }
+        ensures left { IfOk result (λ text. capture_left F.Read text
+            ≡ option_map (λ records. head.items ++ rows_printed (first_printer (has_frame_numbers first.survey.last)) (rows_from (Order.Placed first.plan) (line_by first.options) records))
+            (option_and_then (records_of true 0) (F.remaining file))) }
+        ensures reason { IfErr result IsByItsReason }
     {
+        let by_frames = first.survey.last() <= MOST_NUMBERED;
         let FirstReading {
             plan,
             options,
@@ -46,42 +60,79 @@ impl<F: Read + Drop> CaptureText<F> {
         } = first;
         let frames = open_frames(alloc, file)?;
         let line = line(alloc, &options)?;
-        let page = Page::new(head, last <= MOST_NUMBERED);
+        let page = Page::new(head, by_frames);
         let reader = Reader::new(line, Order::Placed(plan), page);
         Ok(CaptureText {
             trace: CaptureTrace::new(alloc, frames, reader),
             given: 0,
+            is_done: false,
             last,
         })
     }
 
-    /// Reads the next bytes of the trace. Fails where the capture has other frames now than before.
-    fn refill(&mut self) -> io::Result<()> {
-        self.given = 0;
+    /// Reads the next bytes of the trace, where all were given. Fails where the capture has other frames now than
+    /// before.
+    #[tactic(auto, using(crate::proofs::GivingLemmas::bytes_kept, crate::proofs::GivingLemmas::bytes_more, crate::proofs::GivingLemmas::bytes_end))]
+    fn refill(&mut self) -> io::Result<()>
+        requires all { length self.old.trace.made.latest ≤ self.old.given }
+        requires begun { self.old.is_done ≡ false }
+        ensures same { (text : List ℕ) → capture_left F.Read self.old ≡ Some text → capture_left F.Read self.new ≡ Some text }
+        ensures some { OnOk result (self.new.is_done ≡ false → self.new.given < length self.new.trace.made.latest) }
+    {
         if self.trace.read().is_err() {
-            return Err(io::Error::other("reading the capture failed, or memory was refused"));
+            self.given = self.trace.latest().len();
+            return Err(self.trace.frames().source().reason());
         }
-        if self.trace.latest().is_empty() && self.trace.frames().number() != self.last {
+        self.given = 0;
+        if !self.trace.latest().is_empty() {
+            return Ok(());
+        }
+        if self.trace.frames().number() != self.last {
             return Err(io::Error::other("the capture has changed"));
         }
+        self.is_done = true;
         Ok(())
     }
-}
 
-impl<F: Read + Drop> Read for CaptureText<F> {
-    ghost use Rattle.std.specs.Prelude.{None};
-
-    ghost remaining = { λ s. None };
-
-    fn read(&mut self, buf: &mut [u8]) -> io::Result<usize> {
-        if self.given >= self.trace.latest().len() {
-            self.refill()?;
+    /// Has bytes to give, unless the end was reached.
+    fn prepare(&mut self) -> io::Result<()>
+        ensures same { (text : List ℕ) → capture_left F.Read self.old ≡ Some text → capture_left F.Read self.new ≡ Some text }
+        ensures some { OnOk result (self.new.is_done ≡ false → self.new.given < length self.new.trace.made.latest) }
+    {
+        if self.is_done || self.given < self.trace.latest().len() {
+            return Ok(());
         }
+        self.refill()
+    }
+
+    /// Gives more of the bytes that were read last, and returns how many.
+    fn give(&mut self, buf: &mut [u8]) -> usize
+        requires begun { self.old.is_done ≡ false }
+        requires some { self.old.given < length self.old.trace.made.latest }
+        ensures few { result ≤ length buf.new }
+        ensures given { Consumes (capture_left F.Read self.old) (capture_left F.Read self.new) (take result buf.new) }
+        ensures none { result ≡ 0 → length buf.new ≡ 0 }
+    {
         let latest = self.trace.latest();
         let from = self.given.min(latest.len());
         let count = buf.len().min(latest.len() - from);
         buf[..count].copy_from_slice(&latest[from..from + count]);
         self.given = from + count;
-        Ok(count)
+        count
+    }
+}
+
+impl<F: Read + Drop> Read for CaptureText<F> {
+    ghost use Rattle.capture_report.specs.Recordings.{capture_left};
+
+    ghost remaining = { capture_left F.Read };
+
+    #[tactic(auto, using(crate::proofs::GivingLemmas::consumed, crate::proofs::GivingLemmas::ended))]
+    fn read(&mut self, buf: &mut [u8]) -> io::Result<usize> {
+        self.prepare()?;
+        if self.is_done {
+            return Ok(0);
+        }
+        Ok(self.give(buf))
     }
 }

@@ -47,15 +47,18 @@ impl<S: RoomSource + Drop> Model for FileFrames<S> {
 
 impl<S: RoomSource + Drop> FileFrames<S> {
     /// Opens the capture in a source. `may_wait` and `number` are those of `CaptureFile::open`. Fails where the source
-    /// does, when memory is refused, and where it has no capture.
-    pub fn open(alloc: Global, source: S, may_wait: bool, number: u64) -> Result<Self, Refusal>
+    /// does, when memory is refused, and where it has no capture; the source is returned then.
+    pub fn open(alloc: Global, source: S, may_wait: bool, number: u64) -> Result<Self, (Refusal, S)>
         ensures left { IfOk result (λ frames. frames.left ≡ option_and_then (records_of may_wait number) (S.left source)) }
         ensures latest { IfOk result (λ frames. frames.latest ≡ None) }
     {
         let at_first = Snapshot::of(&source);
         let mut source = source;
         let mut window = Window::new(alloc);
-        let file = CaptureFile::open(alloc, &mut window, &mut source, may_wait, number)?;
+        let file = match CaptureFile::open(alloc, &mut window, &mut source, may_wait, number) {
+            Ok(file) => file,
+            Err(refusal) => return Err((refusal, source)),
+        };
         Ok(FileFrames {
             source,
             window,
@@ -68,6 +71,11 @@ impl<S: RoomSource + Drop> FileFrames<S> {
     /// Returns the entry of the file that was read last.
     pub fn entry(&self) -> Option<Entry> {
         self.entry
+    }
+
+    /// Returns the source.
+    pub fn source(&self) -> &S {
+        &self.source
     }
 
     /// Returns the number of the last frame.
@@ -105,7 +113,7 @@ pub fn file_trace<S: RoomSource + Drop>(
     may_wait: bool,
     number: u64,
     reader: Reader,
-) -> Result<CaptureTrace<FileFrames<S>>, Refusal>
+) -> Result<CaptureTrace<FileFrames<S>>, (Refusal, S)>
     ensures { IfOk result (λ trace. ⟦<CaptureTrace<FileFrames<S>> as Source>⟧.left trace
         ≡ text_left (option_and_then (records_of may_wait number) (S.left source)) reader 0) }
 {

@@ -1,6 +1,10 @@
 //! The first reading of a capture that a file system has.
 
-ghost use Rattle.std.specs.Prelude.{IfErr};
+ghost use Rattle.std.specs.Prelude.{◌≡◌, IfErr, IfOk, None, Some, true};
+ghost use Rattle.std.specs.Option.{option_and_then};
+ghost use Rattle.capture_files.specs.CaptureFiles.{records_of};
+ghost use Rattle.capture_report.specs.CaptureTexts.{head_lines, likely_in, line_by};
+ghost use Rattle.capture_report.specs.Sights.{sight_of};
 ghost use Rattle.streams.specs.OpenFaults.{IsByItsReason};
 
 use crate::file_frames::FileFrames;
@@ -10,9 +14,9 @@ use crate::plan::Plan;
 use crate::reader_source::ReaderSource;
 use crate::survey::Survey;
 use capture_files::refusal::Refusal;
+use capture_model::kind::LinkKind;
 use capture_rows::line::Line;
 use lapb_link::ends::Ends;
-use line_model::fault::Fault;
 use std::alloc::Global;
 use std::io;
 use std::io::{ErrorKind, Read};
@@ -30,17 +34,21 @@ pub(crate) struct FirstReading {
 }
 
 impl FirstReading {
+    ghost use Rattle.capture_report.specs.CaptureTexts.{IsFirstReading};
+
     /// Reads a capture to its end.
     pub fn read<F: Read + Drop>(
         alloc: Global,
         file: F,
         options: CaptureOptions,
     ) -> Result<FirstReading, OpenRefusal>
-        ensures { IfErr result IsByItsReason }
+        ensures read { IfOk result (IsFirstReading (option_and_then (records_of true 0) (F.remaining file))) }
+        ensures options { IfOk result (λ first. first.options ≡ options) }
+        ensures reason { IfErr result IsByItsReason }
     {
         let mut frames = open_frames(alloc, file)?;
         let line = line(alloc, &options)?;
-        let mut survey = Survey::new(alloc, options.choices);
+        let mut survey = Survey::new(alloc, options.choices.unknown);
         match Plan::read(alloc, line, &mut frames, &mut survey) {
             Ok(plan) => Ok(FirstReading {
                 plan,
@@ -48,7 +56,17 @@ impl FirstReading {
                 options,
                 last: frames.number(),
             }),
-            Err(fault) => Err(by_fault(fault)),
+            Err(_) => Err(OpenRefusal::by_system(frames.source().reason())),
+        }
+    }
+
+    /// Returns the link header that unknown link types likely have, where none is given.
+    pub fn likely(&self) -> Option<LinkKind>
+        ensures { result ≡ likely_in self.now.options.choices.unknown (sight_of self.now.survey) }
+    {
+        match self.options.choices.unknown {
+            Some(_) => None,
+            None => self.survey.likely(),
         }
     }
 }
@@ -58,22 +76,25 @@ pub(crate) fn open_frames<F: Read + Drop>(
     alloc: Global,
     file: F,
 ) -> Result<FileFrames<ReaderSource<F>>, OpenRefusal>
-    ensures { IfErr result IsByItsReason }
+    ensures left { IfOk result (λ frames. frames.left ≡ option_and_then (records_of true 0) (F.remaining file)) }
+    ensures latest { IfOk result (λ frames. frames.latest ≡ None) }
+    ensures reason { IfErr result IsByItsReason }
 {
     match FileFrames::open(alloc, ReaderSource::new(alloc, file), true, 0) {
         Ok(frames) => Ok(frames),
-        Err(Refusal::Fault(fault)) => Err(by_fault(fault)),
+        Err((Refusal::Fault(_), source)) => Err(OpenRefusal::by_system(source.reason())),
         Err(_) => Err(OpenRefusal::of_capture(CaptureFault::Damaged)),
     }
 }
 
 /// Returns the line of a capture, of which nothing was read. The addresses show its ends.
 pub(crate) fn line(alloc: Global, options: &CaptureOptions) -> Result<Line, OpenRefusal>
-    ensures { IfErr result IsByItsReason }
+    ensures line { IfOk result (λ line. line ≡ line_by options.now) }
+    ensures reason { IfErr result IsByItsReason }
 {
     match Line::new(alloc, options.choices, options.modulus, Ends::by_address()) {
         Ok(line) => Ok(line),
-        Err(_) => Err(by_fault(Fault::Memory)),
+        Err(_) => Err(of_memory()),
     }
 }
 
@@ -83,7 +104,8 @@ const NO_HEADER: &str =
 
 /// Returns the lines of a trace that come before its rows. Fails where numbers that are given are not those of an interface.
 pub(crate) fn head(alloc: Global, first: &FirstReading) -> Result<Vec<u8>, OpenRefusal>
-    ensures { IfErr result IsByItsReason }
+    ensures text { IfOk result (λ head. Some head.items ≡ head_lines first.now.options.header first.now.survey.seen) }
+    ensures reason { IfErr result IsByItsReason }
 {
     let (seen, given) = (first.survey.seen(), &first.options.header);
     let Some(header) = seen.header(given) else {
@@ -92,16 +114,13 @@ pub(crate) fn head(alloc: Global, first: &FirstReading) -> Result<Vec<u8>, OpenR
     let mut head = Vec::new(alloc);
     match print_head(&header, seen, given, &mut head) {
         Ok(()) => Ok(head),
-        Err(_) => Err(by_fault(Fault::Memory)),
+        Err(_) => Err(of_memory()),
     }
 }
 
-/// Returns the refusal of a file that a fault kept from being read.
-fn by_fault(fault: Fault) -> OpenRefusal
+/// Returns the refusal of a file where memory is refused.
+fn of_memory() -> OpenRefusal
     ensures { IsByItsReason result }
 {
-    OpenRefusal::by_system(match fault {
-        Fault::Memory => io::Error::from(ErrorKind::OutOfMemory),
-        _ => io::Error::other("reading failed"),
-    })
+    OpenRefusal::by_system(io::Error::from(ErrorKind::OutOfMemory))
 }

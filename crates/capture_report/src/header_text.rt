@@ -171,7 +171,7 @@ fn append_numbering(
     };
     append_estimate(
         given.window.is_some(),
-        given.modulus.is_none(),
+        !given.modulus.is_some(),
         &window,
         out,
     )

@@ -4,7 +4,7 @@ ghost use Rattle.std.specs.Prelude.{◌≡◌, ℕ, [], ◌++◌, IfOk, OnOk};
 ghost use Rattle.std.specs.List.{flat_map};
 ghost use Rattle.std.specs.List.Sorted.{IsNonDecreasing};
 ghost use Rattle.capture_report.specs.Plans.{AreSame, accepted_of, has_frame, is_accepted, is_doubtful, range_of};
-ghost use Rattle.capture_report.specs.Readings.{IsPlanOf, IsReadOn};
+ghost use Rattle.capture_report.specs.Readings.{IsPlanOf, IsReadOn, IsSeen, IsSeenOn};
 
 use crate::frames::Frames;
 use crate::gaps::{Gaps, LostRange};
@@ -37,14 +37,15 @@ impl Model for Plan {
 impl Plan {
     /// Reads a capture to its end, from a line on of which nothing was read; the survey sees all of it. Fails where it
     /// can't be read, and when memory is refused.
-    #[tactic(auto, using(crate::proofs::ReadingLemmas::read_none, crate::proofs::ReadingLemmas::read_more, crate::proofs::ReadingLemmas::read_all))]
+    #[tactic(auto, using(crate::proofs::ReadingLemmas::read_none, crate::proofs::ReadingLemmas::read_more, crate::proofs::ReadingLemmas::read_all, crate::proofs::ReadingLemmas::seen_none, crate::proofs::ReadingLemmas::seen_more, crate::proofs::ReadingLemmas::seen_all))]
     pub fn read<F: Frames>(
         alloc: Global,
         line: Line,
         frames: &mut F,
         survey: &mut Survey,
     ) -> Result<Plan, Fault>
-        ensures { IfOk result (IsPlanOf (F.left frames.old) line) }
+        ensures plan { IfOk result (IsPlanOf (F.left frames.old) line) }
+        ensures seen { OnOk result (IsSeen (F.left frames.old) line survey.old survey.new) }
     {
         let mut reached = line;
         let mut marks = Marks::new(alloc);
@@ -99,13 +100,15 @@ impl Marks {
         frames: &mut F,
         survey: &mut Survey,
     ) -> Result<bool, Fault>
-        ensures { IfOk result (IsReadOn (F.left frames.old) (F.left frames.new) line.old line.new self.old self.new) }
+        ensures read { IfOk result (IsReadOn (F.left frames.old) (F.left frames.new) line.old line.new self.old self.new) }
+        ensures seen { IfOk result (IsSeenOn (F.left frames.old) (F.left frames.new) line.old line.new survey.old survey.new) }
     {
         frames.advance()?;
         let Some(record) = frames.record() else {
             return Ok(false);
         };
         let mut shown = Vec::new(alloc);
+        survey.see_dropped(line, record.dropped)?;
         let read = read_record(alloc, line, &record, &mut shown)?;
         survey.see(&record, &shown, read)?;
         self.add_all(&shown)?;

@@ -1,6 +1,8 @@
 //! Files as the program reads them: a trace as it is, and a capture of a line as its trace.
 
-ghost use Rattle.std.specs.Prelude.{◌≡◌, IfErr};
+ghost use Rattle.std.specs.Prelude.{◌≡◌, IfErr, IfOk, true};
+ghost use Rattle.std.specs.Option.{option_and_then};
+ghost use Rattle.capture_files.specs.CaptureFiles.{records_of};
 ghost use Rattle.streams.specs.OpenFaults.{IsByItsReason};
 
 use crate::begun_file::BegunFile;
@@ -25,10 +27,14 @@ pub struct Recordings<R: Opener + Drop, E: Eprint + Drop> {
 }
 
 impl<R: Opener + Drop, E: Eprint + Drop> Recordings<R, E> {
+    ghost use Rattle.capture_report.specs.CaptureTexts.{IsLastReading, captured};
+    ghost use Rattle.capture_report.specs.Recordings.{IsOpened, begun_left, capture_left};
+
     /// Returns the recordings among the files of a system, with what is given of captures. What the header of a capture was
     /// estimated from is printed to the errors.
     pub fn new(alloc: Global, system: R, errors: E, options: CaptureOptions) -> Self
-        ensures { result.system ≡ system }
+        ensures system { result.system ≡ system }
+        ensures options { result.options ≡ options }
     {
         Recordings {
             alloc,
@@ -38,13 +44,28 @@ impl<R: Opener + Drop, E: Eprint + Drop> Recordings<R, E> {
         }
     }
 
+    /// Begins a file.
+    fn begin(&self, name: &str) -> Result<BegunFile<R::File>, OpenRefusal>
+        ensures opened { IfOk result (IsOpened R.File.remaining (R.named self.now.system name.now)) }
+        ensures reason { IfErr result IsByItsReason }
+    {
+        let file = self.system.open(name)?;
+        match BegunFile::new(self.alloc, file) {
+            Ok(begun) => Ok(begun),
+            Err(error) => Err(OpenRefusal::by_system(error)),
+        }
+    }
+
     /// Reads a capture a first time, from what was begun; and once more from its first octet where its link type is
     /// unknown and its first frame shows one.
+    #[tactic(auto, using(crate::proofs::RecordingLemmas::last_reading))]
     fn read_first(&self, name: &str, begun: BegunFile<R::File>) -> Result<FirstReading, OpenRefusal>
-        ensures { IfErr result IsByItsReason }
+        requires { begun_left R.File.remaining begun ≡ R.named self.now.system name.now }
+        ensures read { IfOk result (IsLastReading self.now.options (option_and_then (records_of true 0) (R.named self.now.system name.now))) }
+        ensures reason { IfErr result IsByItsReason }
     {
         let first = FirstReading::read(self.alloc, begun, self.options)?;
-        match first.survey.likely() {
+        match first.likely() {
             Some(kind) => {
                 let options = self.options.with_unknown(kind);
                 FirstReading::read(self.alloc, self.system.open(name)?, options)
@@ -55,12 +76,15 @@ impl<R: Opener + Drop, E: Eprint + Drop> Recordings<R, E> {
 
     /// Opens a capture that was begun. It is not inlined: its room on the stack would be that of each scan.
     #[inline(never)]
+    #[tactic(auto, using(crate::proofs::RecordingLemmas::same_text))]
     fn open_capture(
         &self,
         name: &str,
         begun: BegunFile<R::File>,
     ) -> Result<CaptureText<R::File>, OpenRefusal>
-        ensures { IfErr result IsByItsReason }
+        requires { begun_left R.File.remaining begun ≡ R.named self.now.system name.now }
+        ensures left { IfOk result (λ text. capture_left R.File.Read text ≡ captured self.now.options (R.named self.now.system name.now)) }
+        ensures reason { IfErr result IsByItsReason }
     {
         if !self.system.lasts(name) {
             return Err(OpenRefusal::of_capture(CaptureFault::Piped));
@@ -107,11 +131,10 @@ impl<R: Opener + Drop, E: Eprint + Drop> Opener for Recordings<R, E> {
 
     type File = Recording<R::File>;
 
-    ghost named = { λ s name. recorded (R.named s.system name) };
+    ghost named = { λ s name. recorded s.options (R.named s.system name) };
 
     fn open(&self, name: &str) -> Result<Recording<R::File>, OpenRefusal> {
-        let file = self.system.open(name)?;
-        let begun = BegunFile::new(self.alloc, file).map_err(OpenRefusal::by_system)?;
+        let begun = self.begin(name)?;
         if begun.is_capture() {
             Ok(Recording::Capture(self.open_capture(name, begun)?))
         } else if self.options.is_plain() {
@@ -152,7 +175,7 @@ pub enum Recording<F: Read + Drop> {
 impl<F: Read + Drop> Read for Recording<F> {
     ghost use Rattle.capture_report.specs.Recordings.{recording_left};
 
-    ghost remaining = { recording_left F.remaining };
+    ghost remaining = { recording_left F.Read };
 
     fn read(&mut self, buf: &mut [u8]) -> io::Result<usize> {
         match self {

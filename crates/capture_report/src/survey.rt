@@ -1,19 +1,28 @@
 //! What the frames of a capture carry, and what its rows show of its header.
 
-ghost use Rattle.std.specs.Prelude.{◌≡◌};
+ghost use Rattle.std.specs.Prelude.{◌≡◌, None, OnOk};
+ghost use Rattle.std.specs.List.{flat_map};
+ghost use Rattle.std.specs.Option.{option_map, option_to_list};
+ghost use Rattle.capture_model.specs.Frames.{frame_view};
+ghost use Rattle.capture_rows.specs.Givens.{given_view};
+ghost use Rattle.capture_rows.specs.Lines.{read_view};
+ghost use Rattle.capture_report.specs.Contents.{row_view};
+ghost use Rattle.capture_report.specs.Headers.{nothing_seen};
+ghost use Rattle.capture_report.specs.Records.{record_view};
+ghost use Rattle.capture_report.specs.Rows.{dropped_rows, noticed_rows, rows_behind, rows_given, shown_rows};
+ghost use Rattle.capture_report.specs.Sights.{is_private, kind_in_form, look_of};
 
 use crate::frames::Record;
 use crate::header::Seen;
-use crate::reader::{own_row, shown_row};
+use crate::reader::{Order, own_row, shown_row};
 use crate::row::Row;
 use capture_files::entry::Dropped;
 use capture_model::carried::Carried;
 use capture_model::frame::Frame;
 use capture_model::header::read_header;
 use capture_model::kind::{LinkKind, kind_of_link};
-use capture_rows::choices::Choices;
 use capture_rows::given::Given;
-use capture_rows::line::FrameRead;
+use capture_rows::line::{FrameRead, Line};
 use lapb_link::frames::Place;
 use lapb_link::looks::{Form, form_of};
 use lapb_link::receiver::Shown;
@@ -23,34 +32,59 @@ use streams::input::CaptureFault;
 /// What was seen of a capture as a whole.
 #[derive(Drop)]
 pub struct Survey {
-    /// How the frames are read.
-    choices: Choices,
-    /// The link header that the first frame of an unknown link type looks like, where that is one for private use.
-    likely: Option<LinkKind>,
+    /// The link header of frames whose link type is unknown.
+    unknown: Option<LinkKind>,
+    /// The link header that the first frame of an unknown link type looks like, where that is one for private use;
+    /// `None` where no link type was unknown.
+    guess: Option<Option<LinkKind>>,
     seen: Seen,
+    /// The number of the last frame.
+    last: u64,
     /// The first interface with a packet, and whether another one has some.
     interface: Option<u32>,
     has_several: bool,
-    /// Whether LAPB frames carried packets, frames were packets, frames were datagrams, link types were unknown.
+    /// Whether LAPB frames carried packets, frames were packets, frames were datagrams.
     has_lapb: bool,
     has_packets: bool,
     has_internet: bool,
-    has_unknown: bool,
 }
 
 impl Survey {
-    /// Returns the survey of a capture of which nothing was seen.
-    pub fn new(alloc: Global, choices: Choices) -> Survey {
+    ghost use Rattle.capture_report.specs.Sights.{first_sight, frame_sight, likely, rows_sight, sight_of};
+
+    /// Returns the survey of a capture of which nothing was seen. `unknown` is the link header of unknown link types.
+    pub fn new(alloc: Global, unknown: Option<LinkKind>) -> Survey
+        ensures { sight_of result ≡ first_sight }
+    {
         Survey {
-            choices,
-            likely: None,
+            unknown,
+            guess: None,
             seen: Seen::new(alloc),
+            last: 0,
             interface: None,
             has_several: false,
             has_lapb: false,
             has_packets: false,
             has_internet: false,
-            has_unknown: false,
+        }
+    }
+
+    /// Sees the gap of frames that were dropped. Fails only when memory is refused.
+    pub(crate) fn see_dropped(
+        &mut self,
+        line: &Line,
+        dropped: Option<Dropped>,
+    ) -> Result<(), AllocError>
+        ensures { OnOk result (sight_of self.new ≡ rows_sight (dropped_rows dropped line.now) (sight_of self.old)) }
+    {
+        match dropped {
+            Some(dropped) if dropped.count > 0 && line.is_on(dropped.interface) => {
+                self.seen.see(&Row::gap_of_all(Place {
+                    frame: dropped.number,
+                    time: dropped.time,
+                }))
+            }
+            _ => Ok(()),
         }
     }
 
@@ -61,51 +95,78 @@ impl Survey {
         record: &Record<'_>,
         shown: &[Shown],
         read: Option<FrameRead<'_>>,
-    ) -> Result<(), AllocError> {
-        self.see_dropped(record.dropped)?;
+    ) -> Result<(), AllocError>
+        ensures { OnOk result (sight_of self.new ≡ frame_sight (record_view record.now).frame (rows_sight
+            (rows_given Order.Noticed (record_view record.now).frame shown.now (option_map read_view read.entry)) (sight_of self.old))) }
+    {
         let Some(frame) = record.frame else {
             return Ok(());
         };
+        self.see_frame(&frame);
         let Some(read) = read else {
             return Ok(());
         };
         self.see_carried(&frame, is_packet(&read.given));
-        for one in shown {
-            self.see_row(shown_row(one))?;
-        }
         let place = Place {
             frame: frame.number,
             time: frame.time,
         };
-        if read.gap_before {
-            self.seen.see(&Row::gap_of_all(place))?;
-        }
-        self.see_row(own_row(place, &read.given))
+        self.see_rows(place, shown, &read)
     }
 
-    /// Sees the gap of frames that were dropped.
-    fn see_dropped(&mut self, dropped: Option<Dropped>) -> Result<(), AllocError> {
-        match dropped {
-            Some(dropped) if dropped.count > 0 && self.is_on(dropped.interface) => {
-                self.seen.see(&Row::gap_of_all(Place {
-                    frame: dropped.number,
-                    time: dropped.time,
-                }))
-            }
-            _ => Ok(()),
+    /// Sees the number of a frame, and whether its link type is unknown.
+    fn see_frame(&mut self, frame: &Frame<'_>)
+        ensures { sight_of self.new ≡ frame_sight (Some (frame_view frame.now)) (sight_of self.old) }
+    {
+        self.last = frame.number;
+        if self.guess.is_none() && kind_of_link(frame.link).is_none() {
+            self.guess = Some(look_of(frame));
         }
     }
 
-    /// Returns whether frames of an interface are read.
-    fn is_on(&self, interface: u32) -> bool {
-        match self.choices.interface {
-            Some(chosen) => chosen == interface,
-            None => true,
+    /// Sees the rows of a frame, and those that it shows of frames before it.
+    fn see_rows(
+        &mut self,
+        place: Place,
+        shown: &[Shown],
+        read: &FrameRead<'_>,
+    ) -> Result<(), AllocError>
+        ensures { OnOk result (sight_of self.new ≡ rows_sight (noticed_rows place shown.now (read_view read.now)) (sight_of self.old)) }
+    {
+        self.see_shown(shown)?;
+        self.see_behind(read.gap_before, place, &read.given)
+    }
+
+    /// Sees the rows of what a frame shows of frames before it.
+    #[tactic(auto, using(crate::proofs::ReadingLemmas::sight_append))]
+    fn see_shown(&mut self, shown: &[Shown]) -> Result<(), AllocError>
+        ensures { OnOk result (sight_of self.new ≡ rows_sight (flat_map shown_rows shown.now) (sight_of self.old)) }
+    {
+        for one in shown {
+            self.see_row(shown_row(one))?;
         }
+        Ok(())
+    }
+
+    /// Sees the row of what a frame gives, behind a gap where packets may be missing.
+    fn see_behind(
+        &mut self,
+        is_behind_gap: bool,
+        place: Place,
+        given: &Given<'_>,
+    ) -> Result<(), AllocError>
+        ensures { OnOk result (sight_of self.new ≡ rows_sight (rows_behind is_behind_gap place (given_view given.now)) (sight_of self.old)) }
+    {
+        if is_behind_gap {
+            self.see_row(Some(Row::gap_of_all(place)))?;
+        }
+        self.see_row(own_row(place, given))
     }
 
     /// Sees a row, where there is one.
-    fn see_row(&mut self, row: Option<Row<'_>>) -> Result<(), AllocError> {
+    fn see_row(&mut self, row: Option<Row<'_>>) -> Result<(), AllocError>
+        ensures { OnOk result (sight_of self.new ≡ rows_sight (option_to_list (option_map row_view row.entry)) (sight_of self.old)) }
+    {
         match row {
             Some(row) => self.seen.see(&row),
             None => Ok(()),
@@ -113,9 +174,10 @@ impl Survey {
     }
 
     /// Sees what a frame carries, and whether it gives a packet.
-    fn see_carried(&mut self, frame: &Frame<'_>, is_packet: bool) {
-        let Some(kind) = kind_of_link(frame.link).or(self.choices.unknown) else {
-            self.see_unknown(frame);
+    fn see_carried(&mut self, frame: &Frame<'_>, is_packet: bool)
+        ensures { sight_of self.new ≡ sight_of self.old }
+    {
+        let Some(kind) = kind_of_link(frame.link).or(self.unknown) else {
             return;
         };
         let header = read_header(kind, frame);
@@ -130,16 +192,10 @@ impl Survey {
         }
     }
 
-    /// Sees a frame of an unknown link type. Those of 147 to 162 are for private use: LAPB may have one.
-    fn see_unknown(&mut self, frame: &Frame<'_>) {
-        if !self.has_unknown && matches!(frame.link, 147..=162) {
-            self.likely = likely_kind(frame.octets);
-        }
-        self.has_unknown = true;
-    }
-
     /// Sees the interface of a packet.
-    fn see_interface(&mut self, interface: u32) {
+    fn see_interface(&mut self, interface: u32)
+        ensures { sight_of self.new ≡ sight_of self.old }
+    {
         match self.interface {
             Some(first) => self.has_several |= interface != first,
             None => self.interface = Some(interface),
@@ -147,12 +203,21 @@ impl Survey {
     }
 
     /// Returns the link header that unknown link types likely have, where the capture has no packet without it.
-    pub(crate) fn likely(&self) -> Option<LinkKind> {
+    pub(crate) fn likely(&self) -> Option<LinkKind>
+        ensures { result ≡ likely (sight_of self.now) }
+    {
         if self.seen.has_packets() {
             None
         } else {
-            self.likely
+            self.guess?
         }
+    }
+
+    /// Returns the number of the last frame.
+    pub(crate) fn last(&self) -> u64
+        ensures { result ≡ self.now.last }
+    {
+        self.last
     }
 
     /// Returns what the packets show of the header.
@@ -176,7 +241,7 @@ impl Survey {
         if self.has_internet {
             return Some(CaptureFault::Internet);
         }
-        if self.has_unknown {
+        if self.unknown.is_none() && self.guess.is_some() {
             return Some(CaptureFault::UnknownLink);
         }
         Some(CaptureFault::NoPacket)
@@ -188,9 +253,14 @@ fn is_packet(given: &Given<'_>) -> bool {
     matches!(given, Given::Packet(..) | Given::Held { .. })
 }
 
-/// Returns the link header that a frame looks like.
-fn likely_kind(octets: &[u8]) -> Option<LinkKind> {
-    match form_of(octets)? {
+/// Returns the link header that a frame looks like. Link types 147 to 162 are for private use: LAPB may have one.
+fn look_of(frame: &Frame<'_>) -> Option<LinkKind>
+    ensures { result ≡ look_of (frame_view frame.now) }
+{
+    if !matches!(frame.link, 147..=162) {
+        return None;
+    }
+    match form_of(frame.octets)? {
         Form::Plain => Some(LinkKind::Lapb),
         Form::Checked => Some(LinkKind::CheckedLapb),
     }

@@ -1,6 +1,6 @@
 //! The trace of a capture, as a source.
 
-ghost use Rattle.std.specs.Prelude.{◌≡◌, ◌≤◌, ◌^◌, IfOk, OnOk, length};
+ghost use Rattle.std.specs.Prelude.{◌≡◌, ◌≤◌, ◌^◌, [], IfOk, OnOk, length};
 ghost use Rattle.line_model.specs.basics.Device.{Gives};
 ghost use Rattle.capture_report.specs.Traces.{IsFilled, IsMade, IsReady, text_left};
 
@@ -133,6 +133,7 @@ impl<F: Frames + Drop> CaptureTrace<F> {
     /// Returns the trace of these frames, of which nothing was read.
     pub fn new(alloc: Global, frames: F, reader: Reader) -> Self
         ensures left { ⟦<CaptureTrace<F> as Source>⟧.left result ≡ text_left (F.left frames) reader 0 }
+        ensures latest { ⟦<CaptureTrace<F> as Source>⟧.last_given result ≡ [] }
         ensures calls { ⟦<CaptureTrace<F> as Source>⟧.calls result ≡ 0 }
         ensures failures { ⟦<CaptureTrace<F> as Source>⟧.failures result ≡ 0 }
     {

@@ -68,7 +68,7 @@ fn gaps_are_placed_after_a_first_reading_and_noticed_without_one(
     rt: HostRuntime,
 ) -> Result<(), Fail> {
     let alloc = rt.alloc();
-    let mut survey = Survey::new(alloc, CaptureOptions::plain().choices);
+    let mut survey = Survey::new(alloc, None);
     let Ok(plan) = Plan::read(alloc, line(alloc)?, &mut frames(alloc)?, &mut survey) else {
         return Err(Fail::from("no plan"));
     };

@@ -1,5 +1,5 @@
 -- What the chain gives is what the file showed.
-use Rattle.std.proofs.Common.{◌≡◌, ◌∙◌, ap, drop, Some}
+use Rattle.std.proofs.Common.{◌∙◌, ap, drop, Some}
 use Rattle.std.specs.Fmt.{option_append}
 use Rattle.capture_report.specs.Recordings.{begins_as_capture}
 use Rattle.capture_report.proofs.RecordingLemmas.{opened}

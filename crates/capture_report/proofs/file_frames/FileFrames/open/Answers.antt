@@ -8,11 +8,11 @@ use Rattle.capture_report.proofs.file_frames.FileFrames.open.Goals as goal
 pub invariant_of-result : goal.invariant_of-result
 invariant_of-result g c =
     let now = still c.open.new.window.ahead (g.S.Source.left c.open.new.source) in
-    let opened = c.in_ok-file.ensures.opened in
+    let opened = c.in-Ok.ensures.opened in
     (tt, subst (λ s. IsStillShown (g.S.Source.left s) now) (sym c.of-at_first.ensures) (opened_shown c.new-window.result.ahead opened.0 (g.S.Source.left c.args.source) now c.new-window.ensures.ahead opened.2))
 
 pub returns-clause-left : goal.returns-clause-left
 returns-clause-left g c =
     let now = still c.open.new.window.ahead (g.S.Source.left c.open.new.source) in
-    ap (λ s. shown_left (g.S.Source.left s) c.in_ok-file.file now) c.of-at_first.ensures
-    ∙ opened_left c.args.may_wait c.args.number c.new-window.result.ahead (g.S.Source.left c.args.source) now c.in_ok-file.file c.new-window.ensures.ahead c.in_ok-file.ensures.records
+    ap (λ s. shown_left (g.S.Source.left s) c.in-Ok.file now) c.of-at_first.ensures
+    ∙ opened_left c.args.may_wait c.args.number c.new-window.result.ahead (g.S.Source.left c.args.source) now c.in-Ok.file c.new-window.ensures.ahead c.in-Ok.ensures.records

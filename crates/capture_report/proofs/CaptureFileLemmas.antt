@@ -1,0 +1,85 @@
+-- The trace of a pcap file has the rows of its records, where it has no fault.
+use Rattle.std.proofs.Common.{◌≡◌, ◌∙◌, sym, ap, subst, refl, ℕ, ◌+◌, ◌*◌, ◌^◌, ◌<◌, Bool, true, false, List, [], ◌∷◌, ◌++◌, length, Option, None, Some, arith, drop}
+use Rattle.std.specs.Prelude.{if◌then◌else◌, option_map}
+use Rattle.std.specs.List.{AllByRecursion}
+use Rattle.std.specs.Option.{option_and_then}
+use Rattle.std.proofs.Math.Seq.{drop-append_seam, take-append_seam}
+use Rattle.hex.specs.Hex.{IsBytes}
+use Rattle.line_model.specs.declared.interface.Interface.{Interface}
+use Rattle.line_model.specs.text.Text.{fault}
+use Rattle.capture_files.specs.CaptureFiles.{records_of}
+use Rattle.capture_files.specs.Numbers.{next_number, number}
+use Rattle.capture_files.specs.PcapFiles.{AreRecords, pcap_records}
+use Rattle.capture_files.specs.PcapHeaders.{form_of}
+use Rattle.capture_files.specs.PcapRecords.{header_size, line_length, pcap_frame}
+use Rattle.capture_files.specs.declared.pcap.PcapForm.{PcapForm}
+use Rattle.capture_files.proofs.PcapLaw.{records_law}
+use Rattle.lapb_link.specs.Ends.{by_address}
+use Rattle.capture_report.specs.CaptureTexts.{capture_rows, capture_text, has_frame_numbers, interface_seen, line_by, numbered_rows, options_of, sight_in}
+use Rattle.capture_report.specs.HeaderTexts.{head_text, header_line}
+use Rattle.capture_report.specs.Laws.{FileLaw, HasRows, IsFrame, IsRecord}
+use Rattle.capture_report.specs.Plans.{plan_of}
+use Rattle.capture_report.specs.Records.{Record}
+use Rattle.capture_report.specs.Rows.{shown_from}
+use Rattle.capture_report.specs.Sights.{Sight}
+use Rattle.capture_report.specs.Texts.{first_printer, rows_printed}
+use Rattle.capture_report.specs.declared.reader.Order.TheVariants.{Placed}
+use Rattle.capture_report.proofs.CaptureRowLemmas.{rows_law}
+use Rattle.capture_report.proofs.HeaderTextLemmas.{head_content, head_is_read, header_read}
+use Rattle.capture_report.proofs.LinkLemmas.{bytes_drop, bytes_take}
+use Rattle.capture_report.proofs.TraceTextLemmas.{sound_law}
+
+-- ---- the records of octets
+
+number_small : (is_big : Bool) (xs : List ℕ) → IsBytes xs → number is_big xs < 2 ^ 32
+unfolding number
+number_small true xs h = let t = bytes_take 4 xs h in omega (arith, t 0, t 1, t 2, t 3)
+number_small false xs h = let t = bytes_take 4 xs h in omega (arith, t 0, t 1, t 2, t 3)
+
+time_small : (a b : ℕ) (is_nano : Bool) → a < 2 ^ 32 → b < 2 ^ 32 → a * 1000000000 + b * (if is_nano then 1 else 1000) < 2 ^ 128
+time_small a b true h k = omega (arith, h, k)
+time_small a b false h k = omega (arith, h, k)
+
+frame_is_frame : (f : PcapForm) (n : ℕ) (octets : List ℕ) → n < 2 ^ 64 → IsBytes octets → IsFrame (pcap_frame f n octets)
+frame_is_frame f n octets small h = record {
+  place = record { frame = small; time = time_small (number f.is_big octets) (number f.is_big (drop 4 octets)) f.is_nano (number_small f.is_big octets h) (number_small f.is_big (drop 4 octets) (bytes_drop 4 octets h)) };
+  octets = bytes_take (line_length f octets) (drop (header_size f.header) octets) (bytes_drop (header_size f.header) octets h);
+}
+
+are_records : (f : PcapForm) (last : ℕ) (octets : List ℕ) (records : List Record) → IsBytes octets → AreRecords f last octets records → AllByRecursion IsRecord records
+are_records f last octets [] h a = tt
+are_records f last octets (r ∷ rs) h a =
+    let both : IsBytes (a.0 ++ a.1) = subst IsBytes a.2 h in
+    let one : IsBytes a.0 = subst IsBytes (take-append_seam a.0 a.1) (bytes_take (length a.0) (a.0 ++ a.1) both) in
+    let rest : IsBytes a.1 = subst IsBytes (drop-append_seam a.0 a.1) (bytes_drop (length a.0) (a.0 ++ a.1) both) in
+    (subst IsRecord (sym a.4) (tt, frame_is_frame f (next_number last) a.0 (omega arith) one), are_records f (next_number last) a.1 rs rest a.5)
+
+file_records : (octets : List ℕ) (records : List Record) → IsBytes octets → records_of true 0 octets ≡ Some records → AllByRecursion IsRecord records
+file_records octets records h = at (form_of true octets)
+  where
+    at : (form : Option PcapForm) → option_and_then (λ f. pcap_records f 0 (drop 24 octets)) form ≡ Some records → AllByRecursion IsRecord records
+    at None e = cc e
+    at (Some f) e = are_records f 0 (drop 24 octets) records (bytes_drop 24 octets h) ((records_law f 0 (drop 24 octets) records).0 e)
+
+-- ---- the trace
+
+pub file_law : FileLaw
+file_law o octets records text h is = at (interface_seen o records)
+  where
+    s : Sight
+    s = sight_in o records
+
+    printed : List ℕ
+    printed = rows_printed (first_printer (has_frame_numbers s.last)) (capture_rows o records)
+
+    read : (i : Interface) → text ≡ head_text i s.seen o.header ++ printed → fault text ≡ None → HasRows text i (numbered_rows o records)
+    read i same sound =
+        let line = line_by (options_of o records) in
+        let are = rows_law (Placed (plan_of (shown_from line records))) line records (record { modulus = o.modulus; ends = by_address; new = refl }) (file_records octets records h is) in
+        subst (λ text. HasRows text i (numbered_rows o records)) (sym same)
+        (sound_law i (head_text i s.seen o.header) (header_line i) (has_frame_numbers s.last) (capture_rows o records) (head_content i s.seen o.header) (header_read i) (head_is_read i s.seen o.header).whole are (ap fault (sym same) ∙ sound))
+
+    at : (found : Option Interface) → option_map (λ head. head ++ printed) (option_map (λ i. head_text i s.seen o.header) found) ≡ Some text → fault text ≡ None
+        → (i : Interface) × (found ≡ Some i) × HasRows text i (numbered_rows o records)
+    at None same sound = cc same
+    at (Some i) same sound = (i, refl, read i (cc same) sound)

@@ -1,0 +1,77 @@
+-- What a reading of a capture sees of it as a whole.
+use Rattle.std.specs.Prelude.{ℕ, ◌&&◌, nat_le, Bool, List, [], ◌∷◌, Option, None, Some, is_none, if◌then◌else◌}
+use Rattle.std.specs.Option.{option_and_then}
+use Rattle.capture_model.specs.Frames.{Frame}
+use Rattle.capture_model.specs.Kinds.{kind_of_link}
+use Rattle.capture_model.specs.declared.kind.LinkKind.{LinkKind}
+use Rattle.capture_model.specs.declared.kind.LinkKind.TheVariants.{Lapb, CheckedLapb}
+use Rattle.capture_rows.specs.declared.line.Line.{Line}
+use Rattle.lapb_link.specs.Looks.{form_of}
+use Rattle.lapb_link.specs.declared.looks.Form.{Form}
+use Rattle.lapb_link.specs.declared.looks.Form.TheVariants.{Plain, Checked}
+use Rattle.capture_report.specs.Contents.{Row}
+use Rattle.capture_report.specs.Headers.{has_packets, nothing_seen, seen_with}
+use Rattle.capture_report.specs.Records.{Record}
+use Rattle.capture_report.specs.Rows.{after_record, record_rows}
+use Rattle.capture_report.specs.declared.header.Seen.{Seen}
+use Rattle.capture_report.specs.declared.reader.Order.TheVariants.{Noticed}
+use Rattle.capture_report.specs.declared.survey.Survey.{Survey}
+
+-- what was seen with more rows
+abbrev pub rows_seen : List Row → Seen → Seen
+rows_seen [] v = v
+rows_seen (r ∷ rs) v = rows_seen rs (seen_with r v)
+
+-- ---- unknown link types
+
+abbrev pub kind_in_form : Option Form → Option LinkKind
+kind_in_form None = None
+kind_in_form (Some Plain) = Some Lapb
+kind_in_form (Some Checked) = Some CheckedLapb
+
+-- link types for private use, which LAPB may have
+abbrev pub is_private : (link : ℕ) → Bool
+is_private link = nat_le 147 link && nat_le link 162
+
+-- the link header that a frame looks like
+abbrev pub look_of : Frame → Option LinkKind
+look_of f = if is_private f.link then kind_in_form (form_of f.octets) else None
+
+-- the first frame of an unknown link type decides
+abbrev pub guess_with : Frame → Option (Option LinkKind) → Option (Option LinkKind)
+guess_with f (Some look) = Some look
+guess_with f None = if is_none (kind_of_link f.link) then Some (look_of f) else None
+
+-- ---- a capture
+
+-- what its rows show of the header, in the order in which they are noticed; the number of its last frame; and what its first frame of
+-- an unknown link type looks like
+pub record Sight : Type 0 where
+  pub seen : Seen
+  pub last : ℕ
+  pub guess : Option (Option LinkKind)
+
+abbrev pub sight_of : Survey → Sight
+sight_of s = record { seen = s.seen; last = s.last; guess = s.guess }
+
+abbrev pub first_sight : Sight
+first_sight = record { seen = nothing_seen; last = 0; guess = None }
+
+abbrev pub rows_sight : List Row → Sight → Sight
+rows_sight rs s = record s { seen = rows_seen rs s.seen }
+
+abbrev pub frame_sight : Option Frame → Sight → Sight
+frame_sight None s = s
+frame_sight (Some f) s = record { seen = s.seen; last = f.number; guess = guess_with f s.guess }
+
+abbrev pub record_sight : Line → Record → Sight → Sight
+record_sight l r s = frame_sight r.frame (rows_sight (record_rows Noticed r l) s)
+
+-- what was seen with more of a capture, from a line on
+abbrev pub sight_from : Line → List Record → Sight → Sight
+sight_from l [] s = s
+sight_from l (r ∷ rs) s = sight_from (after_record r l) rs (record_sight l r s)
+
+-- the link header that unknown link types likely have, where there is no packet without it
+abbrev pub likely : Sight → Option LinkKind
+likely s = if has_packets s.seen.beginning then None else option_and_then (λ look. look) s.guess
