@@ -1,18 +1,18 @@
 -- The channels of a line as they are kept, and the header of a capture of which nothing is given.
-use Rattle.std.proofs.Common.{◌≡◌, ◌∙◌, ap, refl, ℕ, zero, suc, ◌+◌, ◌-◌, ◌<◌, ◌≤◌, Bool, true, false, List, [], ◌∷◌, ◌++◌, length, length-append, append-nil, append_assoc, replicate, Option, None, Some, arith, find, sym, unwrap_or}
-use Rattle.std.specs.Prelude.{◌==◌, ◌||◌, is_some, max, min, nat_le, nat_lt, if◌then◌else◌}
+use Rattle.std.proofs.Common.{◌≡◌, ◌∙◌, ap, refl, ℕ, zero, suc, ◌+◌, ◌-◌, ◌<◌, ◌≤◌, Bool, true, false, List, [], ◌∷◌, ◌++◌, length, length-append, append-nil, append_assoc, replicate, Option, None, Some, arith, find, unwrap_or}
+use Rattle.std.specs.Prelude.{◌==◌, ◌||◌, is_some, min, nat_le, nat_lt, if◌then◌else◌}
 use Rattle.std.specs.List.{list_any}
 use Rattle.std.proofs.lemmas.Bool.{le-leb, lt-ltb}
 use Rattle.std.proofs.Math.Bool.{or-true}
 use Rattle.std.proofs.lemmas.Bool.Decides.{nat_tests}
 use Rattle.line_model.specs.basics.Limits.{IsInterface, is_numbering, packet_sizes}
 use Rattle.line_model.specs.declared.interface.Interface.{Interface}
-use Rattle.line_model.specs.text.Header.{interface_with}
 use Rattle.trace_text.proofs.HeaderLemmas.{own_numbers}
 use Rattle.packet_decode.specs.Shown.{IsPacketSize}
 use Rattle.capture_report.specs.Given.{none_given}
 use Rattle.capture_report.specs.HeaderChannels.{ChannelList, channel_at, last_below, widened}
 use Rattle.capture_report.specs.Headers.{last_channel, modulus_by, numbers_with, permanent_seen, size_seen, smallest_size, window_below}
+use Rattle.capture_report.specs.Laws.{PlainLaw}
 use Rattle.capture_report.specs.declared.header.Seen.{Seen}
 use Rattle.capture_report.specs.declared.header_channels.SeenChannel.{SeenChannel}
 
@@ -86,7 +86,7 @@ in_range : (m w s p a l : ℕ) → is_numbering m w ≡ true → IsPacketSize s 
 in_range m w s p a l numbering size few same some most =
     rw (numbering, size, le-leb 1 l some, le-leb l 4095 most, le-leb p a few, le-leb a l same, le-leb l l (omega arith)) refl
 
-pub header_there : (v : Seen) → is_some (interface_with (numbers_with none_given v)) ≡ true
+pub header_there : PlainLaw
 header_there v =
     let n = numbers_with none_given v in
     let last = last_channel v in

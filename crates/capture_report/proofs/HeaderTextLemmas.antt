@@ -355,7 +355,7 @@ head_lines i v g s =
 -- one of its lines is no comment: that of the header
 pub head_content : (i : Interface) (v : Seen) (g : GivenHeader) → content_of (ended_lines (head_text i v g)) ≡ header_line i ∷ []
 head_content i v g =
-    ap content_of (head_lines i v g (is_small i)) ∙ ap (λ b. if b then header_line i ∷ [] else comment_text i v g ∷ header_line i ∷ []) (comment_is i v g (is_small i)).is_comment
+    ap content_of (head_lines i v g (is_small i)) ∙ ap (λ (b : Bool). let ls : List Line = if not b then comment_text i v g ∷ header_line i ∷ [] else header_line i ∷ [] in ls) (comment_is i v g (is_small i)).is_comment
 
 pub header_read : (i : Interface) → interface_of (header_line i) ≡ Some i
 header_read i = line_interface i (is_small i)

@@ -6,9 +6,11 @@ use Rattle.std.specs.Io.Cursor.{cursor_remaining}
 use Rattle.std.specs.Io.KnownBytes.{Consumes, IsAtEnd}
 use Rattle.std.specs.Fmt.{option_append}
 use Rattle.streams.specs.Shown.{shown}
+use Rattle.capture_files.specs.CaptureFiles.{records_of}
 use Rattle.capture_files.specs.Numbers.{number}
 use Rattle.capture_files.proofs.RecordLemmas.{number_more}
-use Rattle.std.specs.Prelude.{option_map}
+use Rattle.std.specs.Prelude.{IfOk, Result, option_map}
+use Rattle.std.proofs.lemmas.Result.{IfOk-weaker}
 use Rattle.std.specs.Option.{option_and_then}
 use Rattle.capture_model.specs.declared.kind.LinkKind.{LinkKind}
 use Rattle.capture_report.specs.CaptureTexts.{IsFirstReading, IsLastReading, capture_text, captured, has_frame_numbers, head_lines, likely_in, line_by, options_of, options_with, sight_by, trace_by}
@@ -73,13 +75,18 @@ last_reading o left first last look shown given is again same = λ records e. (
       (is ∙ ap (λ (s : Sight). likely_in first.options.choices.unknown s) ((shown records e).sight) ∙ ap (λ (p : CaptureOptions). likely_in p.choices.unknown (sight_by p records)) given),
 )
 
-pub same_text : (o : CaptureOptions) (left : Option (List Record)) (first : FirstReading) (head : List ℕ) → Some head ≡ head_lines first.options.header first.survey.seen → IsLastReading o left first
-    → option_map (λ records. head ++ rows_printed (first_printer (has_frame_numbers first.survey.last)) (rows_from (Placed first.plan) (line_by first.options) records)) left ≡ option_and_then (capture_text o) left
-same_text o None first head is last = refl
-same_text o (Some records) first head is last =
+-- the rows behind a header, by a first reading
+abbrev text_by : FirstReading → (head : List ℕ) → List Record → List ℕ
+text_by first head records = head ++ rows_printed (first_printer (has_frame_numbers first.survey.last)) (rows_from (Placed first.plan) (line_by first.options) records)
+
+same_text : (o : CaptureOptions) (now left : Option (List Record)) (first : FirstReading) (head : List ℕ) → now ≡ left → Some head ≡ head_lines first.options.header first.survey.seen → IsLastReading o left first
+    → option_map (text_by first head) now ≡ option_and_then (capture_text o) left
+same_text o now None first head same is last = ap (λ records. option_map (text_by first head) records) same
+same_text o now (Some records) first head same is last =
     let shown = (last records refl).0 in
     let printed = rows_printed (first_printer (has_frame_numbers first.survey.last)) (rows_from (Placed first.plan) (line_by first.options) records) in
-    ap (λ h. option_map (λ (xs : List ℕ). xs ++ printed) h) is
+    ap (λ records. option_map (text_by first head) records) same
+    ∙ ap (λ h. option_map (λ (xs : List ℕ). xs ++ printed) h) is
     ∙ ap (trace_by first.options.header (sight_of first.survey)) shown.rows
     ∙ ap (λ s. trace_by first.options.header s (placed (line_by first.options) records)) shown.sight
     ∙ ap (λ (p : CaptureOptions). trace_by p.header (sight_by p records) (placed (line_by p) records)) (last records refl).1
@@ -88,3 +95,9 @@ same_text o (Some records) first head is last =
     same_header : (look : Option LinkKind) → (options_with look o).header ≡ o.header
     same_header None = refl
     same_header (Some kind) = refl
+
+pub opened_text : {T E : Type 0} (left : T → Option (List ℕ)) (r : Result T E) (o : CaptureOptions) (file named : Option (List ℕ)) (first : FirstReading) (head : List ℕ) → file ≡ named → Some head ≡ head_lines first.options.header first.survey.seen
+    → IsLastReading o (option_and_then (records_of true 0) named) first → IfOk r (λ text. left text ≡ option_map (text_by first head) (option_and_then (records_of true 0) file)) → IfOk r (λ text. left text ≡ captured o named)
+opened_text left r o file named first head same is last h =
+    IfOk-weaker r (λ text. left text ≡ option_map (text_by first head) (option_and_then (records_of true 0) file)) (λ text. left text ≡ captured o named)
+    (λ text e. e ∙ same_text o (option_and_then (records_of true 0) file) (option_and_then (records_of true 0) named) first head (ap (option_and_then (records_of true 0)) same) is last) h

@@ -1,5 +1,5 @@
 -- The text of the trace of a capture.
-use Rattle.std.specs.Prelude.{◌≡◌, ℕ, nat_le, Bool, true, false, List, [], ◌++◌, Option, None, Some, option_map}
+use Rattle.std.specs.Prelude.{◌≡◌, ℕ, nat_le, Bool, true, false, List, ◌++◌, Option, None, Some, option_map}
 use Rattle.std.specs.Option.{option_and_then}
 use Rattle.line_model.specs.basics.Records as trace
 use Rattle.line_model.specs.declared.interface.Interface.{Interface}

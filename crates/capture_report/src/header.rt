@@ -1,13 +1,12 @@
 //! The header of a trace, from what is given and what the packets of a capture show. Its estimates are the largest numbers
 //! that were seen, so that no data that is right under some header breaks them.
 
-ghost use Rattle.std.specs.Prelude.{◌≡◌, ◌==◌, ◌≤◌, ◌⊎◌, Some, OnOk, is_some, true};
+ghost use Rattle.std.specs.Prelude.{◌≡◌, ◌==◌, ◌≤◌, ◌⊎◌, Some, OnOk};
 ghost use Rattle.line_model.specs.packets.Classes.{class_of, kind_class, packet_class};
 ghost use Rattle.line_model.specs.text.Header.{interface_with};
 ghost use Rattle.line_model.specs.basics.Limits.{is_channels, is_numbering, packet_sizes};
 ghost use Rattle.std.specs.List.{list_any};
 ghost use Rattle.capture_report.specs.Contents.{row_view};
-ghost use Rattle.capture_report.specs.Given.{none_given};
 ghost use Rattle.capture_report.specs.Headers.{all_channels, beginning_after, beginning_missed, counted, format_interface, gap_seen, has_packets, is_joined, is_same, kind_seen, last_channel, last_with, modulus_with, more, nothing_seen, numbers_with, on_channel, packet_seen, permanent_seen, seen_with, sending, size_seen, smallest_size, window_below};
 
 use crate::header_channels::{Channels, Sweep, is_set_up};
@@ -468,9 +467,7 @@ impl Seen {
     /// Returns the header, where its numbers are those of an interface. Where no packet was seen, what is not given is
     /// that of an interface with one channel.
     pub fn header(&self, given: &GivenHeader) -> Option<Interface>
-        ensures header { result ≡ interface_with (numbers_with given.now self.now) }
-        // Where nothing is given, there is one.
-        ensures there { given.now ≡ none_given → is_some result ≡ true }
+        ensures { result ≡ interface_with (numbers_with given.now self.now) }
     {
         interface_of(self.numbers(given))
     }

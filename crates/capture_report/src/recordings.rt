@@ -76,7 +76,6 @@ impl<R: Opener + Drop, E: Eprint + Drop> Recordings<R, E> {
 
     /// Opens a capture that was begun. It is not inlined: its room on the stack would be that of each scan.
     #[inline(never)]
-    #[tactic(auto, using(crate::proofs::RecordingLemmas::same_text))]
     fn open_capture(
         &self,
         name: &str,

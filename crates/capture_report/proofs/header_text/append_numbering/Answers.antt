@@ -12,6 +12,6 @@ returns c =
     let most : c.window_source.result.now ≡ window_source c.args.seen.now.most = c.window_source.ensures ∙ ap window_source c.most.ensures in
     let first = c.in_ok-append_estimate.ensures ∙ (λ i. c.args.out.now.items ++ estimate_text (c.is_some.ensures i) false (codes "MOD ") (c.wide.ensures i) (codes " (the general format identifiers)")) in
     on_ok_weaker c.append_estimate-2.result (λ e.
-    e ∙ (λ i. c.append_estimate.new.out.items ++ estimate_text (c.is_some-2.ensures i) (c.is_none.ensures i) (codes "WIN ") (c.wide-2.ensures i) (most i))
+    e ∙ (λ i. c.append_estimate.new.out.items ++ estimate_text (c.is_some-2.ensures i) (not (c.is_some-3.ensures i)) (codes "WIN ") (c.wide-2.ensures i) (most i))
     ∙ ap (λ xs. xs ++ estimate_text (is_some given.window) (not (is_some given.modulus)) (codes "WIN ") header.window (window_source c.args.seen.now.most)) first
     ∙ append_assoc c.args.out.now.items _ _) c.append_estimate-2.ensures
