@@ -6,8 +6,8 @@ use Rattle.hex.specs.Hex.{IsBytes}
 use Rattle.line_model.specs.channels.Channels.{other}
 use Rattle.line_model.specs.declared.state.Side.{Side}
 use Rattle.line_model.specs.declared.state.Side.TheVariants.{T, N}
-use Rattle.lapb_link.specs.Controls.{command_side, control_of, is_command, is_set_up, modulus_after, second_octet, unnumbered_of}
-use Rattle.lapb_link.specs.Ends.{known, sender_from}
+use Rattle.lapb_link.specs.Controls.{control_of, is_command, is_set_up, modulus_after, second_octet, unnumbered_of}
+use Rattle.lapb_link.specs.Ends.{commander, known, sender_from}
 use Rattle.lapb_link.specs.Frames.{IFrame}
 use Rattle.lapb_link.specs.Links.{LinkFrame, Read, Packet, Held, OfLink, LeftOut, What, addressed, by_control, controlled, identified, information_read, informed_on, is_accepted, is_gap, is_link_holding, link_set_up, linked, marked, read, reading_of, receiver_of, set_up_shown, supervised_on, supervisor, supervisory_by, supervisory_read, unnumbered_by, unnumbered_read, what_of, with_receiver}
 use Rattle.lapb_link.specs.Receiving.{forgotten, gap_if, held_shown}
@@ -173,4 +173,4 @@ link_frame_is f l place bytes h = at (control_of l.modulus f.octets) (control_by
 
     at : (o : Option (Control × List ℕ)) → PacketIsBytes o → IsLinkRead (controlled f o l)
     at None k = record { after = h; shown = tt; what = tt }
-    at (Some c) k = by_side c (slice_index f.octets 0) (command_side (slice_index f.octets 0)) k
+    at (Some c) k = by_side c (slice_index f.octets 0) (commander l.ends (slice_index f.octets 0)) k

@@ -1,6 +1,8 @@
 -- What is given of how captures are read.
-use Rattle.std.specs.Prelude.{◌&&◌, Bool, None, Some, is_none, is_some}
+use Rattle.std.specs.Prelude.{ℕ, ◌&&◌, Bool, Option, None, Some, is_none, is_some}
+use Rattle.std.specs.Option.{option_or}
 use Rattle.capture_model.specs.declared.kind.LinkKind.{LinkKind}
+use Rattle.capture_rows.specs.declared.choices.Carrier.{Carrier}
 use Rattle.capture_rows.specs.declared.choices.Choices.{Choices}
 use Rattle.capture_rows.specs.declared.station.StationBy.TheVariants.{Either}
 use Rattle.line_model.specs.declared.state.Side.TheVariants.{T}
@@ -27,6 +29,9 @@ plain = record { header = none_given; choices = plain_choices; modulus = None }
 
 abbrev pub with_unknown : LinkKind → CaptureOptions → CaptureOptions
 with_unknown k o = record o { choices = record o.choices { unknown = Some k } }
+
+abbrev pub with_link : Carrier → (interface : Option ℕ) → CaptureOptions → CaptureOptions
+with_link c n o = record o { choices = record o.choices { carrier = Some c; interface = option_or n o.choices.interface } }
 
 abbrev pub is_plain : CaptureOptions → Bool
 is_plain o = is_unnamed o.header && (is_none o.choices.unknown && (is_none o.choices.carrier && (is_none o.choices.interface && is_none o.modulus)))

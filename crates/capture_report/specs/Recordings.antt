@@ -7,7 +7,7 @@ use Rattle.streams.specs.Shown.{shown}
 use Rattle.capture_files.specs.Numbers.{number}
 use Rattle.capture_report.specs.declared.begun_file.BegunFile.{BegunFile}
 use Rattle.capture_report.specs.declared.recordings.Recording.{Recording}
-use Rattle.capture_report.specs.declared.recordings.Recording.TheVariants.{Trace, Capture}
+use Rattle.capture_report.specs.declared.recordings.Recording.TheVariants.{Capture, Live, Trace}
 
 -- the number with which a capture begins: of pcapng, and of pcap in both byte orders, of its form, of that with modified records
 -- and of that with nanoseconds
@@ -38,3 +38,4 @@ pub record IsOpened {F : Type 0} (left : F → Option (List ℕ)) (bytes : Optio
 abbrev pub recording_left : {F : Type 0} → (F → Option (List ℕ)) → Recording F → Option (List ℕ)
 recording_left left (Trace begun) = begun_left left begun
 recording_left left (Capture text) = None
+recording_left left (Live text) = None

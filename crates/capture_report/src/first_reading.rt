@@ -97,7 +97,7 @@ pub(crate) fn head(alloc: Global, first: &FirstReading) -> Result<Vec<u8>, OpenR
 }
 
 /// Returns the refusal of a file that a fault kept from being read.
-fn by_fault(fault: Fault) -> OpenRefusal
+pub(crate) fn by_fault(fault: Fault) -> OpenRefusal
     ensures { IsByItsReason result }
 {
     OpenRefusal::by_system(match fault {

@@ -368,6 +368,13 @@ impl Seen {
         !matches!(self.beginning, Beginning::Empty)
     }
 
+    /// Returns whether the recording began in the middle.
+    pub(crate) fn is_joined(&self) -> bool
+        ensures { result ≡ is_joined self.now.beginning }
+    {
+        self.beginning.is_joined()
+    }
+
     /// Returns the most data of a side that was not acknowledged.
     pub(crate) fn most(&self) -> u16
         ensures { result ≡ self.now.most }

@@ -1,8 +1,9 @@
 //! What is given of how captures are read.
 
 ghost use Rattle.std.specs.Prelude.{◌≡◌};
-ghost use Rattle.capture_report.specs.Given.{is_plain, is_unnamed, is_whole, none_given, plain, with_unknown};
+ghost use Rattle.capture_report.specs.Given.{is_plain, is_unnamed, is_whole, none_given, plain, with_link, with_unknown};
 
+use crate::links::LinkPlace;
 use capture_model::kind::LinkKind;
 use capture_rows::choices::Choices;
 use capture_rows::station::StationBy;
@@ -109,6 +110,20 @@ impl CaptureOptions {
         CaptureOptions {
             choices: Choices {
                 unknown: Some(kind),
+                ..self.choices
+            },
+            ..*self
+        }
+    }
+
+    /// Returns the same with the link that is read.
+    pub(crate) fn with_link(&self, place: LinkPlace) -> CaptureOptions
+        ensures { result ≡ with_link place.carrier place.interface self.now }
+    {
+        CaptureOptions {
+            choices: Choices {
+                carrier: Some(place.carrier),
+                interface: place.interface.or(self.choices.interface),
                 ..self.choices
             },
             ..*self

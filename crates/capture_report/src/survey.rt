@@ -4,16 +4,18 @@ ghost use Rattle.std.specs.Prelude.{◌≡◌};
 
 use crate::frames::Record;
 use crate::header::Seen;
+use crate::interfaces::Interfaces;
 use crate::reader::{own_row, shown_row};
 use crate::row::Row;
 use capture_files::entry::Dropped;
-use capture_model::carried::Carried;
+use capture_model::carried::{Carried, Payload};
 use capture_model::frame::Frame;
-use capture_model::header::read_header;
+use capture_model::header::{LinkHeader, read_header};
 use capture_model::kind::{LinkKind, kind_of_link};
-use capture_rows::choices::Choices;
+use capture_rows::choices::{Carrier, Choices};
 use capture_rows::given::Given;
 use capture_rows::line::FrameRead;
+use capture_rows::station::{StationBy, station_of};
 use lapb_link::frames::Place;
 use lapb_link::looks::{Form, form_of};
 use lapb_link::receiver::Shown;
@@ -28,9 +30,10 @@ pub struct Survey {
     /// The link header that the first frame of an unknown link type looks like, where that is one for private use.
     likely: Option<LinkKind>,
     seen: Seen,
-    /// The first interface with a packet, and whether another one has some.
-    interface: Option<u32>,
+    /// The device of the first packet, and whether another one has some.
+    device: Option<Option<u32>>,
     has_several: bool,
+    interfaces: Interfaces,
     /// Whether LAPB frames carried packets, frames were packets, frames were datagrams, link types were unknown.
     has_lapb: bool,
     has_packets: bool,
@@ -45,8 +48,9 @@ impl Survey {
             choices,
             likely: None,
             seen: Seen::new(alloc),
-            interface: None,
+            device: None,
             has_several: false,
+            interfaces: Interfaces::new(alloc),
             has_lapb: false,
             has_packets: false,
             has_internet: false,
@@ -69,7 +73,7 @@ impl Survey {
         let Some(read) = read else {
             return Ok(());
         };
-        self.see_carried(&frame, is_packet(&read.given));
+        self.see_carried(&frame, is_packet(&read.given))?;
         for one in shown {
             self.see_row(shown_row(one))?;
         }
@@ -113,20 +117,46 @@ impl Survey {
     }
 
     /// Sees what a frame carries, and whether it gives a packet.
-    fn see_carried(&mut self, frame: &Frame<'_>, is_packet: bool) {
+    fn see_carried(&mut self, frame: &Frame<'_>, is_packet: bool) -> Result<(), AllocError> {
         let Some(kind) = kind_of_link(frame.link).or(self.choices.unknown) else {
             self.see_unknown(frame);
-            return;
+            return Ok(());
         };
         let header = read_header(kind, frame);
+        if !self.is_on(header.index.unwrap_or(frame.interface)) {
+            return Ok(());
+        }
         if is_packet {
-            self.see_interface(header.index.unwrap_or(frame.interface));
+            self.see_device(header.index);
         }
         match header.carried {
-            Carried::Lapb(_) | Carried::CheckedLapb(_) => self.has_lapb |= is_packet,
-            Carried::Packet(_) | Carried::Device(_) => self.has_packets |= is_packet,
-            Carried::Internet(_) => self.has_internet = true,
-            Carried::Other | Carried::Cut | Carried::Unknown => {}
+            Carried::Lapb(payload) | Carried::CheckedLapb(payload) => {
+                self.has_lapb |= is_packet;
+                self.see_end(Carrier::Lapb, frame.interface, lapb_end(&header, payload))
+            }
+            Carried::Packet(_) | Carried::Device(_) => {
+                self.has_packets |= is_packet;
+                let end = station_of(StationBy::Direction, &header);
+                self.see_end(Carrier::Packet, frame.interface, end)
+            }
+            Carried::Internet(_) => {
+                self.has_internet = true;
+                Ok(())
+            }
+            Carried::Other | Carried::Cut | Carried::Unknown => Ok(()),
+        }
+    }
+
+    /// Sees the end that sent a frame, where its carrier is read.
+    fn see_end(
+        &mut self,
+        carrier: Carrier,
+        interface: u32,
+        end: Option<u64>,
+    ) -> Result<(), AllocError> {
+        match self.choices.carrier {
+            Some(chosen) if chosen != carrier => Ok(()),
+            _ => self.interfaces.see(carrier, interface, end),
         }
     }
 
@@ -138,12 +168,17 @@ impl Survey {
         self.has_unknown = true;
     }
 
-    /// Sees the interface of a packet.
-    fn see_interface(&mut self, interface: u32) {
-        match self.interface {
-            Some(first) => self.has_several |= interface != first,
-            None => self.interface = Some(interface),
+    /// Sees the device of a packet.
+    fn see_device(&mut self, device: Option<u32>) {
+        match self.device {
+            Some(first) => self.has_several |= device != first,
+            None => self.device = Some(device),
         }
+    }
+
+    /// Returns whether interfaces have a link each.
+    pub(crate) fn has_parts(&self) -> bool {
+        self.choices.interface.is_none() && self.interfaces.are_parted()
     }
 
     /// Returns the link header that unknown link types likely have, where the capture has no packet without it.
@@ -162,13 +197,21 @@ impl Survey {
         &self.seen
     }
 
-    /// Returns why the capture has no trace; `None` where it has one.
-    pub(crate) fn fault(&self) -> Option<CaptureFault> {
+    /// Returns why what was read has several links; `None` where it has one.
+    pub(crate) fn live_fault(&self) -> Option<CaptureFault> {
         if self.has_several {
             return Some(CaptureFault::SeveralInterfaces);
         }
-        if self.has_lapb && self.has_packets {
-            return Some(CaptureFault::TwoCarriers);
+        (self.has_lapb && self.has_packets).then_some(CaptureFault::TwoCarriers)
+    }
+
+    /// Returns why the capture has no trace; `None` where it has one.
+    pub(crate) fn fault(&self) -> Option<CaptureFault> {
+        if self.has_parts() {
+            return Some(CaptureFault::SeveralInterfaces);
+        }
+        if let Some(fault) = self.live_fault() {
+            return Some(fault);
         }
         if self.seen.has_packets() {
             return None;
@@ -180,6 +223,18 @@ impl Survey {
             return Some(CaptureFault::UnknownLink);
         }
         Some(CaptureFault::NoPacket)
+    }
+}
+
+/// Returns the end that sent a LAPB frame: by its link address or its direction, or by the address of an I frame.
+fn lapb_end(header: &LinkHeader<'_>, payload: Payload<'_>) -> Option<u64> {
+    let station = station_of(StationBy::LinkAddress, header);
+    if let Some(end) = station.or(station_of(StationBy::Direction, header)) {
+        return Some(end);
+    }
+    match payload.octets {
+        [address, control, ..] if *control % 2 == 0 => Some(u64::from(*address)),
+        _ => None,
     }
 }
 

@@ -11,7 +11,7 @@ use Rattle.line_model.specs.declared.fault.Kind.{Kind}
 use Rattle.line_model.specs.declared.fault.Fault.{Fault}
 use Rattle.line_model.specs.declared.fault.Fault.TheVariants.{Memory, Trace, Read, Write, Start, Double, UnknownPiece, Missing}
 use Rattle.streams.specs.declared.input.CaptureFault.{CaptureFault}
-use Rattle.streams.specs.declared.input.CaptureFault.TheVariants.{Damaged, Internet, NoPacket, Piped, SeveralInterfaces, TwoCarriers, UnknownLink}
+use Rattle.streams.specs.declared.input.CaptureFault.TheVariants.{Damaged, Header, Internet, NoCapture, NoPacket, Piped, SeveralInterfaces, TwoCarriers, UnknownLink}
 use Rattle.streams.specs.declared.input.OpenFault.{OpenFault}
 use Rattle.streams.specs.declared.input.OpenFault.TheVariants.{Missing as NoFile, Capture, Denied, Directory, Refused}
 use Rattle.trace_text.specs.Sources.{IsRefusedBy}
@@ -37,9 +37,11 @@ abbrev pub capture_words : CaptureFault → List ℕ
 capture_words Damaged = codes "the capture is damaged before its first frame"
 capture_words NoPacket = codes "the capture has no packet of X.25"
 capture_words Internet = codes "the capture has IP alone, as of XOT: x25trace FILE | x25scan reads it"
-capture_words UnknownLink = codes "the link type of the capture is unknown: x25trace --as KIND FILE | x25scan reads it"
-capture_words TwoCarriers = codes "the capture has LAPB and packets without it: x25trace --only lapb or --only x25 reads one of them"
-capture_words SeveralInterfaces = codes "the capture has packets of several interfaces: x25trace --interface N reads one of them"
+capture_words UnknownLink = codes "the link type of the capture is unknown: --as KIND reads it as ethernet, sll, sll2, lapb, lapb-dir, hdlc, x25 or x25-dir"
+capture_words TwoCarriers = codes "the capture has LAPB and packets without it: --only lapb or --only x25 reads one of them"
+capture_words SeveralInterfaces = codes "the capture has packets of several interfaces: --interface N reads one of them"
+capture_words Header = codes "the numbers of the header do not go together: WIN is below MOD, and PVC, IN, TWO and OUT do not fall"
+capture_words NoCapture = codes "it is a trace, which has its header and its sides: leave out the options of captures"
 capture_words Piped = codes "a capture is read twice, and a pipe only once: x25trace FILE | x25scan reads it"
 
 -- why a trace could not be opened, in words (profile)

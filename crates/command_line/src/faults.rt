@@ -75,15 +75,23 @@ fn put_capture_words<E: Sink>(out: &mut WriteBuffer, errors: &mut E, fault: Capt
         ),
         CaptureFault::UnknownLink => out.put(
             errors,
-            b"the link type of the capture is unknown: x25trace --as KIND FILE | x25scan reads it",
+            b"the link type of the capture is unknown: --as KIND reads it as ethernet, sll, sll2, lapb, lapb-dir, hdlc, x25 or x25-dir",
         ),
         CaptureFault::TwoCarriers => out.put(
             errors,
-            b"the capture has LAPB and packets without it: x25trace --only lapb or --only x25 reads one of them",
+            b"the capture has LAPB and packets without it: --only lapb or --only x25 reads one of them",
         ),
         CaptureFault::SeveralInterfaces => out.put(
             errors,
-            b"the capture has packets of several interfaces: x25trace --interface N reads one of them",
+            b"the capture has packets of several interfaces: --interface N reads one of them",
+        ),
+        CaptureFault::Header => out.put(
+            errors,
+            b"the numbers of the header do not go together: WIN is below MOD, and PVC, IN, TWO and OUT do not fall",
+        ),
+        CaptureFault::NoCapture => out.put(
+            errors,
+            b"it is a trace, which has its header and its sides: leave out the options of captures",
         ),
         CaptureFault::Piped => out.put(
             errors,

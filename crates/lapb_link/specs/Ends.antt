@@ -1,8 +1,9 @@
 -- The two ends of a link.
-use Rattle.std.specs.Prelude.{ℕ, ◌==◌, ◌&&◌, ◌||◌, Bool, true, false, not, Option, Some, None, is_none, unwrap_or, if◌then◌else◌}
+use Rattle.std.specs.Prelude.{ℕ, ◌==◌, ◌&&◌, ◌||◌, Bool, true, false, not, Option, Some, None, is_none, option_map, unwrap_or, if◌then◌else◌}
 use Rattle.line_model.specs.channels.Channels.{other}
 use Rattle.line_model.specs.declared.state.Side.{Side}
 use Rattle.line_model.specs.declared.state.Side.TheVariants.{T, N}
+use Rattle.lapb_link.specs.Controls.{command_side}
 use Rattle.lapb_link.specs.declared.ends.Ends.{Ends}
 use Rattle.lapb_link.specs.declared.ends.Sender.{Sender}
 use Rattle.lapb_link.specs.declared.ends.Station.{Station}
@@ -21,7 +22,15 @@ has_station n e = is_station n e.first || is_station n e.second
 
 -- the addresses show the ends
 abbrev pub by_address : Ends
-by_address = record { by_station = false; may_separate = true; is_mixed = false; first = None; second = None }
+by_address = record { by_station = false; may_separate = true; is_mixed = false; is_swapped = false; first = None; second = None }
+
+-- the side of an end, where the sides may be exchanged
+abbrev pub named : Ends → Side → Side
+named e s = if e.is_swapped then other s else s
+
+-- the side whose commands have an address
+unfoldable pub commander : Ends → (address : ℕ) → Option Side
+commander e a = option_map (named e) (command_side a)
 
 -- a second station has the other side
 abbrev pub known_of : ℕ → Option Station → Option Station → Option Side

@@ -6,8 +6,8 @@ use Rattle.line_model.specs.declared.state.Side.{Side}
 use Rattle.line_model.specs.declared.state.Side.TheVariants.{T, N}
 use Rattle.capture_model.specs.declared.reason.Reason.{Reason}
 use Rattle.capture_model.specs.declared.reason.Reason.TheVariants as reason
-use Rattle.lapb_link.specs.Controls.{command_side, control_of, is_command, is_set_up, modulus_after}
-use Rattle.lapb_link.specs.Ends.{known, sender_from}
+use Rattle.lapb_link.specs.Controls.{control_of, is_command, is_set_up, modulus_after}
+use Rattle.lapb_link.specs.Ends.{commander, known, sender_from}
 use Rattle.lapb_link.specs.Frames.{IFrame}
 use Rattle.lapb_link.specs.Receiving as receiving
 use Rattle.lapb_link.specs.Receiving.{Step, forgotten, gap_if, held_shown, informed, is_holding, set_up_again, supervised, unknown}
@@ -207,7 +207,7 @@ addressed f c a (Some s) l = by_control f s c.1 l c.0
 
 abbrev pub controlled : LinkFrame → Option (Control × List ℕ) → Link → Read
 controlled f None l = leaves_out reason.BadHeader l
-controlled f (Some c) l = let a = slice_index f.octets 0 in addressed f c a (command_side a) l
+controlled f (Some c) l = let a = slice_index f.octets 0 in addressed f c a (commander l.ends a) l
 
 abbrev pub read : LinkFrame → Link → Read
 read f l = controlled f (control_of l.modulus f.octets) l

@@ -3,6 +3,7 @@
 ghost use Rattle.std.specs.Prelude.{◌≡◌, false, true};
 ghost use Rattle.lapb_link.specs.Ends.{is_other, is_station};
 
+use crate::control::command_side;
 use line_model::state::Side;
 
 /// A station that sent frames: a number that all its frames have, as of their direction or their link address, and its
@@ -26,6 +27,8 @@ pub struct Ends {
     may_separate: bool,
     /// Whether a station sent as both ends.
     is_mixed: bool,
+    /// Whether the sides are exchanged: a command of 01 is of the DCE.
+    is_swapped: bool,
     first: Option<Station>,
     second: Option<Station>,
 }
@@ -62,7 +65,7 @@ fn is_station(source: u64, station: Option<Station>) -> bool
 }
 
 impl Ends {
-    ghost use Rattle.lapb_link.specs.Ends.{by_address, has_station, known, sender_by, sender_from, with_station};
+    ghost use Rattle.lapb_link.specs.Ends.{by_address, commander, has_station, known, named, sender_by, sender_from, with_station};
 
     /// Returns ends that the addresses show, until a second station sends as the same end.
     pub fn by_address() -> Ends
@@ -72,8 +75,34 @@ impl Ends {
             by_station: false,
             may_separate: true,
             is_mixed: false,
+            is_swapped: false,
             first: None,
             second: None,
+        }
+    }
+
+    /// Returns these ends with their sides exchanged, or as they are.
+    pub fn swapped(self, is_swapped: bool) -> Ends
+        ensures { result ≡ record self { is_swapped = is_swapped } }
+    {
+        Ends { is_swapped, ..self }
+    }
+
+    /// Returns the side of an end that has a side by its address.
+    fn named(&self, side: Side) -> Side
+        ensures { result ≡ named self.now side }
+    {
+        if self.is_swapped { side.other() } else { side }
+    }
+
+    /// Returns the side whose commands have an address; `None` where it is no address of a link.
+    #[tactic(auto, unfolding(crate::specs::Ends::commander))]
+    pub(crate) fn commander(&self, address: u8) -> Option<Side>
+        ensures { result ≡ commander self.now address }
+    {
+        match command_side(address) {
+            Some(side) => Some(self.named(side)),
+            None => None,
         }
     }
 

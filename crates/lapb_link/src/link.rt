@@ -5,7 +5,7 @@ ghost use Rattle.std.specs.List.{list_any};
 ghost use Rattle.lapb_link.specs.Links.{is_gap, link_frame_view, no_packet, supervisor, surely, taken_view, what_of, what_view};
 
 use crate::control::{
-    Control, Supervisory, SupervisoryField, Unnumbered, command_side, read_control,
+    Control, Supervisory, SupervisoryField, Unnumbered, read_control,
 };
 use crate::ends::{Ends, Sender};
 use crate::frames::{Information, Place, Reading};
@@ -101,7 +101,7 @@ impl Link {
             return Ok(left_out(None, Reason::BadHeader));
         };
         let address = frame.octets[0];
-        let Some(commander) = command_side(address) else {
+        let Some(commander) = self.ends.commander(address) else {
             return Ok(left_out(None, Reason::OtherAddress(address)));
         };
         match control {

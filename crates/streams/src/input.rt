@@ -25,14 +25,20 @@ pub enum CaptureFault {
     #[error("the capture has IP alone, as of XOT: x25trace FILE | x25scan reads it")]
     Internet,
     /// The link type of its frames is not known.
-    #[error("the link type of the capture is unknown: x25trace --as KIND FILE | x25scan reads it")]
+    #[error("the link type of the capture is unknown: --as KIND reads it as ethernet, sll, sll2, lapb, lapb-dir, hdlc, x25 or x25-dir")]
     UnknownLink,
     /// LAPB frames carry packets, and other frames are packets.
-    #[error("the capture has LAPB and packets without it: x25trace --only lapb or --only x25 reads one of them")]
+    #[error("the capture has LAPB and packets without it: --only lapb or --only x25 reads one of them")]
     TwoCarriers,
     /// Packets were recorded on several interfaces.
-    #[error("the capture has packets of several interfaces: x25trace --interface N reads one of them")]
+    #[error("the capture has packets of several interfaces: --interface N reads one of them")]
     SeveralInterfaces,
+    /// Numbers of its header that are given are not those of an interface.
+    #[error("the numbers of the header do not go together: WIN is below MOD, and PVC, IN, TWO and OUT do not fall")]
+    Header,
+    /// It is a trace, and options of captures are given.
+    #[error("it is a trace, which has its header and its sides: leave out the options of captures")]
+    NoCapture,
     /// It comes from a pipe.
     #[error("a capture is read twice, and a pipe only once: x25trace FILE | x25scan reads it")]
     Piped,

@@ -2,7 +2,7 @@
 #![tactic(auto)]
 
 use capture_report::options::CaptureOptions;
-use capture_report::recordings::Recordings;
+use capture_report::recordings::{Recordings, StandardRecording};
 use command_line::asked::Asked;
 use command_line::options::parse;
 use command_line::program::{OTHER_FAULT, USAGE, program};
@@ -35,7 +35,7 @@ fn run_streams<R: Threads + Wait + Clock + Sync>(
     let mut source = FileInput::new(
         rt.alloc(),
         &recordings,
-        rt.stdin(),
+        StandardRecording::new(rt.alloc(), rt.stdin(), options),
         rt.stdin().is_terminal(),
         Progress::new(rt.stderr(), rt.stderr().is_terminal()),
     );
