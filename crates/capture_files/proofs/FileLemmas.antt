@@ -10,7 +10,7 @@ use Rattle.capture_files.specs.Entries.{frame_at}
 use Rattle.capture_files.specs.Numbers.{next_number, number}
 use Rattle.capture_files.specs.PcapFiles.{first_record, is_damaged, pcap_ahead, pcap_left, pcap_records, record_size, records_within}
 use Rattle.capture_files.specs.PcapHeaders.{first_fitting, fitted, form_in, form_of, headers_of}
-use Rattle.capture_files.specs.PcapRecords.{IsRecord, header_size, kept, pcap_frame}
+use Rattle.capture_files.specs.PcapRecords.{IsRecord, header_size, is_impossible, kept, pcap_frame}
 use Rattle.capture_files.specs.Records.{Follows, Record, frame_record, record_of}
 use Rattle.capture_files.specs.PcapSteps.{IsPcapEntry}
 use Rattle.capture_files.specs.Windows.{IsAtEnd, Passes, still}
@@ -19,7 +19,7 @@ use Rattle.capture_files.specs.declared.entry.FrameHead.{FrameHead}
 use Rattle.capture_files.specs.declared.pcap.PcapForm.{PcapForm}
 use Rattle.capture_files.specs.declared.pcap.RecordHeader.{RecordHeader}
 use Rattle.capture_files.specs.declared.pcap_reader.Pcap.{Pcap}
-use Rattle.capture_files.proofs.RecordLemmas.{header_least, number_cut, number_more}
+use Rattle.capture_files.proofs.RecordLemmas.{fits_more, header_least, number_cut, number_more}
 
 -- the bound makes no difference
 within_bound : (m n : ℕ) (f : PcapForm) (last : ℕ) (xs : List ℕ) → length xs ≤ m → length xs ≤ n → records_within m f last xs ≡ records_within n f last xs
@@ -56,16 +56,16 @@ first_of_file f last (x ∷ xs) some =
     ]) (within_bound (length xs) (length (drop size (x ∷ xs))) f (next_number last) (drop size (x ∷ xs)) (omega (arith, shorter, least)) (omega arith))
 
 -- a file that is not damaged begins with a whole record
-pub begins_whole : (f : PcapForm) (last : ℕ) (file : List ℕ) (records : List Record) → 0 < length file → pcap_records f last file ≡ Some records → (kept f file ≤ f.largest) × (record_size f file ≤ length file)
-begins_whole f last file records some is = by_size (cases_lt f.largest (kept f file)) (cases_lt (length file) (record_size f file))
+pub begins_whole : (f : PcapForm) (last : ℕ) (file : List ℕ) (records : List Record) → 0 < length file → pcap_records f last file ≡ Some records → (is_impossible f file ≡ false) × (record_size f file ≤ length file)
+begins_whole f last file records some is = by_size (is_impossible f file) refl (cases_lt (length file) (record_size f file))
   where
     none : is_damaged f file ≡ true → ⊥
     none bad = cc (sym is ∙ first_of_file f last file some ∙ ap (from_first f last file) bad)
 
-    by_size : (f.largest < kept f file) ⊎ (kept f file ≤ f.largest) → (length file < record_size f file) ⊎ (record_size f file ≤ length file) → (kept f file ≤ f.largest) × (record_size f file ≤ length file)
-    by_size (inl long) y = absurd (none (rw (lt-ltb f.largest (kept f file) long) refl))
-    by_size (inr fits) (inl cut) = absurd (none (rw (le-ltb f.largest (kept f file) fits, lt-ltb (length file) (record_size f file) cut) refl))
-    by_size (inr fits) (inr whole) = (fits, whole)
+    by_size : (b : Bool) → is_impossible f file ≡ b → (length file < record_size f file) ⊎ (record_size f file ≤ length file) → (is_impossible f file ≡ false) × (record_size f file ≤ length file)
+    by_size true bad y = absurd (none (rw bad refl))
+    by_size false fits (inl cut) = absurd (none (rw (fits, lt-ltb (length file) (record_size f file) cut) refl))
+    by_size false fits (inr whole) = (fits, whole)
 
 -- a record at the front is the first one
 pub records_more : (f : PcapForm) (last : ℕ) (one rest : List ℕ) → IsRecord f one → pcap_records f last (one ++ rest) ≡ option_map (λ rs. frame_record (pcap_frame f (next_number last) one) ∷ rs) (pcap_records f (next_number last) rest)
@@ -76,8 +76,8 @@ records_more f last one rest whole =
     let all : length file ≡ length one + length rest = length-append one rest in
     let same : kept f file ≡ kept f one = number_more f.is_big one rest 8 (omega (arith, there)) in
     let size : record_size f file ≡ length one = omega (arith, same, whole.whole) in
-    let fits : kept f file ≤ f.largest = omega (arith, same, whole.begins.fits) in
-    let good : is_damaged f file ≡ false = rw (le-ltb f.largest (kept f file) fits, le-ltb (length file) (record_size f file) (omega (arith, size, all))) refl in
+    let fits : is_impossible f file ≡ false = fits_more f one rest (omega (arith, there)) ∙ whole.begins.fits in
+    let good : is_damaged f file ≡ false = rw (fits, le-ltb (length file) (record_size f file) (omega (arith, size, all))) refl in
     first_of_file f last file (omega (arith, there, all))
     ∙ ap (from_first f last file) good
     ∙ ap (λ k. option_map (λ rs. frame_record (pcap_frame f (next_number last) (take k file)) ∷ rs) (pcap_records f (next_number last) (drop k file))) size
@@ -114,7 +114,7 @@ follows_record p q (Some file) after last r free search form number is passes wh
 
 -- the file does not begin with a whole record
 pub follows_damage : (p : Pcap) (before : Option (List ℕ)) (after : Option (List Record)) (r : Option Record) → p.search ≡ None
-    → ((file : List ℕ) → before ≡ Some file → (0 < length file) × ((kept p.form file ≤ p.form.largest) × (record_size p.form file ≤ length file) → ⊥)) → Follows (pcap_left p before) after r
+    → ((file : List ℕ) → before ≡ Some file → (0 < length file) × ((is_impossible p.form file ≡ false) × (record_size p.form file ≤ length file) → ⊥)) → Follows (pcap_left p before) after r
 follows_damage p None after r free bad = follows_unshown _ _ _ (λ records shown. cc shown)
 follows_damage p (Some file) after r free bad =
     let damaged = bad file refl in
@@ -156,15 +156,15 @@ front_shown before (Some more) ahead file passes shown =
     let whole : ahead ++ more ≡ read.0 = cc read.1 in
     (more, refl, read.2 ∙ sym whole)
 
--- a record that is too long
-pub follows_long : (p : Pcap) (before left : Option (List ℕ)) (ahead : List ℕ) (after : Option (List Record)) (r : Option Record) → p.search ≡ None → Passes before (still ahead left) []
-    → header_size p.form.header ≤ length ahead → p.form.largest < kept p.form ahead → Follows (pcap_left p before) after r
-follows_long p before left ahead after r free passes there long = follows_damage p before after r free (λ file shown.
+-- a record that cannot be
+pub follows_impossible : (p : Pcap) (before left : Option (List ℕ)) (ahead : List ℕ) (after : Option (List Record)) (r : Option Record) → p.search ≡ None → Passes before (still ahead left) []
+    → header_size p.form.header ≤ length ahead → is_impossible p.form ahead ≡ true → Follows (pcap_left p before) after r
+follows_impossible p before left ahead after r free passes there bad = follows_damage p before after r free (λ file shown.
     let front = front_shown before left ahead file passes shown in
     let all : length file ≡ length ahead + length front.0 = ap length front.2 ∙ length-append ahead front.0 in
     let least : 16 ≤ header_size p.form.header = header_least p.form.header in
-    let same : kept p.form file ≡ kept p.form ahead = ap (kept p.form) front.2 ∙ number_more p.form.is_big ahead front.0 8 (omega (arith, there, least)) in
-    (omega (arith, all, there, least), λ begins. omega (arith, same, long, begins.0)))
+    let same : is_impossible p.form file ≡ is_impossible p.form ahead = ap (is_impossible p.form) front.2 ∙ fits_more p.form ahead front.0 (omega (arith, there, least)) in
+    (omega (arith, all, there, least), λ begins. cc (sym begins.0 ∙ same ∙ bad)))
 
 -- the records after the header of a whole file
 pub opened : (may_wait : Bool) (n : ℕ) (p : Pcap) (f : PcapForm) (header rest file : List ℕ) → file ≡ header ++ rest → length header ≡ 24 → form_in header ≡ Some f

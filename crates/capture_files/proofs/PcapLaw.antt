@@ -8,7 +8,7 @@ use Rattle.capture_files.specs.PcapRecords.{IsRecord, header_size, kept, pcap_fr
 use Rattle.capture_files.specs.Records.{Record, frame_record}
 use Rattle.capture_files.specs.declared.pcap.PcapForm.{PcapForm}
 use Rattle.capture_files.proofs.FileLemmas.{begins_whole, records_more}
-use Rattle.capture_files.proofs.RecordLemmas.{header_least, number_cut}
+use Rattle.capture_files.proofs.RecordLemmas.{fits_cut, header_least, number_cut}
 
 written_are_read : (f : PcapForm) (last : ℕ) (octets : List ℕ) (records : List Record) → AreRecords f last octets records → pcap_records f last octets ≡ Some records
 written_are_read f last octets [] none = ap (pcap_records f last) none
@@ -39,7 +39,7 @@ read_are_written (suc most) f last (x ∷ xs) records le is =
     let same : kept f (take size file) ≡ kept f file = number_cut f.is_big file 8 size (omega (arith, least)) in
     let all : length (take size file) ≡ size = length-take-le size file front.1 in
     let shorter : length (drop size file) ≡ length file - size = length-drop size file in
-    let whole : IsRecord f (take size file) = record { begins = record { head = omega (arith, all); fits = omega (arith, same, front.0) }; whole = omega (arith, all, same) } in
+    let whole : IsRecord f (take size file) = record { begins = record { head = omega (arith, all); fits = fits_cut f file size (omega (arith, least)) ∙ front.0 }; whole = omega (arith, all, same) } in
     let parts : file ≡ take size file ++ drop size file = sym (take-append-drop size file) in
     let rest = read_on f last (take size file) (drop size file) records whole (ap (pcap_records f last) (sym parts) ∙ is) in
     let back : frame_record (pcap_frame f (next_number last) (take size file)) ∷ rest.0 ≡ records = sym rest.2 in

@@ -1,11 +1,11 @@
 -- Numbers of a file at the front of more or fewer of its octets, and the records that they begin.
-use Rattle.std.proofs.Common.{◌≡◌, ◌∙◌, ap, Bool, None, ℕ, ◌+◌, ◌-◌, ◌<◌, ◌≤◌, List, ◌++◌, arith, drop, length, length-append, length-drop, length-take-le, min, refl, take, take-take}
+use Rattle.std.proofs.Common.{◌≡◌, ◌∙◌, ap, sym, Bool, true, None, ℕ, ◌+◌, ◌-◌, ◌<◌, ◌≤◌, List, ◌++◌, arith, drop, length, length-append, length-drop, length-take-le, min, refl, take, take-take}
 use Rattle.std.proofs.lemmas.List.{drop-append-le, drop-take, take-append-le}
 use Rattle.capture_files.specs.Numbers.{number}
 use Rattle.capture_files.specs.PcapSteps.{IsPcapEntry}
 use Rattle.capture_files.specs.declared.entry.Entry.{Entry}
 use Rattle.capture_files.specs.declared.pcap_reader.Pcap.{Pcap}
-use Rattle.capture_files.specs.PcapRecords.{Begins, IsCutRecord, IsRecord, header_size, kept}
+use Rattle.capture_files.specs.PcapRecords.{Begins, IsCutRecord, IsRecord, header_size, is_impossible, kept}
 use Rattle.capture_files.specs.declared.pcap.PcapForm.{PcapForm}
 use Rattle.capture_files.specs.declared.pcap.RecordHeader.{RecordHeader}
 use Rattle.capture_files.specs.declared.pcap.RecordHeader.TheVariants.{Plain, Nokia, Modified, Suse}
@@ -29,6 +29,14 @@ number_cut big xs at n le =
     let few : 4 ≤ n - at = omega (arith, le) in
     number_of_four big _ _ (ap (λ k. take 4 (drop at (take k xs))) all ∙ ap (take 4) (drop-take at (n - at) xs) ∙ take-take 4 (n - at) (drop at xs) few)
 
+-- whether a record can be is the same where more octets follow
+pub fits_more : (f : PcapForm) (xs ys : List ℕ) → 16 ≤ length xs → is_impossible f (xs ++ ys) ≡ is_impossible f xs
+fits_more f xs ys le = rw (number_more f.is_big xs ys 8 (omega (arith, le)), number_more f.is_big xs ys 12 (omega (arith, le))) refl
+
+-- and where octets after its header are cut off
+pub fits_cut : (f : PcapForm) (xs : List ℕ) (n : ℕ) → 16 ≤ n → is_impossible f (take n xs) ≡ is_impossible f xs
+fits_cut f xs n le = rw (number_cut f.is_big xs 8 n (omega (arith, le)), number_cut f.is_big xs 12 n (omega (arith, le))) refl
+
 -- a record's header has at least sixteen octets
 pub header_least : (h : RecordHeader) → 16 ≤ header_size h
 header_least Plain = omega arith
@@ -45,7 +53,7 @@ begun : (f : PcapForm) (old more : List ℕ) (n : ℕ) → Begins f old → head
 begun f old more n begins le there =
     let least = header_least f.header in
     let same : kept f (take n (old ++ more)) ≡ kept f old = same_kept f old more n (omega (arith, least, begins.head)) (omega (arith, least, le)) in
-    (record { head = omega (arith, le, length-take-le n (old ++ more) there); fits = omega (arith, same, begins.fits) }, same)
+    (record { head = omega (arith, le, length-take-le n (old ++ more) there); fits = fits_cut f (old ++ more) n (omega (arith, least, le)) ∙ fits_more f old more (omega (arith, least, begins.head)) ∙ begins.fits }, same)
 
 -- all octets of a record
 pub whole_record : (f : PcapForm) (old more last : List ℕ) (size : ℕ) → Begins f old → size ≡ header_size f.header + kept f old → last ≡ take (min size (length (old ++ more))) (old ++ more) → size ≤ length last → IsRecord f last
@@ -68,12 +76,11 @@ cut_record f old more last size begins is taken cut =
     let same : kept f last ≡ kept f old = ap (kept f) taken ∙ begun_here.1 in
     record { begins = rw taken begun_here.0; cut = omega (arith, same, is, cut) }
 
--- where a record is too long, no record begins, however the file goes on
-pub none_begins : (f : PcapForm) (old more file : List ℕ) → file ≡ old ++ more → header_size f.header ≤ length old → f.largest < kept f old → Begins f file → ⊥
-none_begins f old more file is head long begins =
-    let there : 12 ≤ length old = omega (arith, head, header_least f.header) in
-    let same : kept f file ≡ kept f old = ap (kept f) is ∙ number_more f.is_big old more 8 there in
-    omega (arith, same, long, begins.fits)
+-- where a record cannot be, none begins, however the file goes on
+pub none_begins : (f : PcapForm) (old more file : List ℕ) → file ≡ old ++ more → header_size f.header ≤ length old → is_impossible f old ≡ true → Begins f file → ⊥
+none_begins f old more file is head bad begins =
+    let there : 16 ≤ length old = omega (arith, head, header_least f.header) in
+    cc (sym begins.fits ∙ ap (is_impossible f) is ∙ fits_more f old more there ∙ bad)
 
 -- the entry of octets with which no record begins
 pub no_frame : (p : Pcap) (octets ahead : List ℕ) (e : Entry) → e.frame ≡ None → (p.search ≡ None → Begins p.form (octets ++ ahead) → ⊥) → IsPcapEntry p octets ahead e

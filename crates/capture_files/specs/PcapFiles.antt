@@ -5,16 +5,16 @@ use Rattle.capture_files.specs.declared.pcap.PcapForm.{PcapForm}
 use Rattle.capture_files.specs.declared.pcap_reader.Pcap.{Pcap}
 use Rattle.capture_files.specs.declared.pcap_reader.Search.{Search}
 use Rattle.capture_files.specs.Numbers.{next_number}
-use Rattle.capture_files.specs.PcapRecords.{IsRecord, header_size, kept, pcap_frame}
+use Rattle.capture_files.specs.PcapRecords.{IsRecord, header_size, is_impossible, kept, pcap_frame}
 use Rattle.capture_files.specs.Records.{Record, frame_record}
 
 -- how many octets the record at the front has
 abbrev pub record_size : PcapForm → List ℕ → ℕ
 record_size f file = header_size f.header + kept f file
 
--- the record at the front is too long, or cut by the end of the file
+-- the record at the front cannot be, or is cut by the end of the file
 abbrev pub is_damaged : PcapForm → List ℕ → Bool
-is_damaged f file = if nat_lt f.largest (kept f file) then true else nat_lt (length file) (record_size f file)
+is_damaged f file = if is_impossible f file then true else nat_lt (length file) (record_size f file)
 
 -- the frame of the record at the front, after the one of this number
 abbrev pub first_record : PcapForm → (last : ℕ) → List ℕ → Record

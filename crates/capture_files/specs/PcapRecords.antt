@@ -1,5 +1,5 @@
 -- The records of a pcap file.
-use Rattle.std.specs.Prelude.{◌≡◌, ℕ, ◌+◌, ◌-◌, ◌*◌, ◌<◌, ◌≤◌, List, Some, drop, get_or, length, max, nat_eq, nat_lt, pos, take, if◌then◌else◌}
+use Rattle.std.specs.Prelude.{◌≡◌, ℕ, ◌+◌, ◌-◌, ◌*◌, ◌<◌, ◌≤◌, ◌||◌, Bool, false, List, Some, drop, get_or, length, max, nat_eq, nat_lt, pos, take, if◌then◌else◌}
 use Rattle.capture_model.specs.Frames.{Frame}
 use Rattle.capture_model.specs.declared.frame.Direction.{Direction}
 use Rattle.capture_model.specs.declared.frame.Direction.TheVariants.{Unknown, Received, Sent}
@@ -19,9 +19,17 @@ header_size Suse = 28
 abbrev pub kept : PcapForm → List ℕ → ℕ
 kept f file = number f.is_big (drop 8 file)
 
+-- how many octets it says that its frame had on the line
+abbrev pub said : PcapForm → List ℕ → ℕ
+said f file = number f.is_big (drop 12 file)
+
+-- no record says more octets than one may have, or a frame without octets
+abbrev pub is_impossible : PcapForm → List ℕ → Bool
+is_impossible f file = nat_lt f.largest (kept f file) || nat_eq (said f file) 0
+
 -- how many octets that frame had on the line, without its check sequence
 abbrev pub line_length : PcapForm → List ℕ → ℕ
-line_length f file = max (kept f file) (number f.is_big (drop 12 file)) - f.check
+line_length f file = max (kept f file) (said f file) - f.check
 
 -- the nanoseconds of its time
 abbrev pub nanoseconds : PcapForm → List ℕ → ℕ
@@ -50,10 +58,10 @@ pcap_frame f n octets = record {
   time = Some (record { count = pos (nanoseconds f octets) });
 }
 
--- a record begins at the front: its header is there, and says no more octets than a record may have
+-- a record begins at the front: its header is there, and says what a record may say
 pub record Begins (f : PcapForm) (file : List ℕ) : Type 0 where
   pub head : header_size f.header ≤ length file
-  pub fits : kept f file ≤ f.largest
+  pub fits : is_impossible f file ≡ false
 
 -- octets that are one record
 pub record IsRecord (f : PcapForm) (octets : List ℕ) : Type 0 where

@@ -1,20 +1,20 @@
 -- What a reader of a pcap file does next.
-use Rattle.std.specs.Prelude.{◌≡◌, ◌+◌, ◌<◌, ◌≤◌, ℕ, List, [], ◌++◌, Option, None, Some, IfSome, IsSome, length}
+use Rattle.std.specs.Prelude.{◌≡◌, ◌+◌, ◌<◌, ◌≤◌, ℕ, List, [], ◌++◌, Option, None, Some, true, IfSome, IsSome, length}
 use Rattle.capture_files.specs.declared.entry.Entry.{Entry}
 use Rattle.capture_files.specs.declared.pcap.PcapForm.{PcapForm}
 use Rattle.capture_files.specs.declared.pcap_reader.Pcap.{Pcap}
 use Rattle.capture_files.specs.declared.pcap_reader.RecordStart.{RecordStart}
-use Rattle.capture_files.specs.declared.pcap_reader.RecordStart.TheVariants.{End, HeaderCut, Long, Record}
+use Rattle.capture_files.specs.declared.pcap_reader.RecordStart.TheVariants.{End, HeaderCut, Impossible, Record}
 use Rattle.capture_files.specs.Entries.{frame_at}
 use Rattle.capture_files.specs.Numbers.{next_number}
-use Rattle.capture_files.specs.PcapRecords.{Begins, IsCutRecord, IsRecord, header_size, kept, pcap_frame}
+use Rattle.capture_files.specs.PcapRecords.{Begins, IsCutRecord, IsRecord, header_size, is_impossible, kept, pcap_frame}
 use Rattle.capture_files.specs.Windows.{WindowView}
 
 -- what begins at the front of a file
 abbrev pub IsStart : PcapForm → List ℕ → RecordStart → Type 0
 IsStart f file End = length file ≡ 0
 IsStart f file (HeaderCut n) = (0 < length file) × (length file < header_size f.header)
-IsStart f file (Long n) = (header_size f.header ≤ length file) × (f.largest < kept f file)
+IsStart f file (Impossible n) = (header_size f.header ≤ length file) × (is_impossible f file ≡ true)
 IsStart f file (Record n) = Begins f file × (n ≡ header_size f.header + kept f file)
 
 -- the entry of octets of the file, of which others are ahead

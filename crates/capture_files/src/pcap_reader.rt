@@ -51,8 +51,8 @@ enum RecordStart {
     End,
     /// The header of a record, cut by the end of the file.
     HeaderCut(u32),
-    /// A record that says so many octets, more than one may have.
-    Long(u32),
+    /// A record that cannot be, which says so many octets: more than one may have, or of a frame without octets.
+    Impossible(u32),
     /// A record of this size with its header, which may be cut by the end of the file.
     Record(usize),
 }
@@ -72,8 +72,8 @@ impl PcapForm {
             return RecordStart::HeaderCut(there as u32);
         }
         let kept = read_four(self.is_big, octets, 8);
-        if self.largest < kept {
-            return RecordStart::Long(kept);
+        if self.largest < kept || read_four(self.is_big, octets, 12) == 0 {
+            return RecordStart::Impossible(kept);
         }
         RecordStart::Record(size + kept as usize)
     }
@@ -239,7 +239,7 @@ impl Pcap {
                 window.take(window.len());
                 Ok(Some(self.header_cut(octets)))
             }
-            RecordStart::Long(kept) => {
+            RecordStart::Impossible(kept) => {
                 let search = Search {
                     kept,
                     start: self.offset,

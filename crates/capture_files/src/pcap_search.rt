@@ -10,6 +10,9 @@ use crate::pcap::PcapForm;
 /// How many octets are searched at once.
 pub(crate) const SEARCHED: usize = 1 << 20;
 
+/// How many zeros may begin a header that keeps octets.
+const PASSED: usize = 11;
+
 /// How far the times of two records that follow each other may be apart, in seconds.
 const DAYS: u32 = 30 * 86_400;
 
@@ -58,7 +61,8 @@ impl PcapForm {
         is_end && after == octets.len() || self.plausible(octets, after, last).is_some()
     }
 
-    /// Returns the first place from `from` on where a record is.
+    /// Returns the first place from `from` on where a record is. It looks at no place whose header would be zeros up to the
+    /// end of the number of octets: after a power cut the rest of a file may be zeros.
     pub(crate) fn next_record(
         &self,
         octets: &[u8],
@@ -68,10 +72,13 @@ impl PcapForm {
     ) -> Option<usize>
         ensures within { IfSome result (λ at. at < length octets.now) }
     {
-        for at in from..octets.len() {
+        let mut at = from;
+        while at < octets.len() {
             if self.is_record(octets, at, last, is_end) {
                 return Some(at);
             }
+            let zeros = octets[at..].iter().position(|octet| *octet != 0);
+            at = at.saturating_add(zeros.unwrap_or(SEARCHED).saturating_sub(PASSED).max(1));
         }
         None
     }

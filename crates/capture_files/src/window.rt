@@ -105,12 +105,12 @@ impl Window {
         Ok(())
     }
 
-    /// Makes room for a read. Fails only when memory is refused.
+    /// Makes room for a read. Octets ahead are moved once as many were consumed. Fails only when memory is refused.
     fn make_room(&mut self) -> Result<(), Fault>
         ensures ahead { self.new.ahead ≡ self.old.ahead }
         ensures wide { OnOk result (2 ^ 16 ≤ self.new.spare) }
     {
-        if self.bytes.len() - self.end < CHUNK {
+        if self.bytes.len() - self.end < CHUNK && self.end - self.at <= self.at {
             self.compact();
         }
         self.widen()

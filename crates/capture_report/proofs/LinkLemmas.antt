@@ -9,7 +9,7 @@ use Rattle.line_model.specs.declared.state.Side.TheVariants.{T, N}
 use Rattle.lapb_link.specs.Controls.{command_side, control_of, is_command, is_set_up, modulus_after, second_octet, unnumbered_of}
 use Rattle.lapb_link.specs.Ends.{known, sender_from}
 use Rattle.lapb_link.specs.Frames.{IFrame}
-use Rattle.lapb_link.specs.Links.{LinkFrame, Read, Packet, Held, OfLink, LeftOut, What, addressed, by_control, controlled, identified, information_read, informed_on, is_accepted, is_gap, is_link_holding, link_set_up, linked, marked, read, reading_of, receiver_of, set_up_shown, supervised_on, supervisor, supervisory_by, supervisory_read, unnumbered_by, unnumbered_read, what_of, with_receiver}
+use Rattle.lapb_link.specs.Links.{LinkFrame, Read, Packet, Held, OfLink, LeftOut, What, addressed, by_control, controlled, held_since, identified, information_read, informed_on, is_accepted, is_gap, is_link_holding, link_set_up, linked, marked, read, reading_of, receiver_of, set_up_shown, supervised_on, supervisor, supervisory_by, supervisory_read, unnumbered_by, unnumbered_read, what_of, with_receiver}
 use Rattle.lapb_link.specs.Receiving.{forgotten, gap_if, held_shown}
 use Rattle.lapb_link.specs.declared.control.Control.{Control}
 use Rattle.lapb_link.specs.declared.control.Control.TheVariants as control
@@ -111,8 +111,8 @@ unnumbered_is f s k l place h =
   where
     shown_if : (b : Bool) (m : Link) → AreShown (if b then set_up_shown f.place m else [])
     shown_if true m =
-        both_shown (held_shown m.of_t) (held_shown m.of_n ++ gap_if (is_link_holding m) (min m.of_t.since m.of_n.since) f.place) (held_are_shown m.of_t)
-        (both_shown (held_shown m.of_n) (gap_if (is_link_holding m) (min m.of_t.since m.of_n.since) f.place) (held_are_shown m.of_n) (gap_shown (is_link_holding m) (min m.of_t.since m.of_n.since) f.place place))
+        both_shown (held_shown m.of_t) (held_shown m.of_n ++ gap_if (is_link_holding m) (held_since m) f.place) (held_are_shown m.of_t)
+        (both_shown (held_shown m.of_n) (gap_if (is_link_holding m) (held_since m) f.place) (held_are_shown m.of_n) (gap_shown (is_link_holding m) (held_since m) f.place place))
     shown_if false m = tt
 
     at : (sender : Sender) (m : Link) → HoldsFrames m → IsLinkRead (unnumbered_by sender f.place k m)

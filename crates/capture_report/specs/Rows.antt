@@ -50,9 +50,11 @@ settled accepted (given.Gap c r) = given.Gap c r
 settled accepted (given.OfLink k) = given.OfLink k
 settled accepted (given.LeftOut r) = given.LeftOut r
 
-abbrev pub is_packet : Given → Bool
-is_packet (given.Packet s octets) = true
-is_packet g = false
+-- a packet, or one that is left out
+abbrev pub has_packet : Given → Bool
+has_packet (given.Packet s octets) = true
+has_packet (given.Gap c r) = true
+has_packet g = false
 
 -- a gap that a frame shows at its own place stands there, even where it gives no packet
 abbrev pub is_gap_at : ℕ → Shown → Bool
@@ -60,7 +62,7 @@ is_gap_at frame (shown.Gap g) = g.place.frame == frame
 is_gap_at frame x = false
 
 abbrev pub is_behind_gap : (doubtful : Bool) → ℕ → List Shown → FrameRead → Given → Bool
-is_behind_gap doubtful frame xs r g = r.gap_before || list_any (is_gap_at frame) xs || is_packet g && doubtful
+is_behind_gap doubtful frame xs r g = r.gap_before || list_any (is_gap_at frame) xs || has_packet g && doubtful
 
 abbrev pub settled_rows : (doubtful : Bool) → Place → List Shown → FrameRead → Given → List Row
 settled_rows doubtful p xs r g = rows_behind (is_behind_gap doubtful p.frame xs r g) p g

@@ -8,7 +8,7 @@ ghost use Rattle.capture_rows.specs.Givens.{given_view};
 ghost use Rattle.capture_rows.specs.Lines.{read_view};
 ghost use Rattle.capture_report.specs.Contents.{row_view};
 ghost use Rattle.capture_report.specs.Records.{record_view};
-ghost use Rattle.capture_report.specs.Rows.{after_record, dropped_rows, is_behind_gap, is_gap_at, is_packet, noticed_rows, own_rows, placed_rows, record_rows, rows_behind, rows_given, settled, shown_rows};
+ghost use Rattle.capture_report.specs.Rows.{after_record, dropped_rows, has_packet, is_behind_gap, is_gap_at, noticed_rows, own_rows, placed_rows, record_rows, rows_behind, rows_given, settled, shown_rows};
 ghost use Rattle.capture_report.specs.Texts.{with_rows};
 
 use crate::frames::Record;
@@ -227,14 +227,14 @@ fn is_behind_gap(
 ) -> bool
     ensures { result ≡ is_behind_gap is_doubtful frame shown.now (read_view read.now) (given_view given.now) }
 {
-    read.gap_before || shows_gap_at(frame, shown) || is_packet(given) && is_doubtful
+    read.gap_before || shows_gap_at(frame, shown) || has_packet(given) && is_doubtful
 }
 
-/// Returns whether a frame gives a packet.
-fn is_packet(given: &Given<'_>) -> bool
-    ensures { result ≡ is_packet (given_view given.now) }
+/// Returns whether a frame gives a packet, or the gap of one that is left out.
+fn has_packet(given: &Given<'_>) -> bool
+    ensures { result ≡ has_packet (given_view given.now) }
 {
-    matches!(given, Given::Packet(..))
+    matches!(given, Given::Packet(..) | Given::Gap(..))
 }
 
 /// Returns whether a frame shows a gap at its own place.

@@ -29,13 +29,16 @@ fn make<F: Frames>(alloc: Global, frames: &mut F, reader: &mut Reader) -> Result
     }
 }
 
-/// Makes text, until there is some or the capture ends.
+/// How much text is made at once, at least; the last part may have less.
+const PART: usize = 1 << 15;
+
+/// Makes text, until there is a part or the capture ends.
 #[tactic(auto, using(crate::proofs::GivingLemmas::filled_none, crate::proofs::GivingLemmas::filled_more, crate::proofs::GivingLemmas::filled_end, crate::proofs::GivingLemmas::filled_some))]
 fn fill<F: Frames>(alloc: Global, frames: &mut F, reader: &mut Reader) -> Result<(), ()>
     ensures { OnOk result (IsFilled (F.left frames.old) (F.left frames.new) reader.old reader.new) }
 {
     for _ in 0..u64::MAX {
-        if !reader.page().text().is_empty() {
+        if reader.page().text().len() >= PART {
             return Ok(());
         }
         if !make(alloc, frames, reader)? {

@@ -169,6 +169,10 @@ supervisory_read f s c l = supervisory_by f c (supervisor c.last s (known f.sour
 abbrev pub is_link_holding : Link → Bool
 is_link_holding l = is_holding l.of_t || is_holding l.of_n
 
+-- the last frame up to which nothing is missing of a side with held frames
+abbrev pub held_since : Link → ℕ
+held_since l = if is_holding l.of_t then (if is_holding l.of_n then min l.of_t.since l.of_n.since else l.of_t.since) else l.of_n.since
+
 abbrev pub link_set_up : Place → Link → Link
 link_set_up p l = record l {
   of_t = (set_up_again (reading_of T p l) l.of_t).after;
@@ -177,7 +181,7 @@ link_set_up p l = record l {
 }
 
 abbrev pub set_up_shown : Place → Link → List Shown
-set_up_shown p l = held_shown l.of_t ++ (held_shown l.of_n ++ gap_if (is_link_holding l) (min l.of_t.since l.of_n.since) p)
+set_up_shown p l = held_shown l.of_t ++ (held_shown l.of_n ++ gap_if (is_link_holding l) (held_since l) p)
 
 -- an unnumbered frame
 abbrev pub unnumbered_by : Sender → Place → Unnumbered → Link → Read

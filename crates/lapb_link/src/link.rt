@@ -66,7 +66,7 @@ pub struct Link {
 impl Link {
     ghost use Rattle.lapb_link.specs.Receiving.{held_shown};
     ghost use Rattle.lapb_link.specs.Frames.{i_frame};
-    ghost use Rattle.lapb_link.specs.Links.{identified, information_read, informed_on, link_set_up, linked, marked, new_link, read, reading_of, set_up_shown, supervised_on, supervisory_read, told, unnumbered_read};
+    ghost use Rattle.lapb_link.specs.Links.{held_since, identified, information_read, informed_on, link_set_up, linked, marked, new_link, read, reading_of, set_up_shown, supervised_on, supervisory_read, told, unnumbered_read};
 
     /// Returns a link of which nothing was read. `modulus`: `None` where SABM and SABME show it.
     pub fn new(alloc: Global, modulus: Option<Modulus>, ends: Ends) -> Result<Link, AllocError>
@@ -233,7 +233,7 @@ impl Link {
         ensures shown { OnOk result (out.new.items ≡ out.old.items ++ set_up_shown place self.old) }
     {
         let is_gap = self.of_t.is_holding() || self.of_n.is_holding();
-        let since = self.of_t.since().min(self.of_n.since());
+        let since = self.held_since();
         let (reading_t, reading_n) = (self.reading(Side::T, place), self.reading(Side::N, place));
         self.of_t.set_up(alloc, &reading_t, out)?;
         self.of_n.set_up(alloc, &reading_n, out)?;
@@ -242,6 +242,20 @@ impl Link {
             self.last_gap = place.frame;
         }
         Ok(())
+    }
+
+    /// Returns the last frame up to which nothing is missing of a side with held frames.
+    fn held_since(&self) -> u64
+        ensures { result ≡ held_since self.now }
+    {
+        if !self.of_t.is_holding() {
+            return self.of_n.since();
+        }
+        if self.of_n.is_holding() {
+            self.of_t.since().min(self.of_n.since())
+        } else {
+            self.of_t.since()
+        }
     }
 
     /// Reads the N(R) of a supervisory frame or an I frame, for the frames of a side.

@@ -1,19 +1,19 @@
 -- A search begins where no record does. Nothing is left where the octets ahead end.
 use Rattle.std.proofs.Common.{◌∙◌, ◌++◌, ap, arith, inl, inr, length, rules, sym}
-use Rattle.capture_files.proofs.FileLemmas.{follows_long}
+use Rattle.capture_files.proofs.FileLemmas.{follows_impossible}
 use Rattle.capture_files.proofs.RecordLemmas.{no_frame, none_begins}
 use Rattle.capture_files.proofs.pcap_reader.Pcap.next.Goals as goal
 
-pub returns-in_ok-search_on-in-Long-clause-step : goal.returns-in_ok-search_on-in-Long-clause-step
-returns-in_ok-search_on-in-Long-clause-step g c =
-    let front = c.in_ok-search_on-in-Long.ensures.front in
-    let start = c.in-Long.ensures in
-    no_frame c.args.self.now _ _ _ c.in_ok-search_on-in-Long.ensures.frame (λ _. none_begins c.args.self.now.form c.ahead.result.now front.0 _ (front.1 ∙ ap (λ xs. xs ++ front.0) (sym c.ahead.ensures)) start.0 start.1)
+pub returns-in_ok-search_on-in-Impossible-clause-step : goal.returns-in_ok-search_on-in-Impossible-clause-step
+returns-in_ok-search_on-in-Impossible-clause-step g c =
+    let front = c.in_ok-search_on-in-Impossible.ensures.front in
+    let start = c.in-Impossible.ensures in
+    no_frame c.args.self.now _ _ _ c.in_ok-search_on-in-Impossible.ensures.frame (λ _. none_begins c.args.self.now.form c.ahead.result.now front.0 _ (front.1 ∙ ap (λ xs. xs ++ front.0) (sym c.ahead.ensures)) start.0 start.1)
 
 pub returns-in-End-clause-end : goal.returns-in-End-clause-end
 returns-in-End-clause-end g c = elim c.in_ok-fill.ensures.there [ inl le ↦ absurd (omega (arith, le, c.in-End.ensures, ap length c.ahead.ensures, c.size.ensures.least)) | inr end ↦ end ]
 
-pub returns-in_ok-search_on-in-Long-clause-follows : goal.returns-in_ok-search_on-in-Long-clause-follows
-returns-in_ok-search_on-in-Long-clause-follows g c =
-    let start = c.in-Long.ensures in
-    follows_long c.args.self.now _ (g.S.Source.left c.fill.new.source) c.fill.new.self.ahead _ _ (search rules) c.fill.ensures.passes (search (rules, start.0, c.ahead.ensures)) (search (rules, start.1, c.ahead.ensures))
+pub returns-in_ok-search_on-in-Impossible-clause-follows : goal.returns-in_ok-search_on-in-Impossible-clause-follows
+returns-in_ok-search_on-in-Impossible-clause-follows g c =
+    let start = c.in-Impossible.ensures in
+    follows_impossible c.args.self.now _ (g.S.Source.left c.fill.new.source) c.fill.new.self.ahead _ _ (search rules) c.fill.ensures.passes (search (rules, start.0, c.ahead.ensures)) (search (rules, start.1, c.ahead.ensures))
