@@ -4,9 +4,17 @@ import json
 import runner
 
 
+def members(pairs):
+    """The members of an object, whose names are different."""
+    found = dict(pairs)
+    assert len(found) == len(pairs), f"a name stands twice: {[name for name, _ in pairs]}"
+    return found
+
+
 def objects(program, words, text):
     """The objects that `--rows` prints of a trace with these options."""
-    return [json.loads(line) for line in runner.run([program, "--rows", *words], text).output.splitlines()]
+    lines = runner.run([program, "--rows", *words], text).output.splitlines()
+    return [json.loads(line, object_pairs_hook=members) for line in lines]
 
 
 def is_printed_row(item):

@@ -1,5 +1,5 @@
 -- The call of a channel.
-use Rattle.std.proofs.Common.{◌≡◌, Bool, true, false, true≢false, refl, sym, ◌∙◌, ap, List, [], ◌∷◌, Option, Some, None}
+use Rattle.std.proofs.Common.{◌≡◌, ◌⊎◌, inl, inr, Bool, true, false, true≢false, refl, sym, ◌∙◌, ap, List, [], ◌∷◌, Option, Some, None}
 use Rattle.std.specs.Prelude.{option_map, is_none, IfNone}
 use Rattle.line_model.specs.declared.event.How.{How}
 use Rattle.line_model.specs.declared.event.Event.{Event}
@@ -70,6 +70,23 @@ bare_after h to owed c bare = bare_by h c.opening (entering to owed c) (by c.ope
     by : (o : Option Opening) → IfNone o (c.accepting ≡ None) → IfNone o ((entering to owed c).accepting ≡ None)
     by None b = b
     by (Some o) b = b
+
+-- an error resets in data transfer, and clears the call elsewhere
+pub error_leads : (s : StateName) → ((c : Channel) → after_error s c ≡ report_nothing (entering D3 true c)) ⊎ ((c : Channel) → after_error s c ≡ ending how.TheVariants.N (entering P7 true c))
+error_leads D1 = inl (λ c. refl)
+error_leads D2 = inl (λ c. refl)
+error_leads D3 = inl (λ c. refl)
+error_leads Dash = inr (λ c. refl)
+error_leads R1 = inr (λ c. refl)
+error_leads R2 = inr (λ c. refl)
+error_leads R3 = inr (λ c. refl)
+error_leads P1 = inr (λ c. refl)
+error_leads P2 = inr (λ c. refl)
+error_leads P3 = inr (λ c. refl)
+error_leads P4 = inr (λ c. refl)
+error_leads P5 = inr (λ c. refl)
+error_leads P6 = inr (λ c. refl)
+error_leads P7 = inr (λ c. refl)
 
 -- an error outside data transfer clears the call
 pub gives_up : (s : StateName) (c : Channel) → (s ≡ D1 → ⊥) → (s ≡ D2 → ⊥) → (s ≡ D3 → ⊥) →

@@ -1,5 +1,5 @@
 -- A channel stays one that was followed from its beginning.
-use Rattle.std.proofs.Common.{◌≡◌, ℕ, Bool, true, false, true≢false, refl, sym, ◌∙◌, ap, subst, List, Option, Some, None, Result, Ok, Err}
+use Rattle.std.proofs.Common.{◌≡◌, ℕ, Bool, true, false, true≢false, refl, sym, ◌∙◌, ap, subst, List, Option, Some, None, Result, Ok, Err, inl, inr}
 use Rattle.std.specs.Prelude.{IfNone, is_some, not, ◌&&◌, ◌||◌}
 use Rattle.line_model.specs.declared.diagnostic.TheConstants.{INCONSISTENT_Q_BIT_SETTING}
 use Rattle.line_model.specs.declared.interface.Interface.{Interface}
@@ -11,7 +11,7 @@ use Rattle.line_model.specs.declared.event.How as how
 use Rattle.line_model.specs.declared.state.Side.{Side}
 use Rattle.line_model.specs.declared.state.Side.TheVariants.{T, N}
 use Rattle.line_model.specs.declared.state.StateName.{StateName}
-use Rattle.line_model.specs.declared.state.StateName.TheVariants.{Dash, R1, R2, R3, P1, P2, P3, P4, P5, P6, P7, D1, D2, D3}
+use Rattle.line_model.specs.declared.state.StateName.TheVariants.{P7, D3}
 use Rattle.line_model.specs.channels.Verdicts.{CallChange}
 use Rattle.line_model.specs.channels.Verdicts.CallChange.{Opens, GoesUp, Ends, Keeps}
 use Rattle.line_model.specs.declared.table.Action.{Action}
@@ -29,7 +29,7 @@ use Rattle.line_model.specs.channels.ChannelStep.{judged, verdict, verdict_step,
 use Rattle.channel_machine.specs.Reached.{IsReached, IsUnanswered, is_from, is_waiting}
 use Rattle.channel_machine.specs.Entries.{is_entry}
 use Rattle.channel_machine.proofs.Entries.{fits}
-use Rattle.channel_machine.proofs.Calls.{bare_after}
+use Rattle.channel_machine.proofs.Calls.{bare_after, error_leads}
 
 -- a channel with the same state and call
 pub same : (c d : Channel) → d.opening ≡ c.opening → d.accepting ≡ c.accepting → d.state ≡ c.state → IsReached c → IsReached d
@@ -97,22 +97,12 @@ moved Keeps to xs c from r = record {
 
 -- an error
 gives_up : (s : StateName) (c : Channel) → IsReached c → IsReached (after_error s c).after
-gives_up Dash c r = ended how.TheVariants.N (entering P7 true c) refl r.bare
-gives_up R1 c r = ended how.TheVariants.N (entering P7 true c) refl r.bare
-gives_up R2 c r = ended how.TheVariants.N (entering P7 true c) refl r.bare
-gives_up R3 c r = ended how.TheVariants.N (entering P7 true c) refl r.bare
-gives_up P1 c r = ended how.TheVariants.N (entering P7 true c) refl r.bare
-gives_up P2 c r = ended how.TheVariants.N (entering P7 true c) refl r.bare
-gives_up P3 c r = ended how.TheVariants.N (entering P7 true c) refl r.bare
-gives_up P4 c r = ended how.TheVariants.N (entering P7 true c) refl r.bare
-gives_up P5 c r = ended how.TheVariants.N (entering P7 true c) refl r.bare
-gives_up P6 c r = ended how.TheVariants.N (entering P7 true c) refl r.bare
-gives_up P7 c r = ended how.TheVariants.N (entering P7 true c) refl r.bare
-gives_up D1 c r = idle (entering D3 true c) refl r.bare
-gives_up D2 c r = idle (entering D3 true c) refl r.bare
-gives_up D3 c r = idle (entering D3 true c) refl r.bare
+gives_up s c r = elim (error_leads s) [
+  | inl d3 ↦ subst (λ o. IsReached o.after) (sym (d3 c)) (idle (entering D3 true c) refl r.bare)
+  | inr p7 ↦ subst (λ o. IsReached o.after) (sym (p7 c)) (ended how.TheVariants.N (entering P7 true c) refl r.bare)
+]
 
-pub failed : (x : Side) (s : StateName) (n : ℕ) (c : Channel) → IsReached c → IsReached (failing x s n c).after
+failed : (x : Side) (s : StateName) (n : ℕ) (c : Channel) → IsReached c → IsReached (failing x s n c).after
 failed T s n c r = gives_up s c r
 failed N s n c r = r
 
@@ -138,7 +128,7 @@ transferred : (i : Interface) (s : StateName) (k : Class) (r : Item) (c : Channe
 transferred i s Data r c h = data_by i s r (header_in r.packet) c h
 transferred i s k r c h = counts_alone r.side s _ c h
 
-by_entry : (i : Interface) (s : StateName) (r : Item) (a : Action) (f : Option ℕ) (c : Channel) → is_entry a r.side (packet_class r.packet) c.state ≡ true → IsReached c →
+pub by_entry : (i : Interface) (s : StateName) (r : Item) (a : Action) (f : Option ℕ) (c : Channel) → is_entry a r.side (packet_class r.packet) c.state ≡ true → IsReached c →
     IsReached (verdict_step i s r (verdict (record { state = s; entry = a }) f) c).after
 by_entry i s r (Move t) None c e h = moved (call_change r.side (packet_class r.packet) t) t r.octets c e h
 by_entry i s r (Move t) (Some n) c e h = failed r.side s n c h

@@ -1,8 +1,7 @@
 -- Data packets as rows say them, and the other packets of data transfer.
-use Rattle.std.proofs.Common.{◌≡◌, ◌≤◌, ◌-◌, ℕ, Bool, true, false, refl, sym, ◌∙◌, ap, subst, arith, List, [], length, take, drop}
-use Rattle.std.proofs.lemmas.Grind.{common_steps}
+use Rattle.std.proofs.Common.{◌≡◌, ◌-◌, ℕ, Bool, true, false, true≢false, refl, sym, ◌∙◌, ap, List, [], length, drop, Option, Some}
 use Rattle.std.proofs.lemmas.List.{length-drop}
-use Rattle.std.specs.Prelude.{if◌then◌else◌, unwrap_or, ◌==◌}
+use Rattle.std.specs.Prelude.{if◌then◌else◌, not, unwrap_or, ◌==◌}
 use Rattle.line_model.specs.basics.Records.{Item}
 use Rattle.line_model.specs.channels.Channels.{Channel}
 use Rattle.line_model.specs.channels.ChannelStep.{counting, counts_of, accepted_of, transferring}
@@ -17,14 +16,16 @@ use Rattle.line_model.specs.packets.Classes.{header_length}
 use Rattle.line_model.specs.packets.Says.{receive_in}
 use Rattle.data_transfer.specs.Assembly.{unqualified}
 use Rattle.packet_decode.specs.SaidData.{IsSaidData}
+use Rattle.channel_machine.specs.Entries.{is_unqualified}
 use Rattle.channel_machine.specs.Transfers.{packet}
 
-pub rest_of : (n least : ℕ) (xs : List ℕ) → n ≡ least → least ≤ length xs → take (length xs - n) (drop n xs) ≡ drop least xs
-rest_of n least xs e h = grind (arith, common_steps, e, h)
-
--- with Q 1 the header lies in the octets
-pub whole_octets : (i : Interface) (r : Item) (h : DataHeader) → IsSaidData i r h → h.qualified ≡ true → header_length i ≤ length r.octets
-whole_octets i r h said q = subst (λ n. header_length i ≤ n) (sym (said.full q)) said.whole
+-- a header of data that is not unqualified
+pub has_q_1 : (o : Option DataHeader) (h : DataHeader) → o ≡ Some h → is_unqualified o ≡ false → h.qualified ≡ true
+has_q_1 o h e without = by h.qualified refl
+  where
+    by : (b : Bool) → h.qualified ≡ b → h.qualified ≡ true
+    by true is = is
+    by false is = absurd (true≢false (sym (ap (λ q. not q) is) ∙ sym (ap (λ v. is_unqualified v) e) ∙ without))
 
 -- the data packet of a row with Q 1
 pub qualified_is : (i : Interface) (r : Item) (h : DataHeader) (x : Side) (ys : List ℕ) → IsSaidData i r h → h.qualified ≡ true → x ≡ r.side → ys ≡ drop (header_length i) r.octets →

@@ -1,6 +1,6 @@
 -- What packets do to a settled channel, as the code does it.
-use Rattle.std.proofs.Common.{◌≡◌, ◌-◌, ℕ, Bool, true, false, true≢false, refl, sym, ◌∙◌, ap, subst, append-nil, map, List, [], ◌∷◌, ◌++◌, Option, Some, None, Result, Ok, Err}
-use Rattle.std.specs.Prelude.{IfOk, OnOk, is_some}
+use Rattle.std.proofs.Common.{◌≡◌, ◌-◌, ℕ, Bool, true, false, true≢false, refl, sym, ◌∙◌, ap, subst, append-nil, map, List, [], ◌∷◌, ◌++◌, Option, Some, None, Result, Ok, Err, ◌⊎◌, inl, inr}
+use Rattle.std.specs.Prelude.{IfOk, OnOk, is_some, not, ◌&&◌}
 use Rattle.line_model.specs.declared.packet.Class as class
 use Rattle.line_model.specs.declared.packet.DataHeader.{DataHeader}
 use Rattle.line_model.specs.declared.packet.Packet.{Packet}
@@ -26,12 +26,12 @@ use Rattle.line_model.specs.declared.state.DState as transfer
 use Rattle.line_model.specs.declared.state.Side.{Side}
 use Rattle.line_model.specs.declared.state.Side.TheVariants.{T, N}
 use Rattle.line_model.specs.declared.state.StateName.{StateName}
-use Rattle.line_model.specs.declared.state.StateName.TheVariants.{Dash, R1, R2, R3, P1, P2, P3, P4, P5, P6, P7, D1, D2, D3}
+use Rattle.line_model.specs.declared.state.StateName.TheVariants.{P7}
 use Rattle.line_model.specs.channels.Channels.{Channel, Opening, is_permanent, of_side, other, with_side}
-use Rattle.line_model.specs.channels.ChannelStep.{Outcome, changing, counts_of, ending_open, entering, failing, judged, opening, and_then, report_nothing}
+use Rattle.line_model.specs.channels.ChannelStep.{Outcome, after_error, call_change, changing, counts_of, ending_open, entering, failing, judged, opening, and_then, report_nothing, state_named, verdict, verdict_step}
 use Rattle.line_model.specs.channels.FlowControl.{Counts, count_confirm, count_interrupt, count_receive, no_counts, sent_by}
 use Rattle.line_model.specs.channels.Gaps.{Doubts, no_doubts, of_both}
-use Rattle.line_model.specs.channels.GapStep.{SettledOutcome, completed_for_receive, confirmation_in_doubt, counting_in_doubt, doubts_in, failing_in_doubt, interrupt_in_doubt, is_in_d1, receive_by, receive_in_doubt, transferring_in_doubt, with_interrupt}
+use Rattle.line_model.specs.channels.GapStep.{SettledOutcome, completed_for_receive, confirmation_in_doubt, counting_in_doubt, doubts_in, failing_in_doubt, interrupt_in_doubt, is_in_d1, receive_by, receive_in_doubt, settled_verdict, transferring_in_doubt, with_interrupt}
 use Rattle.line_model.specs.channels.Verdicts.{CallChange}
 use Rattle.line_model.specs.channels.Verdicts.CallChange.{Opens, GoesUp, Ends, Keeps}
 use Rattle.data_transfer.specs.Assembler.{begun_on}
@@ -40,17 +40,18 @@ use Rattle.data_transfer.specs.FlowResidues as flow
 use Rattle.channel_machine.specs.declared.events.EventOrigin.{EventOrigin}
 use Rattle.channel_machine.specs.Channels.{Does, Known, StatusRepresents, listed}
 use Rattle.channel_machine.specs.Contents.{is_call}
-use Rattle.channel_machine.specs.Entries.{is_transfer}
+use Rattle.channel_machine.specs.Entries.{comes_from, entry_step, is_entry, is_transfer}
 use Rattle.channel_machine.specs.Events.{Reports, data_of, event_at}
 use Rattle.channel_machine.specs.GapChannels.{RepresentsSettled, at_rest}
 use Rattle.channel_machine.specs.GapView.{InDoubt}
 use Rattle.channel_machine.specs.Reached.{IsReached}
-use Rattle.channel_machine.specs.SettledNumbers.{IsCountedInDoubt, NumbersRepresent, SequencesRepresent, kept_begun, kept_of, with_counts}
+use Rattle.channel_machine.specs.SettledNumbers.{IsCountedInDoubt, IsRestarted, NumbersRepresent, SequencesRepresent, kept_begun, kept_of, with_counts}
 use Rattle.channel_machine.specs.SettledSteps.{IsControlled, SettledDoes, settled_entry, settled_row}
 use Rattle.channel_machine.proofs.AdriftLemmas.{header_class}
 use Rattle.channel_machine.proofs.Completing.{rest_completed}
 use Rattle.channel_machine.proofs.Missed.{of_same}
-use Rattle.channel_machine.proofs.Reached.{failed, same}
+use Rattle.channel_machine.proofs.Calls.{error_leads}
+use Rattle.channel_machine.proofs.Reached.{by_entry, same}
 
 -- what is in doubt in a state
 doubts_same : (q : ChannelState) (b : Doubts) → (is_in_d1 q ≡ false → b ≡ no_doubts b.hidden) → b ≡ doubts_in q b
@@ -63,7 +64,7 @@ doubts_same Unknown b h = h refl
 pub doubts_of_d1 : (q : ChannelState) (b : Doubts) → is_in_d1 q ≡ true → b ≡ doubts_in q b
 doubts_of_d1 q b e = doubts_same q b (λ f. absurd (true≢false (sym e ∙ f)))
 
-doubts_outside : (q : ChannelState) (b : Doubts) → is_in_d1 q ≡ false → doubts_in q b ≡ no_doubts (doubts_in q b).hidden
+doubts_outside : (q : ChannelState) (b : Doubts) → is_in_d1 q ≡ false → no_doubts b.hidden ≡ doubts_in q b
 doubts_outside (Transfer transfer.TheVariants.D1) b e = absurd (true≢false e)
 doubts_outside (Transfer transfer.TheVariants.D2) b e = refl
 doubts_outside (Transfer transfer.TheVariants.D3) b e = refl
@@ -87,7 +88,7 @@ none_begun false true = refl
 none_begun false false = refl
 
 -- a channel that enters a state
-pub restarted : (s : EventOrigin) (old new : Known) (held left : InDoubt) (before after : List Event) (o : Outcome) (c : Channel) → RepresentsSettled old held c → Does s old new before after o → at_rest o.after ≡ o.after → IsReached o.after →
+restarted : (s : EventOrigin) (old new : Known) (held left : InDoubt) (before after : List Event) (o : Outcome) (c : Channel) → RepresentsSettled old held c → Does s old new before after o → at_rest o.after ≡ o.after → IsReached o.after →
     left.doubts ≡ doubts_in new.state held.doubts → left.flow.modulus ≡ held.flow.modulus → left.flow.windows ≡ held.flow.windows → flow.ResiduesRepresent left.flow no_counts → ((x : Side) → Holds (begun_on left.assembler x) []) →
     SettledDoes s old new left before after (record { outcome = o; doubts = held.doubts })
 restarted s old new held left before after o c st does rest reached doubts_are modulus windows none begun =
@@ -109,7 +110,9 @@ restarted s old new held left before after o c st does rest reached doubts_are m
         };
         sequences = λ x. subst (λ e. Holds (begun_on left.assembler x) (kept_begun new.terms.interface left.doubts x e)) rest
             (subst (λ l. Holds (begun_on left.assembler x) l) (sym (none_begun (of_side x left.doubts.sequences) left.doubts.hidden)) (begun x));
-        outside = λ e. (doubts ∙ doubts_outside d.state held.doubts e ∙ ap (λ b. no_doubts b.hidden) (sym doubts), rest);
+        outside = λ e.
+            let none : left.doubts ≡ no_doubts held.doubts.hidden = doubts ∙ sym (doubts_outside d.state held.doubts e) in
+            (none ∙ ap (λ b. no_doubts b.hidden) (sym none), rest);
       };
       reports = does.reports;
     }
@@ -147,76 +150,138 @@ pub settled_listed : {U : Type 0} (q : Result U Fault) (l : Result (Option ℕ) 
 settled_listed q l s x old new left before after o is d =
     subst (λ v. IfOk v (λ k. SettledDoes s old new left before (after ++ map (event_at s) (data_of x k)) o)) (sym is) (settled_apart q s x old new left before after o d)
 
+-- What an entry does that is not `normal`, by what it does to the channel at rest: the channel enters a state, with nothing
+-- outstanding and d1 from elsewhere alone, or it stays where it is, and owes an indication or not.
+
+record Enters (rested out : Outcome) (b : Doubts) (c : Channel) (o : SettledOutcome) : Type 0 where
+  is : o ≡ record { outcome = out; doubts = b }
+  same : rested ≡ out
+  rest : at_rest out.after ≡ out.after
+  into : is_in_d1 out.after.state ≡ true → is_in_d1 c.state ≡ false
+
+record Stays (rested : Outcome) (b : Doubts) (c : Channel) (o : SettledOutcome) : Type 0 where
+  reported : List What
+  owed : Bool
+  is : o ≡ record { outcome = record { reported = reported; after = record c { owed = owed } }; doubts = b }
+  rest : rested ≡ record { reported = reported; after = record (at_rest c) { owed = owed } }
+
+abbrev Acts : (rested out : Outcome) → Doubts → Channel → SettledOutcome → Type 0
+Acts rested out b c o = Enters rested out b c o ⊎ Stays rested b c o
+
 -- an error
 
-ended_rest : (h : How) (o : Option Opening) (c : Channel) → at_rest (ending_open h o (entering P7 true c)).after ≡ (ending_open h o (entering P7 true c)).after
-ended_rest h None c = refl
-ended_rest h (Some o) c = refl
+cleared_rest : (h : How) (o : Option Opening) (to : StateName) (w : Bool) (c : Channel) →
+    (at_rest (ending_open h o (entering to w c)).after ≡ (ending_open h o (entering to w c)).after) × ((ending_open h o (entering to w c)).after.state ≡ state_named to)
+cleared_rest h None to w c = (refl, refl)
+cleared_rest h (Some o) to w c = (refl, refl)
 
-given_up_rest : (q : StateName) (n : ℕ) (c : Channel) → at_rest (failing T q n c).after ≡ (failing T q n c).after
-given_up_rest Dash n c = ended_rest how.TheVariants.N c.opening c
-given_up_rest R1 n c = ended_rest how.TheVariants.N c.opening c
-given_up_rest R2 n c = ended_rest how.TheVariants.N c.opening c
-given_up_rest R3 n c = ended_rest how.TheVariants.N c.opening c
-given_up_rest P1 n c = ended_rest how.TheVariants.N c.opening c
-given_up_rest P2 n c = ended_rest how.TheVariants.N c.opening c
-given_up_rest P3 n c = ended_rest how.TheVariants.N c.opening c
-given_up_rest P4 n c = ended_rest how.TheVariants.N c.opening c
-given_up_rest P5 n c = ended_rest how.TheVariants.N c.opening c
-given_up_rest P6 n c = ended_rest how.TheVariants.N c.opening c
-given_up_rest P7 n c = ended_rest how.TheVariants.N c.opening c
-given_up_rest D1 n c = refl
-given_up_rest D2 n c = refl
-given_up_rest D3 n c = refl
+error_rest : (q : StateName) (c : Channel) → (after_error q (at_rest c) ≡ after_error q c) × (at_rest (after_error q c).after ≡ (after_error q c).after) × (is_in_d1 (after_error q c).after.state ≡ false)
+error_rest q c = elim (error_leads q) [
+  | inl d3 ↦ (
+    d3 (at_rest c) ∙ sym (d3 c),
+    ap (λ (o : Outcome). at_rest o.after) (d3 c) ∙ ap (λ (o : Outcome). o.after) (sym (d3 c)),
+    ap (λ (o : Outcome). is_in_d1 o.after.state) (d3 c),
+  )
+  | inr p7 ↦
+      let (rest, state) = cleared_rest how.TheVariants.N c.opening P7 true c in (
+        p7 (at_rest c) ∙ sym (p7 c),
+        ap (λ (o : Outcome). at_rest o.after) (p7 c) ∙ rest ∙ ap (λ (o : Outcome). o.after) (sym (p7 c)),
+        ap (λ (o : Outcome). is_in_d1 o.after.state) (p7 c) ∙ ap (λ q. is_in_d1 q) state,
+      )
+]
 
-failing_at_rest : (q : StateName) (n : ℕ) (c : Channel) → failing T q n (at_rest c) ≡ failing T q n c
-failing_at_rest Dash n c = refl
-failing_at_rest R1 n c = refl
-failing_at_rest R2 n c = refl
-failing_at_rest R3 n c = refl
-failing_at_rest P1 n c = refl
-failing_at_rest P2 n c = refl
-failing_at_rest P3 n c = refl
-failing_at_rest P4 n c = refl
-failing_at_rest P5 n c = refl
-failing_at_rest P6 n c = refl
-failing_at_rest P7 n c = refl
-failing_at_rest D1 n c = refl
-failing_at_rest D2 n c = refl
-failing_at_rest D3 n c = refl
-
-pub gave_up : (s : EventOrigin) (old new : Known) (held left : InDoubt) (before after : List Event) (x : Side) (q : StateName) (n : ℕ) (c : Channel) → x ≡ T → RepresentsSettled old held c → Does s old new before after (failing x q n (at_rest c)) →
-    left.doubts ≡ doubts_in new.state held.doubts → left.flow.modulus ≡ held.flow.modulus → left.flow.windows ≡ held.flow.windows → flow.ResiduesRepresent left.flow no_counts → ((x : Side) → Holds (begun_on left.assembler x) []) →
-    SettledDoes s old new left before after (failing_in_doubt x q n held.doubts c)
-gave_up s old new held left before after x q n c side st does doubts modulus windows none begun =
-    subst (λ y. SettledDoes s old new left before after (failing_in_doubt y q n held.doubts c)) (sym side)
-    (restarted s old new held left before after (failing T q n c) c st
-    (subst (λ o. Does s old new before after o) (failing_at_rest q n c) (subst (λ y. Does s old new before after (failing y q n (at_rest c))) side does))
-    (given_up_rest q n c) (failed T q n c st.reached) doubts modulus windows none begun)
-
-pub found_of_dce : (s : EventOrigin) (old new : Known) (held : InDoubt) (before after : List Event) (x : Side) (q : StateName) (n : ℕ) (c : Channel) → x ≡ N → RepresentsSettled old held c → Does s old new before after (failing x q n (at_rest c)) →
-    SettledDoes s old new held before after (failing_in_doubt x q n held.doubts c)
-found_of_dce s old new held before after x q n c side st does =
-    let here : Does s old new before after (failing N q n (at_rest c)) = subst (λ y. Does s old new before after (failing y q n (at_rest c))) side does in
-    subst (λ y. SettledDoes s old new held before after (failing_in_doubt y q n held.doubts c)) (sym side)
-    (stays s old new held before after (Found N q (Number n) ∷ []) c.owed c st here.interface here.channel here.represented here.reports)
+fails : (x : Side) (q : StateName) (n : ℕ) (b : Doubts) (c : Channel) → Acts (failing x q n (at_rest c)) (failing x q n c) b c (failing_in_doubt x q n b c)
+fails T q n b c =
+    let (same, rest, outside) = error_rest q c in
+    inl (record {
+      is = refl;
+      same = ap (λ (o : Outcome). record { reported = Found T q (Number n) ∷ o.reported; after = o.after }) same;
+      rest = rest;
+      into = λ e. absurd (true≢false (sym e ∙ outside));
+    })
+fails N q n b c = inr (record { reported = Found N q (Number n) ∷ []; owed = c.owed; is = refl; rest = refl })
 
 -- a move
 
-cleared_rest : (h : How) (o : Option Opening) (to : StateName) (c : Channel) → at_rest (ending_open h o (entering to false c)).after ≡ (ending_open h o (entering to false c)).after
-cleared_rest h None to c = refl
-cleared_rest h (Some o) to c = refl
-
 opened_rest : (o : Option Opening) (out : Bool) (xs : List ℕ) (to : StateName) (c : Channel) →
-    at_rest (and_then (ending_open how.TheVariants.Collision o (entering to false c)) (opening out xs)).after ≡ (and_then (ending_open how.TheVariants.Collision o (entering to false c)) (opening out xs)).after
-opened_rest None out xs to c = refl
-opened_rest (Some o) out xs to c = refl
+    (at_rest (and_then (ending_open how.TheVariants.Collision o (entering to false c)) (opening out xs)).after ≡ (and_then (ending_open how.TheVariants.Collision o (entering to false c)) (opening out xs)).after)
+    × ((and_then (ending_open how.TheVariants.Collision o (entering to false c)) (opening out xs)).after.state ≡ state_named to)
+opened_rest None out xs to c = (refl, refl)
+opened_rest (Some o) out xs to c = (refl, refl)
 
-pub moved_rest : (v : CallChange) (xs : List ℕ) (to : StateName) (c : Channel) → at_rest (changing xs v (entering to false c)).after ≡ (changing xs v (entering to false c)).after
+moved_rest : (v : CallChange) (xs : List ℕ) (to : StateName) (c : Channel) →
+    (at_rest (changing xs v (entering to false c)).after ≡ (changing xs v (entering to false c)).after) × ((changing xs v (entering to false c)).after.state ≡ state_named to)
 moved_rest (Opens out) xs to c = opened_rest c.opening out xs to c
-moved_rest GoesUp xs to c = refl
-moved_rest (Ends h) xs to c = cleared_rest h c.opening to c
-moved_rest Keeps xs to c = refl
+moved_rest GoesUp xs to c = (refl, refl)
+moved_rest (Ends h) xs to c = cleared_rest h c.opening to false c
+moved_rest Keeps xs to c = (refl, refl)
+
+not_both : (a b : Bool) → not (a && b) ≡ true → a ≡ true → b ≡ false
+not_both true true e t = absurd (true≢false (sym e))
+not_both true false e t = refl
+not_both false b e t = absurd (true≢false (sym t))
+
+-- an entry
+acts_by : (i : Interface) (q : StateName) (a : Action) (o : Option ℕ) (r : Item) (b : Doubts) (c : Channel) → (a ≡ action.Normal → ⊥) → comes_from a c.state ≡ true →
+    Acts (verdict_step i q r (verdict (record { state = q; entry = a }) o) (at_rest c)) (verdict_step i q r (verdict (record { state = q; entry = a }) o) c) b c (settled_verdict i q r (verdict (record { state = q; entry = a }) o) b c)
+acts_by i q (action.Move to) None r b c other comes =
+    let (rest, state) = moved_rest (call_change r.side (packet_class r.packet) to) r.octets to c in
+    inl (record {
+      is = refl;
+      same = refl;
+      rest = rest;
+      into = λ e. not_both (is_in_d1 (state_named to)) (is_in_d1 c.state) comes (ap (λ q. is_in_d1 q) (sym state) ∙ e);
+    })
+acts_by i q (action.Move to) (Some n) r b c other comes = fails r.side q n b c
+acts_by i q action.Normal o r b c other comes = absurd (other refl)
+acts_by i q (action.Error n) o r b c other comes = fails r.side q n b c
+acts_by i q action.Ends o r b c other comes = inr (record { reported = []; owed = false; is = refl; rest = refl })
+acts_by i q a o r b c other comes = inr (record { reported = []; owed = c.owed; is = refl; rest = refl })
+
+-- a channel that is outside d1 after an entry has forgotten all that is outstanding, begun or in doubt
+acted_outside : (s : EventOrigin) (old new : Known) (held left : InDoubt) (before after : List Event) (rested out : Outcome) (c : Channel) (o : SettledOutcome) → Acts rested out held.doubts c o → RepresentsSettled old held c →
+    Does s old new before after rested → IsReached out.after → is_in_d1 new.state ≡ false → IsRestarted held left → SettledDoes s old new left before after o
+acted_outside s old new held left before after rested out c o (inl e) st does reached outside none =
+    subst (λ v. SettledDoes s old new left before after v) (sym e.is)
+    (restarted s old new held left before after out c st (subst (λ v. Does s old new before after v) e.same does) e.rest reached
+    (none.doubts ∙ doubts_outside new.state held.doubts outside) none.modulus none.windows none.flow none.sequences)
+acted_outside s old new held left before after rested out c o (inr t) st does reached outside none =
+    let d = subst (λ v. Does s old new before after v) t.rest does in
+    let rest : at_rest c ≡ c = (st.outside (ap (λ q. is_in_d1 q) (sym d.represented.state) ∙ outside)).1 in
+    subst (λ v. SettledDoes s old new left before after v) (sym t.is)
+    (restarted s old new held left before after _ c st (subst (λ (k : Channel). Does s old new before after (record { reported = t.reported; after = record k { owed = t.owed } })) rest d)
+    (ap (λ (k : Channel). record k { owed = t.owed }) rest) (same c (record c { owed = t.owed }) refl refl refl st.reached)
+    (none.doubts ∙ doubts_outside new.state held.doubts outside) none.modulus none.windows none.flow none.sequences)
+
+-- in d1 all is kept: nothing of it was there where the channel came from elsewhere
+acted_within : (s : EventOrigin) (old new : Known) (held : InDoubt) (before after : List Event) (rested out : Outcome) (c : Channel) (o : SettledOutcome) → Acts rested out held.doubts c o → RepresentsSettled old held c →
+    Does s old new before after rested → IsReached out.after → is_in_d1 new.state ≡ true → SettledDoes s old new held before after o
+acted_within s old new held before after rested out c o (inl e) st does reached d1 =
+    let d = subst (λ v. Does s old new before after v) e.same does in
+    let rest : at_rest c ≡ c = (st.outside (e.into (ap (λ q. is_in_d1 q) (sym d.represented.state) ∙ d1))).1 in
+    subst (λ v. SettledDoes s old new held before after v) (sym e.is)
+    (restarted s old new held held before after out c st d e.rest reached (doubts_of_d1 new.state held.doubts d1) refl refl
+    (subst (λ k. flow.ResiduesRepresent held.flow (counts_of k)) (sym rest) st.numbers.flow)
+    (λ x. subst (λ l. Holds (begun_on held.assembler x) l) (none_begun (of_side x held.doubts.sequences) held.doubts.hidden)
+    (subst (λ k. Holds (begun_on held.assembler x) (kept_begun old.terms.interface held.doubts x k)) (sym rest) (st.sequences x))))
+acted_within s old new held before after rested out c o (inr t) st does reached d1 =
+    let d = subst (λ v. Does s old new before after v) t.rest does in
+    subst (λ v. SettledDoes s old new held before after v) (sym t.is) (stays s old new held before after t.reported t.owed c st d.interface d.channel d.represented d.reports)
+
+-- both in the words of the code
+pub acted : (s : EventOrigin) (old new : Known) (held left : InDoubt) (before after : List Event) (i : Interface) (n : ℕ) (x : Side) (q : StateName) (a : Action) (r : Item) (c : Channel) → x ≡ r.side → (a ≡ action.Normal → ⊥) → comes_from a old.state ≡ true →
+    is_entry a x (packet_class r.packet) old.state ≡ true → RepresentsSettled old held c →
+    ((c : Channel) → IsReached c → StatusRepresents old c → Does s old new before after (entry_step i n (record { state = q; entry = a }) r c)) →
+    ((is_in_d1 new.state ≡ true) × (left ≡ held)) ⊎ ((is_in_d1 new.state ≡ false) × IsRestarted held left) → SettledDoes s old new left before after (settled_entry i n (record { state = q; entry = a }) r held.doubts c)
+acted s old new held left before after i n x q a r c side other comes fits st does kept =
+    let acts = acts_by i q a (packet_fault i n c r) r held.doubts c other (subst (λ q. comes_from a q ≡ true) st.rest.state comes) in
+    let entry : is_entry a r.side (packet_class r.packet) c.state ≡ true = subst (λ (v : Side × ChannelState). is_entry a v.0 (packet_class r.packet) v.1 ≡ true) (λ j. (side j, st.rest.state j)) fits in
+    let reached = by_entry i q r a (packet_fault i n c r) c entry st.reached in
+    let rested = does (at_rest c) (same c (at_rest c) refl refl refl st.reached) st.rest in
+    elim kept [
+      | inl (d1, same) ↦ subst (λ v. SettledDoes s old new v before after (settled_entry i n (record { state = q; entry = a }) r held.doubts c)) (sym same) (acted_within s old new held before after _ _ c _ acts st rested reached d1)
+      | inr (outside, none) ↦ acted_outside s old new held left before after _ _ c _ acts st rested reached outside none
+    ]
 
 -- a packet that changes the counts alone
 pub controlled : {U : Type 0} (u : U) (s : EventOrigin) (old : Known) (held left : InDoubt) (before : List Event) (x : Side) (q : StateName) (b : Doubts) (c : Channel) (o : SettledOutcome) → RepresentsSettled old held c → is_in_d1 old.state ≡ true →
@@ -314,12 +379,3 @@ pub row_of : (i : Interface) (n : ℕ) (x : Side) (k : Class) (q : StateName) (a
 row_of i n x k q a e r b c is side class entry =
     ap (λ v. settled_entry i n (record { state = q; entry = v }) r b c) (sym entry)
     ∙ ap (λ v. settled_entry i n v r b c) (is ∙ (λ j. judged (is_permanent i n) (side j) c.state c.owed (class j)))
-
--- an entry that does nothing
-pub nothing_by : (i : Interface) (n : ℕ) (q : StateName) (r : Item) (b : Doubts) (c : Channel) (a : Action) → ((s : StateName) → ¬ (a ≡ action.Move s)) → ¬ (a ≡ action.Normal) → ((k : ℕ) → ¬ (a ≡ action.Error k)) → ¬ (a ≡ action.Ends) →
-    settled_entry i n (record { state = q; entry = a }) r b c ≡ record { outcome = report_nothing c; doubts = b }
-nothing_by i n q r b c (action.Move s) moves normal error ends = absurd (moves s refl)
-nothing_by i n q r b c action.Normal moves normal error ends = absurd (normal refl)
-nothing_by i n q r b c (action.Error k) moves normal error ends = absurd (error k refl)
-nothing_by i n q r b c action.Ends moves normal error ends = absurd (ends refl)
-nothing_by i n q r b c a moves normal error ends = refl

@@ -5,8 +5,8 @@ use Rattle.line_model.specs.declared.packet.DataHeader.{DataHeader}
 use Rattle.line_model.specs.declared.state.Side.{Side}
 use Rattle.line_model.specs.channels.Channels.{AcceptedData, Channel, of_side, with_side}
 use Rattle.line_model.specs.channels.ChannelStep.{counts_of}
-use Rattle.line_model.specs.channels.FlowControl.{Counts, count_data, sent_by}
-use Rattle.line_model.specs.channels.Gaps.{Doubts, of_both}
+use Rattle.line_model.specs.channels.FlowControl.{Counts, count_data, no_counts, sent_by}
+use Rattle.line_model.specs.channels.Gaps.{Doubts, no_doubts, of_both}
 use Rattle.line_model.specs.channels.GapStep.{completed_for_data, edge_in_doubt, may_be_begun, window_in_doubt}
 use Rattle.line_model.specs.channels.Sequences.{eq_bool}
 use Rattle.line_model.specs.packets.Formats.{size_in_force}
@@ -45,6 +45,14 @@ kept_begun i d x c = kept_of (of_side x d.sequences) d.hidden (may_be_begun d.hi
 -- each side's sequence is kept
 abbrev pub SequencesRepresent : Interface → InDoubt → Channel → Type 0
 SequencesRepresent i s c = (x : Side) → Holds (begun_on s.assembler x) (kept_begun i s.doubts x c)
+
+-- what is kept outside d1: nothing is outstanding or begun, and only whether another call may be hidden is in doubt
+pub record IsRestarted (old new : InDoubt) : Type 0 where
+  pub doubts : new.doubts ≡ no_doubts old.doubts.hidden
+  pub modulus : new.flow.modulus ≡ old.flow.modulus
+  pub windows : new.flow.windows ≡ old.flow.windows
+  pub flow : ResiduesRepresent new.flow no_counts
+  pub sequences : (x : Side) → Holds (begun_on new.assembler x) []
 
 -- a channel with other counts than those of its data
 abbrev pub with_counts : Counts → Channel → Channel

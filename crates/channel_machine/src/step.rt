@@ -1,6 +1,6 @@
 //! What a row does to its channel by the state tables.
 
-ghost use Rattle.std.specs.Prelude.{◌≡◌, ◌≤◌, true, false, Some, IfOk, OnSome};
+ghost use Rattle.std.specs.Prelude.{◌≡◌, ◌≤◌, true, false, IfOk, OnSome};
 ghost use Rattle.line_model.specs.basics.Bounds.{IsSaid};
 ghost use Rattle.line_model.specs.basics.Records.{Item};
 ghost use Rattle.line_model.specs.channels.Channels.{Channel, is_permanent};
@@ -9,32 +9,29 @@ ghost use Rattle.line_model.specs.packets.Classes.{packet_class};
 ghost use Rattle.line_model.specs.packets.Says.{header_in};
 ghost use Rattle.line_model.specs.channels.ChannelStep.{call_change, channel_step, data_step, judged, moving, transferring};
 ghost use Rattle.line_model.specs.declared.table.Action.TheVariants.{Move, Normal};
-ghost use Rattle.packet_decode.specs.SaidData.{IsSaidData};
 ghost use Rattle.channel_machine.specs.Channels.{StatusRepresents, Does, DoesApart, Comes, IsUnchanged, IsMemory, listed};
 ghost use Rattle.channel_machine.specs.Events.{origin_at};
 ghost use Rattle.channel_machine.specs.Contents.{AreOf, AreUsable};
 ghost use Rattle.channel_machine.specs.Reached.{IsReached, is_from};
-ghost use Rattle.channel_machine.specs.Entries.{entry_step, is_entry, is_transfer};
+ghost use Rattle.channel_machine.specs.Entries.{comes_from, entry_step, is_entry, is_transfer, is_unqualified};
 ghost use Rattle.channel_machine.specs.Sizes.{largest_length};
 
 use crate::channel::StatusChannel;
 use crate::events::Judgement;
 use crate::format::{Contents, header_of};
 use crate::judging::{is_transfer, judged};
-use crate::messages::data_packet;
 use crate::moves::{Change, change_of};
 use crate::status::StatusStore;
 use line_model::event::Event;
 use line_model::fault::Fault;
 use line_model::items::ItemRef;
-use line_model::packet::{Class, DataHeader};
+use line_model::packet::Class;
 use line_model::state::{Side, StateName};
 use line_model::table::Action;
-use packet_decode::decode::header_length;
 use std::alloc::Allocator;
 
 impl<A: Allocator + Clone, S: StatusStore> StatusChannel<A, S> {
-    /// Accepts or refuses a data packet without fault of format.
+    /// Accepts or refuses a data packet with Q 1 without fault of format.
     fn handle_data(
         &mut self,
         judgement: &Judgement,
@@ -45,6 +42,7 @@ impl<A: Allocator + Clone, S: StatusStore> StatusChannel<A, S> {
         requires said { IsSaid self.old.terms.interface item.now }
         requires class { packet_class item.now.packet ≡ Class.Data }
         requires short { item.now.length ≤ largest_length }
+        requires qualified { is_unqualified (header_in item.now.packet) ≡ false }
         ensures does { Comes result judgement.now.origin self.old self.new
             events.old.items events.new.items
             (data_step self.old.terms.interface judgement.now.state item.now
@@ -55,65 +53,10 @@ impl<A: Allocator + Clone, S: StatusStore> StatusChannel<A, S> {
         let Some(header) = header_of(&item.packet) else {
             return Ok(());
         };
-        if header.qualified {
-            self.handle_qualified(judgement, &header, item, events)
-        } else {
-            self.list_unqualified(judgement, &header, item, events)
-        }
-    }
-
-    /// Accepts or refuses a data packet with Q 1 without fault of format.
-    fn handle_qualified(
-        &mut self,
-        judgement: &Judgement,
-        header: &DataHeader,
-        item: &ItemRef<'_>,
-        events: &mut Vec<Event, A>,
-    ) -> Result<(), Fault>
-        requires side { judgement.now.side ≡ item.now.side }
-        requires said { IsSaidData self.old.terms.interface item.now header.now }
-        requires qualified { header.now.qualified ≡ true }
-        requires short { item.now.length ≤ largest_length }
-        ensures does { Comes result judgement.now.origin self.old self.new
-            events.old.items events.new.items
-            (data_step self.old.terms.interface judgement.now.state item.now (Some header.now)) }
-        ensures unchanged { IsUnchanged result self.old self.new events.old.items events.new.items }
-        ensures memory { IsMemory result }
-    {
-        let user_data = &item.octets[header_length(&self.status.interface())..];
-        match self.accept_data(judgement.origin, judgement.side, header, user_data, events)? {
+        let user_data = self.user_data(&header, item);
+        match self.accept_data(judgement.origin, judgement.side, &header, user_data, events)? {
             Some(code) => self.fail(judgement, code, events),
             None => Ok(()),
-        }
-    }
-
-    /// Accepts or refuses a data packet with Q 0 without fault of format, and lists its event.
-    fn list_unqualified(
-        &mut self,
-        judgement: &Judgement,
-        header: &DataHeader,
-        item: &ItemRef<'_>,
-        events: &mut Vec<Event, A>,
-    ) -> Result<(), Fault>
-        requires side { judgement.now.side ≡ item.now.side }
-        requires said { IsSaidData self.old.terms.interface item.now header.now }
-        requires unqualified { header.now.qualified ≡ false }
-        requires short { item.now.length ≤ largest_length }
-        ensures does { Comes result judgement.now.origin self.old self.new
-            events.old.items events.new.items
-            (data_step self.old.terms.interface judgement.now.state item.now (Some header.now)) }
-        ensures unchanged { IsUnchanged result self.old self.new events.old.items events.new.items }
-        ensures memory { IsMemory result }
-    {
-        events.reserve(1)?;
-        let length = self.user_data_length(item);
-        match self.accept_unqualified(header, item, length) {
-            Ok(octets) => {
-                let what = data_packet(judgement.side, octets);
-                events.push_reserved(judgement.origin.event(what));
-                Ok(())
-            }
-            Err(code) => self.fail(judgement, code, events),
         }
     }
 
@@ -189,6 +132,7 @@ impl<A: Allocator + Clone, S: StatusStore> StatusChannel<A, S> {
         requires said { IsSaid self.old.terms.interface item.now }
         requires class { class ≡ packet_class item.now.packet }
         requires short { class ≡ Class.Data → item.now.length ≤ largest_length }
+        requires qualified { is_unqualified (header_in item.now.packet) ≡ false }
         ensures does { Comes result judgement.now.origin self.old self.new
             events.old.items events.new.items
             (transferring self.old.terms.interface judgement.now.state class item.now) }
@@ -214,6 +158,7 @@ impl<A: Allocator + Clone, S: StatusStore> StatusChannel<A, S> {
         requires side { judgement.now.side ≡ item.now.side }
         requires said { IsSaid self.old.terms.interface item.now }
         requires transfer { is_transfer (packet_class item.now.packet) ≡ true }
+        requires qualified { is_unqualified (header_in item.now.packet) ≡ false }
         ensures does { Comes result judgement.now.origin self.old self.new
             events.old.items events.new.items
             (entry_step self.old.terms.interface self.old.channel
@@ -237,7 +182,7 @@ impl<A: Allocator + Clone, S: StatusStore> StatusChannel<A, S> {
             ≡ judged (is_permanent self.now.terms.interface self.now.channel) side
             c.state c.owed class }
         ensures fits { is_entry result.1 side class self.now.state ≡ true }
-        ensures in_d1 { result.1 ≡ Normal → is_in_d1 self.now.state ≡ true }
+        ensures comes { comes_from result.1 self.now.state ≡ true }
     {
         if is_transfer(class) && self.is_in_d1() {
             return (StateName::D1, Action::Normal);
@@ -252,7 +197,7 @@ impl<A: Allocator + Clone, S: StatusStore> StatusChannel<A, S> {
     }
 
     /// Does what the entry of a packet says.
-    fn act(
+    pub(crate) fn act(
         &mut self,
         judgement: &Judgement,
         entry: Action,
@@ -263,6 +208,7 @@ impl<A: Allocator + Clone, S: StatusStore> StatusChannel<A, S> {
         requires said { IsSaid self.old.terms.interface item.now }
         requires fits { is_entry entry judgement.now.side (packet_class item.now.packet)
             self.old.state ≡ true }
+        requires qualified { entry ≡ Normal → is_unqualified (header_in item.now.packet) ≡ false }
         ensures does { (c : Channel) → IsReached c → StatusRepresents self.old c → IfOk result (λ _.
             Does judgement.now.origin self.old self.new events.old.items events.new.items
             (entry_step self.old.terms.interface self.old.channel
@@ -283,6 +229,7 @@ impl<A: Allocator + Clone, S: StatusStore> StatusChannel<A, S> {
     }
 
     /// Steps the channel by what a row says in an epoch, by the state tables, and appends the events of the row.
+    /// In d1 it is no data packet with Q 0.
     #[inline(never)]
     pub(crate) fn handle_by_table(
         &mut self,
@@ -291,6 +238,8 @@ impl<A: Allocator + Clone, S: StatusStore> StatusChannel<A, S> {
         events: &mut Vec<Event, A>,
     ) -> Result<Option<u32>, Fault>
         requires said { IsSaid self.old.terms.interface item.now }
+        requires qualified { is_in_d1 self.old.state ≡ true
+            → is_unqualified (header_in item.now.packet) ≡ false }
         ensures does { (c : Channel) → IsReached c → StatusRepresents self.old c
             → IfOk result (λ accepted. DoesApart (origin_at epoch self.old.channel item.now)
             item.now.side self.old self.new events.old.items events.new.items accepted

@@ -1,6 +1,6 @@
 //! A data packet on a channel: its numbers, the sequence that it belongs to, and the message that it may complete.
 
-ghost use Rattle.std.specs.Prelude.{◌≡◌, ◌≤◌, ◌-◌, ◌&&◌, ◌∷◌, [], length, false, Some, IfOk, OnErr, OnSome};
+ghost use Rattle.std.specs.Prelude.{◌≡◌, ◌≤◌, ◌-◌, ◌&&◌, ◌∷◌, [], drop, length, true, false, Some, IfOk, OnErr, OnSome};
 ghost use Rattle.line_model.specs.channels.Channels.{Channel};
 ghost use Rattle.line_model.specs.channels.ChannelStep.{counting, counts_of, data_step, transferring};
 ghost use Rattle.line_model.specs.channels.FlowControl.{count_receive};
@@ -81,6 +81,15 @@ impl<A: Allocator + Clone, S: StatusStore> StatusChannel<A, S> {
                 Ok(None)
             }
         }
+    }
+
+    /// Returns the octets of user data of a data packet with Q 1.
+    pub(crate) fn user_data<'a>(&self, header: &DataHeader, item: &ItemRef<'a>) -> &'a [u8]
+        requires said { IsSaidData self.now.terms.interface item.now header.now }
+        requires qualified { header.now.qualified ≡ true }
+        ensures { result.now ≡ drop (header_length self.now.terms.interface) item.now.octets }
+    {
+        &item.octets[header_length(&self.status.interface())..]
     }
 
     /// Returns how many octets of user data a data packet has.

@@ -1,61 +1,53 @@
 -- The objects after those of the report are put one after the other.
-use Rattle.std.proofs.Common.{◌≡◌, ◌∙◌, sym, ap, subst, refl, ℕ, suc, zero, ◌+◌, List, [], ◌∷◌, ◌++◌, Option, Result, Ok, Err, OnOk, OnErr, append_assoc, append-nil, length-append, arith}
-use Rattle.std.specs.Prelude.{codes, flat_map}
-use Rattle.std.specs.List.{AllByRecursion}
-use Rattle.std.proofs.lemmas.Grind.{flat_map-append}
+use Rattle.std.proofs.Common.{◌≡◌, subst, refl, ℕ, suc, zero, ◌+◌, List, [], ◌∷◌, ◌++◌, Option, Result, Ok, Err, OnOk, OnErr, append_assoc, arith}
+use Rattle.std.specs.Prelude.{codes}
 use Rattle.line_model.specs.basics.Device.{with_more}
 use Rattle.line_model.specs.basics.Written.{HasFront}
 use Rattle.json_lines.specs.Json.{beginning, object}
 use Rattle.annotated_trace.specs.Printed.{HasTaken, HasTakenFirst}
-use Rattle.descriptions.specs.Closing.{AreClosingObjects, AreObjects, AreUncounted, IsObjectLine}
-use Rattle.descriptions.specs.Members.{IsFurther, NoMember}
+use Rattle.descriptions.specs.Closing.{AreCallFacts, AreClosingObjects, AreObjects, AreUncounted, IsObjectLine}
+use Rattle.descriptions.specs.Members.{IsFurther, IsOfCall, NoMember, call_member}
 use Rattle.descriptions.specs.Writing.{Adds, These}
 use Rattle.descriptions.proofs.MemberLemmas.{both_put}
 
 -- ---- a line
 
-whole_line : (title x y z : List ℕ) → These (beginning title) x → IsFurther y → These (125 ∷ 10 ∷ []) z → IsObjectLine title ((x ++ y) ++ z)
-whole_line title x y z e m f = (y, (λ t. (e t ++ y) ++ f t), m)
+whole_line : (title : List ℕ) (form : List ℕ → Type 0) (x y z : List ℕ) → These (beginning title) x → form y → These (125 ∷ 10 ∷ []) z → IsObjectLine title form ((x ++ y) ++ z)
+whole_line title form x y z e m f = (y, (λ t. (e t ++ y) ++ f t), m)
 
-pub line_put : {O : Type 0} {has : O → List ℕ → Type 0} {a b c d : O} (title : List ℕ) → Adds has (These (beginning title)) a b → Adds has IsFurther b c → Adds has (These (125 ∷ 10 ∷ [])) c d → Adds has (IsObjectLine title) a d
-line_put {O} {has} {a} {b} {c} {d} title first members later = record {
+pub line_put : {O : Type 0} {has : O → List ℕ → Type 0} {a b c d : O} (title : List ℕ) (form : List ℕ → Type 0) → Adds has (These (beginning title)) a b → Adds has form b c → Adds has (These (125 ∷ 10 ∷ [])) c d → Adds has (IsObjectLine title form) a d
+line_put {O} {has} {a} {b} {c} {d} title form first members later = record {
   bytes = (first.bytes ++ members.bytes) ++ later.bytes;
   put = λ w h. subst (has d) (append_assoc w (first.bytes ++ members.bytes) later.bytes) (later.put (w ++ (first.bytes ++ members.bytes)) (subst (has c) (append_assoc w first.bytes members.bytes) (members.put (w ++ first.bytes) (first.put w h))));
-  formed = whole_line title first.bytes members.bytes later.bytes first.formed members.formed later.formed;
+  formed = whole_line title form first.bytes members.bytes later.bytes first.formed members.formed later.formed;
 }
 
 -- ---- lines
 
-all_more : (xs : List (List ℕ)) (y : List ℕ) → AllByRecursion IsFurther xs → IsFurther y → AllByRecursion IsFurther (xs ++ y ∷ [])
-all_more [] y h m = (m, tt)
-all_more (x ∷ xs) y h m = (h.0, all_more xs y h.1 m)
+one_more_line : (title : List ℕ) (form : ℕ → List ℕ → Type 0) (n : ℕ) (x y : List ℕ) → AreObjects title form n x → IsObjectLine title (form n) y → AreObjects title form (n + 1) (x ++ y)
+one_more_line title form n x y all line = let e : suc n ≡ n + 1 = omega arith in subst (λ m. AreObjects title form m (x ++ y)) e (x, y, refl, all, line)
 
-one_more_line : (title : List ℕ) (n : ℕ) (x y : List ℕ) → AreObjects title n x → IsObjectLine title y → AreObjects title (n + 1) (x ++ y)
-one_more_line title n x y all line = (
-  all.0 ++ line.0 ∷ [],
-  omega (arith, length-append all.0 (line.0 ∷ []), all.1),
-  (λ t. all.2 t ++ line.1 t) ∙ ap (λ ys. flat_map (object title) all.0 ++ ys) (sym (append-nil (object title line.0))) ∙ sym (flat_map-append (object title) all.0 (line.0 ∷ [])),
-  all_more all.0 line.0 all.3 line.2,
-)
+pub facts_then : {O : Type 0} {has : O → List ℕ → Type 0} {a b c : O} (n : ℕ) → Adds has (AreCallFacts n) a b → Adds has (IsObjectLine (codes "call_facts") (IsOfCall (n + 1))) b c → Adds has (AreCallFacts (n + 1)) a c
+facts_then {has = has} {b = b} {c = c} n first later =
+    let e : n + 1 ≡ suc n = omega arith in
+    both_put (one_more_line (codes "call_facts") (λ m. IsOfCall (suc m)) n) first (subst (λ m. Adds has (IsObjectLine (codes "call_facts") (IsOfCall m)) b c) e later)
 
-pub objects_then : {O : Type 0} {has : O → List ℕ → Type 0} {a b c : O} (title : List ℕ) (n : ℕ) → Adds has (AreObjects title n) a b → Adds has (IsObjectLine title) b c → Adds has (AreObjects title (n + 1)) a c
-objects_then title n first later = both_put (one_more_line title n) first later
+pub uncounted_then : {O : Type 0} {has : O → List ℕ → Type 0} {a b c : O} → Adds has AreUncounted a b → Adds has (IsObjectLine (codes "not_counted") IsFurther) b c → Adds has AreUncounted a c
+uncounted_then first later = both_put (λ x y h line. (h.0 + 1, one_more_line (codes "not_counted") (λ n. IsFurther) h.0 x y h.1 line)) first later
 
-pub uncounted_then : {O : Type 0} {has : O → List ℕ → Type 0} {a b c : O} → Adds has AreUncounted a b → Adds has (IsObjectLine (codes "not_counted")) b c → Adds has AreUncounted a c
-uncounted_then first later = both_put (λ x y h line. (h.0 + 1, one_more_line (codes "not_counted") h.0 x y h.1 line)) first later
-
-pub closing_put : {O : Type 0} {has : O → List ℕ → Type 0} {a b c : O} (n : ℕ) → Adds has AreUncounted a b → Adds has (AreObjects (codes "call_facts") n) b c → Adds has (AreClosingObjects n) a c
+pub closing_put : {O : Type 0} {has : O → List ℕ → Type 0} {a b c : O} (n : ℕ) → Adds has AreUncounted a b → Adds has (AreCallFacts n) b c → Adds has (AreClosingObjects n) a c
 closing_put n first later = both_put (λ x y h k. (x, y, refl, h, k)) first later
 
--- `n` lines, each an object without a member
-bare_objects : (title : List ℕ) (n : ℕ) → (bytes : List ℕ) × AreObjects title n bytes
-bare_objects title zero = ([], ([], refl, refl, tt))
-bare_objects title (suc n) =
-    let h = bare_objects title n in
-    (object title [] ++ h.0, ([] ∷ h.1.0, ap suc h.1.1, ap (λ xs. object title [] ++ xs) h.1.2, (NoMember, h.1.3)))
+-- `n` lines, each an object of a call alone
+bare_objects : (n : ℕ) → (bytes : List ℕ) × AreCallFacts n bytes
+bare_objects zero = ([], refl)
+bare_objects (suc n) =
+    let h = bare_objects n in
+    let own : List ℕ = object (codes "call_facts") (call_member (suc n) ++ []) in
+    (h.0 ++ own, (h.0, own, refl, h.1, (call_member (suc n) ++ [], refl, ([], refl, NoMember))))
 
 pub some_closing : (n : ℕ) → (bytes : List ℕ) × AreClosingObjects n bytes
-some_closing n = let h = bare_objects (codes "call_facts") n in (h.0, ([], h.0, refl, (zero, ([], refl, refl, tt)), h.1))
+some_closing n = let h = bare_objects n in (h.0, ([], h.0, refl, (zero, refl), h.1))
 
 -- ---- what a sink accepted of them
 

@@ -27,13 +27,13 @@ use Rattle.live_report.specs.declared.judged_row.JudgedRow.{JudgedRow}
 use Rattle.annotated_trace.specs.Printed.{HasAppended}
 use Rattle.descriptions.specs.Facts.{IsFateOf}
 use Rattle.descriptions.specs.Lines.{Puts, PutsForm}
-use Rattle.descriptions.specs.Members.{IsFurther, IsText}
+use Rattle.descriptions.specs.Members.{IsFurther, IsOfCall, IsText, call_member}
 use Rattle.line_model.specs.observer.Observer as Walk
 use Rattle.restart_epochs.specs.ChannelTables.{value_at}
 use Rattle.live_report.proofs.LastLemmas.{taker_is}
 use Rattle.descriptions.specs.RowCalls.{AreFewCalls, AreQuiet, call_of, number_at}
 use Rattle.descriptions.proofs.RowCallLemmas.{quiet_call}
-use Rattle.descriptions.specs.RowObjects.{IsObjectWhere, IsOfCall, IsRest, IsRowObject, call_member, channel_word, counted_word, events_at, finding_word, head_by, known_word, named_channel, owed_after, owed_at, place_members, row_head, state_at, state_members, word_after, word_before}
+use Rattle.descriptions.specs.RowObjects.{IsObjectWhere, IsRest, IsRowObject, channel_word, counted_word, events_at, finding_word, head_by, known_word, named_channel, owed_after, owed_at, place_members, row_head, state_at, state_members, word_after, word_before}
 use Rattle.descriptions.specs.CommonObjects.{IsCommonObject, amount_word, is_d1, is_quiet, is_settled, leaves_settled, common_head}
 use Rattle.descriptions.specs.declared.facts.Fate.TheVariants.{Counted}
 use Rattle.descriptions.proofs.FollowLemmas.{same_epoch}
@@ -74,11 +74,13 @@ form_then a b c join first later = record {
 
 -- ---- what was counted
 
+pub counted_is : (lengths : List ℕ) (octets segments : ℕ) → IsFateOf lengths (Counted octets segments) → amount_word octets segments ≡ counted_word lengths
+counted_is [] octets segments h = absurd h
+counted_is (n ∷ ns) octets segments h = (λ t. amount_word (h.0 t) (h.1 t))
+
 pub counted_put : (lengths : List ℕ) (octets segments : ℕ) (a b : Option (List ℕ)) → IsFateOf lengths (Counted octets segments)
     → Puts (amount_word octets segments) a b → Puts (counted_word lengths) a b
-counted_put [] octets segments a b h put = absurd h
-counted_put (n ∷ ns) octets segments a b h put =
-    subst (λ word. Puts word a b) (λ t. amount_word (h.0 t) (h.1 t)) put
+counted_put lengths octets segments a b h put = subst (λ word. Puts word a b) (counted_is lengths octets segments h) put
 
 -- ---- the beginning of an object
 

@@ -1,9 +1,7 @@
 -- The objects of rows, as they are appended.
-use Rattle.std.proofs.Common.{◌≡◌, ◌∙◌, sym, ap, subst, refl, ℕ, ◌+◌, ◌<◌, map, get_or, Bool, false, List, [], ◌∷◌, ◌++◌, take, length, Option, Some, None, Result, Ok, Err, OnOk, append_assoc, append-nil}
+use Rattle.std.proofs.Common.{◌≡◌, ◌∙◌, sym, ap, subst, refl, ℕ, ◌+◌, Bool, false, List, [], ◌∷◌, ◌++◌, Option, Some, None, Result, Ok, Err, OnOk, append-nil}
 use Rattle.std.specs.Prelude.{codes}
 use Rattle.std.specs.Option.{option_to_list}
-use Rattle.std.proofs.lemmas.Grind.{flat_map-append}
-use Rattle.std.proofs.lemmas.List.{map-append, take_more}
 use Rattle.line_model.specs.basics.Records.{Item, Row}
 use Rattle.line_model.specs.declared.interface.Interface.{Interface}
 use Rattle.line_model.specs.channels.Gaps.{GapChannel}
@@ -29,23 +27,18 @@ use Rattle.live_report.specs.declared.judged_row.Judge.TheVariants as judge
 use Rattle.annotated_trace.specs.Printed.{HasAppended}
 use Rattle.annotated_trace.specs.Rows.{is_chosen, is_chosen_if, row_written}
 use Rattle.annotated_trace.specs.declared.rows.Rows.{Rows}
+use Rattle.descriptions.specs.CallTable.{maybe_number}
 use Rattle.descriptions.specs.Choosing.{picked_where}
 use Rattle.descriptions.specs.Facts.{AreFactsOf}
-use Rattle.descriptions.specs.Follows.{follows_at}
 use Rattle.descriptions.specs.RowCalls.{call_of, row_call}
-use Rattle.descriptions.specs.RowObjects.{IsObjectOf, IsObjectWhere, IsRest, IsRowObject, counted_word, events_at, finding_word, gap_head, head_by, joined, known_word, named_channel, owed_after, owed_at, packet_head, place_members, row_head, state_at, state_members, word_after, word_before}
+use Rattle.descriptions.specs.RowObjects.{IsObjectOf, IsObjectWhere, IsRest, IsRowObject, counted_word, events_at, finding_word, gap_head, head_by, known_word, named_channel, number_word, owed_after, owed_at, packet_head, place_members, row_head, state_at, state_members, word_after, word_before}
+use Rattle.descriptions.specs.Writing.{Adds, These}
+use Rattle.descriptions.specs.declared.call_columns.TableForm.TheVariants.{Objects}
 use Rattle.descriptions.specs.declared.facts.RowFacts.{RowFacts}
 use Rattle.descriptions.proofs.ChoiceLemmas.{headed_row, items_written, no_rows_written, rows_written}
+use Rattle.descriptions.proofs.MemberLemmas.{both_put}
 use Rattle.descriptions.proofs.OneLine.{rest_one}
-
--- ---- words, one after the other
-
-pub joined_next : {X : Type 0} (f : X → List ℕ) (xs : List X) (i : ℕ) (x : X) (out o1 o2 : List ℕ) → i < length xs → o1 ≡ out ++ joined (map f (take i xs)) → o2 ≡ o1 ++ f (get_or xs i x) → o2 ≡ out ++ joined (map f (take (i + 1) xs))
-joined_next f xs i x out o1 o2 lt e1 e2 =
-    let one : joined (map f (take (i + 1) xs)) ≡ joined (map f (take i xs)) ++ f (get_or xs i x) =
-    ap (λ ys. joined (map f ys)) (take_more xs i x lt) ∙ ap joined (map-append f (take i xs) (get_or xs i x ∷ [])) ∙ flat_map-append (λ word. word) (map f (take i xs)) (f (get_or xs i x) ∷ [])
-    ∙ ap (λ ys. joined (map f (take i xs)) ++ ys) (append-nil (f (get_or xs i x))) in
-    e2 ∙ ap (λ ys. ys ++ f (get_or xs i x)) e1 ∙ append_assoc out (joined (map f (take i xs))) (f (get_or xs i x)) ∙ ap (λ ys. out ++ ys) (sym one)
+use Rattle.descriptions.proofs.ValueLemmas.{these_same, these_then}
 
 -- ---- the states before and after a row
 
@@ -63,27 +56,22 @@ owed_is i (Some n) o more (judge.Channel k before after accepted) h = h.2.owed
 
 -- ---- the beginning of an object
 
-four_parts : (out a b c d : List ℕ) → (((out ++ a) ++ b) ++ c) ++ d ≡ out ++ (a ++ (b ++ (c ++ d)))
-four_parts out a b c d =
-    append_assoc ((out ++ a) ++ b) c d ∙ append_assoc (out ++ a) b (c ++ d) ∙ append_assoc out a (b ++ (c ++ d))
+pub number_same : (n : Option ℕ) → maybe_number Objects n ≡ number_word n
+number_same None = refl
+number_same (Some n) = refl
 
-pub head_put : (i : Interface) (earlier : List Item) (r : Item) (facts : RowFacts) (out o1 o2 o3 o4 : List ℕ) → AreFactsOf i earlier r facts
-    → o1 ≡ out ++ state_members r.number r.side (named_channel facts.last.now.packet) (word_before facts.last.now.judge) (word_after facts.last.now.judge)
-    → o2 ≡ o1 ++ counted_word (all_lengths (events_at i (routed (x25 i) (observer i earlier).level r) (observer i earlier) r))
-    → o3 ≡ o2 ++ place_members facts.earlier.epoch (owed_after facts.last.now.judge) → o4 ≡ o3 ++ finding_word facts.last.now.finding facts.earlier.follows → o4 ≡ out ++ packet_head i earlier r facts.last.now.finding
-head_put i earlier r facts out o1 o2 o3 o4 h e1 e2 e3 e4 =
+pub head_put : {O : Type 0} {has : O → List ℕ → Type 0} {a b c d e : O} (i : Interface) (earlier : List Item) (r : Item) (facts : RowFacts) → AreFactsOf i earlier r facts
+    → Adds has (These (state_members facts.last.now.number facts.last.now.side (named_channel facts.last.now.packet) (word_before facts.last.now.judge) (word_after facts.last.now.judge))) a b
+    → Adds has (These (counted_word (all_lengths (events_at i (routed (x25 i) (observer i earlier).level r) (observer i earlier) r)))) b c
+    → Adds has (These (place_members facts.earlier.epoch (owed_after facts.last.now.judge))) c d → Adds has (These (finding_word facts.last.now.finding facts.earlier.follows)) d e
+    → Adds has (These (packet_head i earlier r facts.last.now.finding)) a e
+head_put i earlier r facts h states counted place found =
     let taker : Option ℕ = routed (x25 i) (observer i earlier).level r in
-    let counted : List ℕ = counted_word (all_lengths (events_at i taker (observer i earlier) r)) in
-    let words = words_are i taker (observer i earlier) (observer i (earlier ++ r ∷ [])) facts.last.now.judge h.judge in
-    let members : state_members r.number r.side (named_channel facts.last.now.packet) (word_before facts.last.now.judge) (word_after facts.last.now.judge)
-    ≡ state_members r.number r.side (named_channel r.packet) (state_at taker (observer i earlier)) (state_at taker (observer i (earlier ++ r ∷ []))) =
-    (λ t. state_members r.number r.side (named_channel (h.packet t)) (words.0 t) (words.1 t)) in
     let more : Observer GapInterfaceState GapChannel = observer i (earlier ++ r ∷ []) in
-    let place : place_members facts.earlier.epoch (owed_after facts.last.now.judge) ≡ place_members (observer i earlier).epoch (owed_at taker more) =
-    (λ t. place_members (h.epoch t) (owed_is i taker (observer i earlier) more facts.last.now.judge h.judge t)) in
-    let found = finding_word facts.last.now.finding (follows_at i earlier r facts.last.now.finding) in
-    e4 ∙ (λ t. e3 t ++ finding_word facts.last.now.finding (h.follows t)) ∙ ap (λ xs. xs ++ found) ((λ t. e2 t ++ place t) ∙ ap (λ xs. xs ++ place_members (observer i earlier).epoch (owed_at taker more)) (ap (λ xs. xs ++ counted) (e1 ∙ ap (λ xs. out ++ xs) members)))
-    ∙ four_parts out (state_members r.number r.side (named_channel r.packet) (state_at taker (observer i earlier)) (state_at taker (observer i (earlier ++ r ∷ [])))) counted (place_members (observer i earlier).epoch (owed_at taker more)) found
+    let words = words_are i taker (observer i earlier) more facts.last.now.judge h.judge in
+    these_then (these_same (λ t. state_members (h.number t) (h.side t) (named_channel (h.packet t)) (words.0 t) (words.1 t)) states)
+    (these_then counted (these_then (these_same (λ t. place_members (h.epoch t) (owed_is i taker (observer i earlier) more facts.last.now.judge h.judge t)) place)
+    (these_same (λ t. finding_word facts.last.now.finding (h.follows t)) found)))
 
 -- the beginning of a gap's, or of a packet's
 pub gap_is : (i : Interface) (earlier : List Item) (r : Item) (facts : RowFacts) (channel : Option ℕ) → AreFactsOf i earlier r facts → gap_of facts.last.now.packet ≡ Some channel
@@ -97,14 +85,20 @@ packet_is i earlier r facts h none = sym (ap (λ g. head_by g i earlier r facts.
 
 -- ---- an object
 
-pub object_put : (i : Interface) (earlier : List Item) (r : Item) (facts : RowFacts) (members out o1 o2 o3 : List ℕ) → AreFactsOf i earlier r facts → IsRest (gap_of facts.last.now.packet) facts.last.now.finding (row_call facts.calls) members
-    → o1 ≡ out ++ row_head i earlier r facts.last.now.finding → o2 ≡ o1 ++ members → o3 ≡ o2 ++ codes "}\n" → HasAppended (IsRowObject i earlier r) out o3
-object_put i earlier r facts members out o1 o2 o3 h is e1 e2 e3 = record {
-  bytes = row_head i earlier r facts.last.now.finding ++ (members ++ codes "}\n");
-  appended = e3 ∙ ap (λ xs. xs ++ codes "}\n") (e2 ∙ ap (λ xs. xs ++ members) e1)
-      ∙ append_assoc (out ++ row_head i earlier r facts.last.now.finding) members (codes "}\n") ∙ append_assoc out (row_head i earlier r facts.last.now.finding) (members ++ codes "}\n");
-  formed = record { found = facts.last.now.finding; came = h.finding; rest = members; one = rest_one (gap_of facts.last.now.packet) facts.last.now.finding (row_call facts.calls) members is; members = subst (λ packet. IsRest (gap_of packet) facts.last.now.finding (call_of i earlier r) members) h.packet (subst (λ call. IsRest (gap_of facts.last.now.packet) facts.last.now.finding call members) h.call is); written = refl };
-}
+pub object_put : {O : Type 0} {has : O → List ℕ → Type 0} {a b c d : O} (i : Interface) (earlier : List Item) (r : Item) (facts : RowFacts) → AreFactsOf i earlier r facts
+    → Adds has (These (row_head i earlier r facts.last.now.finding)) a b → Adds has (IsRest (gap_of facts.last.now.packet) facts.last.now.finding (row_call facts.calls)) b c → Adds has (These (codes "}\n")) c d
+    → Adds has (IsRowObject i earlier r) a d
+object_put i earlier r facts h head rest end =
+    both_put {Q = λ bytes. (own : List ℕ) × (bytes ≡ own ++ codes "}\n") × IsRest (gap_of facts.last.now.packet) facts.last.now.finding (row_call facts.calls) own}
+    (λ x y e m. record {
+      found = facts.last.now.finding;
+      came = h.finding;
+      rest = m.0;
+      one = rest_one (gap_of facts.last.now.packet) facts.last.now.finding (row_call facts.calls) m.0 m.2;
+      members = subst (λ packet. IsRest (gap_of packet) facts.last.now.finding (call_of i earlier r) m.0) h.packet (subst (λ call. IsRest (gap_of facts.last.now.packet) facts.last.now.finding call m.0) h.call m.2);
+      written = λ t. e t ++ m.1 t;
+    })
+    head (both_put (λ x y is e. (x, (λ t. x ++ e t), is)) rest end)
 
 -- ---- which rows have one
 

@@ -10,8 +10,8 @@ use Rattle.line_model.specs.declared.finding.Finding.{Finding}
 use Rattle.line_model.specs.text.Text.{is_lf}
 use Rattle.annotated_trace.specs.Annotation.{IsOneLine}
 use Rattle.annotated_trace.proofs.WordingLemmas.{both_one}
-use Rattle.descriptions.specs.Members.{AreElements, Array, Element, False, Fraction, IsMembers, IsValue, Member, NoElement, NoMember, Null, Number, Object, Text, True, is_plain, is_text, member}
-use Rattle.descriptions.specs.RowObjects.{IsOfCall, IsRest, call_member, call_word}
+use Rattle.descriptions.specs.Members.{AreElements, Array, Element, False, Fraction, IsMembers, IsOfCall, IsValue, Member, NoElement, NoMember, Null, Number, Object, Text, True, call_member, call_word, is_plain, is_text, member}
+use Rattle.descriptions.specs.RowObjects.{IsRest}
 
 -- ---- numbers
 

@@ -1,8 +1,8 @@
 -- What comes after the promised members of a row's object.
 use Rattle.std.proofs.Common.{◌≡◌, ◌∙◌, ap, sym, subst, ℕ, List, [], ◌∷◌, ◌++◌, Option, None, Some, append_assoc}
 use Rattle.line_model.specs.declared.finding.Finding.{Finding}
-use Rattle.descriptions.specs.Members.{IsFurther}
-use Rattle.descriptions.specs.RowObjects.{IsOfCall, IsRest, call_member}
+use Rattle.descriptions.specs.Members.{IsFurther, IsOfCall, call_member}
+use Rattle.descriptions.specs.RowObjects.{IsRest}
 use Rattle.descriptions.specs.Writing.{Adds, These}
 use Rattle.descriptions.proofs.MemberLemmas.{both_put}
 

@@ -1,21 +1,25 @@
 -- The objects after those of the report: what was not counted, and what a call's line does not say.
-use Rattle.std.specs.Prelude.{◌≡◌, ℕ, List, ◌++◌, codes, flat_map, length}
-use Rattle.std.specs.List.{AllByRecursion}
+use Rattle.std.specs.Prelude.{◌≡◌, ℕ, zero, suc, List, [], ◌++◌, codes}
 use Rattle.json_lines.specs.Json.{object}
-use Rattle.descriptions.specs.Members.{IsFurther}
+use Rattle.descriptions.specs.Members.{IsFurther, IsOfCall}
 
--- an object on a line of its own: what it says, and members with other names
-abbrev pub IsObjectLine : (title : List ℕ) → List ℕ → Type 0
-IsObjectLine title bytes = (members : List ℕ) × (bytes ≡ object title members) × IsFurther members
+-- an object on a line of its own: what it says, and members of a form
+abbrev pub IsObjectLine : (title : List ℕ) → (form : List ℕ → Type 0) → List ℕ → Type 0
+IsObjectLine title form bytes = (members : List ℕ) × (bytes ≡ object title members) × form members
 
--- `count` of them, one after the other
-abbrev pub AreObjects : (title : List ℕ) → (count : ℕ) → List ℕ → Type 0
-AreObjects title count bytes = (all : List (List ℕ)) × (length all ≡ count) × (bytes ≡ flat_map (object title) all) × AllByRecursion IsFurther all
+-- `count` of them one after the other, each with members of the form of its index
+abbrev pub AreObjects : (title : List ℕ) → (form : ℕ → List ℕ → Type 0) → (count : ℕ) → List ℕ → Type 0
+AreObjects title form zero bytes = bytes ≡ []
+AreObjects title form (suc n) bytes = (before : List ℕ) × (own : List ℕ) × (bytes ≡ before ++ own) × AreObjects title form n before × IsObjectLine title (form n) own
 
 -- any number of objects of what was not counted
 abbrev pub AreUncounted : List ℕ → Type 0
-AreUncounted bytes = (count : ℕ) × AreObjects (codes "not_counted") count bytes
+AreUncounted bytes = (count : ℕ) × AreObjects (codes "not_counted") (λ n. IsFurther) count bytes
 
--- those, and one object for each of `calls` calls
+-- one for each call, from 1 on: its number, and members with other names
+abbrev pub AreCallFacts : (calls : ℕ) → List ℕ → Type 0
+AreCallFacts calls bytes = AreObjects (codes "call_facts") (λ n. IsOfCall (suc n)) calls bytes
+
+-- those, one after the other
 abbrev pub AreClosingObjects : (calls : ℕ) → List ℕ → Type 0
-AreClosingObjects calls bytes = (uncounted : List ℕ) × (facts : List ℕ) × (bytes ≡ uncounted ++ facts) × AreUncounted uncounted × AreObjects (codes "call_facts") calls facts
+AreClosingObjects calls bytes = (uncounted : List ℕ) × (facts : List ℕ) × (bytes ≡ uncounted ++ facts) × AreUncounted uncounted × AreCallFacts calls facts

@@ -14,8 +14,9 @@ use Rattle.live_report.specs.declared.judged_row.Judge.{Judge}
 use Rattle.live_report.specs.declared.judged_row.Judge.TheVariants as judge
 use Rattle.live_report.specs.declared.judged_row.JudgedRow.{JudgedRow}
 use Rattle.descriptions.specs.Follows.{is_renewing}
+use Rattle.descriptions.specs.Members.{IsOfCall}
 use Rattle.descriptions.specs.RowCalls.{AreQuiet}
-use Rattle.descriptions.specs.RowObjects.{IsOfCall, counted_word, finding_word, joined, named_channel, place_members, state_members}
+use Rattle.descriptions.specs.RowObjects.{counted_word, finding_word, joined, named_channel, place_members, state_members}
 
 -- whether a state of data transfer is d1
 abbrev pub is_first : DState → Bool

@@ -1,5 +1,5 @@
 -- The members of an object of JSON, and their values.
-use Rattle.std.specs.Prelude.{◌≡◌, ℕ, ◌==◌, ◌&&◌, ◌||◌, Bool, true, false, not, List, [], ◌∷◌, ◌++◌, codes, decimal, drop, nat_le}
+use Rattle.std.specs.Prelude.{◌≡◌, ℕ, zero, suc, ◌==◌, ◌&&◌, ◌||◌, Bool, true, false, not, List, [], ◌∷◌, ◌++◌, codes, decimal, drop, nat_le}
 use Rattle.std.specs.List.{list_any}
 use Rattle.std.specs.Str.{bytes_eq}
 use Rattle.std.specs.Str.Parse.{AllDigits}
@@ -51,8 +51,20 @@ mutual
 
 -- the names of the members that are promised, of an object or of its finding
 abbrev pub promised : List (List ℕ)
-promised = codes "line" ∷ codes "packet" ∷ codes "side" ∷ codes "channel" ∷ codes "before" ∷ codes "after" ∷ codes "counted" ∷ codes "epoch" ∷ codes "owed" ∷ codes "finding" ∷ codes "code" ∷ codes "follows" ∷ []
+promised = codes "line" ∷ codes "packet" ∷ codes "side" ∷ codes "channel" ∷ codes "before" ∷ codes "after" ∷ codes "counted" ∷ codes "epoch" ∷ codes "owed" ∷ codes "finding" ∷ codes "code" ∷ codes "follows" ∷ codes "call" ∷ []
 
 -- members with other names
 abbrev pub IsFurther : List ℕ → Type 0
 IsFurther bytes = IsMembers promised bytes
+
+-- the number of a call, or null for 0
+abbrev pub call_word : ℕ → List ℕ
+call_word zero = codes "null"
+call_word (suc n) = decimal (suc n)
+
+abbrev pub call_member : ℕ → List ℕ
+call_member n = codes ",\"call\":" ++ call_word n
+
+-- members that begin with a call
+abbrev pub IsOfCall : (call : ℕ) → List ℕ → Type 0
+IsOfCall call bytes = (others : List ℕ) × (bytes ≡ call_member call ++ others) × IsFurther others

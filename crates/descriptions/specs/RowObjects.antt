@@ -1,5 +1,5 @@
 -- The object of a row: its first members say what the definitions' walk does; others come after them.
-use Rattle.std.specs.Prelude.{◌≡◌, ℕ, zero, suc, Bool, true, false, List, [], ◌∷◌, ◌++◌, Option, None, Some, IfSome, OnOk, Result, option_to_list, codes, decimal, flat_map, length}
+use Rattle.std.specs.Prelude.{◌≡◌, ℕ, Bool, true, false, List, [], ◌∷◌, ◌++◌, Option, None, Some, IfSome, OnOk, Result, option_to_list, codes, decimal, flat_map, length}
 use Rattle.json_lines.specs.Json.{json_text}
 use Rattle.line_model.specs.basics.Records.{Item, Report, Row}
 use Rattle.line_model.specs.channels.Gaps.{GapChannel}
@@ -35,7 +35,7 @@ use Rattle.annotated_trace.specs.Rows.{is_chosen, row_written}
 use Rattle.annotated_trace.specs.declared.rows.Rows.{Rows}
 use Rattle.descriptions.specs.Closing.{AreClosingObjects}
 use Rattle.descriptions.specs.Follows.{KeepsOrigins, follows_at}
-use Rattle.descriptions.specs.Members.{IsFurther}
+use Rattle.descriptions.specs.Members.{IsFurther, IsOfCall}
 use Rattle.descriptions.specs.RowCalls.{call_of}
 use Rattle.descriptions.specs.declared.origins.Origins.{Origins}
 
@@ -139,18 +139,6 @@ head_by (Some channel) i earlier r found = gap_head r.number channel
 
 abbrev pub row_head : Interface → (earlier : List Item) → Item → Option Finding → List ℕ
 row_head i earlier r found = head_by (gap_of r.packet) i earlier r found
-
--- the number of a call, or null for 0
-abbrev pub call_word : ℕ → List ℕ
-call_word zero = codes "null"
-call_word (suc n) = decimal (suc n)
-
-abbrev pub call_member : ℕ → List ℕ
-call_member n = codes ",\"call\":" ++ call_word n
-
--- members that begin with a call
-abbrev pub IsOfCall : (call : ℕ) → List ℕ → Type 0
-IsOfCall call bytes = (others : List ℕ) × (bytes ≡ call_member call ++ others) × IsFurther others
 
 -- what comes after that beginning: where the row found something, the rest of the object of the finding; then the row's call and further
 -- members; of a gap further members alone

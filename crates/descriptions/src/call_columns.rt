@@ -1,7 +1,7 @@
 //! What the table of calls says of a call, column by column.
 
 ghost use Rattle.std.specs.Prelude.{◌≡◌, ◌≤◌, flat_map};
-ghost use Rattle.descriptions.specs.CallTable.{cause_columns, cell_text, column_text, data_columns, last_columns, maybe_number, name_of, payer, payer_word, place_columns, span_columns, value_of};
+ghost use Rattle.descriptions.specs.CallTable.{cause_columns, cell_text, column_text, data_columns, last_columns, name_of, payer, payer_word, place_columns, span_columns, value_of};
 ghost use Rattle.descriptions.specs.declared.call_columns.TableForm.{TableForm as AnyForm};
 
 use crate::times::Time;
@@ -59,16 +59,6 @@ pub struct Further<'a> {
     pub opened_frame: Option<u64>,
     /// The frame of the packet that ended it.
     pub ended_frame: Option<u64>,
-}
-
-/// The number of a packet that may be absent.
-fn maybe_packet<'a>(packet: Option<u32>) -> Value<'a>
-    ensures { (form : AnyForm) → cell_text form result ≡ maybe_number form packet }
-{
-    match packet {
-        Some(packet) => Value::Number(u64::from(packet)),
-        None => Value::Null,
-    }
 }
 
 /// A code that may be absent.
@@ -147,7 +137,7 @@ pub fn span_columns<'a, A: Allocator>(
         },
         Column {
             name: b"ended",
-            cell: maybe_packet(call.ended),
+            cell: Value::packet(call.ended),
         },
         Column {
             name: b"start",

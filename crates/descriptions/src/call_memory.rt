@@ -35,18 +35,6 @@ pub struct CallMemory<A: Allocator> {
 }
 
 impl<A: Allocator> CallMemory<A> {
-    /// Returns a call that a row opened, after `gaps_of_all` gap rows of all channels.
-    fn new(alloc: A, start: Recorded, gaps_of_all: u32) -> Self {
-        CallMemory {
-            causes: Causes::none(),
-            codes: Vec::new(alloc),
-            gaps: 0,
-            gaps_before: Some(gaps_of_all),
-            start,
-            end: Recorded::UNKNOWN,
-        }
-    }
-
     /// Ends the call, after `gaps_of_all` gap rows of all channels.
     fn end(&mut self, recorded: Recorded, gaps_of_all: u32) {
         self.end = recorded;
@@ -126,22 +114,18 @@ impl<A: Allocator + Copy> Calls<A> {
     fn open(&mut self, events: &[Event], recorded: Recorded) -> Result<(), AllocError> {
         for event in events {
             if let What::Open { .. } = event.what {
-                self.calls
-                    .push(CallMemory::new(self.alloc, recorded, self.gaps_of_all))?;
+                let call = CallMemory {
+                    causes: Causes::none(),
+                    codes: Vec::new(self.alloc),
+                    gaps: 0,
+                    gaps_before: Some(self.gaps_of_all),
+                    start: recorded,
+                    end: Recorded::UNKNOWN,
+                };
+                self.calls.push(call)?;
             }
         }
         Ok(())
-    }
-
-    /// Counts the code of a row's finding, where it has one. Fails only when memory is refused.
-    fn count_finding(&mut self, facts: &RowFacts<'_>) -> Result<(), AllocError> {
-        let Some(finding) = facts.last.finding else {
-            return Ok(());
-        };
-        match self.get_mut(facts.calls.of_row()) {
-            Some(call) => call.count(finding.code),
-            None => Ok(()),
-        }
     }
 
     /// Ends the calls that a row ended.
@@ -163,7 +147,11 @@ impl<A: Allocator + Copy> Calls<A> {
     ) -> Result<(), AllocError> {
         self.take_gap(facts);
         self.open(facts.events, recorded)?;
-        self.count_finding(facts)?;
+        if let Some(finding) = facts.last.finding {
+            if let Some(call) = self.get_mut(facts.calls.of_row()) {
+                call.count(finding.code)?;
+            }
+        }
         self.end(ended, recorded);
         if let Some(call) = self.get_mut(facts.calls.cleared) {
             call.causes = Causes::of(facts.octets);

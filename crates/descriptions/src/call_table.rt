@@ -106,7 +106,7 @@ impl<A: Allocator + Copy, K: TableKind> CallTable<A, K> {
         ensures unwritten { out.new.items ≡ out.old.items }
     {
         self.past.append_row(trace, line, false, out)?;
-        let added = self.past.added();
+        let added = self.past.added;
         self.findings.add(added.call, added.findings)?;
         self.segments_t.add(added.call, added.segments_t)
     }
@@ -245,7 +245,7 @@ impl<A: Allocator + Copy, C: Channel<A>, K: TableKind + Drop> Printer<A, Live<A,
 
     fn close<S: LentSink>(&mut self, report: &Report<A>, sink: S) -> (S, Result<(), Fault>) {
         let sources = Sources {
-            rest: self.past.rest(),
+            rest: &self.past.rest,
             findings: &self.findings,
             segments_t: &self.segments_t,
             calls: report.calls.as_slice(),

@@ -1,10 +1,10 @@
 //! The objects after those of the report: what was not counted, and what a call's line does not say.
 #![tactic(auto, using(crate::proofs::MemberLemmas::further_then, crate::proofs::MemberLemmas::member_put, crate::proofs::MemberLemmas::no_member))]
 
-ghost use Rattle.std.specs.Prelude.{◌≡◌, ◌<◌, IfErr, OnErr, OnOk, codes, length};
+ghost use Rattle.std.specs.Prelude.{◌≡◌, ◌<◌, ◌+◌, IfErr, OnErr, OnOk, codes, length};
 ghost use Rattle.annotated_trace.specs.Printed.{HasTaken, HasTakenFirst};
-ghost use Rattle.descriptions.specs.Members.{IsFurther};
-ghost use Rattle.descriptions.specs.Closing.{AreClosingObjects, AreObjects, AreUncounted, IsObjectLine};
+ghost use Rattle.descriptions.specs.Members.{IsFurther, IsOfCall};
+ghost use Rattle.descriptions.specs.Closing.{AreCallFacts, AreClosingObjects, AreUncounted, IsObjectLine};
 ghost use Rattle.descriptions.specs.Writing.{Adds};
 
 use crate::call_columns::{payer, payer_word};
@@ -13,7 +13,7 @@ use crate::causes::CauseTable;
 use crate::json::{Element, Json, Out};
 use crate::packet_members::cause_members;
 use crate::row_head::code_digits;
-use crate::row_members::reason_word;
+use crate::row_members::{call_member, reason_word};
 use crate::sending::Sending;
 use crate::times::Time;
 use crate::value::Value;
@@ -23,7 +23,7 @@ use line_model::device::Sink;
 use line_model::event::How;
 use line_model::fault::Fault;
 use line_model::lending::{Borrowed, Origin, take_back};
-use live_report::uncounted::{Amount, REASONS, Reason, Uncounted};
+use live_report::uncounted::{REASONS, Uncounted};
 use report_merge::words::how_word;
 use std::alloc::Allocator;
 use std::marker::Brand;
@@ -50,30 +50,16 @@ impl<A: Allocator + Copy> Rest<A> {
     }
 }
 
-/// The objects after those of the report.
-fn rest_objects<O: Out, A: Allocator + Copy>(
-    json: &mut Json<O>,
-    rest: &Rest<A>,
-    records: &[CallRecord<A>],
-)
-    ensures { Adds O.has (AreClosingObjects (length records.now)) json.old.out json.new.out }
-{
-    uncounted_objects(json, &rest.uncounted);
-    call_objects(json, rest, records);
-}
-
 /// An object for each call of the report, in order.
 fn call_objects<O: Out, A: Allocator + Copy>(
     json: &mut Json<O>,
     rest: &Rest<A>,
     records: &[CallRecord<A>],
 )
-    ensures { Adds O.has (AreObjects (codes "call_facts") (length records.now)) json.old.out json.new.out }
+    ensures { Adds O.has (AreCallFacts (length records.now)) json.old.out json.new.out }
 {
-    let mut number: u32 = 0;
-    for record in records {
-        number = number.saturating_add(1);
-        call_object(json, number, record, rest);
+    for (index, record) in records.iter().enumerate() {
+        call_object(json, index + 1, record, rest);
     }
 }
 
@@ -96,7 +82,8 @@ fn write_to<'a, A: Allocator + Copy, K: Sink, B: Origin>(
     let mut json = Json {
         out: Sending::new(Borrowed::<K, B>::new(sink)),
     };
-    rest_objects(&mut json, rest, records);
+    uncounted_objects(&mut json, &rest.uncounted);
+    call_objects(&mut json, rest, records);
     let (lent, answer) = json.out.finish();
     (lent.give_back(), answer)
 }
@@ -127,54 +114,43 @@ fn uncounted_objects<O: Out>(json: &mut Json<O>, uncounted: &Uncounted)
     for reason in &REASONS {
         let amount = uncounted.amount(*reason);
         if amount.packets != 0 {
-            uncounted_object(json, *reason, &amount);
+            json.raw(b"{\"line\":\"not_counted\"");
+            json.member(",\"reason\":", Value::Text(reason_word(*reason)));
+            json.member(",\"packets\":", Value::Number(amount.packets));
+            json.member(",\"octets\":", Value::Number(amount.octets));
+            json.raw(b"}\n");
         }
     }
-}
-
-/// What was not counted for a reason.
-fn uncounted_object<O: Out>(json: &mut Json<O>, reason: Reason, amount: &Amount)
-    ensures { Adds O.has (IsObjectLine (codes "not_counted")) json.old.out json.new.out }
-{
-    json.raw(b"{\"line\":\"not_counted\"");
-    json.member(",\"reason\":", Value::Text(reason_word(reason)));
-    json.member(",\"packets\":", Value::Number(amount.packets));
-    json.member(",\"octets\":", Value::Number(amount.octets));
-    json.raw(b"}\n");
 }
 
 /// Writes what a call's line of the report does not say: who pays, the side that cleared it, null where none did, and
 /// what is remembered of it.
 fn call_object<O: Out, A: Allocator + Copy>(
     json: &mut Json<O>,
-    number: u32,
+    number: usize,
     record: &CallRecord<A>,
     rest: &Rest<A>,
 )
-    ensures { Adds O.has (IsObjectLine (codes "call_facts")) json.old.out json.new.out }
+    ensures { Adds O.has (IsObjectLine (codes "call_facts") (IsOfCall number)) json.old.out json.new.out }
 {
     json.raw(b"{\"line\":\"call_facts\"");
-    json.member(",\"call\":", Value::Number(u64::from(number)));
+    call_member(json, number as u64);
     json.member(",\"pays\":", Value::Text(payer_word(record.reverse)));
     json.member(",\"payer\":", Value::address(payer(record).as_bytes()));
-    json.member(",\"cleared_by\":", clearer(record.how));
+    let clearer = match record.how {
+        Some(How::T | How::N) => Value::Text(how_word(record.how)),
+        _ => Value::Null,
+    };
+    json.member(",\"cleared_by\":", clearer);
     memory_members(json, number, rest);
     json.raw(b"}\n");
 }
 
-/// The side that cleared a call, null where none did.
-fn clearer(how: Option<How>) -> Value<'static> {
-    match how {
-        Some(How::T | How::N) => Value::Text(how_word(how)),
-        _ => Value::Null,
-    }
-}
-
 /// What is remembered of a call's rows, where something is.
-fn memory_members<O: Out, A: Allocator + Copy>(json: &mut Json<O>, number: u32, rest: &Rest<A>)
+fn memory_members<O: Out, A: Allocator + Copy>(json: &mut Json<O>, number: usize, rest: &Rest<A>)
     ensures { Adds O.has IsFurther json.old.out json.new.out }
 {
-    let Some(call) = rest.calls.get(number) else {
+    let Some(call) = rest.calls.get(u32::try_from(number).unwrap_or(0)) else {
         return;
     };
     cause_members(json, &call.causes, CauseTable::Clearing);

@@ -9,8 +9,8 @@ ghost use Rattle.line_model.specs.packets.Says.{gap_of};
 ghost use Rattle.descriptions.specs.Facts.{IsFateOf};
 ghost use Rattle.descriptions.specs.Follows.{is_renewing};
 ghost use Rattle.descriptions.specs.Lines.{Puts, PutsForm};
-ghost use Rattle.descriptions.specs.Members.{IsFurther, IsText, IsValue};
-ghost use Rattle.descriptions.specs.RowObjects.{call_member, call_word, counted_word, named_channel};
+ghost use Rattle.descriptions.specs.Members.{IsFurther, IsText, IsValue, call_member, call_word};
+ghost use Rattle.descriptions.specs.RowObjects.{counted_word, named_channel};
 ghost use Rattle.descriptions.specs.RowCalls.{AreQuiet};
 ghost use Rattle.descriptions.specs.CommonObjects.{IsCommonObject, amount_word, is_quiet, is_settled, common_head};
 
@@ -148,24 +148,19 @@ fn put_call_member(line: &mut LineRoom, call: u32)
     line.put(b",\"call\":");
 }
 
-/// Puts octets that were counted, and their segments.
-fn put_amount(line: &mut LineRoom, octets: u32, segments: u64)
-    ensures { Puts (amount_word octets segments) line.old line.new }
-{
-    line.put(b"}");
-    line.number(segments);
-    line.put(b",\"segments\":");
-    line.number(u64::from(octets));
-    line.put(b"{\"octets\":");
-}
-
 /// Puts what was counted, or null.
 fn put_counted(line: &mut LineRoom, fate: Fate)
     ensures { (lengths : List ℕ) → IsFateOf lengths fate
         → Puts (counted_word lengths) line.old line.new }
 {
     match fate {
-        Fate::Counted { octets, segments } => put_amount(line, octets, segments),
+        Fate::Counted { octets, segments } => {
+            line.put(b"}");
+            line.number(segments);
+            line.put(b",\"segments\":");
+            line.number(u64::from(octets));
+            line.put(b"{\"octets\":");
+        }
         _ => line.put(b"null"),
     }
 }
@@ -204,21 +199,13 @@ fn common_fate(events: &[Event]) -> Option<Fate>
 {
     match events {
         [] => Some(Fate::NoData),
-        [event] => data_fate(event),
-        _ => None,
-    }
-}
-
-/// The fate of the data of an event.
-fn data_fate(event: &Event) -> Option<Fate>
-    ensures counted { IfSome result (λ fate. IsFateOf (all_lengths (event.now ∷ [])) fate) }
-    ensures quiet { IfSome result (λ fate. AreQuiet (event.now ∷ [])) }
-{
-    match event.what {
-        What::Data { octets, .. } => Some(Fate::Counted {
-            octets,
-            segments: segments_in(event),
-        }),
+        [event] => match event.what {
+            What::Data { octets, .. } => Some(Fate::Counted {
+                octets,
+                segments: segments_in(event),
+            }),
+            _ => None,
+        },
         _ => None,
     }
 }

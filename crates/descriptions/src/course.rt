@@ -40,22 +40,21 @@ struct KnownChannel<A: Allocator> {
 }
 
 impl<A: Allocator + Copy> KnownChannel<A> {
-    /// Returns a channel without a row, with this packet size in force.
-    fn fresh(alloc: A, size: u16) -> Self {
-        KnownChannel {
-            had_gap: false,
-            sequences: Assembler::new(alloc, size, size),
-        }
-    }
-
-    /// Adds the data of a row, and returns the PAD message that it completes, if it does.
-    fn completed(
+    /// Adds the data of a row that may be of a PAD message, and returns the message that it completes, if it does; none in
+    /// a call that had a gap.
+    fn message(
         &mut self,
         alloc: A,
         side: Side,
-        data: &DataField<'_>,
+        data: Option<DataField<'_>>,
     ) -> Result<Option<Vec<u8, A>>, AllocError> {
-        match self.sequences.put(side, data) {
+        let Some(data) = data else {
+            return Ok(None);
+        };
+        if self.had_gap {
+            return Ok(None);
+        }
+        match self.sequences.put(side, &data) {
             Ok(Put::Complete(sequence)) => {
                 if !sequence.qualified {
                     return Ok(None);
@@ -67,20 +66,6 @@ impl<A: Allocator + Copy> KnownChannel<A> {
             }
             Ok(_) => Ok(None),
             Err(_) => Err(AllocError),
-        }
-    }
-
-    /// Adds the data of a row that may be of a PAD message, and returns the message that it completes, if it does; none in
-    /// a call that had a gap.
-    fn message(
-        &mut self,
-        alloc: A,
-        side: Side,
-        data: Option<DataField<'_>>,
-    ) -> Result<Option<Vec<u8, A>>, AllocError> {
-        match data {
-            Some(data) if !self.had_gap => self.completed(alloc, side, &data),
-            _ => Ok(None),
         }
     }
 
@@ -194,17 +179,12 @@ impl<A: Allocator + Copy> Course<A> {
             events,
             calls: earlier.calls,
             fate: fate(last, events),
-            message: self.message(),
+            message: match &self.message {
+                Some(octets) => Some(octets.as_slice()),
+                None => None,
+            },
             renews: self.renews,
             had_gap: self.had_gap,
-        }
-    }
-
-    /// The PAD message that the last row completed.
-    fn message(&self) -> Option<&[u8]> {
-        match &self.message {
-            Some(octets) => Some(octets.as_slice()),
-            None => None,
         }
     }
 
@@ -216,7 +196,11 @@ impl<A: Allocator + Copy> Course<A> {
             Some(known) => Ok(known),
             None => {
                 self.known_channels.list(channel)?;
-                Ok(Box::new(self.alloc, KnownChannel::fresh(self.alloc, size))?)
+                let known = KnownChannel {
+                    had_gap: false,
+                    sequences: Assembler::new(self.alloc, size, size),
+                };
+                Ok(Box::new(self.alloc, known)?)
             }
         }
     }
@@ -250,20 +234,10 @@ fn fate(last: &JudgedRow, events: &[Event]) -> Fate
 {
     match counted_in(events) {
         Some(counted) => counted,
-        None => passed_over(last, events),
-    }
-}
-
-/// What became of the data of a row that was not counted.
-fn passed_over(last: &JudgedRow, events: &[Event]) -> Fate
-    ensures counted { IsFateOf [] result }
-    ensures reason { (i : AnyInterface) (earlier : List Item) (r : Item)
-        → IsJudgedRow i earlier r last.now events.now
-        → reason_in result ≡ reason_at i (observer i earlier) r }
-{
-    match reason_of(last, events) {
-        Some(reason) => Fate::NotCounted(reason),
-        None => Fate::NoData,
+        None => match reason_of(last, events) {
+            Some(reason) => Fate::NotCounted(reason),
+            None => Fate::NoData,
+        },
     }
 }
 

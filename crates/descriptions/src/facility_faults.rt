@@ -30,7 +30,8 @@ pub fn facility_length<P: Prose>(out: &mut P, octets: &[u8]) -> bool {
     true
 }
 
-/// Writes the first packet size or window facility of a call packet whose values are out of range.
+/// Writes the first packet size or window facility of a call packet whose values are out of range. A code says how many
+/// octets its facility has after it (X.25 clause 7.1).
 pub fn facility_value<P: Prose>(out: &mut P, interface: &Interface, octets: &[u8]) -> bool {
     let Some([_, field @ ..]) = after_addresses(octets) else {
         return false;
@@ -43,21 +44,17 @@ pub fn facility_value<P: Prose>(out: &mut P, interface: &Interface, octets: &[u8
                 return true;
             }
         }
-        let length = parameter_length(*code, rest);
+        let length = if *code < 192 {
+            usize::from(*code / 64) + 1
+        } else {
+            rest.first().map_or(0, |size| usize::from(*size)) + 1
+        };
         if rest.len() < length {
             return false;
         }
         left = &rest[length..];
     }
     false
-}
-
-/// Returns how many octets a facility has after its code (X.25 clause 7.1).
-fn parameter_length(code: u8, rest: &[u8]) -> usize {
-    if code < 192 {
-        return usize::from(code / 64) + 1;
-    }
-    rest.first().map_or(0, |size| usize::from(*size)) + 1
 }
 
 /// Whether the values of a facility for both directions are out of range (X.25 clause 7.2.2.1).

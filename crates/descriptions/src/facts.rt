@@ -111,16 +111,14 @@ impl<'a> RowFacts<'a> {
     pub fn call_fields(&self) -> Option<Result<CallFields<'a>, u8>> {
         match class_of(self.interface, self.octets) {
             Class::Call => Some(call_fields(self.interface, self.octets, false)),
-            Class::Accepted => Some(call_fields(self.interface, self.octets, self.was_fast())),
+            Class::Accepted => {
+                let was_fast = match self.view_before() {
+                    Some(view) => view.fast,
+                    None => false,
+                };
+                Some(call_fields(self.interface, self.octets, was_fast))
+            }
             _ => None,
-        }
-    }
-
-    /// Whether the call that was open before it asked fast select.
-    fn was_fast(&self) -> bool {
-        match self.view_before() {
-            Some(view) => view.fast,
-            None => false,
         }
     }
 }

@@ -141,7 +141,7 @@ fn values<P: Prose>(out: &mut P, before: &Before, octets: &[u8], finding: &Findi
         PACKET_ON_UNASSIGNED_LOGICAL_CHANNEL => channel(out, before, octets, finding.side),
         PACKET_TOO_SHORT | PACKET_TOO_LONG => length(out, before, finding),
         INVALID_GENERAL_FORMAT_IDENTIFIER => format(out, before, octets),
-        UNIDENTIFIABLE_PACKET => packet_type(out, octets),
+        UNIDENTIFIABLE_PACKET => packet_type(out, octets, ", the type of no packet"),
         INCONSISTENT_Q_BIT_SETTING => qualifier(out, before),
         FACILITY_PARAMETER_NOT_ALLOWED => facility_value(out, &before.interface, octets),
         INVALID_FACILITY_OR_REGISTRATION_LENGTH => facility_length(out, octets),
@@ -371,13 +371,7 @@ fn channel<P: Prose>(out: &mut P, before: &Before, octets: &[u8], side: Side) ->
         out.say(", which only a DCE sends");
         return true;
     }
-    let [_, _, kind, ..] = octets else {
-        return false;
-    };
-    out.say("octet 3 is ");
-    out.octets(&[*kind]);
-    out.say(", the type of no packet on logical channel 0");
-    true
+    packet_type(out, octets, ", the type of no packet on logical channel 0")
 }
 
 /// Writes how long a packet is whose length is wrong, and which lengths are allowed.
@@ -468,14 +462,14 @@ fn format<P: Prose>(out: &mut P, before: &Before, octets: &[u8]) -> bool {
     true
 }
 
-/// Writes the type octet of a packet.
-fn packet_type<P: Prose>(out: &mut P, octets: &[u8]) -> bool {
+/// Writes the type octet of a packet, with words after it.
+fn packet_type<P: Prose>(out: &mut P, octets: &[u8], words: &str) -> bool {
     let [_, _, kind, ..] = octets else {
         return false;
     };
     out.say("octet 3 is ");
     out.octets(&[*kind]);
-    out.say(", the type of no packet");
+    out.say(words);
     true
 }
 

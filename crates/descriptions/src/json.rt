@@ -174,7 +174,9 @@ impl<O: Out> Json<O> {
         ensures { Adds O.has IsValue self.old.out self.new.out }
     {
         self.raw(b"\"");
-        self.octets(octets);
+        for octet in octets {
+            self.raw(&[hex_digit(*octet / 16), hex_digit(*octet % 16)]);
+        }
         self.raw(b"\"");
     }
 
@@ -257,15 +259,6 @@ impl<O: Out> Json<O> {
             self.raw(&[b'\\', byte]);
         } else {
             self.raw(b" ");
-        }
-    }
-
-    /// Writes octets in hex.
-    fn octets(&mut self, octets: &[u8])
-        ensures { Adds O.has IsText self.old.out self.new.out }
-    {
-        for octet in octets {
-            self.raw(&[hex_digit(*octet / 16), hex_digit(*octet % 16)]);
         }
     }
 }

@@ -20,14 +20,6 @@ pub fn name(code: MessageCode) -> &'static str {
     }
 }
 
-/// Writes a PAD message that is whole in these octets.
-pub fn message<P: Prose>(out: &mut P, octets: &[u8]) {
-    match read_message(octets) {
-        Ok(message) => say_message(out, &message),
-        Err(_) => out.say("; a PAD message that can't be read"),
-    }
-}
-
 /// Returns the standard pairs of a message, none where its kind has none.
 pub fn pairs_of<'a>(message: &Message<'a>) -> Pairs<'a> {
     match message.code {
@@ -37,11 +29,14 @@ pub fn pairs_of<'a>(message: &Message<'a>) -> Pairs<'a> {
     }
 }
 
-/// Writes the name of a message and its standard pairs; a read has no values.
-fn say_message<P: Prose>(out: &mut P, message: &Message<'_>) {
+/// Writes the name and the standard pairs of a PAD message that is whole in these octets; a read has no values.
+pub fn message<P: Prose>(out: &mut P, octets: &[u8]) {
+    let Ok(message) = read_message(octets) else {
+        return out.say("; a PAD message that can't be read");
+    };
     out.say("; PAD message: ");
     out.say(name(message.code));
-    for pair in pairs_of(message) {
+    for pair in pairs_of(&message) {
         out.say(", ");
         parameter(out, pair.reference % 128);
         if message.code != MessageCode::Read {

@@ -22,28 +22,16 @@ pub fn restart_state(state: RState) -> &'static str {
 /// Returns the name of a state of a channel (X.25 Annex B).
 pub fn channel_state(state: ChannelState) -> &'static str {
     match state {
-        ChannelState::Setup(state) => setup_state(state),
-        ChannelState::Transfer(state) => transfer_state(state),
+        ChannelState::Setup(PState::P1) => "p1",
+        ChannelState::Setup(PState::P2) => "p2",
+        ChannelState::Setup(PState::P3) => "p3",
+        ChannelState::Setup(PState::P4) => "p4",
+        ChannelState::Setup(PState::P5) => "p5",
+        ChannelState::Setup(PState::P6) => "p6",
+        ChannelState::Setup(PState::P7) => "p7",
+        ChannelState::Transfer(DState::D1) => "d1",
+        ChannelState::Transfer(DState::D2) => "d2",
+        ChannelState::Transfer(DState::D3) => "d3",
         ChannelState::Unknown => "unknown",
-    }
-}
-
-fn setup_state(state: PState) -> &'static str {
-    match state {
-        PState::P1 => "p1",
-        PState::P2 => "p2",
-        PState::P3 => "p3",
-        PState::P4 => "p4",
-        PState::P5 => "p5",
-        PState::P6 => "p6",
-        PState::P7 => "p7",
-    }
-}
-
-fn transfer_state(state: DState) -> &'static str {
-    match state {
-        DState::D1 => "d1",
-        DState::D2 => "d2",
-        DState::D3 => "d3",
     }
 }

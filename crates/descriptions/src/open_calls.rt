@@ -89,21 +89,6 @@ impl ChannelCalls {
             uncleared: 0,
         }
     }
-
-    /// Removes and returns the last call, where its clear indication is still to come.
-    fn take_uncleared(&mut self) -> u32
-        ensures call { self.new.call ≡ self.old.call }
-        ensures epoch { self.new.epoch ≡ self.old.epoch }
-    {
-        mem::replace(&mut self.uncleared, 0)
-    }
-
-    /// Returns the number of the call that is open in an epoch.
-    fn open_in(&self, epoch: u32) -> u32
-        ensures { result ≡ number_at epoch (Some self.now) }
-    {
-        if self.epoch == epoch { self.call } else { 0 }
-    }
 }
 
 /// Which call is open on each logical channel, as rows come.
@@ -135,8 +120,8 @@ impl<A: Allocator + Copy> OpenCalls<A> {
         ensures { result ≡ number_at epoch (value_at self.now.table channel) }
     {
         match self.table.get(channel) {
-            Some(calls) => calls.open_in(epoch),
-            None => 0,
+            Some(calls) if calls.epoch == epoch => calls.call,
+            _ => 0,
         }
     }
 
@@ -254,7 +239,7 @@ impl<A: Allocator + Copy> OpenCalls<A> {
         let (before, opened) = (calls.call, self.opened);
         self.apply_row(&mut calls, events)?;
         let cleared = if clears(last, !self.ended.is_empty()) {
-            calls.take_uncleared()
+            mem::replace(&mut calls.uncleared, 0)
         } else {
             0
         };

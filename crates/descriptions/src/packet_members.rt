@@ -63,7 +63,7 @@ pub fn cause_members<O: Out>(json: &mut Json<O>, causes: &Causes, table: CauseTa
     json.named(named_diagnostic(causes.diagnostic));
 }
 
-/// Writes the members of a data packet.
+/// Writes the members of a data packet, with the PAD message that it completes, where it does.
 fn data_members<O: Out>(json: &mut Json<O>, facts: &RowFacts<'_>, header: &DataHeader)
     ensures { Adds O.has IsFurther json.old.out json.new.out }
 {
@@ -74,14 +74,7 @@ fn data_members<O: Out>(json: &mut Json<O>, facts: &RowFacts<'_>, header: &DataH
     json.flag_member(",\"qualified\":", header.qualified);
     json.flag_member(",\"delivery\":", header.delivery);
     json.member(",\"octets\":", Value::Number(octets));
-    message_member(json, facts.message);
-}
-
-/// Writes a PAD message, where a data packet completes one.
-fn message_member<O: Out>(json: &mut Json<O>, message: Option<&[u8]>)
-    ensures { Adds O.has IsFurther json.old.out json.new.out }
-{
-    if let Some(octets) = message {
+    if let Some(octets) = facts.message {
         json.begin(",\"message\":");
         message_object(json, octets);
     }
@@ -231,22 +224,17 @@ fn settings<O: Out>(json: &mut Json<O>, events: &[Event])
 fn setting<O: Out>(json: &mut Json<O>, pad: Side, reference: u8, entry: Entry)
     ensures { Adds O.has IsValue json.old.out json.new.out }
 {
-    let (word, value) = word_of(entry);
+    let (word, value) = match entry {
+        Entry::Unknown => (&b"unknown"[..], None),
+        Entry::Asked(value) => (&b"asked"[..], Some(u64::from(value))),
+        Entry::Said(value) => (&b"said"[..], Some(u64::from(value))),
+        Entry::Refused(value) => (&b"refused"[..], Some(u64::from(value))),
+    };
     parameter(json, reference);
     pad_member(json, pad);
     json.member(",\"word\":", Value::Text(word));
     json.member(",\"value\":", Value::number(value));
     json.raw(b"}");
-}
-
-/// How a value of a parameter is known, and the value.
-fn word_of(entry: Entry) -> (&'static [u8], Option<u64>) {
-    match entry {
-        Entry::Unknown => (b"unknown", None),
-        Entry::Asked(value) => (b"asked", Some(u64::from(value))),
-        Entry::Said(value) => (b"said", Some(u64::from(value))),
-        Entry::Refused(value) => (b"refused", Some(u64::from(value))),
-    }
 }
 
 /// Writes the side of a PAD.

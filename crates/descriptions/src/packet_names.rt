@@ -16,37 +16,26 @@ pub fn packet_type(from: Side, packet: &Packet) -> &'static str {
     names(from, packet).1
 }
 
-/// The names of a packet of the DTE, or those of one of the DCE.
-fn by_side(from: Side, of_t: PacketNames, of_n: PacketNames) -> PacketNames {
-    match from {
-        Side::T => of_t,
-        Side::N => of_n,
-    }
-}
-
 /// The names of a packet of a side.
 fn names(from: Side, packet: &Packet) -> PacketNames {
-    match packet {
-        Packet::Short => ("cut packet", "cut"),
-        Packet::WrongFormat => (
+    match (from, packet) {
+        (_, Packet::Short) => ("cut packet", "cut"),
+        (_, Packet::WrongFormat) => (
             "packet with another general format identifier",
             "wrong_format",
         ),
-        Packet::Unassigned => ("packet on an unassigned logical channel", "unassigned"),
-        Packet::Diagnostic => ("diagnostic packet", "diagnostic"),
-        Packet::Registration => by_side(
-            from,
-            ("registration request", "registration_request"),
-            ("registration confirmation", "registration_confirmation"),
+        (_, Packet::Unassigned) => ("packet on an unassigned logical channel", "unassigned"),
+        (_, Packet::Diagnostic) => ("diagnostic packet", "diagnostic"),
+        (Side::T, Packet::Registration) => ("registration request", "registration_request"),
+        (Side::N, Packet::Registration) => (
+            "registration confirmation",
+            "registration_confirmation",
         ),
-        Packet::Restart => by_side(
-            from,
-            ("restart request", "restart_request"),
-            ("restart indication", "restart_indication"),
-        ),
-        Packet::RestartConfirm => ("restart confirmation", "restart_confirmation"),
-        Packet::Channel { kind, .. } => channel_packet(from, kind),
-        Packet::GapOfAll => ("gap of all logical channels", "gap"),
+        (Side::T, Packet::Restart) => ("restart request", "restart_request"),
+        (Side::N, Packet::Restart) => ("restart indication", "restart_indication"),
+        (_, Packet::RestartConfirm) => ("restart confirmation", "restart_confirmation"),
+        (_, Packet::Channel { kind, .. }) => channel_packet(from, kind),
+        (_, Packet::GapOfAll) => ("gap of all logical channels", "gap"),
     }
 }
 

@@ -134,22 +134,6 @@ pub fn count<P: Prose>(out: &mut P, words: &str, number: u64, one: &str) {
     }
 }
 
-/// A digit of an address.
-fn digit(byte: u8) -> &'static str {
-    match byte {
-        b'0' => "0",
-        b'1' => "1",
-        b'2' => "2",
-        b'3' => "3",
-        b'4' => "4",
-        b'5' => "5",
-        b'6' => "6",
-        b'7' => "7",
-        b'8' => "8",
-        _ => "9",
-    }
-}
-
 /// Appends the digits of an address, `-` for none.
 pub fn address<P: Prose>(out: &mut P, address: &Address) {
     let digits = address.as_bytes();
@@ -158,6 +142,6 @@ pub fn address<P: Prose>(out: &mut P, address: &Address) {
         return;
     }
     for byte in digits {
-        out.say(digit(*byte));
+        out.number(u64::from(byte.saturating_sub(b'0')));
     }
 }

@@ -5,9 +5,9 @@ ghost use Rattle.std.specs.Prelude.{◌≡◌, None};
 ghost use Rattle.line_model.specs.packets.Says.{gap_of};
 ghost use Rattle.descriptions.specs.CallTable.{cell_text};
 ghost use Rattle.descriptions.specs.declared.call_columns.TableForm.TheVariants.{Objects};
-ghost use Rattle.descriptions.specs.Members.{IsFurther, IsValue};
+ghost use Rattle.descriptions.specs.Members.{IsFurther, IsOfCall, IsValue, call_member, call_word};
 ghost use Rattle.descriptions.specs.RowCalls.{row_call};
-ghost use Rattle.descriptions.specs.RowObjects.{IsOfCall, IsRest, call_member, call_word};
+ghost use Rattle.descriptions.specs.RowObjects.{IsRest};
 ghost use Rattle.descriptions.specs.Writing.{Adds, These};
 
 use crate::facts::{Fate, RowFacts, gap_of};
@@ -60,8 +60,7 @@ fn members_of_packet<O: Out>(
 {
     match &facts.last.finding {
         Some(finding) => {
-            explanation_members(json, facts, finding);
-            state_member(json, facts, finding);
+            finding_members(json, facts, finding);
             json.raw(b"}");
             further_members(json, facts, ended, recorded, digits);
         }
@@ -79,28 +78,19 @@ fn further_members<O: Out>(
 )
     ensures { Adds O.has (IsOfCall (row_call facts.now.calls)) json.old.out json.new.out }
 {
-    call_member(json, facts.calls.of_row());
-    other_members(json, facts, ended, recorded, digits);
-}
-
-/// The members of a packet's object after its call.
-fn other_members<O: Out>(
-    json: &mut Json<O>,
-    facts: &RowFacts<'_>,
-    ended: &[EndedCall],
-    recorded: Recorded,
-    digits: Option<&[u8]>,
-)
-    ensures { Adds O.has IsFurther json.old.out json.new.out }
-{
+    let not_counted = match facts.fate {
+        Fate::NotCounted(reason) => Value::Text(reason_word(reason)),
+        _ => Value::Null,
+    };
+    let packet = packet_type(facts.last.side, &facts.last.packet);
+    call_member(json, u64::from(facts.calls.of_row()));
     json.flag_member(",\"begins\":", facts.calls.opened != 0);
     json.flag_member(",\"up\":", is_up(facts.events));
     json.begin(",\"ends\":");
     json.array(ended);
-    json.member(",\"not_counted\":", not_counted(facts.fate));
+    json.member(",\"not_counted\":", not_counted);
     json.member(",\"time\":", Value::seconds(recorded.time));
     json.known_member(",\"frame\":", Value::number(recorded.frame));
-    let packet = packet_type(facts.last.side, &facts.last.packet);
     json.member(",\"type\":", Value::Text(packet.as_bytes()));
     json.begin(",\"hex\":");
     hex(json, facts.octets, digits);
@@ -124,25 +114,23 @@ fn explanation_members<O: Out>(json: &mut Json<O>, facts: &RowFacts<'_>, finding
     json.member(",\"clause\":", Value::Text(row.clause.as_bytes()));
 }
 
-/// The state of a finding as its line of the report has it, in a trace that may have gaps.
-fn state_member<O: Out>(json: &mut Json<O>, facts: &RowFacts<'_>, finding: &Finding)
+/// The members of a finding after its first ones: its explanation, and in a trace that may have gaps its state as its
+/// line of the report has it, null for none.
+fn finding_members<O: Out>(json: &mut Json<O>, facts: &RowFacts<'_>, finding: &Finding)
     ensures { Adds O.has IsFurther json.old.out json.new.out }
 {
+    explanation_members(json, facts, finding);
     if facts.interface.gaps {
-        json.member(",\"state\":", state_value(finding.state));
-    }
-}
-
-/// The state of a finding, null for none.
-fn state_value(state: StateName) -> Value<'static> {
-    match state {
-        StateName::Dash => Value::Null,
-        state => Value::Text(state_word(state)),
+        let state = match finding.state {
+            StateName::Dash => Value::Null,
+            state => Value::Text(state_word(state)),
+        };
+        json.member(",\"state\":", state);
     }
 }
 
 /// Writes the member of a call by its number, null for 0.
-fn call_member<O: Out>(json: &mut Json<O>, call: u32)
+pub fn call_member<O: Out>(json: &mut Json<O>, call: u64)
     ensures { Adds O.has (These (call_member call)) json.old.out json.new.out }
 {
     json.raw(b",\"call\":");
@@ -150,12 +138,12 @@ fn call_member<O: Out>(json: &mut Json<O>, call: u32)
 }
 
 /// The number of a call, null for 0.
-fn call_value(call: u32) -> Value<'static>
+fn call_value(call: u64) -> Value<'static>
     ensures { cell_text Objects result ≡ call_word call }
 {
     match call {
         0 => Value::Null,
-        call => Value::Number(u64::from(call)),
+        call => Value::Number(call),
     }
 }
 
@@ -187,14 +175,6 @@ pub fn reason_word(reason: Reason) -> &'static [u8] {
         Reason::Discarded => b"discarded",
         Reason::Unknown => b"unknown",
         Reason::Restart => b"restart",
-    }
-}
-
-/// Why the data of a row was not counted, null where it was, or there is none.
-fn not_counted(fate: Fate) -> Value<'static> {
-    match fate {
-        Fate::NotCounted(reason) => Value::Text(reason_word(reason)),
-        _ => Value::Null,
     }
 }
 

@@ -27,7 +27,7 @@ use crate::line_room::LineRoom;
 use crate::open_calls::EndedCall;
 use crate::origins::Origins;
 use crate::report_objects::write_report_objects;
-use crate::row_head::append_head;
+use crate::row_head::write_head;
 use crate::row_members::row_members;
 use crate::times::Recorded;
 use annotated_trace::printer::Printer;
@@ -40,35 +40,19 @@ use live_report::live::Live;
 use live_report::uncounted::Uncounted;
 use std::alloc::{AllocError, Allocator};
 
-/// Appends the object of a row, of which these are the members after its finding's code, on a line of its own.
-fn append_object<A: Allocator>(
-    facts: &RowFacts<'_>,
-    members: &[u8],
-    out: &mut Vec<u8, A>,
-) -> Result<(), AllocError>
-    ensures { (i : Interface) (earlier : List Item) (r : Item) → AreFactsOf i earlier r facts.now
-        → IsRest (gap_of facts.now.last.now.packet) facts.now.last.now.finding
-        (row_call facts.now.calls) members.now
-        → OnOk result (HasAppended (IsRowObject i earlier r) out.old.items out.new.items) }
-{
-    append_head(facts, out)?;
-    out.extend_from_slice(members)?;
-    out.extend_from_slice(b"}\n")?;
-    Ok(())
-}
-
 /// What is remembered of the rows before, and of the comments before the next one.
 #[derive(Drop)]
 pub(crate) struct PastRows<A: Allocator> {
     origins: Origins<A>,
     course: Course<A>,
-    rest: Rest<A>,
+    /// What is remembered for the end.
+    pub(crate) rest: Rest<A>,
     /// What the last row that was appended adds to the sums of its call.
-    added: Addend,
+    pub(crate) added: Addend,
     /// When and where the next row was recorded.
     recorded: Option<Recorded>,
-    /// Room for the members of an object.
-    members: Json<Growing<A>>,
+    /// Room for an object.
+    object: Json<Growing<A>>,
 }
 
 impl<A: Allocator + Copy> PastRows<A> {
@@ -86,7 +70,7 @@ impl<A: Allocator + Copy> PastRows<A> {
             },
             added: Addend::none(),
             recorded: None,
-            members: Json {
+            object: Json {
                 out: Growing::new(alloc),
             },
         }
@@ -180,8 +164,8 @@ impl<A: Allocator + Copy> PastRows<A> {
             return Ok(());
         }
         let ended = self.origins.calls.ended();
-        write_members(&facts, ended, recorded, line, &mut self.members);
-        append_object(&facts, self.members.out.written()?, out)
+        write_object(&facts, ended, recorded, line, &mut self.object);
+        out.extend_from_slice(self.object.out.written()?)
     }
 
     /// Reads a line that writes no row: a comment may say when and where the next one was recorded.
@@ -192,34 +176,29 @@ impl<A: Allocator + Copy> PastRows<A> {
             self.recorded = Some(recorded);
         }
     }
-
-    /// What the last row adds to the sums of its call.
-    pub(crate) fn added(&self) -> Addend
-        ensures { result ≡ self.now.added }
-    {
-        self.added
-    }
-
-    /// What is remembered for the end.
-    pub(crate) fn rest(&self) -> &Rest<A> {
-        &self.rest
-    }
 }
 
-/// Writes the members of a row's object after its finding's code, in place of what there was.
-fn write_members<A: Allocator>(
+/// Writes the object of a row on a line of its own, in place of what there was.
+fn write_object<A: Allocator>(
     facts: &RowFacts<'_>,
     ended: &[EndedCall],
     recorded: Recorded,
     line: &[u8],
-    members: &mut Json<Growing<A>>,
+    json: &mut Json<Growing<A>>,
 )
-    ensures { Holds ⟦<Growing<A> as Out>⟧.has (IsRest (gap_of facts.now.last.now.packet)
-        facts.now.last.now.finding (row_call facts.now.calls)) members.new.out }
+    ensures { (i : Interface) (earlier : List Item) (r : Item) → AreFactsOf i earlier r facts.now
+        → Holds ⟦<Growing<A> as Out>⟧.has (IsRowObject i earlier r) json.new.out }
 {
-    members.out.clear();
-    let digits = last_digits(line, facts.length);
-    row_members(members, facts, ended, recorded, digits);
+    json.out.clear();
+    write_head(json, facts);
+    row_members(
+        json,
+        facts,
+        ended,
+        recorded,
+        last_digits(line, facts.length),
+    );
+    json.raw(b"}\n");
 }
 
 /// A line without the LF that ends it.

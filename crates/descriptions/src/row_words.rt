@@ -22,7 +22,10 @@ pub fn row<P: Page>(facts: &RowFacts<'_>, frame: Option<u64>, notes: &mut P) {
         say_number(notes, "; frame ", frame);
     }
     notes.next_line();
-    moved(facts, notes);
+    match &facts.last.judge {
+        Judge::Restart { before, after } => restart_move(notes, facts, *before, *after),
+        Judge::Channel { before, after, .. } => channel_move(notes, before, after),
+    }
     calls(facts, notes);
     left_out(facts, notes);
 }
@@ -35,14 +38,6 @@ fn gap<P: Page>(channel: Option<u16>, notes: &mut P) {
         None => notes.say("any channel"),
     }
     notes.say(" may be missing");
-}
-
-/// Writes how the state changed.
-fn moved<P: Page>(facts: &RowFacts<'_>, notes: &mut P) {
-    match &facts.last.judge {
-        Judge::Restart { before, after } => restart_move(notes, facts, *before, *after),
-        Judge::Channel { before, after, .. } => channel_move(notes, before, after),
-    }
 }
 
 /// Writes the call that a row belongs to, and its events.

@@ -44,7 +44,7 @@ impl Recorded {
     };
 
     /// Reads a comment `#@ SECONDS` or `#@ SECONDS FRAME`; a word in place of SECONDS that is not a time, such as `-`,
-    /// means no time. Returns `None` for any other line.
+    /// means no time, and a frame is not 0. Returns `None` for any other line.
     pub fn of_comment(line: &[u8]) -> Option<Recorded> {
         let [b'#', b'@', b' ', words @ ..] = line else {
             return None;
@@ -55,10 +55,13 @@ impl Recorded {
             words => words,
         };
         match split_at_byte(words, b' ') {
-            Some((time, frame)) => Some(Recorded {
-                time: Time::of_word(time),
-                frame: Some(frame_number(frame)?),
-            }),
+            Some((time, frame)) => match whole_number(frame)? {
+                0 => None,
+                frame => Some(Recorded {
+                    time: Time::of_word(time),
+                    frame: Some(frame),
+                }),
+            },
             None => Some(Recorded {
                 time: Some(Time::of_word(words)?),
                 frame: None,
@@ -124,14 +127,6 @@ fn whole_number(digits: &[u8]) -> Option<u64> {
         number = number.saturating_mul(10).saturating_add(u64::from(value));
     }
     Some(number)
-}
-
-/// Reads the number of a frame: one to twelve digits, not 0.
-fn frame_number(digits: &[u8]) -> Option<u64> {
-    match whole_number(digits)? {
-        0 => None,
-        number => Some(number),
-    }
 }
 
 /// Up to nine digits after the point.

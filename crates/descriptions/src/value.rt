@@ -32,6 +32,16 @@ impl<'a> Value<'a> {
         }
     }
 
+    /// Returns the number of a packet, null where there is none.
+    pub fn packet(packet: Option<u32>) -> Self
+        ensures { (form : AnyForm) → cell_text form result ≡ maybe_number form packet }
+    {
+        match packet {
+            Some(packet) => Value::Number(u64::from(packet)),
+            None => Value::Null,
+        }
+    }
+
     /// Returns a time, null where there is none.
     pub fn seconds(time: Option<Time>) -> Self
         ensures { (form : AnyForm) → cell_text form result ≡ maybe_seconds form time }

@@ -3,9 +3,9 @@
 ghost use Rattle.std.specs.Prelude.{◌≡◌, ◌&&◌, false, not, true};
 ghost use Rattle.line_model.specs.channels.Channels.{of_side, with_side};
 ghost use Rattle.line_model.specs.channels.Gaps as gaps;
-ghost use Rattle.line_model.specs.channels.GapStep.{doubts_after_data, doubts_in};
+ghost use Rattle.line_model.specs.channels.GapStep.{doubts_after_data};
 
-use line_model::state::{ChannelState, DState, Side};
+use line_model::state::Side;
 use std::marker::Model;
 
 /// What is in doubt of a side of a settled channel.
@@ -138,17 +138,14 @@ impl Doubts {
         }
     }
 
-    /// Returns what is in doubt in a state: outside d1 only whether another call may be hidden.
-    pub(crate) fn in_state(self, state: ChannelState) -> Doubts
-        ensures { result ≡ doubts_in state self }
+    /// Returns what is in doubt outside d1: only whether another call may be hidden.
+    pub(crate) fn outside_d1(self) -> Doubts
+        ensures { result ≡ gaps.no_doubts self.hidden }
     {
-        match state {
-            ChannelState::Transfer(DState::D1) => self,
-            _ => Doubts {
-                hidden: self.hidden,
-                of_t: NO_DOUBTS,
-                of_n: NO_DOUBTS,
-            },
+        Doubts {
+            hidden: self.hidden,
+            of_t: NO_DOUBTS,
+            of_n: NO_DOUBTS,
         }
     }
 }

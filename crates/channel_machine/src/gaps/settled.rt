@@ -5,9 +5,9 @@ ghost use Rattle.line_model.specs.declared.fault.Fault.TheVariants.{Memory};
 ghost use Rattle.line_model.specs.declared.state.Side.{Side as AnySide};
 ghost use Rattle.line_model.specs.channels.Channels.{AcceptedData, Channel, of_side, other, with_side};
 ghost use Rattle.line_model.specs.channels.ChannelStep.{counts_of};
-ghost use Rattle.line_model.specs.channels.FlowControl.{count_confirm, count_interrupt, count_receive, no_counts};
+ghost use Rattle.line_model.specs.channels.FlowControl.{count_confirm, count_interrupt, count_receive};
 ghost use Rattle.line_model.specs.channels.Gaps.{of_both};
-ghost use Rattle.line_model.specs.channels.GapStep.{acknowledged_data, completed_for_receive, completed_to, count_settled, doubts_after_data, doubts_in, is_mixed, may_be_begun, receive_by, settled_doubts, transferring_in_doubt, with_interrupt};
+ghost use Rattle.line_model.specs.channels.GapStep.{acknowledged_data, completed_for_receive, completed_to, count_settled, doubts_after_data, is_mixed, may_be_begun, receive_by, settled_doubts, transferring_in_doubt, with_interrupt};
 ghost use Rattle.line_model.specs.basics.Records.{Item};
 ghost use Rattle.line_model.specs.packets.Formats.{size_in_force, window_in_force};
 ghost use Rattle.line_model.specs.packets.Says.{header_in, receive_in};
@@ -15,7 +15,7 @@ ghost use Rattle.data_transfer.specs.Assembler.{begun_on};
 ghost use Rattle.data_transfer.specs.Assembly.{Holds, is_like};
 ghost use Rattle.data_transfer.specs.FlowResidues.{ResiduesRepresent};
 ghost use Rattle.channel_machine.specs.Settling.{settled_after, settling_by};
-ghost use Rattle.channel_machine.specs.SettledNumbers.{IsCountedInDoubt, IsNumbered, IsWidest, NumbersRepresent, SequencesRepresent};
+ghost use Rattle.channel_machine.specs.SettledNumbers.{IsCountedInDoubt, IsNumbered, IsRestarted, IsWidest, NumbersRepresent, SequencesRepresent};
 ghost use Rattle.channel_machine.specs.SettledSteps.{IsControlled};
 ghost use Rattle.channel_machine.specs.SettledSequences.{IsCompleted, IsContinued, kept_after};
 
@@ -30,7 +30,7 @@ use line_model::fault::Fault;
 use line_model::gap::LastData;
 use line_model::interface::Interface;
 use line_model::packet::{Class, DataHeader, Packet, PacketKind};
-use line_model::state::{ChannelState, Side, StateName};
+use line_model::state::{Side, StateName};
 use std::alloc::Allocator;
 use std::marker::Model;
 
@@ -129,18 +129,13 @@ impl<A: Allocator + Clone> SettledNumbers<A> {
         self.doubts
     }
 
-    /// Forgets what is outstanding or begun, as entering a state does. Outside d1 only whether another call may be
-    /// hidden stays in doubt.
-    pub(crate) fn restart(&mut self, state: ChannelState)
-        ensures doubts { self.new.doubts ≡ doubts_in state self.old.doubts }
-        ensures modulus { self.new.flow.modulus ≡ self.old.flow.modulus }
-        ensures windows { self.new.flow.windows ≡ self.old.flow.windows }
-        ensures flow { ResiduesRepresent self.new.flow no_counts }
-        ensures sequences { (x : AnySide) → Holds (begun_on self.new.assembler x) [] }
+    /// Forgets what is outstanding or begun, as leaving d1 does. Only whether another call may be hidden stays in doubt.
+    pub(crate) fn restart(&mut self)
+        ensures { IsRestarted self.old self.new }
     {
         self.flow.reset();
         self.assembler.reset();
-        self.doubts = self.doubts.in_state(state);
+        self.doubts = self.doubts.outside_d1();
     }
 
     /// Judges the numbers of a data packet of a side in a window, and returns those after it: `INVALID_P_S` or

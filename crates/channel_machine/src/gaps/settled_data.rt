@@ -1,11 +1,11 @@
 //! Data packets on a settled channel.
 
-ghost use Rattle.std.specs.Prelude.{◌≡◌, ◌+◌, ◌≤◌, Bool, List, true, false, drop, IfOk, OnErr, OnSome, vec_len, vec_capacity};
+ghost use Rattle.std.specs.Prelude.{◌≡◌, ◌+◌, ◌≤◌, Bool, List, true, false, IfOk, OnErr, OnSome, vec_len, vec_capacity};
 ghost use Rattle.line_model.specs.basics.Bounds.{IsSaid};
 ghost use Rattle.line_model.specs.channels.Channels.{AcceptedData, Channel};
 ghost use Rattle.line_model.specs.channels.ChannelStep.{accepted_of};
 ghost use Rattle.line_model.specs.channels.GapStep.{data_in_doubt, is_in_d1, may_be_category_a, settings_in_doubt};
-ghost use Rattle.line_model.specs.packets.Classes.{header_length, packet_class};
+ghost use Rattle.line_model.specs.packets.Classes.{packet_class};
 ghost use Rattle.line_model.specs.packets.Says.{header_in};
 ghost use Rattle.packet_decode.specs.SaidData.{IsSaidData};
 ghost use Rattle.channel_machine.specs.Channels.{IsMemory, StatusRepresents};
@@ -34,7 +34,7 @@ use line_model::fault::Fault;
 use line_model::items::ItemRef;
 use line_model::packet::{Class, DataHeader};
 use line_model::state::Side;
-use packet_decode::decode::header_length;
+use line_model::table::Action;
 use std::alloc::Allocator;
 
 impl<A: Allocator + Clone, S: StatusStore> StatusChannel<A, S> {
@@ -66,7 +66,10 @@ impl<A: Allocator + Clone, S: StatusStore> StatusChannel<A, S> {
         };
         let flow = match self.judge_settled(settled, judgement.side, &header) {
             Ok(flow) => flow,
-            Err(code) => return listed(self.fail_settled(settled, judgement, code, events)),
+            Err(code) => {
+                let error = Action::Error(code);
+                return listed(self.act_settled(settled, judgement, error, item, events));
+            }
         };
         if header.qualified {
             let is_category_a = self.add_settled(settled, judgement, &header, item, events)?;
@@ -145,15 +148,6 @@ impl<A: Allocator + Clone, S: StatusStore> StatusChannel<A, S> {
         let carries_message = is_message(is_pad_call(self.status.call()), header.qualified);
         report_known(judgement, carries_message, completed, events);
         Ok(is_category_a)
-    }
-
-    /// The octets of user data of a data packet with Q 1.
-    fn user_data<'a>(&self, header: &DataHeader, item: &ItemRef<'a>) -> &'a [u8]
-        requires said { IsSaidData self.now.terms.interface item.now header.now }
-        requires qualified { header.now.qualified ≡ true }
-        ensures { result.now ≡ drop (header_length self.now.terms.interface) item.now.octets }
-    {
-        &item.octets[header_length(&self.status.interface())..]
     }
 
     /// Adds a data packet with Q 0 to the sequence of its side. Returns whether more of the sequence may follow.

@@ -1,17 +1,16 @@
 //! What packets do to a settled channel, by the state tables.
 
-ghost use Rattle.std.specs.Prelude.{◌≡◌, ◌<◌, ◌≤◌, ◌||◌, true, false, IfOk, OnSome};
+ghost use Rattle.std.specs.Prelude.{◌≡◌, ◌<◌, ◌||◌, true, IfOk, OnSome};
 ghost use Rattle.line_model.specs.basics.Bounds.{IsSaid};
 ghost use Rattle.line_model.specs.channels.Channels.{Channel, is_open};
-ghost use Rattle.line_model.specs.channels.GapStep.{failing_in_doubt, is_in_d1, transferring_in_doubt};
-ghost use Rattle.line_model.specs.declared.table.Action.TheVariants.{Move, Normal};
+ghost use Rattle.line_model.specs.channels.GapStep.{is_in_d1, transferring_in_doubt};
+ghost use Rattle.line_model.specs.declared.table.Action.TheVariants.{Normal};
 ghost use Rattle.line_model.specs.packets.Classes.{packet_class};
 ghost use Rattle.channel_machine.specs.Channels.{IsMemory, StatusRepresents};
-ghost use Rattle.channel_machine.specs.Entries.{is_entry, is_transfer};
+ghost use Rattle.channel_machine.specs.Entries.{comes_from, is_entry, is_transfer};
 ghost use Rattle.channel_machine.specs.GapChannels.{at_rest};
 ghost use Rattle.line_model.specs.packets.Formats.{window_in_force};
 ghost use Rattle.channel_machine.specs.SettledSteps.{ComesSettled, ComesSettledApart, IsSettledUnchanged, settled_entry, settled_row};
-ghost use Rattle.channel_machine.specs.Sizes.{largest_length};
 
 use crate::channel::StatusChannel;
 use crate::events::Judgement;
@@ -23,72 +22,11 @@ use line_model::event::Event;
 use line_model::fault::Fault;
 use line_model::items::ItemRef;
 use line_model::packet::Class;
-use line_model::state::{ChannelState, DState, Side, StateName};
+use line_model::state::{ChannelState, DState, Side};
 use line_model::table::Action;
 use std::alloc::Allocator;
 
 impl<A: Allocator + Clone, S: StatusStore> StatusChannel<A, S> {
-    /// The state of the channel.
-    fn state(&self) -> ChannelState
-        ensures { result ≡ self.now.state }
-    {
-        self.status.state()
-    }
-
-    /// Reports an error of a packet: one of the DTE has the DCE clear or reset, one of the DCE changes nothing.
-    pub(crate) fn fail_settled(
-        &mut self,
-        settled: &mut SettledNumbers<A>,
-        judgement: &Judgement,
-        code: u8,
-        events: &mut Vec<Event, A>,
-    ) -> Result<(), Fault>
-        ensures does { ComesSettled result judgement.now.origin self.old self.new settled.old settled.new
-            events.old.items events.new.items
-            (failing_in_doubt judgement.now.side judgement.now.state code settled.old.doubts) }
-        ensures unchanged { IsSettledUnchanged result self.old self.new settled.old settled.new
-            events.old.items events.new.items }
-        ensures memory { IsMemory result }
-    {
-        self.fail(judgement, code, events)?;
-        match judgement.side {
-            Side::T => settled.restart(self.state()),
-            Side::N => {}
-        }
-        Ok(())
-    }
-
-    /// Handles a packet whose entry is a move.
-    fn move_settled(
-        &mut self,
-        settled: &mut SettledNumbers<A>,
-        judgement: &Judgement,
-        to: StateName,
-        item: &ItemRef<'_>,
-        events: &mut Vec<Event, A>,
-    ) -> Result<(), Fault>
-        requires side { judgement.now.side ≡ item.now.side }
-        requires said { IsSaid self.old.terms.interface item.now }
-        requires fits { is_entry (Move to) judgement.now.side (packet_class item.now.packet)
-            self.old.state ≡ true }
-        ensures does { ComesSettled result judgement.now.origin self.old self.new settled.old settled.new
-            events.old.items events.new.items
-            (settled_entry self.old.terms.interface self.old.channel
-            (record { state = judgement.now.state; entry = Move to }) item.now settled.old.doubts) }
-        ensures unchanged { IsSettledUnchanged result self.old self.new settled.old settled.new
-            events.old.items events.new.items }
-        ensures memory { IsMemory result }
-    {
-        match self.read(item) {
-            Ok(contents) => {
-                self.go(judgement, to, &contents, events)?;
-                settled.restart(self.state());
-                Ok(())
-            }
-            Err(code) => self.fail_settled(settled, judgement, code, events),
-        }
-    }
-
     /// Steps a settled channel by what a row says. Of an accepted data packet with Q 0 it lists no event, and returns the
     /// octets of user data instead.
     pub(crate) fn step_settled(
@@ -115,14 +53,8 @@ impl<A: Allocator + Clone, S: StatusStore> StatusChannel<A, S> {
             state,
         };
         match entry {
-            Action::Move(to) => listed(self.move_settled(settled, &judgement, to, item, events)),
             Action::Normal => self.transfer_settled(settled, &judgement, item, events),
-            Action::Error(code) => listed(self.fail_settled(settled, &judgement, code, events)),
-            Action::Ends => {
-                self.settle();
-                Ok(None)
-            }
-            _ => Ok(None),
+            _ => listed(self.act_settled(settled, &judgement, entry, item, events)),
         }
     }
 
@@ -147,37 +79,16 @@ impl<A: Allocator + Clone, S: StatusStore> StatusChannel<A, S> {
             events.old.items events.new.items }
         ensures memory { IsMemory result }
     {
-        match self.length_fault(judgement.side, item.packet.class(), item.length) {
-            Some(code) => listed(self.fail_settled(settled, judgement, code, events)),
-            None => self.carry_settled(settled, judgement, item, events),
-        }
-    }
-
-    /// Handles a packet of data transfer without fault of format.
-    fn carry_settled(
-        &mut self,
-        settled: &mut SettledNumbers<A>,
-        judgement: &Judgement,
-        item: &ItemRef<'_>,
-        events: &mut Vec<Event, A>,
-    ) -> Result<Option<u32>, Fault>
-        requires side { judgement.now.side ≡ item.now.side }
-        requires said { IsSaid self.old.terms.interface item.now }
-        requires short { packet_class item.now.packet ≡ Class.Data
-            → item.now.length ≤ largest_length }
-        requires in_d1 { is_in_d1 self.old.state ≡ true }
-        ensures does { ComesSettledApart result judgement.now.origin item.now.side self.old self.new
-            settled.old settled.new events.old.items events.new.items
-            (transferring_in_doubt self.old.terms.interface judgement.now.state
-            (packet_class item.now.packet) item.now settled.old.doubts) }
-        ensures apart { IfOk result (λ accepted. OnSome accepted (events.new ≡ events.old)) }
-        ensures unchanged { IsSettledUnchanged result self.old self.new settled.old settled.new
-            events.old.items events.new.items }
-        ensures memory { IsMemory result }
-    {
-        match item.packet.class() {
-            Class::Data => self.data_settled(settled, judgement, item, events),
-            _ => listed(self.control_settled(settled, judgement, item, events)),
+        let class = item.packet.class();
+        match self.length_fault(judgement.side, class, item.length) {
+            Some(code) => {
+                let error = Action::Error(code);
+                listed(self.act_settled(settled, judgement, error, item, events))
+            }
+            None => match class {
+                Class::Data => self.data_settled(settled, judgement, item, events),
+                _ => listed(self.control_settled(settled, judgement, item, events)),
+            },
         }
     }
 
@@ -190,6 +101,7 @@ impl<A: Allocator + Clone, S: StatusStore> StatusChannel<A, S> {
         events: &mut Vec<Event, A>,
     ) -> Result<(), Fault>
         requires side { judgement.now.side ≡ item.now.side }
+        requires said { IsSaid self.old.terms.interface item.now }
         requires no_data { packet_class item.now.packet ≡ Class.Data → ⊥ }
         requires in_d1 { is_in_d1 self.old.state ≡ true }
         ensures does { ComesSettled result judgement.now.origin self.old self.new settled.old settled.new
@@ -203,18 +115,39 @@ impl<A: Allocator + Clone, S: StatusStore> StatusChannel<A, S> {
         let class = item.packet.class();
         match settled.control(class, judgement.side, received(&item.packet)) {
             Ok(()) => Ok(()),
-            Err(code) => self.fail_settled(settled, judgement, code, events),
+            Err(code) => self.act_settled(settled, judgement, Action::Error(code), item, events),
         }
     }
 
-    /// Records that nothing is owed any more.
-    fn settle(&mut self)
-        ensures interface { self.new.terms.interface ≡ self.old.terms.interface }
-        ensures channel { self.new.channel ≡ self.old.channel }
-        ensures represented { (c : Channel) → StatusRepresents self.old c
-            → StatusRepresents self.new (record c { owed = false }) }
+    /// Does what an entry says that is not `Normal`. Outside d1 nothing is outstanding or begun, and only whether another
+    /// call may be hidden stays in doubt.
+    pub(crate) fn act_settled(
+        &mut self,
+        settled: &mut SettledNumbers<A>,
+        judgement: &Judgement,
+        entry: Action,
+        item: &ItemRef<'_>,
+        events: &mut Vec<Event, A>,
+    ) -> Result<(), Fault>
+        requires side { judgement.now.side ≡ item.now.side }
+        requires said { IsSaid self.old.terms.interface item.now }
+        requires fits { is_entry entry judgement.now.side (packet_class item.now.packet)
+            self.old.state ≡ true }
+        requires comes { comes_from entry self.old.state ≡ true }
+        requires other { entry ≡ Normal → ⊥ }
+        ensures does { ComesSettled result judgement.now.origin self.old self.new settled.old settled.new
+            events.old.items events.new.items
+            (settled_entry self.old.terms.interface self.old.channel
+            (record { state = judgement.now.state; entry = entry }) item.now settled.old.doubts) }
+        ensures unchanged { IsSettledUnchanged result self.old self.new settled.old settled.new
+            events.old.items events.new.items }
+        ensures memory { IsMemory result }
     {
-        self.status.settle();
+        self.act(judgement, entry, item, events)?;
+        if !self.is_in_d1() {
+            settled.restart();
+        }
+        Ok(())
     }
 
     /// Returns whether the channel is in d1.

@@ -3,13 +3,12 @@
 ghost use Rattle.std.specs.Prelude.{◌≡◌, IfOk, None, OnSome};
 ghost use Rattle.line_model.specs.basics.Bounds.{IsSaid};
 ghost use Rattle.line_model.specs.channels.Gaps as gaps;
-ghost use Rattle.line_model.specs.channels.GapStep.{gap_channel_step};
+ghost use Rattle.line_model.specs.packets.Says.{gap_of};
 ghost use Rattle.line_model.specs.observer.Observer.{row_step};
 ghost use Rattle.channel_machine.specs.Channels.{IsMemory};
 ghost use Rattle.channel_machine.specs.Events.{origin_at};
 ghost use Rattle.channel_machine.specs.GapChannels.{GapDoesApart, IsGapUnchanged, Represents, interface_of, number_of};
-ghost use Rattle.channel_machine.specs.GapView.{InDoubt};
-ghost use Rattle.channel_machine.specs.GapView.KnownCertainty.{Settled};
+ghost use Rattle.channel_machine.specs.GapView.KnownCertainty.{Certain};
 
 use crate::gaps::channel::{Certainty, GapChannel};
 use crate::gaps::kinds::gap_in;
@@ -22,7 +21,8 @@ use line_model::items::ItemRef;
 use std::alloc::Allocator;
 
 impl<A: Allocator + Clone, S: StatusStore> GapChannel<A, S> {
-    /// Steps the channel as `advance` does, where the row is a gap, or something is in doubt.
+    /// Steps the channel as `advance` does, where the row is a gap, or something is in doubt. Nothing is in doubt of a settled
+    /// channel any more where no call is open after the row and the channel is not in d1.
     #[inline(never)]
     pub(crate) fn handle_rarely(
         &mut self,
@@ -31,6 +31,7 @@ impl<A: Allocator + Clone, S: StatusStore> GapChannel<A, S> {
         events: &mut Vec<Event, A>,
     ) -> Result<Option<u32>, Fault>
         requires said { IsSaid (interface_of self.old) item.now }
+        requires rare { self.old.certainty ≡ Certain → gap_of item.now.packet ≡ None → ⊥ }
         ensures does { (g : gaps.GapChannel) → Represents self.old g
             → IfOk result (λ accepted. GapDoesApart (origin_at epoch (number_of self.old) item.now)
             item.now.side self.old self.new events.old.items events.new.items accepted
@@ -47,43 +48,19 @@ impl<A: Allocator + Clone, S: StatusStore> GapChannel<A, S> {
             origin: self.channel.origin(epoch, item),
             side: item.side,
         };
-        match &self.certainty {
-            Certainty::Certain => self.channel.handle_by_table(epoch, item, events),
+        match &mut self.certainty {
             Certainty::Adrift(adrift) => {
                 let adrift = *adrift;
                 listed(self.step_adrift(&row, adrift, item, events))
             }
-            Certainty::Settled(_) => self.step_settled(&row, item, events),
-        }
-    }
-
-    /// Steps a settled channel by what a row says. Nothing is in doubt any more where no call is open after it and the
-    /// channel is not in d1.
-    fn step_settled(
-        &mut self,
-        row: &GapRow,
-        item: &ItemRef<'_>,
-        events: &mut Vec<Event, A>,
-    ) -> Result<Option<u32>, Fault>
-        requires side { row.now.side ≡ item.now.side }
-        requires said { IsSaid (interface_of self.old) item.now }
-        ensures does { (s : InDoubt) (g : gaps.GapChannel) → self.old.certainty ≡ Settled s
-            → Represents self.old g → IfOk result (λ accepted. GapDoesApart row.now.origin
-            item.now.side self.old self.new events.old.items events.new.items accepted
-            (gap_channel_step (interface_of self.old) (number_of self.old) g item.now)) }
-        ensures apart { IfOk result (λ accepted. OnSome accepted (events.new ≡ events.old)) }
-        ensures unchanged { IsGapUnchanged result self.old self.new events.old.items events.new.items }
-        ensures memory { IsMemory result }
-    {
-        match &mut self.certainty {
             Certainty::Settled(settled) => {
-                let accepted = self.channel.step_settled(settled, row, item, events)?;
+                let accepted = self.channel.step_settled(settled, &row, item, events)?;
                 if !self.channel.is_settled() {
                     self.certainty = Certainty::Certain;
                 }
                 Ok(accepted)
             }
-            _ => Ok(None),
+            Certainty::Certain => Ok(None),
         }
     }
 }

@@ -1,11 +1,10 @@
-use Rattle.std.proofs.Common.{[], refl}
-use Rattle.std.specs.Prelude.{codes}
+use Rattle.std.proofs.Common.{refl}
 use Rattle.descriptions.proofs.MemberLemmas.{nothing_put}
-use Rattle.descriptions.proofs.ClosingLemmas.{objects_then}
+use Rattle.descriptions.proofs.ClosingLemmas.{facts_then}
 use Rattle.descriptions.proofs.closing_objects.call_objects.Goals as goal
 
-pub loop-record-init : goal.loop-record-init
-loop-record-init g c = nothing_put ([], refl, refl, tt)
+pub loop-index-init : goal.loop-index-init
+loop-index-init g c = nothing_put refl
 
-pub loop-record-preserved : goal.loop-record-preserved
-loop-record-preserved g c = objects_then (codes "call_facts") c.loop-record.record-index c.loop-record.invariant c.call_object.ensures
+pub loop-index-preserved : goal.loop-index-preserved
+loop-index-preserved g c = facts_then c.loop-index.index c.loop-index.invariant c.call_object.ensures

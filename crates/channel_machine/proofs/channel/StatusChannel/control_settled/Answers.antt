@@ -1,6 +1,7 @@
 use Rattle.std.proofs.Common.{◌≡◌, Ok, sym, ◌∙◌, ap, subst}
 use Rattle.std.specs.Prelude.{IfOk}
 use Rattle.line_model.specs.basics.Records.{Item}
+use Rattle.line_model.specs.declared.state.Side.{Side}
 use Rattle.line_model.specs.packets.Classes.{packet_class}
 use Rattle.line_model.specs.packets.Says.{header_in, receive_in}
 use Rattle.line_model.specs.channels.GapStep.{failing_in_doubt, receive_by, transferring_in_doubt}
@@ -31,6 +32,6 @@ returns-in-Err-clause-does g c k st =
     let fails : transferring_in_doubt i j.state (packet_class r.packet) r c.args.settled.now.doubts k ≡ failing_in_doubt j.side j.state c.in-Err.code c.args.settled.now.doubts k =
     ap (λ v. transferring_in_doubt i j.state v r c.args.settled.now.doubts k) (sym class) ∙ c.in-Err.ensures.judged i k j.state r (sym c.requires.side) receive st.numbers st.sequences in
     let same : c.control.new.self ≡ c.args.settled.now = c.in-Err.ensures.unchanged in
-    subst (λ o. IfOk c.fail_settled.result (λ _. SettledDoes j.origin c.args.self.now c.fail_settled.new.self c.fail_settled.new.settled c.args.events.now.items c.fail_settled.new.events.items o)) (sym fails)
-    (subst (λ (s : InDoubt). IfOk c.fail_settled.result (λ _. SettledDoes j.origin c.args.self.now c.fail_settled.new.self c.fail_settled.new.settled c.args.events.now.items c.fail_settled.new.events.items (failing_in_doubt j.side j.state c.in-Err.code s.doubts k))) same
-    (c.fail_settled.ensures.does k (subst (λ (s : InDoubt). RepresentsSettled c.args.self.now s k) (sym same) st)))
+    subst (λ o. IfOk c.act_settled.result (λ _. SettledDoes j.origin c.args.self.now c.act_settled.new.self c.act_settled.new.settled c.args.events.now.items c.act_settled.new.events.items o)) (sym fails)
+    (subst (λ (v : Side × InDoubt). IfOk c.act_settled.result (λ _. SettledDoes j.origin c.args.self.now c.act_settled.new.self c.act_settled.new.settled c.args.events.now.items c.act_settled.new.events.items (failing_in_doubt v.0 j.state c.in-Err.code v.1.doubts k))) (λ z. (sym c.requires.side z, same z))
+    (c.act_settled.ensures.does k (subst (λ (s : InDoubt). RepresentsSettled c.args.self.now s k) (sym same) st)))

@@ -4,7 +4,7 @@ use Rattle.line_model.specs.declared.packet.DataHeader.{DataHeader}
 use Rattle.line_model.specs.basics.Records.{Item}
 use Rattle.line_model.specs.packets.Says.{header_in}
 use Rattle.line_model.specs.channels.ChannelStep.{accepted_of}
-use Rattle.line_model.specs.channels.GapStep.{SettledOutcome, completed_for_data, data_in_doubt}
+use Rattle.line_model.specs.channels.GapStep.{SettledOutcome, completed_for_data, data_in_doubt, failing_in_doubt}
 use Rattle.packet_decode.proofs.SaidPackets.{data_said}
 use Rattle.channel_machine.specs.Channels.{StatusRepresents}
 use Rattle.channel_machine.specs.Events.{data_of, event_at}
@@ -94,8 +94,8 @@ returns-in-Err-clause-does g c k st =
     let held = c.args.settled.now in
     let h : DataHeader = c.in-Some.header in
     let header : header_in r.packet ≡ Some h = sym (c.header_of.ensures ∙ ap (λ (x : Item). header_in x.packet) c.item.view_is) ∙ c.in-Some.is in
-    settled_listed c.fail_settled.result c.listed.result j.origin r.side p c.fail_settled.new.self c.fail_settled.new.settled c.args.events.now.items c.fail_settled.new.events.items _ c.listed.ensures
-    (subst (λ o. IfOk c.fail_settled.result (λ _. SettledDoes j.origin p c.fail_settled.new.self c.fail_settled.new.settled c.args.events.now.items c.fail_settled.new.events.items (data_in_doubt i j.state r o held.doubts k))) (sym header)
-    (subst (λ (o : SettledOutcome). IfOk c.fail_settled.result (λ _. SettledDoes j.origin p c.fail_settled.new.self c.fail_settled.new.settled c.args.events.now.items c.fail_settled.new.events.items o))
-    (sym (c.in-Err.ensures.judged k (accepted_of i r h) refl st j.state) ∙ of_row i j.state r h held.doubts j.side k c.requires.side)
-    (c.fail_settled.ensures.does k st)))
+    settled_listed c.act_settled.result c.listed.result j.origin r.side p c.act_settled.new.self c.act_settled.new.settled c.args.events.now.items c.act_settled.new.events.items _ c.listed.ensures
+    (subst (λ o. IfOk c.act_settled.result (λ _. SettledDoes j.origin p c.act_settled.new.self c.act_settled.new.settled c.args.events.now.items c.act_settled.new.events.items (data_in_doubt i j.state r o held.doubts k))) (sym header)
+    (subst (λ (o : SettledOutcome). IfOk c.act_settled.result (λ _. SettledDoes j.origin p c.act_settled.new.self c.act_settled.new.settled c.args.events.now.items c.act_settled.new.events.items o))
+    (ap (λ x. failing_in_doubt x j.state c.in-Err.code held.doubts k) (sym c.requires.side) ∙ sym (c.in-Err.ensures.judged k (accepted_of i r h) refl st j.state) ∙ of_row i j.state r h held.doubts j.side k c.requires.side)
+    (c.act_settled.ensures.does k st)))

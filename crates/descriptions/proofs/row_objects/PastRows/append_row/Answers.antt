@@ -1,14 +1,13 @@
 use Rattle.std.proofs.Common.{◌∙◌, ◌++◌, ◌∷◌, [], ap, append-nil, arith, length-append, option_map, refl, subst, sym}
 use Rattle.std.specs.Prelude.{OnOk}
-use Rattle.line_model.specs.packets.Says.{gap_of, item_of, items_of}
+use Rattle.line_model.specs.packets.Says.{item_of, items_of}
 use Rattle.line_model.specs.text.Text.{rows_in}
 use Rattle.live_report.specs.JudgedRows.{IsJudgedRow}
 use Rattle.annotated_trace.specs.Printed.{HasAppended}
-use Rattle.descriptions.specs.RowCalls.{row_call}
-use Rattle.descriptions.specs.RowObjects.{IsObjectWhere, IsRest}
+use Rattle.descriptions.specs.RowObjects.{IsObjectWhere, IsRowObject}
 use Rattle.descriptions.proofs.ChoiceLemmas.{none_mapped, some_one}
 use Rattle.descriptions.proofs.FewCalls.{few_rows, few_walked}
-use Rattle.descriptions.proofs.LineLemmas.{on_any}
+use Rattle.descriptions.proofs.LineLemmas.{object_appended, on_any}
 use Rattle.descriptions.proofs.ObjectLemmas.{last_kept, not_seen}
 use Rattle.descriptions.proofs.row_objects.PastRows.append_row.Goals as goal
 
@@ -47,16 +46,16 @@ returns-clause-object g c i before line r text s lines head row is kept =
     let taken = subst (IsJudgedRow i rs (item_of i r) c.in-Some-last_row.last.now) (sym c.events.ensures) judged in
     let facts = c.facts-facts.ensures.facts i rs (item_of i r) judged (c.in_ok-earlier.ensures.epoch i rs kept) (c.in_ok-earlier.ensures.follows i rs (item_of i r) kept taken)
     (c.in_ok-earlier.ensures.call i rs (item_of i r) kept taken (few_walked i _ c.in-Some.observer.now last.0)) in
-    let members = c.write_members.ensures in
-    subst (λ b. OnOk c.append_object.result (HasAppended (IsObjectWhere b i rs (item_of i r)) c.args.out.now.items c.append_object.new.out.items)) (sym c.if-not-picked.false)
-    (c.append_object.ensures i rs (item_of i r) facts (subst (IsRest (gap_of c.facts-facts.result.last.now.packet) c.facts-facts.result.last.now.finding (row_call c.facts-facts.result.calls)) (sym (c.in_ok-written.ensures members.bytes members.put)) members.formed))
+    let object = c.write_object.ensures i rs (item_of i r) facts in
+    subst (λ b. OnOk c.extend_from_slice.result (HasAppended (IsObjectWhere b i rs (item_of i r)) c.args.out.now.items c.extend_from_slice.new.self.items)) (sym c.if-not-picked.false)
+    (object_appended c.extend_from_slice.result (IsRowObject i rs (item_of i r)) _ c.args.out.now.items c.extend_from_slice.new.self.items c.extend_from_slice.ensures.items (subst (IsRowObject i rs (item_of i r)) (sym (c.in_ok-written.ensures object.bytes object.put)) object.formed))
 
 pub returns-clause-kept : goal.returns-clause-kept
 returns-clause-kept g c i before line r text s lines head row is kept =
     let rs = items_of i (rows_in before) in
     let last = last_kept g.C.Channel c.args.trace.now c.in-Some.observer.now i before line r text s lines head row (sym c.observer.ensures ∙ ap (option_map (λ o. o.now)) c.in-Some.is) in
     let taken = subst (IsJudgedRow i rs (item_of i r) c.in-Some-last_row.last.now) (sym c.events.ensures) (c.in-Some-last_row.ensures i rs (item_of i r) last) in
-    on_any c.append_object.result (c.in_ok-earlier.ensures.kept i rs (item_of i r) kept taken (c.epoch.ensures.walked i (rs ++ item_of i r ∷ []) last.0))
+    on_any c.extend_from_slice.result (c.in_ok-earlier.ensures.kept i rs (item_of i r) kept taken (c.epoch.ensures.walked i (rs ++ item_of i r ∷ []) last.0))
 
 pub returns-clause-added : goal.returns-clause-added
 returns-clause-added g c i before line r text s lines head row is kept =
@@ -66,7 +65,7 @@ returns-clause-added g c i before line r text s lines head row is kept =
     let taken = subst (IsJudgedRow i rs (item_of i r) c.in-Some-last_row.last.now) (sym c.events.ensures) judged in
     let facts = c.facts-facts.ensures.facts i rs (item_of i r) judged (c.in_ok-earlier.ensures.epoch i rs kept) (c.in_ok-earlier.ensures.follows i rs (item_of i r) kept taken)
     (c.in_ok-earlier.ensures.call i rs (item_of i r) kept taken (few_walked i _ c.in-Some.observer.now last.0)) in
-    on_any c.append_object.result (c.of-self.ensures i rs (item_of i r) facts, omega (arith, few_rows i _ c.in-Some.observer.now last.0, length-append rs (item_of i r ∷ [])))
+    on_any c.extend_from_slice.result (c.of-self.ensures i rs (item_of i r) facts, omega (arith, few_rows i _ c.in-Some.observer.now last.0, length-append rs (item_of i r ∷ [])))
 
 pub returns-then-not-picked-clause-object : goal.returns-then-not-picked-clause-object
 returns-then-not-picked-clause-object g c i before line r text s lines head row is kept =
