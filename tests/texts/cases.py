@@ -53,7 +53,7 @@ ROWS = [
     (b"9 T 1000FB0000\n# a comment\n7 N 1000FF\n", 4, NUMBER, "The row's number is 7, and that of the row before is 9: numbers rise."),
     (MANY + b"19999 T -\n1 N -\n", 20001, NUMBER, "The row's number is 19999, and that of the row before is 19999: numbers rise."),
     (MANY + b"19999 T -\n" + MORE, 20001, NUMBER, "The row's number is 19999, and that of the row before is 19999: numbers rise."),
-    (MANY + COMMENTS + b"19999 T -\n" + MORE, 40001, NUMBER, None),
+    (MANY + COMMENTS + b"19999 T -\n" + MORE, 40001, NUMBER, "The row's number is 19999, and that of the row before is 19999: numbers rise."),
     (MANY + b"20000 T 1G\n" + MORE, 20001, HEX, 'Column 10 has "G", which is not a hex digit.'),
     (MANY + MORE + b"90000 X 10\n" + MANY, 90000, SIDE, 'The side is "X": T for the DTE or N for the DCE belongs there.'),
     (b"\n", 2, LINE_FORM, LAST_EMPTY),
@@ -180,7 +180,7 @@ GAPS = [
     (THIRD_HEADER + b"5 ? 1\n5 ? 2\n", 3, NUMBER, "The row's number is 5, and that of the row before is 5: numbers rise."),
     (THIRD_HEADER + b"1 ? 1 2\n", 2, LINE_FORM, "The line has 4 words, and a row has three: its number, its side and its octets."),
     (MANY_GAPS + b"30000 X -\n", 30001, SIDE, NO_SIDE.format("X")),
-    (MANY_GAPS + b"30000 ? 5\n", 30001, HEX, "The third word of a gap row is a logical channel from 1 to the header's OUT, or * for all."),
+    (MANY_GAPS + b"30000 ? 5\n", 30001, HEX, NO_CHANNEL.format("5")),
     (HEADER + MANY + b"20000 ? 1\n", 20001, SIDE, NO_SIDE.format("?")),
 ]
 

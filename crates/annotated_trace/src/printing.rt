@@ -16,7 +16,7 @@ ghost use Rattle.annotated_trace.specs.declared.rows.Rows.{Rows as AnyRows};
 use crate::closing::send_closing;
 use crate::holding::{send_held, send_much};
 use crate::printer::Printer;
-use line_model::device::{Sink, Source};
+use line_model::device::{LastLine, Sink, Source};
 use line_model::fault::Fault;
 use line_model::totals::Summary;
 use std::alloc::{AllocError, Allocator};
@@ -98,9 +98,9 @@ impl<A: Allocator + Copy, O: TraceObserver<A>, P: Printer<A, O>> TracePrinter<A,
         Ok(())
     }
 
-    /// Reads the end of a line with its LF, and holds what the line becomes.
+    /// Reads the end of a line with its LF, and holds what the line becomes. Of a refused line, what comes after it is kept.
     #[inline(always)]
-    fn take_line(&mut self, end: &[u8]) -> Result<(), Fault>
+    fn take_line(&mut self, end: &[u8], after: &[u8]) -> Result<(), Fault>
         requires { IsFed O.TraceObserver P.Printer self.old }
         ensures fed { (choice : AnyRows) (text front : List ℕ)
             → WasFed (HasFollowed O.TraceObserver P.Printer choice) self.old text
@@ -118,7 +118,10 @@ impl<A: Allocator + Copy, O: TraceObserver<A>, P: Printer<A, O>> TracePrinter<A,
             → self.new.held.items ≡ self.old.held.items) }
         ensures kinds { IfErr result IsTextFault }
     {
-        self.trace.feed(end)?;
+        if let Err(fault) = self.trace.feed(end) {
+            self.trace.keep_after(after);
+            return Err(fault);
+        }
         self.print_line(end)?;
         Ok(())
     }
@@ -161,7 +164,7 @@ impl<A: Allocator + Copy, O: TraceObserver<A>, P: Printer<A, O>> TracePrinter<A,
     {
         let mut rest = chunk;
         while let Some((front, back)) = split_at_byte(rest, b'\n') {
-            self.take_line(&rest[..front.len() + 1])?;
+            self.take_line(&rest[..front.len() + 1], back)?;
             send_much(&mut self.held, sink)?;
             rest = back;
         }
@@ -266,7 +269,7 @@ impl<A: Allocator + Copy, O: TraceObserver<A>, P: Printer<A, O>> TracePrinter<A,
         if self.begun.is_empty() {
             return self.close(sink);
         }
-        self.take_line(b"\n")?;
+        self.take_line(b"\n", b"")?;
         self.close(sink)
     }
 }
@@ -290,6 +293,10 @@ impl<A: Allocator + Copy, O: TraceObserver<A>, P: Printer<A, O>, K: Sink> Consum
 
     fn feed(&mut self, chunk: &[u8], sink: &mut K) -> Result<(), Fault> {
         TracePrinter::feed(self, chunk, sink)
+    }
+
+    fn last_line(&self) -> LastLine<'_> {
+        self.trace.last_line()
     }
 
     ghost sound = { λ first start now sink text fed. all_sound 0 text fed.sound };

@@ -1,5 +1,4 @@
 mod WorkedWords
-pub mod ChannelLemmas
 pub mod FaultLemmas
 pub mod JsonLemmas
 pub mod NumberLemmas

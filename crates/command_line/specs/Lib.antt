@@ -1,4 +1,3 @@
-pub mod Channels
 pub mod Options
 pub mod Asked
 pub mod Pasted

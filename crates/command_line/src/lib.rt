@@ -4,7 +4,6 @@
 
 pub mod annotated_scan;
 pub mod asked;
-mod channels;
 mod conflicts;
 mod explaining;
 mod faults;

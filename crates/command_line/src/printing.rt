@@ -7,7 +7,6 @@ ghost use Rattle.command_line.specs.Stopped.{HaltsRun, IsCause};
 
 use crate::annotated_scan::annotate;
 use crate::asked::{OutputForm, Printing};
-use crate::channels::last_channel;
 use crate::program::summary_status;
 use crate::refusing::refuse_scan;
 use annotated_trace::printing::print_trace as print_by;
@@ -21,7 +20,6 @@ use line_model::totals::Summary;
 use line_model::write_buffer::write_all;
 use live_report::live::Live;
 use std::alloc::Global;
-use streams::first_bytes::FirstBytes;
 use streams::input::Input;
 use streams::output::Output;
 
@@ -42,10 +40,19 @@ fn print_missing_call<E: Sink>(alloc: Global, errors: &mut E, call: u32, calls: 
 }
 
 /// Prints which logical channels the header has, where the rows of a further one were chosen.
-fn print_missing_channel<E: Sink>(alloc: Global, errors: &mut E, channel: u16, begun: &FirstBytes) {
-    let Ok(Some(last)) = last_channel(alloc, begun.as_slice(), begun.is_whole()) else {
+fn print_missing_channel<S: Input, E: Sink>(
+    alloc: Global,
+    errors: &mut E,
+    channel: u16,
+    source: &S,
+) {
+    let Some(line) = source.last_line() else {
         return;
     };
+    let Some(interface) = line.interface else {
+        return;
+    };
+    let last = interface.svc;
     if channel <= last {
         return;
     }
@@ -68,7 +75,7 @@ fn print_missing<S: Input, E: Sink>(
         return;
     };
     if let Some(channel) = channel {
-        print_missing_channel(alloc, errors, channel, source.begun());
+        print_missing_channel(alloc, errors, channel, source);
     }
     if let Some(call) = call {
         print_missing_call(alloc, errors, call, summary.calls);

@@ -81,10 +81,10 @@ fn print_advice<S: Input, E: Sink>(alloc: Global, source: &S, errors: &mut E, li
     ensures more { Grows (E.taken errors.old) (E.taken errors.new) }
     ensures rising { E.failures errors.old ≤ E.failures errors.new }
 {
-    let Ok(last) = source.last_text(alloc) else {
+    let Some(refused) = source.last_line() else {
         return;
     };
-    match advice(alloc, kind, last.text.as_slice(), last.beginning) {
+    match advice(alloc, kind, refused) {
         Ok(sentence) => print_at(alloc, errors, source.name(), line, &sentence),
         Err(_) => {}
     }

@@ -9,13 +9,13 @@ mod rows;
 mod sentence;
 
 use crate::advice::files::{file_advice, other_text_advice};
-use crate::advice::header::headers_advice;
-use crate::advice::line::is_whole;
-use crate::advice::rows::rows_advice;
+use crate::advice::header::header_advice;
+use crate::advice::line::split_line;
+use crate::advice::rows::row_advice;
 use crate::advice::sentence::fixed_sentence;
 use crate::explanation::{Explanation, Topic};
 use crate::table::{all, explain};
-use line_model::device::Beginning;
+use line_model::device::LastLine;
 use line_model::fault::Kind;
 use std::alloc::{AllocError, Global};
 
@@ -23,22 +23,22 @@ use std::alloc::{AllocError, Global};
 const TOO_LARGE: &str =
     "The text has more than 2^30 bytes: cut it after a restart confirmation, and begin each part with the header (/usr/share/doc/x25scan/GUIDE.md has the command).";
 
-/// Returns what is wrong by the lines themselves, if they show it.
-fn lines_advice(
+/// Returns what is wrong by the line itself, if it shows it.
+fn line_advice(
     alloc: Global,
     kind: Kind,
-    text: &[u8],
-    beginning: Beginning,
+    refused: LastLine<'_>,
 ) -> Result<Option<String>, AllocError> {
     match kind {
-        Kind::HeaderMissing if is_whole(beginning) && text.is_empty() => fixed_sentence(
+        Kind::HeaderMissing if refused.first.is_empty() => fixed_sentence(
             alloc,
             "The text is empty.",
         ),
-        Kind::HeaderForm | Kind::HeaderRange => headers_advice(alloc, text, beginning),
-        Kind::LineForm | Kind::Number | Kind::Side | Kind::Hex => {
-            rows_advice(alloc, kind, text, beginning)
+        Kind::HeaderForm | Kind::HeaderRange => {
+            let (line, _) = split_line(refused.text);
+            header_advice(alloc, line)
         }
+        Kind::LineForm | Kind::Number | Kind::Side | Kind::Hex => row_advice(alloc, kind, refused),
         Kind::TextLarge => fixed_sentence(alloc, TOO_LARGE),
         _ => Ok(None),
     }
@@ -54,24 +54,18 @@ fn meaning(alloc: Global, kind: Kind) -> Result<String, AllocError> {
     }
 }
 
-/// Returns what is wrong with a trace that was refused by a rule, in a sentence: by the lines themselves where they say
-/// more, otherwise the meaning of the rule. The faulty line is the first one that breaks the rule. Fails only when
-/// memory is refused.
-pub fn advice(
-    alloc: Global,
-    kind: Kind,
-    text: &[u8],
-    beginning: Beginning,
-) -> Result<String, AllocError> {
-    if is_whole(beginning) {
-        if let Some(sentence) = file_advice(text) {
-            return String::from_str(alloc, sentence);
-        }
-        if let Some(sentence) = other_text_advice(alloc, text)? {
+/// Returns what is wrong with a trace that was refused by a rule, in a sentence: by the refused line where it says more,
+/// otherwise the meaning of the rule. Fails only when memory is refused.
+pub fn advice(alloc: Global, kind: Kind, refused: LastLine<'_>) -> Result<String, AllocError> {
+    if let Some(sentence) = file_advice(refused.first) {
+        return String::from_str(alloc, sentence);
+    }
+    if refused.interface.is_none() {
+        if let Some(sentence) = other_text_advice(alloc, refused)? {
             return Ok(sentence);
         }
     }
-    match lines_advice(alloc, kind, text, beginning)? {
+    match line_advice(alloc, kind, refused)? {
         Some(sentence) => Ok(sentence),
         None => meaning(alloc, kind),
     }

@@ -16,6 +16,7 @@ ghost use Rattle.header_trials.specs.Trials.{AreTried, HasTaken, IsTrace, IsTrac
 use crate::trial::Trial;
 use crate::trials::Trials;
 use channel_run::run::Channel;
+use line_model::device::LastLine;
 use line_model::fault::Fault;
 use line_model::interface::Interface;
 use line_model::row::ReadRow;
@@ -179,6 +180,10 @@ impl<A: Allocator + Copy, C: Channel<A>, K> Consumer<K> for TriedText<A, C> {
 
     fn feed(&mut self, chunk: &[u8], _sink: &mut K) -> Result<(), Fault> {
         self.take_chunk(chunk)
+    }
+
+    fn last_line(&self) -> LastLine<'_> {
+        self.lines.last_line()
     }
 
     ghost sound = { λ first start now sink text fed. all_sound 0 text fed.0.reads.sound };

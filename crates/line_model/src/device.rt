@@ -5,20 +5,23 @@ ghost use Rattle.std.specs.Result.{is_err};
 ghost use Rattle.line_model.specs.basics.Device.{Gives, with_more};
 
 use crate::history::{Count, History};
+use crate::interface::Interface;
 use std::alloc::Allocator;
 
 /// The most bytes that a source gives at once.
 pub const CHUNK: usize = 1 << 16;
 
-/// Where some bytes of a text begin.
+/// The last line of a trace text that was read: the one by which it was refused, or the one that no LF has ended.
 #[derive(Clone, Copy)]
-pub enum Beginning {
-    /// With the text.
-    Text,
-    /// With a line, after a row of this number, or after none where it is 0.
-    Line(u32),
-    /// In the middle of a line.
-    Midst,
+pub struct LastLine<'a> {
+    /// The first bytes of the text, at most 32.
+    pub first: &'a [u8],
+    /// The line, and what was read after it, at most 8,500 bytes in all.
+    pub text: &'a [u8],
+    /// The number of the row before it, or 0.
+    pub number_before: u32,
+    /// The interface of the header, once it was read.
+    pub interface: Option<Interface>,
 }
 
 /// Where a trace comes from, in chunks of any size up to 65,536 bytes, which it lends.
@@ -51,9 +54,9 @@ pub trait Source {
     fn latest(&self) -> &[u8]
         ensures { result.now ≡ last_given self.now };
 
-    /// Receives whole lines of its text that were refused after more of it was read, and the number of the row before
-    /// them. A source that is asked later what is wrong with them keeps them; by default it does nothing.
-    fn keep_refused(&mut self, lines: &[u8], number_before: u32)
+    /// Receives the last line of its text that was read. A source that is asked later what is wrong with it keeps it; by
+    /// default it does nothing.
+    fn keep_line(&mut self, line: LastLine<'_>)
         ensures left { left self.new ≡ left self.old }
         ensures before { before self.new ≡ before self.old }
         ensures calls { calls self.new ≡ calls self.old }

@@ -11,7 +11,7 @@ ghost use Rattle.live_report.specs.Reports.{IsRefusal, IsReportFault, IsReported
 use crate::live::Live;
 use crate::uncounted::Uncounted;
 use channel_run::run::Channel;
-use line_model::device::Sink;
+use line_model::device::{LastLine, Sink};
 use line_model::fault::Fault;
 use line_model::totals::Summary;
 use report_merge::text::{write_findings, write_rest};
@@ -38,6 +38,11 @@ impl<A: Allocator + Copy, C: Channel<A>> Follower<A, C> {
             findings_written: 0,
             refused: None,
         }
+    }
+
+    /// Returns the last line that was read, as `Lines::last_line`.
+    pub fn last_line(&self) -> LastLine<'_> {
+        self.live.last_line()
     }
 
     /// Reads the rows of a chunk, and writes the lines of what they found.

@@ -20,7 +20,7 @@ use crate::read_rows::ReadRows;
 use crate::row_ref::RowRef;
 use crate::uncounted::Uncounted;
 use channel_run::run::Channel;
-use line_model::device::Sink;
+use line_model::device::{LastLine, Sink};
 use line_model::fault::Fault;
 use line_model::finding::Finding;
 use line_model::interface::Interface;
@@ -86,6 +86,16 @@ impl<A: Allocator + Copy, C: Channel<A>> Live<A, C> {
         ensures { result ≡ self.now.lines.interface }
     {
         self.lines.interface()
+    }
+
+    /// Returns the last line that was read, as `Lines::last_line`.
+    pub fn last_line(&self) -> LastLine<'_> {
+        self.lines.last_line()
+    }
+
+    /// Keeps what comes after a refused line, as `Lines::keep_after`.
+    pub(crate) fn keep_after(&mut self, after: &[u8]) {
+        self.lines.keep_after(after);
     }
 
     /// Returns the last row of what was fed, as it was read, where rows are kept. Where there is none, its contents are

@@ -8,6 +8,7 @@ ghost use Rattle.trace_text.specs.FedBytes.{fed_length};
 use crate::live::Live;
 use crate::uncounted::Uncounted;
 use channel_run::run::Channel;
+use line_model::device::LastLine;
 use line_model::fault::Fault;
 use line_model::finding::Finding;
 use line_model::report::Report;
@@ -29,6 +30,14 @@ impl<A: Allocator + Copy, C: Channel<A>> TraceObserver<A> for Live<A, C> {
 
     fn found(&self) -> &[Finding] {
         Live::found(self)
+    }
+
+    fn last_line(&self) -> LastLine<'_> {
+        Live::last_line(self)
+    }
+
+    fn keep_after(&mut self, after: &[u8]) {
+        Live::keep_after(self, after);
     }
 
     fn whole(self) -> Result<Report<A>, Fault> {

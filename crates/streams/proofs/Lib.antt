@@ -1,3 +1,1 @@
-pub mod FirstBytesLemmas
-pub mod LastBytesLemmas
 pub mod ByteRunLemmas

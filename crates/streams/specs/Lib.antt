@@ -1,4 +1,3 @@
-pub mod FirstBytes
-pub mod LastBytes
+pub mod KeptLines
 pub mod OpenFaults
 pub mod Shown

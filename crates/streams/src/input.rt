@@ -3,11 +3,9 @@
 ghost use Rattle.std.specs.Prelude.{◌≡◌, ◌⊎◌, ℕ, List, Option, None, Some, IfErr, OnOk, OnErr, option_map};
 ghost use Rattle.streams.specs.OpenFaults.{IsByItsReason};
 
-use crate::first_bytes::FirstBytes;
 use crate::progress::ShowProgress;
 use crate::room_source::RoomSource;
-use line_model::device::Beginning;
-use std::alloc::{AllocError, Global};
+use line_model::device::LastLine;
 use std::io;
 use std::io::ErrorKind;
 use thiserror::Error;
@@ -96,14 +94,6 @@ impl OpenRefusal {
     }
 }
 
-/// Bytes of a refused text, with the faulty line among them: the lines that the source was given back, if any, or the
-/// last bytes that it gave, at least 65,536, or all where it gave fewer.
-#[derive(Drop)]
-pub struct LastText {
-    pub text: Vec<u8>,
-    pub beginning: Beginning,
-}
-
 /// A source that begins as standard input, and becomes the trace that is opened by its name.
 pub trait Input: RoomSource {
     /// The bytes of the trace of a name, where it shows them.
@@ -130,12 +120,8 @@ pub trait Input: RoomSource {
     /// Returns the system's error of the last read that failed; none where there was none.
     fn failure(&self) -> Option<io::Error>;
 
-    /// Returns the first bytes that it gave, or fewer where memory was refused.
-    fn begun(&self) -> &FirstBytes;
-
-    /// Returns the lines that it was given back, if any, or the last bytes that it gave. Fails only when memory is
-    /// refused.
-    fn last_text(&self, alloc: Global) -> Result<LastText, AllocError>;
+    /// Returns the last line that it was given back; none where there was none, or where memory was refused.
+    fn last_line(&self) -> Option<LastLine<'_>>;
 
     /// Sets when progress is printed.
     fn show_progress(&mut self, when: ShowProgress)

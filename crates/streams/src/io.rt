@@ -3,48 +3,25 @@
 
 ghost use Rattle.std.specs.Prelude.{◌≡◌, ◌+◌, ◌≤◌, ◌^◌, IfOk, IsTrue, OnErr, OnOk, length, take};
 ghost use Rattle.line_model.specs.basics.Device.{Gives};
-ghost use Rattle.streams.specs.LastBytes.{last_read};
 ghost use Rattle.streams.specs.Shown.{still_shows};
 
-use crate::first_bytes::FirstBytes;
-use crate::input::{Input, LastText, OpenRefusal};
-use crate::last_bytes::LastBytes;
+use crate::chunk::Chunk;
+use crate::input::{Input, OpenRefusal};
+use crate::kept_line::KeptLine;
 use crate::opener::Opener;
 use crate::output::Output;
 use crate::progress::{Progress, ShowProgress};
 use crate::room_source::RoomSource;
 use crate::shown_reader::ShownReader;
-use line_model::device::{Beginning, Sink, Source};
+use line_model::device::{LastLine, Sink, Source};
 use line_model::history::Count;
-use std::alloc::{AllocError, Global};
+use std::alloc::Global;
 use std::io;
 use std::io::{Read, Write};
 use std::snapshot::Snapshot;
 use std::time::Clock;
 
-/// Lines that were refused after more of their text was read, and the number of the row before them, or 0 where it is
-/// not known.
-#[derive(Drop)]
-struct KeptLines {
-    lines: Vec<u8>,
-    number_before: u32,
-}
-
-impl KeptLines {
-    /// A copy of them, which begins with a line where the number before it is known.
-    fn text(&self, alloc: Global) -> Result<LastText, AllocError> {
-        let mut text = Vec::new(alloc);
-        text.extend_from_slice(self.lines.as_slice())?;
-        let beginning = match self.number_before {
-            0 => Beginning::Midst,
-            number => Beginning::Line(number),
-        };
-        Ok(LastText { text, beginning })
-    }
-}
-
-/// Standard input, or the file that was opened in its place, as a source. Each read is one of the reader's, into the
-/// room that keeps its last bytes.
+/// Standard input, or the file that was opened in its place, as a source. Each read is one of the reader's.
 #[derive(Drop)]
 pub struct FileInput<'a, R: Opener + Clock, I: Read + Drop, W: Write + Drop> {
     alloc: Global,
@@ -55,11 +32,10 @@ pub struct FileInput<'a, R: Opener + Clock, I: Read + Drop, W: Write + Drop> {
     file: Option<ShownReader<R::File>>,
     // The name of the file; none where memory for it was refused.
     name: Option<String>,
-    begun: FirstBytes,
-    last_bytes: LastBytes,
-    // Whether bytes were given that the last bytes do not have: they were read into a room of the caller.
-    is_past: bool,
-    refused: Option<KeptLines>,
+    // The bytes of the last read, except where a room of the caller has them.
+    latest: Chunk,
+    // The last line of its text that was read.
+    last_line: Option<KeptLine>,
     progress: Progress<W>,
     // The system's error of the last read that failed.
     failure: Option<io::Error>,
@@ -88,10 +64,8 @@ impl<'a, R: Opener + Clock, I: Read + Drop, W: Write + Drop> FileInput<'a, R, I,
             is_terminal,
             file: None,
             name: None,
-            begun: FirstBytes::new(alloc),
-            last_bytes: LastBytes::new(),
-            is_past: false,
-            refused: None,
+            latest: Chunk::new(),
+            last_line: None,
             progress,
             failure: None,
             calls: Count::new(),
@@ -99,29 +73,25 @@ impl<'a, R: Opener + Clock, I: Read + Drop, W: Write + Drop> FileInput<'a, R, I,
         }
     }
 
-    /// Reads from standard input. Where it is a terminal, that is printed once.
-    fn read_standard(&mut self) -> io::Result<()>
-        ensures few { length (last_read self.new.last_bytes) ≤ 2 ^ 16 }
-        ensures given { OnOk result (Gives self.old.standard.left self.new.standard.left
-            (last_read self.new.last_bytes)) }
-        ensures failed { OnErr result (self.new.standard.left ≡ self.old.standard.left) }
-        ensures before { self.new.standard.before ≡ self.old.standard.left }
+    /// Counts a read. Where standard input is read and is a terminal, that is printed once.
+    fn begin_read(&mut self)
+        ensures standard { self.new.standard ≡ self.old.standard }
         ensures file { self.new.file ≡ self.old.file }
-        ensures calls { self.new.calls ≡ self.old.calls }
+        ensures calls { self.new.calls ≡ self.old.calls + 1 }
         ensures failures { self.new.failures ≡ self.old.failures }
     {
-        if self.is_terminal {
+        self.calls.add_one();
+        if self.is_terminal && self.file.is_none() {
             self.is_terminal = false;
             self.progress.print_terminal();
         }
-        self.standard.read(&mut self.last_bytes)
     }
 
     /// Reads from the file that was opened, otherwise from standard input.
     fn read_some(&mut self) -> io::Result<()>
-        ensures few { length (last_read self.new.last_bytes) ≤ 2 ^ 16 }
+        ensures few { length self.new.latest ≤ 2 ^ 16 }
         ensures given { OnOk result (Gives (⟦<FileInput<'a, R, I, W> as Source>⟧.left self.old)
-            (⟦<FileInput<'a, R, I, W> as Source>⟧.left self.new) (last_read self.new.last_bytes)) }
+            (⟦<FileInput<'a, R, I, W> as Source>⟧.left self.new) self.new.latest) }
         ensures failed { OnErr result (⟦<FileInput<'a, R, I, W> as Source>⟧.left self.new
             ≡ ⟦<FileInput<'a, R, I, W> as Source>⟧.left self.old) }
         ensures before { ⟦<FileInput<'a, R, I, W> as Source>⟧.before self.new
@@ -130,8 +100,8 @@ impl<'a, R: Opener + Clock, I: Read + Drop, W: Write + Drop> FileInput<'a, R, I,
         ensures failures { self.new.failures ≡ self.old.failures }
     {
         match &mut self.file {
-            Some(file) => file.read(&mut self.last_bytes),
-            None => self.read_standard(),
+            Some(file) => file.read(&mut self.latest),
+            None => self.standard.read(&mut self.latest),
         }
     }
 
@@ -156,7 +126,6 @@ impl<'a, R: Opener + Clock, I: Read + Drop, W: Write + Drop> FileInput<'a, R, I,
 
     /// Records that the reader has failed.
     fn fail(&mut self, error: io::Error)
-        ensures last_bytes { self.new.last_bytes ≡ self.old.last_bytes }
         ensures standard { self.new.standard ≡ self.old.standard }
         ensures file { self.new.file ≡ self.old.file }
         ensures calls { self.new.calls ≡ self.old.calls }
@@ -165,41 +134,27 @@ impl<'a, R: Opener + Clock, I: Read + Drop, W: Write + Drop> FileInput<'a, R, I,
         self.failure = Some(error);
         self.failures.add_one();
     }
-
-    /// Passes the latest bytes on: the first ones are kept, and progress is shown.
-    fn pass_on_latest(&mut self)
-        ensures last_bytes { self.new.last_bytes ≡ self.old.last_bytes }
-        ensures standard { self.new.standard ≡ self.old.standard }
-        ensures file { self.new.file ≡ self.old.file }
-        ensures calls { self.new.calls ≡ self.old.calls }
-        ensures failures { self.new.failures ≡ self.old.failures }
-    {
-        let latest = self.last_bytes.latest();
-        self.begun.keep(latest);
-        self.progress.read(self.system, latest);
-    }
 }
 
 impl<R: Opener + Clock, I: Read + Drop, W: Write + Drop> Source for FileInput<'_, R, I, W> {
     ghost use Rattle.std.specs.Option.{option_map_or};
-    ghost use Rattle.streams.specs.LastBytes.{last_read};
     ghost use Rattle.streams.specs.Shown.{Left};
 
     ghost left = { λ s. option_map_or (λ (f : Left). f.left) s.file s.standard.left };
 
     ghost before = { λ s. option_map_or (λ (f : Left). f.before) s.file s.standard.before };
 
-    ghost last_given = { λ s. last_read s.last_bytes };
+    ghost last_given = { λ s. s.latest };
 
     ghost calls = { λ s. s.calls };
 
     ghost failures = { λ s. s.failures };
 
     fn read(&mut self) -> Result<(), ()> {
-        self.calls.add_one();
+        self.begin_read();
         match self.read_some() {
             Ok(()) => {
-                self.pass_on_latest();
+                self.progress.read(self.system, self.latest.as_slice());
                 Ok(())
             }
             Err(error) => {
@@ -210,33 +165,19 @@ impl<R: Opener + Clock, I: Read + Drop, W: Write + Drop> Source for FileInput<'_
     }
 
     fn latest(&self) -> &[u8] {
-        self.last_bytes.latest()
+        self.latest.as_slice()
     }
 
-    fn keep_refused(&mut self, lines: &[u8], number_before: u32) {
-        let mut kept = Vec::new(self.alloc);
-        if kept.extend_from_slice(lines).is_ok() {
-            self.refused = Some(KeptLines {
-                lines: kept,
-                number_before,
-            });
-        }
+    fn keep_line(&mut self, line: LastLine<'_>) {
+        self.last_line = KeptLine::of(self.alloc, line);
     }
 }
 
 impl<R: Opener + Clock, I: Read + Drop, W: Write + Drop> RoomSource for FileInput<'_, R, I, W> {
-    /// The first bytes are read where they are kept, and copied.
     fn read_into(&mut self, room: &mut [u8]) -> Result<usize, ()> {
-        if self.begun.is_whole() {
-            self.read()?;
-            let bytes = self.latest();
-            room[..bytes.len()].copy_from_slice(bytes);
-            return Ok(bytes.len());
-        }
-        self.calls.add_one();
+        self.begin_read();
         match self.read_room(room) {
             Ok(count) => {
-                self.is_past |= count > 0;
                 self.progress.read(self.system, &room[..count]);
                 Ok(count)
             }
@@ -273,21 +214,10 @@ impl<R: Opener + Clock, I: Read + Drop, W: Write + Drop> Input for FileInput<'_,
         self.failure
     }
 
-    fn begun(&self) -> &FirstBytes {
-        &self.begun
-    }
-
-    fn last_text(&self, alloc: Global) -> Result<LastText, AllocError> {
-        match &self.refused {
-            Some(refused) if self.is_past || refused.number_before > 0 => refused.text(alloc),
-            _ if self.is_past => Ok(LastText {
-                text: Vec::new(alloc),
-                beginning: Beginning::Midst,
-            }),
-            _ => Ok(LastText {
-                text: self.last_bytes.text(alloc)?,
-                beginning: self.last_bytes.beginning(),
-            }),
+    fn last_line(&self) -> Option<LastLine<'_>> {
+        match &self.last_line {
+            Some(kept) => Some(kept.line()),
+            None => None,
         }
     }
 

@@ -2,11 +2,10 @@
 //! report to.
 #![tactic(auto)]
 
-mod byte_run;
-pub mod first_bytes;
+mod chunk;
 pub mod input;
 pub mod io;
-pub mod last_bytes;
+pub mod kept_line;
 pub mod opener;
 pub mod output;
 pub mod progress;

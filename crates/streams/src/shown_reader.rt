@@ -2,9 +2,8 @@
 
 ghost use Rattle.std.specs.Prelude.{◌≡◌, ◌≤◌, ◌^◌, IfOk, OnErr, OnOk, length, take};
 ghost use Rattle.line_model.specs.basics.Device.{Gives};
-ghost use Rattle.streams.specs.LastBytes.{last_read};
 
-use crate::last_bytes::LastBytes;
+use crate::chunk::Chunk;
 use std::io;
 use std::io::Read;
 use std::marker::Model;
@@ -44,15 +43,15 @@ impl<R: Read + Drop> ShownReader<R> {
         }
     }
 
-    /// Reads once, into the room that keeps the last bytes.
-    pub fn read(&mut self, last_bytes: &mut LastBytes) -> io::Result<()>
-        ensures few { length (last_read last_bytes.new) ≤ 2 ^ 16 }
-        ensures given { OnOk result (Gives self.old.left self.new.left (last_read last_bytes.new)) }
+    /// Reads once, into a chunk.
+    pub fn read(&mut self, chunk: &mut Chunk) -> io::Result<()>
+        ensures few { length chunk.new ≤ 2 ^ 16 }
+        ensures given { OnOk result (Gives self.old.left self.new.left chunk.new) }
         ensures failed { OnErr result (self.new.left ≡ self.old.left) }
         ensures before { self.new.before ≡ self.old.left }
     {
         self.before = Snapshot::of(&self.reader);
-        last_bytes.read(&mut self.reader)
+        chunk.read(&mut self.reader)
     }
 
     /// Reads once, into the front of a room of 65,536 bytes.

@@ -21,7 +21,7 @@ use crate::blocks_in_flight::BlocksInFlight;
 use crate::room::Room;
 use crate::taken_text::TakenText;
 use crate::text_block::TraceText;
-use crate::text_cutter::{RefusedLines, RowCutter, TextCutter};
+use crate::text_cutter::{RowCutter, TextCutter};
 use line_model::fault::Fault;
 use line_model::finding::Finding;
 use line_model::interface::Interface;
@@ -136,13 +136,6 @@ struct FedText<'a, P: Plan + TraceText, A: Allocator, R> {
 }
 
 impl<'a, P: Plan + TraceText, A: Allocator + Copy, R: Wait + Clock> FedText<'a, P, A, R> {
-    /// The lines by which the text was refused.
-    fn into_refused(self) -> Option<RefusedLines<A>> {
-        let FedText { taken, .. } = self;
-        let TakenText { text, .. } = taken;
-        text.into_refused()
-    }
-
     /// Whether the trace text has more bytes than one may have.
     fn passes_limit(&self) -> bool
         ensures { result ≡ false → bytes_read self.now ≤ 2 ^ 30 }
@@ -180,27 +173,6 @@ impl<'a, P: Plan + TraceText, A: Allocator + Copy, R: Wait + Clock> FedText<'a, 
         let taken = self.taken.take(self.room.as_slice(), pass);
         self.room.clear();
         taken
-    }
-
-    /// The text has ended: consumes the blocks in flight and all of the room, whose last line may be refused yet.
-    fn take_rest(
-        &mut self,
-        rest: &mut Option<RefusedLines<A>>,
-        pass: &mut FeederPass<A>,
-    ) -> Result<(), Fault>
-        requires plan { P.pieces ≡ option_map trace_plan P.text }
-        requires held { Holds P.text pass.old self.old }
-        ensures fed { HasFedOn pass.old pass.new }
-        ensures held { OnOk result (Holds P.text pass.new self.new) }
-        ensures all { OnOk result (bytes_fed self.new.taken.text.lines ≡ self.new.taken.sent) }
-        ensures sent { OnOk result (self.new.taken.sent ≡ bytes_read self.old) }
-        ensures refused { IfErr result (IsFaultWithin P.text (bytes_read self.old)) }
-    {
-        self.taken.take_until(0, pass)?;
-        let number_before = self.taken.text.last_number();
-        let alloc = *self.room.allocator();
-        *rest = RefusedLines::of(alloc, self.room.as_slice(), number_before);
-        self.take_room(pass)
     }
 
     /// Consumes the blocks in flight, and then the first bytes of the room.
@@ -387,13 +359,12 @@ fn last_fault<P: Plan + TraceText, A: Allocator + Copy, R: Wait + Clock>(
 }
 
 /// Reads a source to its end, and feeds the pieces of its trace. Where it succeeds, the text has no fault, and exactly
-/// its pieces were fed. A failure of the source hides no faulty line: what was read before is consumed first. Lines
-/// that are refused are kept apart, for the message alone: no clause says which.
+/// its pieces were fed. A failure of the source hides no faulty line: what was read before is consumed first. The source is
+/// given the last line.
 fn read_all<P: Plan + TraceText, A: Allocator + Copy, S: RoomSource, R: Wait + Clock>(
     source: &mut S,
     fed: FedText<'_, P, A, R>,
     pass: &mut FeederPass<A>,
-    refused: &mut Option<RefusedLines<A>>,
 ) -> Result<Read<A>, Fault>
     requires queue { pass.old.queue ≡ fed.taken.work.now.queue }
     requires first { (pass.old.record_of.fed ≡ 0) × (pass.old.record_of.ends ≡ 0) }
@@ -412,38 +383,20 @@ fn read_all<P: Plan + TraceText, A: Allocator + Copy, S: RoomSource, R: Wait + C
     let mut fed = fed;
     match read_text(source, &mut fed, pass) {
         Ok(()) => {
-            if let Err(fault) = fed.take_rest(refused, pass) {
-                *refused = fed.into_refused();
+            if let Err(fault) = fed.take_room(pass) {
+                source.keep_line(fed.taken.text.lines.last_line());
                 return Err(fault);
             }
+            source.keep_line(fed.taken.text.lines.last_line());
             let FedText { taken, room } = fed;
             let TakenText { rt, work, text, .. } = taken;
             finish(rt, *room.allocator(), text, work, pass)
         }
         Err(fault) => {
             let last = last_fault(&mut fed, fault, pass);
-            *refused = fed.into_refused();
+            source.keep_line(fed.taken.text.lines.last_line());
             Err(last)
         }
-    }
-}
-
-/// Gives a source the lines that were refused, where reading it ended so.
-fn give_back<A: Allocator, S: RoomSource>(
-    source: &mut S,
-    outcome: &Result<Read<A>, Fault>,
-    refused: Option<RefusedLines<A>>,
-)
-    ensures left { S.left source.new ≡ S.left source.old }
-    ensures before { S.before source.new ≡ S.before source.old }
-    ensures calls { S.calls source.new ≡ S.calls source.old }
-    ensures failures { S.failures source.new ≡ S.failures source.old }
-{
-    if outcome.is_ok() {
-        return;
-    }
-    if let Some(refused) = refused {
-        source.keep_refused(refused.lines.as_slice(), refused.number_before);
     }
 }
 
@@ -493,9 +446,7 @@ impl<'a, P: Plan + TraceText, A: Allocator + Copy, S: RoomSource> Feed<P, A>
             },
             room,
         };
-        let mut refused = None;
-        let outcome = read_all(source, fed, pass, &mut refused);
-        give_back(source, &outcome, refused);
+        let outcome = read_all(source, fed, pass);
         ReadingTask {
             source,
             queues,

@@ -22,26 +22,6 @@ use restart_epochs::cutter::Cutter;
 use std::alloc::{Allocator, Global};
 use trace_text::lines::Lines;
 
-/// Lines that were refused, and the number of the row before them, or 0 where none is known.
-#[derive(Drop)]
-pub struct RefusedLines<A: Allocator = Global> {
-    pub lines: Vec<u8, A>,
-    pub number_before: u32,
-}
-
-impl<A: Allocator> RefusedLines<A> {
-    /// A copy of lines that may be refused. `None`: memory for it is refused.
-    #[cold]
-    pub fn of(alloc: A, lines: &[u8], number_before: u32) -> Option<Self> {
-        let mut copy = Vec::new(alloc);
-        copy.extend_from_slice(lines).ok()?;
-        Some(RefusedLines {
-            lines: copy,
-            number_before,
-        })
-    }
-}
-
 /// The cutter of a trace text whose header was read.
 #[derive(Drop)]
 pub struct RowCutter<A: Allocator = Global> {
@@ -160,8 +140,6 @@ pub struct TextCutter<A: Allocator = Global> {
     row: ReadRow<A>,
     /// Made once the first row was read.
     row_cutter: Option<RowCutter<A>>,
-    /// The lines by which the text was refused; none where memory for them was refused.
-    refused: Option<RefusedLines<A>>,
 }
 
 impl<A: Allocator + Copy> TextCutter<A> {
@@ -179,20 +157,6 @@ impl<A: Allocator + Copy> TextCutter<A> {
                 gap: None,
             },
             row_cutter: None,
-            refused: None,
-        }
-    }
-
-    /// Returns the lines by which the text was refused.
-    pub fn into_refused(self) -> Option<RefusedLines<A>> {
-        self.refused
-    }
-
-    /// Returns the number of the last row, where the text so far ends with its line; otherwise 0.
-    pub fn last_number(&self) -> u32 {
-        match self.lines.end_block(0) {
-            Some(span) => span.last,
-            None => 0,
         }
     }
 
@@ -242,16 +206,9 @@ impl<A: Allocator + Copy> TextCutter<A> {
         ensures limit { OnOk result (bytes_fed self.new.lines ≤ 2 ^ 30) }
         ensures kinds { IfErr result IsTextFault }
     {
-        let number_before = self.last_number();
         let mut pieces = Vec::new(*self.row.octets.allocator());
-        match self.feed_into(bytes, &mut pieces) {
-            Ok(()) => Ok(pieces),
-            Err(fault) => {
-                let alloc = *self.row.octets.allocator();
-                self.refused = RefusedLines::of(alloc, bytes, number_before);
-                Err(fault)
-            }
-        }
+        self.feed_into(bytes, &mut pieces)?;
+        Ok(pieces)
     }
 
     /// Ends the text, whose last line may lack its LF: all its rows are cut. Appends the pieces that are known whole
@@ -274,7 +231,6 @@ impl<A: Allocator + Copy> TextCutter<A> {
             lines,
             mut row,
             row_cutter,
-            ..
         } = self;
         let end = lines.end_row(&mut row)?;
         let mut row_cutter = row_cutter_of(*row.octets.allocator(), &end.interface, row_cutter);

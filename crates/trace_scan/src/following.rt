@@ -12,7 +12,7 @@ ghost use Rattle.trace_scan.specs.Follow.{IsFollowRefusal, IsFollowed, IsRefused
 
 use channel_machine::channel::PackedChannel;
 use channel_run::run::Channel;
-use line_model::device::{Sink, Source};
+use line_model::device::{LastLine, Sink, Source};
 use line_model::fault::Fault;
 use line_model::totals::Summary;
 use live_report::follow::Follower;
@@ -41,6 +41,10 @@ impl<A: Allocator + Copy, C: Channel<A>, K: Sink> Consumer<K> for Following<A, C
 
     fn feed(&mut self, chunk: &[u8], sink: &mut K) -> Result<(), Fault> {
         self.follower.feed(chunk, sink)
+    }
+
+    fn last_line(&self) -> LastLine<'_> {
+        self.follower.last_line()
     }
 
     ghost sound = { λ first start now sink text fed. all_sound 0 text fed.represented.live.reads.sound };

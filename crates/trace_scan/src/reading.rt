@@ -10,6 +10,7 @@ ghost use Rattle.trace_text.specs.Represents.{IsFaultOf, IsTextFault};
 ghost use Rattle.live_report.specs.Lives.{WasFed};
 
 use channel_run::run::Channel;
+use line_model::device::LastLine;
 use line_model::fault::Fault;
 use live_report::live::Live;
 use std::alloc::Allocator;
@@ -36,6 +37,10 @@ impl<A: Allocator + Copy, C: Channel<A>, K> Consumer<K> for Walk<A, C> {
 
     fn feed(&mut self, chunk: &[u8], _sink: &mut K) -> Result<(), Fault> {
         self.live.feed(chunk)
+    }
+
+    fn last_line(&self) -> LastLine<'_> {
+        self.live.last_line()
     }
 
     ghost sound = { λ first start now sink text fed. all_sound 0 text fed.0.reads.sound };

@@ -3,7 +3,7 @@
 ghost use Rattle.std.specs.Prelude.{◌≡◌, ℕ, ◌+◌, ◌<◌, ◌≤◌, ◌^◌, [], Err, IfErr, OnOk};
 ghost use Rattle.trace_text.specs.Sources.{IsFedAll, IsFedUpTo, MayBeFed};
 
-use line_model::device::Source;
+use line_model::device::{LastLine, Source};
 use line_model::fault::Fault;
 
 /// Reads an input chunk by chunk, and puts what it makes of it into an `O`.
@@ -39,6 +39,9 @@ pub trait Consumer<O> {
             → IfErr result (refused first start self.new out.new text chunk.now) }
         ensures kinds { IfErr result (λ fault. fault ≢ Fault.Read) };
 
+    /// Returns the last line that it read, as `Lines::last_line`.
+    fn last_line(&self) -> LastLine<'_>;
+
     /// No line of what it was fed is known to be faulty, except for those of the last bytes.
     ghost sound: { (first : Self) (start : O) (now : Self) (out : O) (text : List ℕ)
         → was_fed first start now out text → NoneDecidedButLast lag text };
@@ -54,6 +57,36 @@ pub trait Consumer<O> {
 
 /// Feeds all bytes that a source gives, read by read. Fails with the first refusal of the consumer, and with
 /// `Fault::Read` where the source fails.
+fn feed_all<O, T: Consumer<O>, S: Source>(
+    source: &mut S,
+    consumer: &mut T,
+    out: &mut O,
+) -> Result<(), Fault>
+    requires nothing { T.was_fed consumer.old out.old consumer.old out.old [] }
+    requires expected { MayBeFed (S.left source.old) T.expects }
+    ensures whole { OnOk result (IsFedAll T.lag (S.left source.old) (S.left source.new)
+        (S.before source.new) (T.was_fed consumer.old out.old consumer.new out.new)) }
+    ensures stopped { IfErr result (IsFedUpTo T.lag (S.left source.old) (S.left source.new)
+        (S.before source.new) (T.was_fed consumer.old out.old consumer.new out.new)
+        (T.refused consumer.old out.old consumer.new out.new)) }
+    ensures read_failed { result ≡ Err Fault.Read → S.failures source.old < S.failures source.new }
+    ensures called { S.calls source.old < S.calls source.new }
+    ensures asked { S.calls source.new ≤ S.calls source.old + (2 ^ 30 + 1) }
+{
+    loop {
+        let Ok(()) = source.read() else {
+            return Err(Fault::Read);
+        };
+        let chunk = source.latest();
+        if chunk.is_empty() {
+            return Ok(());
+        }
+        consumer.feed(chunk, out)?;
+    }
+}
+
+/// Feeds all bytes that a source gives, read by read, and gives the source the last line. Fails with the first refusal of
+/// the consumer, and with `Fault::Read` where the source fails.
 pub fn read_to_end<O, T: Consumer<O>, S: Source>(
     source: &mut S,
     consumer: &mut T,
@@ -72,14 +105,7 @@ pub fn read_to_end<O, T: Consumer<O>, S: Source>(
     ensures called { S.calls source.old < S.calls source.new }
     ensures asked { S.calls source.new ≤ S.calls source.old + (2 ^ 30 + 1) }
 {
-    loop {
-        let Ok(()) = source.read() else {
-            return Err(Fault::Read);
-        };
-        let chunk = source.latest();
-        if chunk.is_empty() {
-            return Ok(());
-        }
-        consumer.feed(chunk, out)?;
-    }
+    let read = feed_all(source, consumer, out);
+    source.keep_line(consumer.last_line());
+    read
 }

@@ -7,8 +7,11 @@ ghost use Rattle.trace_text.specs.Reads.{kept_row, whole_row};
 use crate::content::{Content, LineFault};
 use crate::cuts::split_at_byte;
 use crate::digits::{convert_digits, split_digits};
+use crate::header::read_header;
 use crate::reading::read_line;
 use crate::row_front::split_front;
+use arrayvec::ArrayVec;
+use line_model::device::LastLine;
 use line_model::fault::{Fault, Kind};
 use line_model::interface::Interface;
 use line_model::row::{ReadRow, Row, is_unqualified};
@@ -33,8 +36,9 @@ const LAST_START: u32 = TEXT_LIMIT - LINE_LIMIT as u32 - 1;
 /// ```
 ///
 /// Of the lines that an LF has ended it keeps the interface and the last number; of the line that has not ended it
-/// keeps the bytes, at most 8,500. After a refusal it always returns the same fault. No line of a text that it
-/// represents is known to be faulty, so refused memory hides no faulty line of an earlier chunk.
+/// keeps the bytes, at most 8,500. After a refusal it always returns the same fault, and keeps the refused line in their
+/// place. No line of a text that it represents is known to be faulty, so refused memory hides no faulty line of an
+/// earlier chunk.
 #[derive(Drop)]
 pub struct Lines<A: Allocator> {
     /// The lines that an LF has ended.
@@ -44,8 +48,10 @@ pub struct Lines<A: Allocator> {
     interface: Option<Interface>,
     /// The number of the last row, or 0.
     last: u32,
-    /// The bytes after the last LF.
+    /// The bytes after the last LF; after a refusal the refused line, and what was read after it.
     begun: Vec<u8, A>,
+    /// The first bytes of the text, of those before its header.
+    first: ArrayVec<u8, 32>,
     refused: Option<Fault>,
 }
 
@@ -121,7 +127,9 @@ fn size_fault(start: u32, lf: usize, len: usize) -> Option<Kind>
 }
 
 impl<A: Allocator> Lines<A> {
-    ghost use Rattle.std.specs.Prelude.{◌≡◌, ℕ, true, ◌+◌, ◌<◌, ◌^◌, ◌++◌, [], List, Some, None, Err, OnOk, OnErr, IfErr, IfOk, IfSome, MatchOption, length, is_some, ◌≤◌};
+    ghost use Rattle.std.specs.Prelude.{◌≡◌, ℕ, true, ◌+◌, ◌<◌, ◌^◌, ◌++◌, [], List, Some, None, Err, OnOk, OnErr, IfErr, IfOk, IfSome, MatchOption, length, is_some, ◌≤◌, false};
+    ghost use Rattle.std.specs.Option.{option_or};
+    ghost use Rattle.line_model.specs.text.Header.{interface_of};
     ghost use Rattle.line_model.specs.text.Text.{early, early_head, early_rows, ended_lines as lines_ended, fault, head, lines_of, rows as rows_of_text, rows_in};
     ghost use Rattle.trace_text.specs.Progress.{Progress, bytes_fed};
     ghost use Rattle.trace_text.specs.Represents.{Represents, IsFaultOf, IsHeadKept, IsTextFault, EndsText, AreKnown, ReadsChunk, TakesRow, last_row};
@@ -144,6 +152,7 @@ impl<A: Allocator> Lines<A> {
             interface: None,
             last: 0,
             begun: Vec::new(alloc),
+            first: ArrayVec::new(),
             refused: None,
         }
     }
@@ -193,6 +202,79 @@ impl<A: Allocator> Lines<A> {
         match self.interface {
             Some(interface) => Ok(interface),
             None => Err(Fault::Trace(self.ended + 1, Kind::HeaderMissing)),
+        }
+    }
+
+    /// Returns the interface of the header, also where the last line is the header.
+    fn last_interface(&self) -> Option<Interface>
+        ensures { result ≡ option_or self.now.interface (interface_of self.now.begun) }
+    {
+        if let Some(interface) = self.interface {
+            return Some(interface);
+        }
+        match read_header(self.begun.as_slice()) {
+            Ok(interface) => Some(interface),
+            Err(_) => None,
+        }
+    }
+
+    /// Returns the last line that was read: the one by which the text was refused, or the one that no LF has ended. Its
+    /// interface is that of the header, also where the last line is the header.
+    pub fn last_line(&self) -> LastLine<'_>
+        ensures text { result.text.now ≡ self.now.begun }
+        ensures number { result.number_before ≡ self.now.last }
+        ensures interface { result.interface ≡ option_or self.now.interface (interface_of self.now.begun) }
+    {
+        LastLine {
+            first: self.first.as_slice(),
+            text: self.begun.as_slice(),
+            number_before: self.last,
+            interface: self.last_interface(),
+        }
+    }
+
+    /// Keeps the first bytes of a text, of a chunk before which no header was read.
+    fn keep_first(&mut self, chunk: &[u8])
+        ensures { self.new ≡ self.old }
+    {
+        if self.interface.is_some() {
+            return;
+        }
+        let room = self.first.remaining_capacity().min(chunk.len());
+        let _ = self.first.try_extend_from_slice(&chunk[..room]);
+    }
+
+    /// Keeps more of what comes from a refused line on, at most 8,500 bytes in all.
+    fn keep_rest(&mut self, rest: &[u8])
+        ensures { self.new ≡ record self.old { begun = self.new.begun } }
+    {
+        let room = LINE_LIMIT - self.begun.len();
+        let left = (TEXT_LIMIT - self.start) as usize - self.begun.len();
+        let front = &rest[..rest.len().min(room).min(left)];
+        let _ = self.begun.extend_from_slice(front);
+    }
+
+    /// Keeps the line by which a chunk was refused, if it was; `before` bytes were fed before the chunk.
+    fn keep_refused(&mut self, chunk: &[u8], before: u32, is_refused: bool)
+        ensures same { is_refused ≡ false → self.new ≡ self.old }
+        ensures kept { self.new ≡ record self.old { begun = self.new.begun } }
+    {
+        if !is_refused {
+            return;
+        }
+        let read = self.bytes().saturating_sub(before) as usize;
+        if let Some(rest) = chunk.get(read..) {
+            self.keep_rest(rest);
+        }
+    }
+
+    /// After a refusal: keeps what comes after the refused line, at most 8,500 bytes with the line. Otherwise does nothing.
+    pub fn keep_after(&mut self, after: &[u8])
+        ensures same { self.old.refused ≡ None → self.new ≡ self.old }
+        ensures kept { self.new ≡ record self.old { begun = self.new.begun } }
+    {
+        if self.refused.is_some() {
+            self.keep_rest(after);
         }
     }
 
@@ -424,7 +506,10 @@ impl<A: Allocator> Lines<A> {
         if let Some(rest) = self.read_first(chunk, row, false) {
             return Ok(Some(rest));
         }
+        self.keep_first(chunk);
+        let before = self.bytes();
         let next = self.find_row(chunk, row, false);
+        self.keep_refused(chunk, before, next.is_err());
         self.refused = next.err();
         next
     }
@@ -566,13 +651,12 @@ impl<A: Allocator + Clone> Lines<A> {
         if let Some(fault) = self.refused {
             return Err(fault);
         }
-        match self.feed_rows(chunk, out) {
-            Ok(()) => Ok(()),
-            Err(fault) => {
-                self.refused = Some(fault);
-                Err(fault)
-            }
-        }
+        self.keep_first(chunk);
+        let before = self.bytes();
+        let fed = self.feed_rows(chunk, out);
+        self.keep_refused(chunk, before, fed.is_err());
+        self.refused = fed.err();
+        fed
     }
 
     /// Ends the text. Returns its header, and appends the row of a last line that no LF ended. Fails with the first

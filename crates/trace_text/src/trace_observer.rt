@@ -1,5 +1,6 @@
 //! A trace that is fed in chunks, and what its rows found.
 
+use line_model::device::LastLine;
 use line_model::fault::Fault;
 use line_model::finding::Finding;
 use line_model::report::Report;
@@ -38,6 +39,12 @@ pub trait TraceObserver<A: Allocator>: Drop {
     /// Returns what the rows of the last chunk found, in their order.
     fn found(&self) -> &[Finding]
         ensures { result.now ≡ last_found self.now };
+
+    /// Returns the last line that it read, as `Lines::last_line`.
+    fn last_line(&self) -> LastLine<'_>;
+
+    /// Keeps what comes after a refused line, as `Lines::keep_after`.
+    fn keep_after(&mut self, after: &[u8]);
 
     /// Ends the text and returns its report. Fails with the first faulty line, or when memory is refused.
     fn whole(self) -> Result<Report<A>, Fault>

@@ -14,6 +14,7 @@ ghost use Rattle.x25scan_c.specs.Sound.{AddsFound, IsSound, WasRead, has_ended, 
 
 use annotated_trace::printing::print_trace;
 use annotated_trace::rows::Rows;
+use channel_machine::channel::PackedChannel;
 use channel_run::run::Channel;
 use descriptions::row_objects::RowObjects;
 use line_model::device::{Sink, SliceSource};
@@ -23,8 +24,9 @@ use line_model::state::Side;
 use live_report::live::Live;
 use live_report::uncounted::Uncounted;
 use memchr::memrchr;
-use std::alloc::Allocator;
+use std::alloc::{Allocator, Global};
 use std::mem::replace;
+use streams::kept_line::KeptLine;
 
 /// What is read.
 #[derive(Drop)]
@@ -135,6 +137,19 @@ impl<A: Allocator + Copy, C: Channel<A>> Reading<A, C> {
         ensures { result ≡ prints_rows self.now }
     {
         matches!(self, Reading::Rows(_))
+    }
+
+    /// Returns a copy of the last line that was read, as `Lines::last_line`; of rows, that at which printing them stops.
+    pub fn last_line(&self, alloc: Global) -> Option<KeptLine> {
+        match self {
+            Reading::Report(live) => KeptLine::of(alloc, live.last_line()),
+            Reading::Rows(text) => {
+                let mut live = Live::<Global, PackedChannel<Global>>::new(alloc);
+                let _ = live.feed(text.as_slice());
+                KeptLine::of(alloc, live.last_line())
+            }
+            Reading::Ended => None,
+        }
     }
 
     /// Returns whether the trace has ended.

@@ -18,21 +18,19 @@ use channel_machine::channel::PackedChannel;
 use channel_run::run::Channel;
 use explanations::advice::advice;
 use json_lines::text::write_json_lines;
-use line_model::device::{Beginning, VecSink};
+use line_model::device::VecSink;
 use line_model::fault::{Fault, Kind};
 use line_model::finding::Finding;
 use line_model::state::Side;
 use live_report::row_text::put_row;
 use std::alloc::Global;
 use std::mem::replace;
+use streams::kept_line::KeptLine;
 
 /// The report as JSON lines.
 pub const JSON: u32 = 1;
 /// Rows as JSON lines, as they come, and last the report.
 pub const ROW_OBJECTS: u32 = 2;
-
-/// The most bytes that are kept of the last ones, except for one larger chunk.
-const MOST_RECENT: usize = 1 << 17;
 
 /// The most octets of a packet.
 const MOST_OCTETS: usize = 4200;
@@ -49,9 +47,6 @@ pub struct Scanning {
     text: VecSink<Global>,
     /// How many bytes of the text were returned.
     text_taken: usize,
-    /// The last bytes that were fed, in which the faulty line is looked for, and where they begin.
-    recent: Vec<u8>,
-    beginning: Beginning,
     /// Whether the last line has not ended.
     has_begun: bool,
     refused: Option<(u32, Kind)>,
@@ -85,30 +80,14 @@ impl Scanning {
             line: Vec::new(alloc),
             text: VecSink::new(Vec::new(alloc)),
             text_taken: 0,
-            recent: Vec::new(alloc),
-            beginning: Beginning::Text,
             has_begun: false,
             refused: None,
             advice: None,
         }
     }
 
-    /// Keeps the last bytes that are fed.
-    fn remember(&mut self, chunk: &[u8])
-        ensures reading { self.new.reading ≡ self.old.reading }
-        ensures findings { (self.new.found ≡ self.old.found) × (self.new.found_taken ≡ self.old.found_taken) }
-    {
-        if self.recent.len().saturating_add(chunk.len()) > MOST_RECENT && !self.recent.is_empty() {
-            self.recent.clear();
-            self.beginning = Beginning::Midst;
-        }
-        if self.recent.extend_from_slice(chunk).is_err() {
-            self.beginning = Beginning::Midst;
-        }
-    }
-
-    /// Keeps the fault of a refusal, and returns its number.
-    fn refuse(&mut self, alloc: Global, fault: Fault) -> u32
+    /// Keeps the fault of a refusal, and what is wrong with its line, and returns its number.
+    fn refuse(&mut self, alloc: Global, fault: Fault, line: Option<KeptLine>) -> u32
         ensures reading { self.new.reading ≡ self.old.reading }
         ensures findings { (self.new.found ≡ self.old.found) × (self.new.found_taken ≡ self.old.found_taken) }
         ensures number { result ≡ number_of fault }
@@ -123,8 +102,10 @@ impl Scanning {
                 None => false,
             };
             if !is_known {
-                let text = self.recent.as_slice();
-                self.advice = advice(alloc, kind, text, self.beginning).ok();
+                self.advice = match line {
+                    Some(kept) => advice(alloc, kind, kept.line()).ok(),
+                    None => None,
+                };
                 self.refused = Some((line, kind));
             }
         }
@@ -145,7 +126,10 @@ impl Scanning {
     {
         match self.reading.feed(chunk, &mut self.found) {
             Ok(()) => OK,
-            Err(fault) => self.refuse(alloc, fault),
+            Err(fault) => {
+                let line = self.reading.last_line(alloc);
+                self.refuse(alloc, fault, line)
+            }
         }
     }
 
@@ -165,7 +149,6 @@ impl Scanning {
         if self.reading.has_ended() {
             return ENDED;
         }
-        self.remember(chunk);
         let answer = self.feed_on(alloc, chunk);
         if let [.., last] = chunk {
             self.has_begun = *last != b'\n';
@@ -194,13 +177,12 @@ impl Scanning {
             return LINE;
         }
         match self.reading.packet(number, sender, octets, &mut self.found) {
-            Ok(true) => {
-                self.recent.clear();
-                self.beginning = Beginning::Line(number);
-                OK
-            }
+            Ok(true) => OK,
             Ok(false) => self.feed_row(alloc, number, sender, octets),
-            Err(fault) => self.refuse(alloc, fault),
+            Err(fault) => {
+                let line = self.reading.last_line(alloc);
+                self.refuse(alloc, fault, line)
+            }
         }
     }
 
@@ -305,7 +287,10 @@ impl Scanning {
         let mut lines = VecSink::new(Vec::new(alloc));
         match self.reading.report(alloc, &mut lines) {
             Ok(()) => self.put_report(alloc, form, lines),
-            Err(fault) => self.refuse(alloc, fault),
+            Err(fault) => {
+                let line = self.reading.last_line(alloc);
+                self.refuse(alloc, fault, line)
+            }
         }
     }
 
@@ -329,9 +314,10 @@ impl Scanning {
             return ARGUMENT;
         }
         let mut lines = VecSink::new(Vec::new(alloc));
+        let line = self.reading.last_line(alloc);
         match self.reading.end(alloc, &mut lines) {
             Ok(()) => self.put_report(alloc, form, lines),
-            Err(fault) => self.refuse(alloc, fault),
+            Err(fault) => self.refuse(alloc, fault, line),
         }
     }
 

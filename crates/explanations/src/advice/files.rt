@@ -1,6 +1,8 @@
 //! Files that are not traces, by their first bytes.
 
+use crate::advice::line::split_line;
 use crate::advice::sentence::quoting_sentence;
+use line_model::device::LastLine;
 use memchr::memmem;
 use std::alloc::{AllocError, Global};
 
@@ -133,9 +135,9 @@ const FORMS: [FileForm; 25] = [
 /// Returns what the input is, and what to do with it, where its first bytes are those of another kind of file: a byte
 /// order mark, UTF-16, a compressed file, a capture in pcap (also the modified form, of either byte order), pcapng or
 /// snoop, or a capture in a form that Wireshark converts into one of these.
-pub fn file_advice(text: &[u8]) -> Option<&'static str> {
+pub fn file_advice(first: &[u8]) -> Option<&'static str> {
     for form in FORMS.as_slice() {
-        if text.starts_with(form.magic) {
+        if first.starts_with(form.magic) {
             return Some(form.sentence);
         }
     }
@@ -151,10 +153,14 @@ fn is_like_trace(words: &[u8]) -> bool {
 }
 
 /// Returns that the input is not a trace, and how it begins, where its first line that is neither a comment nor blank
-/// is neither a header nor a row. Fails only when memory is refused.
-pub fn other_text_advice(alloc: Global, text: &[u8]) -> Result<Option<String>, AllocError> {
-    let mut begin: &[u8] = b"";
-    for line in text.split(|byte| *byte == b'\n') {
+/// is neither a header nor a row: the refused line, or one after it. Fails only when memory is refused.
+pub fn other_text_advice(
+    alloc: Global,
+    refused: LastLine<'_>,
+) -> Result<Option<String>, AllocError> {
+    let (first, _) = split_line(refused.first);
+    let mut begin = first.trim_ascii();
+    for line in refused.text.split(|byte| *byte == b'\n') {
         let words = line.trim_ascii();
         if begin.is_empty() {
             begin = words;

@@ -1,10 +1,9 @@
 //! What is wrong with the form of a header.
 
-use crate::advice::line::{begins_line, number_in, space_advice};
+use crate::advice::line::{number_in, space_advice};
 use crate::advice::quoted::quoted;
 use crate::advice::ranges::{Numbers, range_advice};
 use crate::advice::sentence::{fixed_sentence, quoting_sentence, some_sentence};
-use line_model::device::Beginning;
 use std::alloc::{AllocError, Global};
 
 /// A header of the first form, as an example.
@@ -184,7 +183,7 @@ fn form_advice(alloc: Global, words: &mut WordsLeft<'_>) -> Result<Option<String
 }
 
 /// Returns what is wrong with a header, if something is.
-fn header_advice(alloc: Global, line: &[u8]) -> Result<Option<String>, AllocError> {
+pub fn header_advice(alloc: Global, line: &[u8]) -> Result<Option<String>, AllocError> {
     match space_advice(alloc, line) {
         Ok(None) => first_line_advice(alloc, line),
         advice => advice,
@@ -199,20 +198,4 @@ fn first_line_advice(alloc: Global, line: &[u8]) -> Result<Option<String>, Alloc
         )),
         _ => words_advice(alloc, line),
     }
-}
-
-/// Returns what is wrong with the header among some lines, the first one that is not a comment.
-pub fn headers_advice(
-    alloc: Global,
-    text: &[u8],
-    beginning: Beginning,
-) -> Result<Option<String>, AllocError> {
-    let mut line_began = begins_line(beginning);
-    for line in text.split(|byte| *byte == b'\n') {
-        if line_began && !line.starts_with(b"#") {
-            return header_advice(alloc, line);
-        }
-        line_began = true;
-    }
-    Ok(None)
 }

@@ -1,23 +1,14 @@
 //! A line, its words and the spaces between them.
 
 use crate::advice::sentence::{fixed_sentence, some_sentence};
-use line_model::device::Beginning;
 use memchr::{memchr, memmem};
 use std::alloc::{AllocError, Global};
 
-/// Returns whether some bytes begin where the trace text does.
-pub fn is_whole(beginning: Beginning) -> bool {
-    match beginning {
-        Beginning::Text => true,
-        _ => false,
-    }
-}
-
-/// Returns whether some bytes begin with a line.
-pub fn begins_line(beginning: Beginning) -> bool {
-    match beginning {
-        Beginning::Midst => false,
-        _ => true,
+/// Returns the first line of a text, and what comes after it.
+pub fn split_line(text: &[u8]) -> (&[u8], &[u8]) {
+    match memchr(b'\n', text) {
+        Some(end) => text.split_at(end),
+        None => (text, b""),
     }
 }
 

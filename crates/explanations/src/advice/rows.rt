@@ -1,11 +1,11 @@
 //! What is wrong with a row.
 
 use crate::advice::line::{
-    RETURN, begins_line, empty_advice, ends_in_return, is_whole, number_in, space_advice,
+    RETURN, empty_advice, ends_in_return, number_in, space_advice, split_line,
 };
 use crate::advice::quoted::quoted;
 use crate::advice::sentence::{fixed_sentence, quoting_sentence, some_sentence};
-use line_model::device::Beginning;
+use line_model::device::LastLine;
 use line_model::fault::Kind;
 use std::alloc::{AllocError, Global};
 
@@ -14,9 +14,6 @@ const OCTET_LIMIT: usize = 4200;
 
 /// The greatest number of a logical channel.
 const CHANNELS: u32 = 4095;
-
-/// The place of the last logical channel among the words of a header with directions.
-const LAST_CHANNEL: usize = 15;
 
 /// The three words of a row.
 #[derive(Clone, Copy)]
@@ -45,18 +42,6 @@ fn row_words(line: &[u8]) -> Option<RowWords<'_>> {
 fn is_gap(row: RowWords<'_>) -> bool {
     row.side == b"?".as_slice()
 }
-
-/// Whether a line has the words of a gap row.
-fn is_gap_line(line: &[u8]) -> bool {
-    match row_words(line) {
-        Some(row) => is_gap(row),
-        None => false,
-    }
-}
-
-/// Returns the sentence on a gap row whose third word is wrong, where the header is not known.
-const GAP_CHANNEL: &str =
-    "The third word of a gap row is a logical channel from 1 to the header's OUT, or * for all.";
 
 /// Returns the sentence on a header among the rows.
 const SECOND_HEADER: &str =
@@ -91,11 +76,7 @@ fn word_count_advice(alloc: Global, line: &[u8]) -> Result<Option<String>, Alloc
 }
 
 /// Returns what is wrong with a number after that of the row before, if it is wrong.
-fn number_advice(
-    alloc: Global,
-    word: &[u8],
-    before: Option<u32>,
-) -> Result<Option<String>, AllocError> {
+fn number_advice(alloc: Global, word: &[u8], before: u32) -> Result<Option<String>, AllocError> {
     match number_in(word) {
         None => quoting_sentence(
             alloc,
@@ -109,24 +90,19 @@ fn number_advice(
 }
 
 /// Returns what is wrong with a number that does not rise above that of the row before.
-fn rise_advice(
-    alloc: Global,
-    number: u32,
-    before: Option<u32>,
-) -> Result<Option<String>, AllocError> {
-    match before {
-        Some(before) if number <= before => some_sentence(format!(in alloc;
-            "The row's number is {number}, and that of the row before is {before}: numbers rise."
-        )),
-        _ => Ok(None),
+fn rise_advice(alloc: Global, number: u32, before: u32) -> Result<Option<String>, AllocError> {
+    if number > before {
+        return Ok(None);
     }
+    some_sentence(format!(in alloc;
+        "The row's number is {number}, and that of the row before is {before}: numbers rise."
+    ))
 }
 
-/// Returns what is wrong with a side, if it is wrong. Where rows may be gap rows a `?` is right.
-fn side_advice(alloc: Global, word: &[u8], may_be_gap: bool) -> Result<Option<String>, AllocError> {
+/// Returns what is wrong with a side, if it is wrong.
+fn side_advice(alloc: Global, word: &[u8]) -> Result<Option<String>, AllocError> {
     match word {
         [b'T'] | [b'N'] => Ok(None),
-        [b'?'] if may_be_gap => Ok(None),
         [b't'] => fixed_sentence(alloc, "The side t is written T."),
         [b'n'] => fixed_sentence(alloc, "The side n is written N."),
         _ => quoting_sentence(
@@ -198,50 +174,17 @@ fn count_advice(alloc: Global, count: usize, front: usize) -> Result<Option<Stri
     Ok(None)
 }
 
-/// What the header says of gap rows.
-#[derive(Clone, Copy)]
-struct GapRules {
-    /// Whether the header is known.
-    are_known: bool,
-    /// Whether rows may be gap rows.
-    may_be: bool,
-    /// The last logical channel.
-    last: u32,
-}
-
-impl GapRules {
-    /// The header is not known.
-    const UNKNOWN: GapRules = GapRules {
-        are_known: false,
-        may_be: true,
-        last: CHANNELS,
-    };
-
-    /// Those of a header.
-    fn of_header(line: &[u8]) -> Self {
-        let last = match line.split(|byte| *byte == b' ').nth(LAST_CHANNEL) {
-            Some(word) => number_in(word).unwrap_or(CHANNELS),
-            None => CHANNELS,
-        };
-        GapRules {
-            are_known: true,
-            may_be: line.starts_with(b"X25 3 "),
-            last,
-        }
-    }
-}
-
 /// Returns what is wrong with the words of a row by a rule, if it breaks that rule.
 fn words_advice(
     alloc: Global,
     kind: Kind,
     row: RowWords<'_>,
-    place: RowContext<'_>,
+    refused: LastLine<'_>,
 ) -> Result<Option<String>, AllocError> {
     match kind {
-        Kind::Number => number_advice(alloc, row.number, place.before),
-        Kind::Side => side_advice(alloc, row.side, place.gaps.may_be),
-        Kind::Hex if is_gap(row) => gap_advice(alloc, row.octets, place.gaps.last),
+        Kind::Number => number_advice(alloc, row.number, refused.number_before),
+        Kind::Side => side_advice(alloc, row.side),
+        Kind::Hex if is_gap(row) => gap_advice(alloc, row.octets, last_channel(refused)),
         Kind::Hex => {
             let front = row.number.len().saturating_add(row.side.len());
             octets_advice(alloc, row.octets, front.saturating_add(2))
@@ -250,132 +193,24 @@ fn words_advice(
     }
 }
 
-/// A row, and what was read on both sides of it.
-#[derive(Clone, Copy)]
-struct RowContext<'a> {
-    line: &'a [u8],
-    /// The number of the row before, where it is known.
-    before: Option<u32>,
-    /// The bytes after it.
-    after: &'a [u8],
-    gaps: GapRules,
-}
-
-/// Returns what is wrong with a row by a rule, if it breaks that rule.
-fn row_advice(
-    alloc: Global,
-    kind: Kind,
-    place: RowContext<'_>,
-) -> Result<Option<String>, AllocError> {
-    match row_words(place.line) {
-        Some(row) => words_advice(alloc, kind, row, place),
-        None if kind == Kind::LineForm => form_advice(alloc, place.line, place.after),
-        None => Ok(None),
+/// The last logical channel of the header.
+fn last_channel(refused: LastLine<'_>) -> u32 {
+    match refused.interface {
+        Some(interface) => u32::from(interface.svc),
+        None => CHANNELS,
     }
 }
 
-/// The number of a row.
-fn row_number(line: &[u8]) -> Option<u32> {
+/// Returns what is wrong with a refused row by a rule, if it breaks that rule.
+pub fn row_advice(
+    alloc: Global,
+    kind: Kind,
+    refused: LastLine<'_>,
+) -> Result<Option<String>, AllocError> {
+    let (line, after) = split_line(refused.text);
     match row_words(line) {
-        Some(row) => number_in(row.number),
-        None => None,
-    }
-}
-
-/// What was seen of some lines, up to one of them. Lines that don't begin with the text may have its header among them,
-/// before all rows.
-#[derive(Drop)]
-struct LinesSeen {
-    header_came: bool,
-    /// Whether the next line is whole.
-    line_began: bool,
-    row_came: bool,
-    /// Whether a line like a header came before all rows.
-    may_have_header: bool,
-    /// Whether a row like a gap row came.
-    gap_came: bool,
-    gaps: GapRules,
-}
-
-impl LinesSeen {
-    /// Returns the value before the first line.
-    fn none(beginning: Beginning) -> Self {
-        LinesSeen {
-            header_came: !is_whole(beginning),
-            line_began: begins_line(beginning),
-            row_came: begins_line(beginning),
-            may_have_header: false,
-            gap_came: false,
-            gaps: GapRules::UNKNOWN,
-        }
-    }
-
-    /// Records the next line, and returns whether it is a row.
-    fn see(&mut self, line: &[u8]) -> bool {
-        let may_be_header = self.line_began && !self.row_came && is_like_header(line);
-        let is_other = line.starts_with(b"#") || may_be_header;
-        let is_row = self.line_began && self.header_came && !is_other;
-        if !self.header_came && !is_other {
-            self.gaps = GapRules::of_header(line);
-        }
-        self.header_came = self.header_came || !is_other;
-        self.line_began = true;
-        self.row_came = self.row_came || is_row;
-        self.gap_came = self.gap_came || (is_row && is_gap_line(line));
-        self.may_have_header = self.may_have_header || may_be_header;
-        is_row
-    }
-}
-
-/// The number of the row before some bytes, where it is known.
-fn number_before(beginning: Beginning) -> Option<u32> {
-    match beginning {
-        Beginning::Text => Some(0),
-        Beginning::Line(number) => Some(number),
-        Beginning::Midst => None,
-    }
-}
-
-/// Returns what is wrong with the first row of some lines that breaks a rule, if one does. A line like a header is a
-/// faulty row where a row came before it, or where no other line breaks the rule.
-pub fn rows_advice(
-    alloc: Global,
-    kind: Kind,
-    text: &[u8],
-    beginning: Beginning,
-) -> Result<Option<String>, AllocError> {
-    let mut seen = LinesSeen::none(beginning);
-    let mut before = number_before(beginning);
-    let mut end: usize = 0;
-    // No line begins after the line feed at the end.
-    let lines = text.strip_suffix(b"\n").unwrap_or(text);
-    for line in lines.split(|byte| *byte == b'\n') {
-        end = end.saturating_add(line.len());
-        if seen.see(line) {
-            let after = text.get(end..).unwrap_or(b"");
-            let place = RowContext {
-                line,
-                before,
-                after,
-                gaps: seen.gaps,
-            };
-            match row_advice(alloc, kind, place) {
-                Ok(None) => before = row_number(line),
-                advice => return advice,
-            }
-        }
-        end = end.saturating_add(1);
-    }
-    seen_advice(alloc, kind, &seen)
-}
-
-/// Returns what is wrong with some lines where none of them shows it alone, if something is.
-fn seen_advice(alloc: Global, kind: Kind, seen: &LinesSeen) -> Result<Option<String>, AllocError> {
-    let may_be_gap = seen.gap_came && !seen.gaps.are_known;
-    match kind {
-        Kind::LineForm if seen.may_have_header => fixed_sentence(alloc, SECOND_HEADER),
-        Kind::Side if may_be_gap => side_advice(alloc, b"?", false),
-        Kind::Hex if may_be_gap => fixed_sentence(alloc, GAP_CHANNEL),
-        _ => Ok(None),
+        Some(row) => words_advice(alloc, kind, row, refused),
+        None if kind == Kind::LineForm => form_advice(alloc, line, after),
+        None => Ok(None),
     }
 }

@@ -3,16 +3,16 @@
 ghost use Rattle.streams.specs.OpenFaults.{IsByItsReason};
 
 use command_line::program::program;
-use line_model::device::{Beginning, Sink, Source};
-use std::alloc::{AllocError, Global};
+use line_model::device::{LastLine, Sink, Source};
+use std::alloc::Global;
 use std::io;
 use std::io::ErrorKind;
 use std::sync::Wait;
 use std::thread::Threads;
 use std::time::{Clock, Duration};
-use streams::first_bytes::FirstBytes;
-use streams::input::{Input, LastText, OpenRefusal};
+use streams::input::{Input, OpenRefusal};
 use streams::io::{FileInput, WriteSink};
+use streams::kept_line::KeptLine;
 use streams::opener::Opener;
 use streams::output::Output;
 use streams::progress::{Progress, ShowProgress};
@@ -37,10 +37,9 @@ fn missing() -> OpenRefusal
 /// A source that cuts and fails, and opens no file.
 #[derive(Drop)]
 struct CutInput<'a> {
+    alloc: Global,
     source: CutSource<'a>,
-    /// The whole text of the source.
-    text: &'a [u8],
-    begun: FirstBytes,
+    last_line: Option<KeptLine>,
 }
 
 impl Source for CutInput<'_> {
@@ -57,13 +56,15 @@ impl Source for CutInput<'_> {
     ghost failures = { λ s. s.source.failures };
 
     fn read(&mut self) -> Result<(), ()> {
-        self.source.read()?;
-        self.begun.keep(self.source.latest);
-        Ok(())
+        self.source.read()
     }
 
     fn latest(&self) -> &[u8] {
         self.source.latest
+    }
+
+    fn keep_line(&mut self, line: LastLine<'_>) {
+        self.last_line = KeptLine::of(self.alloc, line);
     }
 }
 
@@ -88,18 +89,11 @@ impl Input for CutInput<'_> {
         None
     }
 
-    fn begun(&self) -> &FirstBytes {
-        &self.begun
-    }
-
-    fn last_text(&self, alloc: Global) -> Result<LastText, AllocError> {
-        let given = self.text.len().saturating_sub(self.source.rest.len());
-        let mut text = Vec::new(alloc);
-        text.extend_from_slice(&self.text[..given])?;
-        Ok(LastText {
-            text,
-            beginning: Beginning::Text,
-        })
+    fn last_line(&self) -> Option<LastLine<'_>> {
+        match &self.last_line {
+            Some(kept) => Some(kept.line()),
+            None => None,
+        }
     }
 
     fn show_progress(&mut self, _when: ShowProgress) {}
@@ -142,9 +136,9 @@ pub fn run<R: Threads + Wait + Clock + Sync>(
     cuts: Cuts,
 ) -> Ran {
     let mut source = CutInput {
+        alloc,
         source: CutSource::new(text, cuts),
-        text,
-        begun: FirstBytes::new(alloc),
+        last_line: None,
     };
     let mut sink = CutOutput {
         sink: CutSink::new(alloc, cuts),

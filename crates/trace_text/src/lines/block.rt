@@ -8,6 +8,7 @@ ghost use Rattle.trace_text.specs.Blocks.{HasPassed, IsAtRows, IsBlock, IsHeadin
 ghost use Rattle.trace_text.specs.Represents.{Represents};
 
 use crate::lines::{Lines, TEXT_LIMIT};
+use arrayvec::ArrayVec;
 use line_model::interface::Interface;
 use std::alloc::Allocator;
 
@@ -41,6 +42,7 @@ impl<A: Allocator> Lines<A> {
             interface: Some(*interface),
             last: 0,
             begun: Vec::new(alloc),
+            first: ArrayVec::new(),
             refused: None,
         }
     }

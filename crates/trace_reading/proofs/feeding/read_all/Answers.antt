@@ -16,16 +16,16 @@ read_text-requires-clause-expected g c = plan_expected g.P.Plan.pieces g.P.Trace
 
 -- ---- the source has ended
 
-pub take_rest-requires-clause-held : goal.take_rest-requires-clause-held
-take_rest-requires-clause-held g c = c.in-Ok.ensures.whole.fed.held
+pub take_room-requires-clause-held : goal.take_room-requires-clause-held
+take_room-requires-clause-held g c = c.in-Ok.ensures.whole.fed.held
 
-pub returns-in-Err-take_rest-clause-read : goal.returns-in-Err-take_rest-clause-read
-returns-in-Err-take_rest-clause-read g c =
+pub returns-in-Err-take_room-clause-read : goal.returns-in-Err-take_room-clause-read
+returns-in-Err-take_room-clause-read g c =
     let w = c.in-Ok.ensures.whole in
-    let refused = c.in-Err-take_rest.fault in
-    let within = subst (λ n. IsFaultWithin g.P.TraceText.text n refused) (sym w.fed.size) c.in-Err-take_rest.ensures.refused in
-    has_read g.P.TraceText.text (g.S.Source.left c.args.source.now) (g.S.Source.left c.read_text.new.source) (g.S.Source.before c.read_text.new.source) _ _ c.take_rest.new.pass.pieces (Err refused) c.requires.text w (λ all e. tt) tt
-    (λ all e. end_stopped g.P.TraceText.text _ _ _ _ refused all c.requires.text w within e) within.kinds
+    let refused = c.in-Err-take_room.fault in
+    let within = subst (λ n. IsFaultWithin g.P.TraceText.text n refused) (sym w.fed.size) c.in-Err-take_room.ensures.refused in
+    rw (c.keep_line.ensures.left, c.keep_line.ensures.before, c.keep_line.ensures.failures) (has_read g.P.TraceText.text (g.S.Source.left c.args.source.now) (g.S.Source.left c.read_text.new.source) (g.S.Source.before c.read_text.new.source) _ _ c.take_room.new.pass.pieces (Err refused) c.requires.text w (λ all e. tt) tt
+    (λ all e. end_stopped g.P.TraceText.text _ _ _ _ refused all c.requires.text w within e) within.kinds)
 
 pub finish-requires-clause-ready : goal.finish-requires-clause-ready
 finish-requires-clause-ready g c =
@@ -44,11 +44,11 @@ returns-in_default-clause-read g c =
     let size : length so.taken ≡ length w.text = sym (taken_length so.taken _ so.cut.taken) ∙ c.in_default.ensures.all ∙ c.in_default.ensures.sent ∙ sym w.fed.size in
     let is = all_taken g.P.TraceText.text w.text so.taken w.fed.begins so.begins size in
     let shown : (all : List ℕ) → g.S.Source.left c.args.source.now ≡ Some all → so.taken ≡ w.text = λ all e. shown_taken g.P.TraceText.text (g.S.Source.left c.args.source.now) w.text so.taken all c.requires.text is e in
-    has_read g.P.TraceText.text (g.S.Source.left c.args.source.now) (g.S.Source.left c.read_text.new.source) (g.S.Source.before c.read_text.new.source) _ _ c.finish.new.pass.pieces c.finish.result c.requires.text w
+    rw (c.keep_line-in-Ok.ensures.left, c.keep_line-in-Ok.ensures.before, c.keep_line-in-Ok.ensures.failures) (has_read g.P.TraceText.text (g.S.Source.left c.args.source.now) (g.S.Source.left c.read_text.new.source) (g.S.Source.before c.read_text.new.source) _ _ c.finish.new.pass.pieces c.finish.result c.requires.text w
     (λ all e. subst (λ t. IfOk c.finish.result (IsReadOf t c.finish.new.pass.pieces)) (shown all e) (c.finish.ensures.read so.taken so.cut))
     (IfOk-weaker c.finish.result _ _ (λ read h. (so.taken, h)) (c.finish.ensures.read so.taken so.cut))
     (λ all e. subst (λ t. IfErr c.finish.result (IsRefusal (lag_of g.P.TraceText.text) t [])) (shown all e) (IfErr-weaker c.finish.result _ _ (λ f h. at_end (lag_of g.P.TraceText.text) so.taken f so.cut.taken.reads.sound h) (c.finish.ensures.refused so.taken so.cut)))
-    c.finish.ensures.kinds
+    c.finish.ensures.kinds)
 
 -- ---- reading has stopped
 
@@ -57,8 +57,8 @@ last_fault-last-requires-clause-held g c = let u = c.in-Err.ensures.stopped in s
 
 pub returns-in-Err-clause-read : goal.returns-in-Err-clause-read
 returns-in-Err-clause-read g c =
-    stop_read g.P.TraceText.text (g.S.Source.left c.args.source.now) (g.S.Source.left c.read_text.new.source) (g.S.Source.before c.read_text.new.source) _ _ _ _ _ _ _ c.last_fault-last.new.pass.pieces c.in-Err.fault c.last_fault-last.result c.requires.text c.in-Err.ensures.stopped
-    c.last_fault-last.ensures.other c.last_fault-last.ensures.read (λ e. c.in-Err.ensures.read_failed (ap (λ f. Err f) e))
+    rw (c.keep_line-in-Err.ensures.left, c.keep_line-in-Err.ensures.before, c.keep_line-in-Err.ensures.failures) (stop_read g.P.TraceText.text (g.S.Source.left c.args.source.now) (g.S.Source.left c.read_text.new.source) (g.S.Source.before c.read_text.new.source) _ _ _ _ _ _ _ c.last_fault-last.new.pass.pieces c.in-Err.fault c.last_fault-last.result c.requires.text c.in-Err.ensures.stopped
+    c.last_fault-last.ensures.other c.last_fault-last.ensures.read (λ e. c.in-Err.ensures.read_failed (ap (λ f. Err f) e)))
 
 pub returns-in-Err-clause-kept : goal.returns-in-Err-clause-kept
 returns-in-Err-clause-kept g c = let u = c.in-Err.ensures.stopped in (c.last_fault-last.ensures.fed c.args.pass.now (stop_fed g.P.TraceText.text _ _ _ _ _ _ u.fed u.last c.in-Err.fault u.why)).kept

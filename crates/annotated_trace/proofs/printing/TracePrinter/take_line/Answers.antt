@@ -10,8 +10,8 @@ returns-clause-fed g c choice text front s k one =
     let end = c.args.end.now in
     let l = begun_line text ++ front in
     let lines = ended_by text front end k one in
-    let read = c.in_ok-feed.ensures.represented text s.trace.0 in
-    let found = sym (ap found_in lines) ∙ c.in_ok-feed.ensures.found text s.trace.0 in
+    let read = c.in_default.ensures.represented text s.trace.0 in
+    let found = sym (ap found_in lines) ∙ c.in_default.ensures.found text s.trace.0 in
     record {
       trace = (
         subst (λ w. g.O.TraceObserver.represents w (text ++ end)) (sym c.print_line.ensures.trace) read,
@@ -26,7 +26,7 @@ returns-clause-held g c choice text front sent s k one h =
     let end = c.args.end.now in
     let l = begun_line text ++ front in
     let lines = ended_by text front end k one in
-    let found = sym (ap found_in lines) ∙ c.in_ok-feed.ensures.found text s.trace.0 in
-    let put = c.in_ok-print_line.ensures.form (ended_lines text) l (text ++ end) s.trace.1 (c.in_ok-feed.ensures.represented text s.trace.0) lines found (whole_line text front end c.args.self.now.begun.items k s.begun) in
+    let found = sym (ap found_in lines) ∙ c.in_default.ensures.found text s.trace.0 in
+    let put = c.in_ok-print_line.ensures.form (ended_lines text) l (text ++ end) s.trace.1 (c.in_default.ensures.represented text s.trace.0) lines found (whole_line text front end c.args.self.now.begun.items k s.begun) in
     line_printed (g.P.Printer.form choice) text front end sent c.args.self.now.held.items c.print_line.new.self.held.items k one h
     (subst (λ r. HasAppended (g.P.Printer.form r (ended_lines text) l) c.args.self.now.held.items c.print_line.new.self.held.items) s.trace.2 put)

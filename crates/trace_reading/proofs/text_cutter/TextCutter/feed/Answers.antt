@@ -5,10 +5,10 @@ use Rattle.trace_reading.proofs.text_cutter.TextCutter.feed.Goals as goal
 pub feed_into-requires : goal.feed_into-requires
 feed_into-requires g c = c.requires
 
-pub returns-in-Ok-clause-taken : goal.returns-in-Ok-clause-taken
-returns-in-Ok-clause-taken g c = c.in-Ok.ensures.taken
+pub returns-clause-taken : goal.returns-clause-taken
+returns-clause-taken g c = c.in_ok-feed_into.ensures.taken
 
-pub returns-in-Ok-clause-pieces : goal.returns-in-Ok-clause-pieces
-returns-in-Ok-clause-pieces g c text taken =
-    let more = c.in-Ok.ensures.pieces text taken in
+pub returns-clause-pieces : goal.returns-clause-pieces
+returns-clause-pieces g c text taken =
+    let more = c.in_ok-feed_into.ensures.pieces text taken in
     more.known_has ∙ ap (λ l. known_pieces text ++ l) (sym (more.out_has ∙ ap (λ l. l ++ more.more) c.new-pieces.ensures.items))

@@ -1,12 +1,13 @@
 use Rattle.trace_text.specs.Progress.{Progress}
-use Rattle.std.proofs.Common.{Err, ◌++◌, ◌∙◌, sym, ap}
+use Rattle.trace_text.specs.Represents.{Represents}
+use Rattle.std.proofs.Common.{◌++◌, ◌∙◌, sym, subst, ap}
 use Rattle.line_model.specs.text.Text.{early_rows}
 use Rattle.trace_text.proofs.RefusalLemmas.{appended-of, is-running}
 use Rattle.trace_text.proofs.lines.Lines.feed.Goals as goal
 
-pub returns-in-Err-clause-rows_appended : goal.returns-in-Err-clause-rows_appended
-returns-in-Err-clause-rows_appended g c text rows s e =
-    appended-of {T = Unit {0}} (Err c.in-Err.fault) c.args.out.now.items c.feed_rows.new.out.items rows (early_rows text) (early_rows (text ++ c.args.chunk.now)) (c.in-Err.ensures.appended text s) e
+pub returns-clause-rows_appended : goal.returns-clause-rows_appended
+returns-clause-rows_appended g c text rows s e =
+    appended-of {T = Unit {0}} c.feed_rows-fed.result c.args.out.now.items c.feed_rows-fed.new.out.items rows (early_rows text) (early_rows (text ++ c.args.chunk.now)) (c.feed_rows-fed.ensures.appended text (subst (λ p. Represents p text) (sym c.keep_first.ensures) s)) e
 
 pub returns-in-Some-clause-refused : goal.returns-in-Some-clause-refused
 returns-in-Some-clause-refused g c text s = absurd (is-running c.args.self.now text c.in-Some.fault s (ap (λ (p : Progress). p.refused) (sym c.self.view_is) ∙ c.in-Some.is))

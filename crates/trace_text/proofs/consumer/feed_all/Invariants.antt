@@ -1,6 +1,6 @@
 use Rattle.std.proofs.Common.{◌+◌, ◌-◌, ◌≤◌}
 use Rattle.trace_text.proofs.SourceLemmas.{Reached}
-use Rattle.trace_text.proofs.consumer.read_to_end.Given as goal
+use Rattle.trace_text.proofs.consumer.feed_all.Given as goal
 
 abbrev pub invariant-loop-source : goal.invariant-loop-source
 invariant-loop-source g l = record {

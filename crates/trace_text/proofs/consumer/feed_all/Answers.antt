@@ -5,7 +5,7 @@ use Rattle.std.proofs.lemmas.List.{nil_from_length}
 use Rattle.std.proofs.lemmas.Result.{IfOk-from_err}
 use Rattle.line_model.specs.basics.Device.{Gives}
 use Rattle.trace_text.proofs.SourceLemmas.{all_read, begins_so, begun, failed_read, given_more, passed_on, refused_at}
-use Rattle.trace_text.proofs.consumer.read_to_end.Goals as goal
+use Rattle.trace_text.proofs.consumer.feed_all.Goals as goal
 
 pub loop-source-init : goal.loop-source-init
 loop-source-init g c = record {
