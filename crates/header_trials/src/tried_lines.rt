@@ -6,7 +6,7 @@ ghost use Rattle.std.specs.List.Sorted.{IsNonDecreasingBy, IsPermutation};
 ghost use Rattle.line_model.specs.basics.Written.{PutsTo, TakesAll, TakesFront};
 ghost use Rattle.line_model.specs.declared.fault.Fault.TheVariants.{Memory};
 ghost use Rattle.line_model.specs.declared.interface.Interface.{Interface as AnyInterface};
-ghost use Rattle.header_trials.specs.TriedLines.{column, fewest, first_numbers, form_word, header_line, is_first_form, joining, named, ranges, rank, reaction_columns, reaction_rank, tally_columns, tally_rank, tried_by, tried_line, tried_text, tried_with};
+ghost use Rattle.header_trials.specs.TriedLines.{column, fewest, first_numbers, form_word, header_line, is_first_form, joining, named, ranges, rank, reaction_rank, tally_rank, tried_by, tried_line, tried_text, tried_with};
 ghost use Rattle.header_trials.specs.Trials.{AreTrials, SaidRows};
 
 use crate::reactions::Reactions;
@@ -86,15 +86,6 @@ fn outcomes<A: Allocator + Copy, C: Channel<A>>(
     Ok(tried)
 }
 
-/// Sorts the headers, the best first.
-fn sorted<A: Allocator>(mut tried: Vec<Tried, A>) -> Vec<Tried, A>
-    ensures permutation { IsPermutation tried.items result.items }
-    ensures sorted { IsNonDecreasingBy rank result.items }
-{
-    tried.sort_unstable_by(|one, other| one.compare(other));
-    tried
-}
-
 /// Returns the counts of the rows under each header, best first. Fails only when memory is refused.
 pub fn best_first<A: Allocator + Copy, C: Channel<A>>(
     alloc: A,
@@ -107,8 +98,9 @@ pub fn best_first<A: Allocator + Copy, C: Channel<A>>(
     ensures sorted { IfOk result (λ tried. IsNonDecreasingBy rank tried.items) }
     ensures memory { IfErr result (λ fault. fault ≡ Memory) }
 {
-    let tried = outcomes(alloc, trials)?;
-    Ok(sorted(tried))
+    let mut tried = outcomes(alloc, trials)?;
+    tried.sort_unstable_by(|one, other| one.compare(other));
+    Ok(tried)
 }
 
 /// Returns the findings of the first line.
@@ -139,24 +131,6 @@ fn put_column<W: Sink>(out: &mut WriteBuffer, sink: &mut W, width: usize, number
     let digits = buffer.format(number).as_bytes();
     out.put(sink, &SPACES[..width.saturating_sub(digits.len())]);
     out.put(sink, digits);
-}
-
-/// Puts how the DCE reacted.
-fn put_reactions<W: Sink>(out: &mut WriteBuffer, sink: &mut W, reactions: Reactions)
-    ensures { PutsTo W.Sink sink.old sink.new out.old out.new (reaction_columns reactions) }
-{
-    put_column(out, sink, 10, reactions.answered);
-    put_column(out, sink, 11, reactions.unanswered);
-    put_column(out, sink, 12, reactions.unexplained);
-}
-
-/// Puts what was counted.
-fn put_tally<W: Sink>(out: &mut WriteBuffer, sink: &mut W, tally: TrialCounts)
-    ensures { PutsTo W.Sink sink.old sink.new out.old out.new (tally_columns tally) }
-{
-    put_column(out, sink, 11, tally.findings);
-    put_column(out, sink, 11, tally.packets);
-    put_column(out, sink, 11, tally.octets);
 }
 
 /// Puts the numbers that all forms of a header begin with.
@@ -219,12 +193,16 @@ fn put_header<W: Sink>(out: &mut WriteBuffer, sink: &mut W, header: &Interface)
     }
 }
 
-/// Writes the line of a header.
+/// Writes the line of a header: how the DCE reacted, and what was counted.
 fn put_line<W: Sink>(out: &mut WriteBuffer, sink: &mut W, tried: &Tried)
     ensures { PutsTo W.Sink sink.old sink.new out.old out.new (tried_line tried.now) }
 {
-    put_reactions(out, sink, tried.reactions);
-    put_tally(out, sink, tried.tally);
+    put_column(out, sink, 10, tried.reactions.answered);
+    put_column(out, sink, 11, tried.reactions.unanswered);
+    put_column(out, sink, 12, tried.reactions.unexplained);
+    put_column(out, sink, 11, tried.tally.findings);
+    put_column(out, sink, 11, tried.tally.packets);
+    put_column(out, sink, 11, tried.tally.octets);
     out.put(sink, b"  ");
     put_header(out, sink, &tried.header);
 }
