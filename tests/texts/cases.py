@@ -21,7 +21,7 @@ SECOND_HEADER = "This is a second header, as in joined traces. Where the row num
 CAPTURE = "This is a capture: x25page FILE shows it, and x25trace FILE | x25scan prints its report."
 TURNED = "This is {} {} file: editcap -F pcapng FILE OUT.pcapng, of Wireshark, turns it into one that x25page reads."
 TOO_LARGE = "The text has more than 2^30 bytes: cut it after a restart confirmation, and begin each part with the header (/usr/share/doc/x25scan/GUIDE.md has the command)."
-# More rows, and more comments, than the last bytes that a refusal is explained by.
+# More rows, and more comments, than one read gives.
 MANY = b"".join(b"%d T 1000FB0000\n" % number for number in range(1, 20000))
 COMMENTS = b"# no row\n" * 20000
 # As many rows after them, which workers may have read by then.
