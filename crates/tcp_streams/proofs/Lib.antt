@@ -1,0 +1,5 @@
+mod Passing
+mod Copies
+mod Order
+mod Tiled
+mod Events

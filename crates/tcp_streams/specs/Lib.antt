@@ -1,0 +1,5 @@
+pub mod Numbers
+pub mod Pieces
+pub mod Flows
+pub mod Connections
+pub mod Tiles
