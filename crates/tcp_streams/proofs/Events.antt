@@ -1,11 +1,11 @@
 -- What comes next in a connection is the next tile of its direction.
 use Rattle.std.proofs.Common.{◌≡◌, ◌⊎◌, ◌∙◌, inl, inr, refl, sym, ap, subst, ℕ, ◌+◌, ◌-◌, ◌==◌, ◌<◌, ◌≤◌, nat_lt, nat_le, Bool, true, false, List, [], ◌∷◌, ◌++◌, Option, Some, None, IfSome, unwrap_or, arith}
-use Rattle.std.proofs.lemmas.Bool.{and_parts, cases_Bool, leb-true, ltb-false, ltb-true, ne_eqb}
+use Rattle.std.proofs.lemmas.Bool.{and_parts, cases_Bool, leb-true, ltb-true}
 use Rattle.std.proofs.lemmas.List.{append-nil}
 use Rattle.std.proofs.lemmas.Option.{cond_some}
 use Rattle.tcp_streams.specs.Numbers.{awaited}
 use Rattle.tcp_streams.specs.Flows.{given_out}
-use Rattle.tcp_streams.specs.Connections.{Next, given, given_by, is_overdue, lacking, last_by, last_event, lost, lost_at_last, lost_if, lower, may_go, missing, missing_at, missing_by, missing_for, next_by, next_event, other, other_end, own, passed_to, place_of, ready_frame, ready_of, turn, up_to, first_frame, with_flows}
+use Rattle.tcp_streams.specs.Connections.{Next, given, given_by, has_next, is_first_at, is_overdue, lacking, last_by, last_event, lost, lost_at_last, lost_if, lower, may_go, missing, missing_at, missing_by, missing_for, next_by, next_event, other, other_end, own, passed_to, place_of, ready_frame, ready_of, turn, up_to, first_frame, with_flows}
 use Rattle.tcp_streams.specs.Tiles.{AreOrdered, Given, IsTiled, Missing, Tile, tile_of, tiles_if}
 use Rattle.tcp_streams.specs.declared.connection.Connection.{Connection}
 use Rattle.tcp_streams.specs.declared.connection.End.{End}
@@ -62,11 +62,6 @@ turn_at : (c : Connection) (d : End) → turn c ≡ Some d → AtNext (own d c)
 turn_at c Opener h = let r = lower_at (ready_frame c.opener c.answerer) (ready_frame c.answerer c.opener) Opener h in ready_at c.opener c.answerer r.0 r.1
 turn_at c Answerer h = let r = lower_at (ready_frame c.opener c.answerer) (ready_frame c.answerer c.opener) Answerer h in ready_at c.answerer c.opener r.0 r.1
 
--- the first of some pieces
-abbrev first_or : List Piece → Piece → Piece
-first_or [] q = q
-first_or (p ∷ ps) q = p
-
 -- the place that is next, and the order of what waits from it on
 next_is : (f : Flow) (n : ℕ) → f.next ≡ Some n → place_of f ≡ n
 next_is f n known = ap (λ o. unwrap_or o 0) known
@@ -78,53 +73,52 @@ ordered_from n k g (p ∷ ps) place o = let begins = o.0.begins in
 
 -- the gap before a piece of its own direction, and that before its answer
 abbrev own_gap : End → Piece → Flow → found.Missing
-own_gap d p f = record { by = d; gap = record { end = d; octets = p.at - place_of f; recorded = p.recorded }; until = p.at }
+own_gap d p f = record { gap = record { end = d; octets = p.at - place_of f; recorded = p.recorded }; until = p.at }
 
 abbrev other_gap : End → Piece → Flow → found.Missing
-other_gap d p g = record { by = d; gap = record { end = other_end d; octets = lacking p g; recorded = p.recorded }; until = place_of g + lacking p g }
+other_gap d p g = record { gap = record { end = other_end d; octets = lacking p g; recorded = p.recorded }; until = place_of g + lacking p g }
 
--- a gap that has octets
+-- a piece that has the next octets is at its next place
+next_at : (d : End) (c : Connection) → has_next d c ≡ true → AtNext (own d c)
+next_at d c h p ps n waits known =
+    let P : List Piece → Type 0 = λ l. is_first_at (place_of (own d c)) l ≡ true in
+    let here : nat_le p.at (place_of (own d c)) ≡ true = subst P waits h in
+    let place = next_is (own d c) n known in
+    let below = leb-true p.at (place_of (own d c)) here in omega (arith, below, place)
+
+-- a gap is given up that fits, or the piece that has its octets goes
 gap_event : (e : End) (m : found.Missing) (c : Connection) (segments : List Piece) (first : ℕ) (ts : List Tile) → IsTiled (own e c) segments first ts
-    → (m.gap.octets == 0) ≡ false → ((x : IsTiled (own m.gap.end c) segments first ts) → (x.next + m.gap.octets ≡ m.until) × AreOrdered m.until (own m.gap.end c).waiting)
-    → Goes e c segments first ts (lost m c)
-gap_event e m c segments first ts x some fits = rw some
-    (changed e m.gap.end c (passed_to m.until (own m.gap.end c)) (Missing m.gap.octets) segments first ts x
-    (λ same. let P : End → Type 0 = λ k. IsTiled (own k c) segments first ts in
-    let y = subst P same x in let z = fits y in passed_tiled (own m.gap.end c) segments first ts m.gap.octets m.until y z.0 z.1))
-
--- no octets are missing
-no_gap_event : (e : End) (m : found.Missing) (c : Connection) (segments : List Piece) (first : ℕ) (ts : List Tile) → IsTiled (own e c) segments first ts
-    → (m.gap.octets == 0) ≡ true → AtNext (own m.by c) → Goes e c segments first ts (lost m c)
-no_gap_event e m c segments first ts x none ready = rw none (given_event e m.by c segments first ts x ready)
+  → ((x : IsTiled (own m.gap.end c) segments first ts) → (x.next + m.gap.octets ≡ m.until) × AreOrdered m.until (own m.gap.end c).waiting)
+  → Goes e c segments first ts (lost m c)
+gap_event e m c segments first ts x fits = elim (cases_Bool (has_next m.gap.end c)) [
+  | inl there ↦ rw there (given_event e m.gap.end c segments first ts x (next_at m.gap.end c there))
+  | inr none ↦ rw none (changed e m.gap.end c (passed_to m.until (own m.gap.end c)) (Missing m.gap.octets) segments first ts x
+      (λ same. let P : End → Type 0 = λ k. IsTiled (own k c) segments first ts in
+        let y = subst P same x in let z = fits y in passed_tiled (own m.gap.end c) segments first ts m.gap.octets m.until y z.0 z.1))
+]
 
 -- what is missing is given up
 own_lost : (e d : End) (c : Connection) (segments : List Piece) (first : ℕ) (ts : List Tile) (p : Piece) (ps : List Piece)
-    → IsTiled (own e c) segments first ts → (own d c).waiting ≡ p ∷ ps → 0 < p.at - place_of (own d c) → Goes e c segments first ts (lost (own_gap d p (own d c)) c)
-own_lost e d c segments first ts p ps x waits more = gap_event e (own_gap d p (own d c)) c segments first ts x (ne_eqb _ 0 (λ z. omega (arith, more, z)))
+  → IsTiled (own e c) segments first ts → (own d c).waiting ≡ p ∷ ps → 0 < p.at - place_of (own d c) → Goes e c segments first ts (lost (own_gap d p (own d c)) c)
+own_lost e d c segments first ts p ps x waits more = gap_event e (own_gap d p (own d c)) c segments first ts x
     (λ y. let place = next_is (own d c) y.next y.known in
-    let O : List Piece → Type 0 = λ l. AreOrdered y.next l in let o = subst O waits y.ordered in
-    let Q : List Piece → Type 0 = λ l. AreOrdered p.at l in
-    (omega (arith, more, place), subst Q (sym waits) (record { begins = omega arith; some = o.0.some; octets = o.0.octets }, o.1)))
+      let O : List Piece → Type 0 = λ l. AreOrdered y.next l in let o = subst O waits y.ordered in
+      let Q : List Piece → Type 0 = λ l. AreOrdered p.at l in
+      (omega (arith, more, place), subst Q (sym waits) (record { begins = omega arith; some = o.0.some; octets = o.0.octets }, o.1)))
 
-other_lost : (e d : End) (c : Connection) (segments : List Piece) (first : ℕ) (ts : List Tile) (p : Piece) (ps : List Piece)
-    → IsTiled (own e c) segments first ts → (own d c).waiting ≡ p ∷ ps → p.at - place_of (own d c) ≤ 0
-    → ((lacking p (other d c) == 0) ≡ true) ⊎ ((lacking p (other d c) == 0) ≡ false) → Goes e c segments first ts (lost (other_gap d p (other d c)) c)
-other_lost e d c segments first ts p ps x waits at (inl none) = no_gap_event e (other_gap d p (other d c)) c segments first ts x none
-    (λ q qs n held known. let place = next_is (own d c) n known in
-    let same : q ≡ p = ap (λ l. first_or l p) (sym held ∙ waits) in
-    let P : Piece → Type 0 = λ r. r.at ≤ n in subst P (sym same) (omega (arith, at, place)))
-other_lost e d c segments first ts p ps x waits at (inr some) = gap_event e (other_gap d p (other d c)) c segments first ts x some
+other_lost : (e d : End) (c : Connection) (segments : List Piece) (first : ℕ) (ts : List Tile) (p : Piece)
+  → IsTiled (own e c) segments first ts → Goes e c segments first ts (lost (other_gap d p (other d c)) c)
+other_lost e d c segments first ts p x = gap_event e (other_gap d p (other d c)) c segments first ts x
     (λ y. let place = next_is (other d c) y.next y.known in
-    let Q : ℕ → Type 0 = λ n. AreOrdered (n + lacking p (other d c)) (other d c).waiting in (
-      ap (λ n. n + lacking p (other d c)) (sym place),
-      subst Q (sym place) (ordered_from y.next (awaited (other d c).next p.acknowledged) (other d c) (other d c).waiting place y.ordered),
-    ))
+      let Q : ℕ → Type 0 = λ n. AreOrdered (n + lacking p (other d c)) (other d c).waiting in
+      (ap (λ n. n + lacking p (other d c)) (sym place),
+        subst Q (sym place) (ordered_from y.next (awaited (other d c).next p.acknowledged) (other d c) (other d c).waiting place y.ordered)))
 
 missing_lost : (e d : End) (c : Connection) (segments : List Piece) (first : ℕ) (ts : List Tile) (p : Piece) (ps : List Piece)
     → IsTiled (own e c) segments first ts → (own d c).waiting ≡ p ∷ ps → Goes e c segments first ts (lost (missing_for d p (own d c) (other d c)) c)
 missing_lost e d c segments first ts p ps x waits = elim (cases_Bool (nat_lt 0 (p.at - place_of (own d c)))) [
   | inl more ↦ rw more (own_lost e d c segments first ts p ps x waits (ltb-true 0 (p.at - place_of (own d c)) more))
-  | inr none ↦ rw none (other_lost e d c segments first ts p ps x waits (ltb-false 0 (p.at - place_of (own d c)) none) (cases_Bool (lacking p (other d c) == 0)))
+  | inr none ↦ rw none (other_lost e d c segments first ts p x)
 ]
 
 -- what is missing at an end, at last and where it is overdue

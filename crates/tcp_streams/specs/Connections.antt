@@ -164,8 +164,8 @@ lacking p g = up_to (awaited g.next p.acknowledged) g g.waiting
 
 abbrev pub missing_for : End → Piece → (own other : Flow) → Missing
 missing_for e p f g = if nat_lt 0 (p.at - place_of f)
-    then record { by = e; gap = record { end = e; octets = p.at - place_of f; recorded = p.recorded }; until = p.at }
-    else record { by = e; gap = record { end = other_end e; octets = lacking p g; recorded = p.recorded }; until = place_of g + lacking p g }
+    then record { gap = record { end = e; octets = p.at - place_of f; recorded = p.recorded }; until = p.at }
+    else record { gap = record { end = other_end e; octets = lacking p g; recorded = p.recorded }; until = place_of g + lacking p g }
 
 abbrev pub missing_by : End → List Piece → (own other : Flow) → Option Missing
 missing_by e [] f g = None
@@ -230,8 +230,19 @@ given e c = given_by e (own e c).waiting c
 abbrev pub passed_to : (until : ℕ) → Flow → Flow
 passed_to n f = record f { next = Some n }
 
+-- whether a piece has the next octets: then each direction acknowledges what comes next in the other one
+abbrev pub is_first_at : (place : ℕ) → List Piece → Bool
+is_first_at place [] = false
+is_first_at place (p ∷ ps) = nat_le p.at place
+
+abbrev pub is_at_next : Flow → Bool
+is_at_next f = is_first_at (place_of f) f.waiting
+
+abbrev pub has_next : End → Connection → Bool
+has_next e c = is_at_next (own e c)
+
 abbrev pub lost : Missing → Connection → Option Next
-lost m c = if m.gap.octets == 0 then given m.by c
+lost m c = if has_next m.gap.end c then given m.gap.end c
     else Some (record { event = event.Gap m.gap; after = with_flows m.gap.end (passed_to m.until (own m.gap.end c)) (other m.gap.end c) })
 
 -- where no piece may go

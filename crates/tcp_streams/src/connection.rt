@@ -2,7 +2,7 @@
 
 ghost use Rattle.std.specs.Prelude.{◌≡◌, IfOk, OnOk};
 ghost use Rattle.ip_segments.specs.Views.{segment_view};
-ghost use Rattle.tcp_streams.specs.Connections.{answered, answered_other, fed_by, fed_other, fed_own, first_frame, follows, is_acknowledged, is_next_number, is_plain, lacking, lent_other, lent_own, lower, may_go, missing_for, missing_of, opened_other, opened_own, other_end, patience_is_over, ready_frame, unsaid_of};
+ghost use Rattle.tcp_streams.specs.Connections.{answered, answered_other, fed_by, fed_other, fed_own, first_frame, follows, is_acknowledged, is_at_next, is_next_number, is_plain, lacking, lent_other, lent_own, lower, may_go, missing_for, missing_of, opened_other, opened_own, other_end, patience_is_over, ready_frame, unsaid_of};
 
 use crate::flow::{Flow, SegmentUse, is_empty, number_of};
 use crate::numbers::{LAST_PLACE, awaited, is_after, number_at};
@@ -62,9 +62,6 @@ pub struct Fed {
 /// The first octets that a piece waits for.
 #[derive(Clone, Copy)]
 struct Missing {
-    /// The end whose piece waits.
-    by: End,
-    /// The octets; none where each direction acknowledges what comes next in the other one.
     gap: StreamGap,
     /// The place after them.
     until: u64,
@@ -255,6 +252,16 @@ fn lower(opener: Option<u64>, answerer: Option<u64>) -> Option<End>
     }
 }
 
+/// Returns whether the first piece of a direction is at its next place.
+fn is_at_next(flow: &Flow) -> bool
+    ensures { result ≡ is_at_next flow.now }
+{
+    match flow.waiting.first() {
+        Some(piece) => piece.at <= flow.next.unwrap_or(0),
+        None => false,
+    }
+}
+
 /// Returns how many octets of the other direction come before a piece: at most those up to the first that has a piece.
 fn lacking(piece: &Piece, other: &Flow) -> u64
     ensures { result ≡ lacking piece.now other.now }
@@ -274,7 +281,6 @@ fn missing_for(by: End, piece: &Piece, own: &Flow, other: &Flow) -> Missing
     let octets = piece.at.saturating_sub(own.next.unwrap_or(0));
     if octets > 0 {
         return Missing {
-            by,
             gap: StreamGap {
                 end: by,
                 octets,
@@ -285,7 +291,6 @@ fn missing_for(by: End, piece: &Piece, own: &Flow, other: &Flow) -> Missing
     }
     let octets = lacking(piece, other);
     Missing {
-        by,
         gap: StreamGap {
             end: by.other(),
             octets,
@@ -329,7 +334,7 @@ fn is_acknowledged(flow: &Flow) -> bool
 }
 
 impl Connection {
-    ghost use Rattle.tcp_streams.specs.Connections.{IsEvent, cost, fed_after, fed_of, given, has_ended, is_next, is_over, is_overdue, lent_if, last_event, lost, missing, new_connection, next_event, turn, was_seen};
+    ghost use Rattle.tcp_streams.specs.Connections.{IsEvent, cost, fed_after, fed_of, given, has_ended, has_next, is_next, is_over, is_overdue, lent_if, last_event, lost, missing, new_connection, next_event, turn, was_seen};
 
     /// Returns a connection of which nothing was read.
     pub fn new(alloc: Global) -> Self
@@ -458,13 +463,24 @@ impl Connection {
         Some(Event::Piece(end, piece))
     }
 
-    /// Gives up octets that are missing, or gives out the piece that waits for none.
+    /// Returns whether a piece that waits is at the next place of its direction.
+    fn has_next(&self, end: End) -> bool
+        ensures { result ≡ has_next end self.now }
+    {
+        match end {
+            End::Opener => is_at_next(&self.opener),
+            End::Answerer => is_at_next(&self.answerer),
+        }
+    }
+
+    /// Gives up octets that are missing. Where a piece has the next ones, each direction acknowledges what comes next in
+    /// the other one: that piece is given out.
     fn lose(&mut self, missing: &Missing) -> Option<Event>
         ensures { IsEvent (lost missing.now self.old) self.old result self.new }
     {
         let gap = missing.gap;
-        if gap.octets == 0 {
-            return self.give(missing.by);
+        if self.has_next(gap.end) {
+            return self.give(gap.end);
         }
         match gap.end {
             End::Opener => self.opener.next = Some(missing.until),
