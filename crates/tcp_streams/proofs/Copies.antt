@@ -25,7 +25,7 @@ pub after_same : (q place : ℕ) (s : Piece) → place ≤ q → mark_at q (afte
 after_same q place s h = grind (arith, common_steps, h)
 
 -- the first copy of three
-or_none : (m : Option Mark) → or_later m None ≡ m
+pub or_none : (m : Option Mark) → or_later m None ≡ m
 or_none None = refl
 or_none (Some m) = refl
 

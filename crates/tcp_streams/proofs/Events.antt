@@ -1,11 +1,12 @@
 -- What comes next in a connection is the next tile of its direction.
-use Rattle.std.proofs.Common.{◌≡◌, ◌⊎◌, ◌∙◌, inl, inr, refl, sym, ap, subst, ℕ, ◌+◌, ◌-◌, ◌==◌, ◌<◌, ◌≤◌, nat_lt, nat_le, Bool, true, false, List, [], ◌∷◌, ◌++◌, Option, Some, None, IfSome, unwrap_or, arith}
-use Rattle.std.proofs.lemmas.Bool.{and_parts, cases_Bool, leb-true, ltb-true}
+use Rattle.std.proofs.Common.{◌≡◌, ◌∙◌, inl, inr, refl, sym, ap, subst, ℕ, ◌+◌, ◌-◌, ◌==◌, ◌<◌, ◌≤◌, nat_lt, nat_le, Bool, true, false, List, [], ◌∷◌, ◌++◌, Option, Some, None, IfSome, unwrap_or, arith}
+use Rattle.std.proofs.lemmas.Bool.{and_parts, cases_Bool, eqb-true, leb-true, ltb-false, ltb-true}
 use Rattle.std.proofs.lemmas.List.{append-nil}
 use Rattle.std.proofs.lemmas.Option.{cond_some}
 use Rattle.tcp_streams.specs.Numbers.{awaited}
 use Rattle.tcp_streams.specs.Flows.{given_out}
 use Rattle.tcp_streams.specs.Connections.{Next, given, given_by, has_next, is_first_at, is_overdue, lacking, last_by, last_event, lost, lost_at_last, lost_if, lower, may_go, missing, missing_at, missing_by, missing_for, next_by, next_event, other, other_end, own, passed_to, place_of, ready_frame, ready_of, turn, up_to, first_frame, with_flows}
+use Rattle.tcp_streams.specs.Runs.{IsFirst}
 use Rattle.tcp_streams.specs.Tiles.{AreOrdered, Given, IsTiled, Missing, Tile, tile_of, tiles_if}
 use Rattle.tcp_streams.specs.declared.connection.Connection.{Connection}
 use Rattle.tcp_streams.specs.declared.connection.End.{End}
@@ -63,7 +64,7 @@ turn_at c Opener h = let r = lower_at (ready_frame c.opener c.answerer) (ready_f
 turn_at c Answerer h = let r = lower_at (ready_frame c.opener c.answerer) (ready_frame c.answerer c.opener) Answerer h in ready_at c.answerer c.opener r.0 r.1
 
 -- the place that is next, and the order of what waits from it on
-next_is : (f : Flow) (n : ℕ) → f.next ≡ Some n → place_of f ≡ n
+pub next_is : (f : Flow) (n : ℕ) → f.next ≡ Some n → place_of f ≡ n
 next_is f n known = ap (λ o. unwrap_or o 0) known
 
 ordered_from : (n k : ℕ) (g : Flow) (ps : List Piece) → place_of g ≡ n → AreOrdered n ps → AreOrdered (n + up_to k g ps) ps
@@ -88,31 +89,32 @@ next_at d c h p ps n waits known =
 
 -- a gap is given up that fits, or the piece that has its octets goes
 gap_event : (e : End) (m : found.Missing) (c : Connection) (segments : List Piece) (first : ℕ) (ts : List Tile) → IsTiled (own e c) segments first ts
-  → ((x : IsTiled (own m.gap.end c) segments first ts) → (x.next + m.gap.octets ≡ m.until) × AreOrdered m.until (own m.gap.end c).waiting)
-  → Goes e c segments first ts (lost m c)
+    → ((x : IsTiled (own m.gap.end c) segments first ts) → (x.next + m.gap.octets ≡ m.until) × AreOrdered m.until (own m.gap.end c).waiting)
+    → Goes e c segments first ts (lost m c)
 gap_event e m c segments first ts x fits = elim (cases_Bool (has_next m.gap.end c)) [
   | inl there ↦ rw there (given_event e m.gap.end c segments first ts x (next_at m.gap.end c there))
   | inr none ↦ rw none (changed e m.gap.end c (passed_to m.until (own m.gap.end c)) (Missing m.gap.octets) segments first ts x
       (λ same. let P : End → Type 0 = λ k. IsTiled (own k c) segments first ts in
-        let y = subst P same x in let z = fits y in passed_tiled (own m.gap.end c) segments first ts m.gap.octets m.until y z.0 z.1))
+      let y = subst P same x in let z = fits y in passed_tiled (own m.gap.end c) segments first ts m.gap.octets m.until y z.0 z.1))
 ]
 
 -- what is missing is given up
 own_lost : (e d : End) (c : Connection) (segments : List Piece) (first : ℕ) (ts : List Tile) (p : Piece) (ps : List Piece)
-  → IsTiled (own e c) segments first ts → (own d c).waiting ≡ p ∷ ps → 0 < p.at - place_of (own d c) → Goes e c segments first ts (lost (own_gap d p (own d c)) c)
+    → IsTiled (own e c) segments first ts → (own d c).waiting ≡ p ∷ ps → 0 < p.at - place_of (own d c) → Goes e c segments first ts (lost (own_gap d p (own d c)) c)
 own_lost e d c segments first ts p ps x waits more = gap_event e (own_gap d p (own d c)) c segments first ts x
     (λ y. let place = next_is (own d c) y.next y.known in
-      let O : List Piece → Type 0 = λ l. AreOrdered y.next l in let o = subst O waits y.ordered in
-      let Q : List Piece → Type 0 = λ l. AreOrdered p.at l in
-      (omega (arith, more, place), subst Q (sym waits) (record { begins = omega arith; some = o.0.some; octets = o.0.octets }, o.1)))
+    let O : List Piece → Type 0 = λ l. AreOrdered y.next l in let o = subst O waits y.ordered in
+    let Q : List Piece → Type 0 = λ l. AreOrdered p.at l in
+    (omega (arith, more, place), subst Q (sym waits) (record { begins = omega arith; some = o.0.some; octets = o.0.octets }, o.1)))
 
 other_lost : (e d : End) (c : Connection) (segments : List Piece) (first : ℕ) (ts : List Tile) (p : Piece)
-  → IsTiled (own e c) segments first ts → Goes e c segments first ts (lost (other_gap d p (other d c)) c)
+    → IsTiled (own e c) segments first ts → Goes e c segments first ts (lost (other_gap d p (other d c)) c)
 other_lost e d c segments first ts p x = gap_event e (other_gap d p (other d c)) c segments first ts x
     (λ y. let place = next_is (other d c) y.next y.known in
-      let Q : ℕ → Type 0 = λ n. AreOrdered (n + lacking p (other d c)) (other d c).waiting in
-      (ap (λ n. n + lacking p (other d c)) (sym place),
-        subst Q (sym place) (ordered_from y.next (awaited (other d c).next p.acknowledged) (other d c) (other d c).waiting place y.ordered)))
+    let Q : ℕ → Type 0 = λ n. AreOrdered (n + lacking p (other d c)) (other d c).waiting in (
+      ap (λ n. n + lacking p (other d c)) (sym place),
+      subst Q (sym place) (ordered_from y.next (awaited (other d c).next p.acknowledged) (other d c) (other d c).waiting place y.ordered),
+    ))
 
 missing_lost : (e d : End) (c : Connection) (segments : List Piece) (first : ℕ) (ts : List Tile) (p : Piece) (ps : List Piece)
     → IsTiled (own e c) segments first ts → (own d c).waiting ≡ p ∷ ps → Goes e c segments first ts (lost (missing_for d p (own d c) (other d c)) c)
@@ -152,3 +154,47 @@ last_tiled e c segments first ts x = at (turn c) refl where
   at : (t : Option End) → turn c ≡ t → Goes e c segments first ts (last_by t c)
   at (Some d) h = given_event e d c segments first ts x (turn_at c d h)
   at None h = last_missing e (lower (first_frame c.opener) (first_frame c.answerer)) c segments first ts x
+
+-- the piece whose turn it is answers nothing that is missing, and has the lowest frame
+awaits_none : (f g : Option ℕ) (p : Piece) → may_go f g p ≡ true → awaited g p.acknowledged ≡ 0
+awaits_none None g p h = absurd (let bad : false ≡ true = h in cc)
+awaits_none (Some n) g p h = eqb-true (awaited g p.acknowledged) 0 (and_parts (nat_le p.at n) (awaited g p.acknowledged == 0) h).1
+
+lower_opener : (f g : ℕ) → lower (Some f) (Some g) ≡ Some Opener → f ≤ g
+lower_opener f g h = elim (cases_Bool (nat_lt g f)) [
+  | inl less ↦ absurd (let bad : Answerer ≡ Opener = grind (arith, h, less) in cc)
+  | inr more ↦ ltb-false g f more
+]
+
+lower_answerer : (f g : ℕ) → lower (Some f) (Some g) ≡ Some Answerer → g ≤ f
+lower_answerer f g h = elim (cases_Bool (nat_lt g f)) [
+  | inl less ↦ (let e = ltb-true g f less in omega (arith, e))
+  | inr more ↦ absurd (let bad : Opener ≡ Answerer = grind (arith, h, more) in cc)
+]
+
+ready_go : (f g : Flow) (p : Piece) (ps : List Piece) (k : ℕ) → f.waiting ≡ p ∷ ps → ready_frame f g ≡ Some k → (may_go f.next g.next p ≡ true) × (p.recorded.frame ≡ k)
+ready_go f g p ps k waits h = let P : List Piece → Type 0 = λ l. ready_of f.next g.next l ≡ Some k in
+    cond_some (may_go f.next g.next p) p.recorded.frame k (subst P waits h)
+
+ready_frame_is : (f g : Flow) (q : Piece) (qs : List Piece) → f.waiting ≡ q ∷ qs → may_go f.next g.next q ≡ true → ready_frame f g ≡ Some q.recorded.frame
+ready_frame_is f g q qs waits go = ap (ready_of f.next g.next) waits ∙ rw go refl
+
+pub first_goes : (c : Connection) (d : End) (p : Piece) (ps : List Piece) → turn c ≡ Some d → (own d c).waiting ≡ p ∷ ps → IsFirst c d p
+first_goes c Opener p ps h waits =
+    let r = lower_at (ready_frame c.opener c.answerer) (ready_frame c.answerer c.opener) Opener h in
+    let go = ready_go c.opener c.answerer p ps r.0 waits r.1 in
+    record {
+      answers = awaits_none c.opener.next c.answerer.next p go.0;
+      lowest = λ q qs held may. (let e = ap (λ a. lower a (ready_frame c.answerer c.opener)) (sym r.1) ∙ h in
+          let f = ap (lower (Some r.0)) (sym (ready_frame_is c.answerer c.opener q qs held may)) ∙ e in
+          let g = lower_opener r.0 q.recorded.frame f in let k = go.1 in omega (arith, g, k));
+    }
+first_goes c Answerer p ps h waits =
+    let r = lower_at (ready_frame c.opener c.answerer) (ready_frame c.answerer c.opener) Answerer h in
+    let go = ready_go c.answerer c.opener p ps r.0 waits r.1 in
+    record {
+      answers = awaits_none c.answerer.next c.opener.next p go.0;
+      lowest = λ q qs held may. (let e = ap (lower (ready_frame c.opener c.answerer)) (sym r.1) ∙ h in
+          let f = ap (λ a. lower a (Some r.0)) (sym (ready_frame_is c.opener c.answerer q qs held may)) ∙ e in
+          let g = lower_answerer q.recorded.frame r.0 f in let k = go.1 in omega (arith, g, k));
+    }

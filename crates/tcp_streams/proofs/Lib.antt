@@ -3,3 +3,6 @@ mod Copies
 mod Order
 mod Tiled
 mod Events
+mod Lending
+mod Runs
+mod Agreement

@@ -20,7 +20,7 @@ fin_below false = omega arith
 fits_before : (place : ℕ) (s : Piece) → Fits (before place s)
 fits_before place s h = let e : length (take (place - s.at) s.octets) ≡ min (place - s.at) (length s.octets) = length-take (place - s.at) s.octets in omega (arith, e, h)
 
-fits_after : (place : ℕ) (s : Piece) → Fits s → Fits (after place s)
+pub fits_after : (place : ℕ) (s : Piece) → Fits s → Fits (after place s)
 fits_after place s f h =
     let e : length (drop (place - s.at) s.octets) ≡ length s.octets - (place - s.at) = length-drop (place - s.at) s.octets in
     let b = fin_below s.is_end in

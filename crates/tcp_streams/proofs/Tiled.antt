@@ -26,11 +26,11 @@ tile_more segments more from to (Given p) (at, until, octets, copies) = (
 tile_more segments more from to (Missing n) (size, (seen, later, same, missing)) =
     (size, (seen, later ++ more, ap (λ l. l ++ more) same ∙ append_assoc seen later more, missing))
 
-tiles_more : (segments more : List Piece) (from to : ℕ) (ts : List Tile) → AreTiles segments from ts to → AreTiles (segments ++ more) from ts to
+pub tiles_more : (segments more : List Piece) (from to : ℕ) (ts : List Tile) → AreTiles segments from ts to → AreTiles (segments ++ more) from ts to
 tiles_more segments more from to [] e = e
 tiles_more segments more from to (t ∷ ts) (mid, one, rest) = (mid, tile_more segments more from mid t one, tiles_more segments more mid to ts rest)
 
-tiles_push : (segments : List Piece) (from mid to : ℕ) (ts : List Tile) (t : Tile) → AreTiles segments from ts mid → IsTile segments mid t to → AreTiles segments from (ts ++ t ∷ []) to
+pub tiles_push : (segments : List Piece) (from mid to : ℕ) (ts : List Tile) (t : Tile) → AreTiles segments from ts mid → IsTile segments mid t to → AreTiles segments from (ts ++ t ∷ []) to
 tiles_push segments from mid to [] t e one = (to, (let P : ℕ → Type 0 = λ n. IsTile segments n t to in subst P (sym e) one), refl)
 tiles_push segments from mid to (u ∷ ts) t (next, first, rest) one = (next, first, tiles_push segments next mid to ts t rest one)
 

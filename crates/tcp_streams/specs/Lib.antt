@@ -3,3 +3,4 @@ pub mod Pieces
 pub mod Flows
 pub mod Connections
 pub mod Tiles
+pub mod Runs
