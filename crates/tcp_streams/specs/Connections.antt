@@ -2,9 +2,9 @@
 use Rattle.std.specs.Prelude.{◌≡◌, ℕ, ◌+◌, ◌-◌, ◌==◌, ◌&&◌, ◌||◌, nat_lt, nat_le, min, not, Bool, true, false, List, [], ◌∷◌, length, Option, Some, None, is_some, unwrap_or, if◌then◌else◌}
 use Rattle.std.specs.Option.{option_map}
 use Rattle.ip_segments.specs.Segments.{Segment}
-use Rattle.tcp_streams.specs.Numbers.{awaited, is_after, number_at}
+use Rattle.tcp_streams.specs.Numbers.{awaited, is_after, next_number, number_at}
 use Rattle.tcp_streams.specs.Pieces.{cost_from, last_number}
-use Rattle.tcp_streams.specs.Flows.{acknowledged_by, begun_at, given_out, has_begun_before, held, held_differs, held_use, is_empty, is_place, number_of, opened, opening_gap, unknown, unsaid_gap}
+use Rattle.tcp_streams.specs.Flows.{acknowledged_by, begun_at, emptied, given_out, has_begun_before, held, held_differs, held_use, is_empty, is_place, number_of, opened, opening_gap, unknown, unsaid_gap}
 use Rattle.tcp_streams.specs.declared.flow.Flow.{Flow}
 use Rattle.tcp_streams.specs.declared.flow.SegmentUse.TheVariants.{Empty}
 use Rattle.tcp_streams.specs.declared.piece.Piece.{Piece}
@@ -275,3 +275,18 @@ IsEvent n old (Some e) new = n ≡ Some (record { event = e; after = new })
 
 abbrev pub is_over : Connection → Bool
 is_over c = c.opener.is_ended && c.answerer.is_ended
+
+-- a SYN that comes again, or that was recorded after its answer
+abbrev pub begins_with : Option ℕ → Segment → Bool
+begins_with None s = is_some s.acknowledged
+begins_with (Some next) s = is_some s.acknowledged || number_at next == next_number s.sequence
+
+abbrev pub goes_on_from : Option ℕ → End → Segment → Connection → Bool
+goes_on_from (Some first) e s c = first == s.sequence
+goes_on_from None e s c = not (is_over c) && begins_with (own e c).next s
+
+abbrev pub goes_on : End → Segment → Connection → Bool
+goes_on e s c = goes_on_from (own e c).first e s c
+
+abbrev pub given_up : Connection → Connection
+given_up c = record { opener = emptied c.opener; answerer = emptied c.answerer }

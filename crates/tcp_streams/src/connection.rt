@@ -2,10 +2,10 @@
 
 ghost use Rattle.std.specs.Prelude.{◌≡◌, IfOk, OnOk};
 ghost use Rattle.ip_segments.specs.Views.{segment_view};
-ghost use Rattle.tcp_streams.specs.Connections.{answered, answered_other, fed_by, fed_other, fed_own, first_frame, follows, is_acknowledged, is_at_next, is_next_number, is_plain, lacking, lent_other, lent_own, lower, may_go, missing_for, missing_of, opened_other, opened_own, other_end, patience_is_over, ready_frame, unsaid_of};
+ghost use Rattle.tcp_streams.specs.Connections.{answered, answered_other, begins_with, fed_by, fed_other, fed_own, first_frame, follows, is_acknowledged, is_at_next, is_next_number, is_plain, lacking, lent_other, lent_own, lower, may_go, missing_for, missing_of, opened_other, opened_own, other_end, patience_is_over, ready_frame, unsaid_of};
 
 use crate::flow::{Flow, SegmentUse, is_empty, number_of};
-use crate::numbers::{LAST_PLACE, awaited, is_after, number_at};
+use crate::numbers::{LAST_PLACE, awaited, is_after, next_number, number_at};
 use crate::piece::{Piece, Recorded};
 use ip_segments::segment::Segment;
 use std::alloc::{AllocError, Global};
@@ -157,6 +157,18 @@ fn feed(
         used,
         differs,
     })
+}
+
+/// Returns whether a SYN may begin a direction whose next place is known, or is the answer to another SYN.
+fn begins_with(next: Option<u64>, segment: &Segment<'_>) -> bool
+    ensures { result ≡ begins_with next (segment_view segment.now) }
+{
+    match next {
+        Some(next) => {
+            segment.acknowledged.is_some() || number_at(next) == next_number(segment.sequence)
+        }
+        None => segment.acknowledged.is_some(),
+    }
 }
 
 /// Returns whether a segment has octets, and nothing else.
@@ -334,7 +346,7 @@ fn is_acknowledged(flow: &Flow) -> bool
 }
 
 impl Connection {
-    ghost use Rattle.tcp_streams.specs.Connections.{IsEvent, cost, fed_after, fed_of, given, has_ended, has_next, is_next, is_over, is_overdue, lent_if, last_event, lost, missing, new_connection, next_event, turn, was_seen};
+    ghost use Rattle.tcp_streams.specs.Connections.{IsEvent, cost, fed_after, fed_of, given, given_up, goes_on, has_ended, has_next, is_next, is_over, is_overdue, lent_if, last_event, lost, missing, new_connection, next_event, turn, was_seen};
 
     /// Returns a connection of which nothing was read.
     pub fn new(alloc: Global) -> Self
@@ -373,6 +385,29 @@ impl Connection {
                 recorded,
             ),
         }
+    }
+
+    /// Returns whether a SYN belongs to the connection: it comes again, or it was recorded after its answer. Otherwise it
+    /// opens another connection between these ports.
+    pub fn goes_on(&self, from: End, segment: &Segment<'_>) -> bool
+        ensures { result ≡ goes_on from (segment_view segment.now) self.now }
+    {
+        let flow = match from {
+            End::Opener => &self.opener,
+            End::Answerer => &self.answerer,
+        };
+        match flow.first {
+            Some(first) => first == segment.sequence,
+            None => !self.is_over() && begins_with(flow.next, segment),
+        }
+    }
+
+    /// Gives up what waits, where the caller reads the connection no more.
+    pub fn give_up(&mut self)
+        ensures { self.new ≡ given_up self.old }
+    {
+        self.opener.waiting.clear();
+        self.answerer.waiting.clear();
     }
 
     /// Fast path: reads a segment whose octets are the next ones of its direction, where nothing waits, and returns whether
