@@ -1,0 +1,6 @@
+pub mod Numbers
+pub mod Pieces
+pub mod Flows
+pub mod Connections
+pub mod Tiles
+pub mod Runs
