@@ -1,0 +1,62 @@
+-- What is kept before a segment with which a packet begins.
+use Rattle.std.proofs.Common.{◌≡◌, refl, sym, ℕ, ◌+◌, ◌*◌, ◌<◌, ◌&&◌, nat_le, Bool, true, false, cond, List, [], ◌∷◌, ◌++◌, arith, length, true≢false}
+use Rattle.std.proofs.lemmas.Bool.{and_parts, leb-true}
+use Rattle.xot_circuits.specs.Packets.{header}
+use Rattle.xot_circuits.specs.Joining.{are_plausible, beginning, is_expected, is_plausible, may_begin}
+use Rattle.xot_circuits.specs.Streams.{IsWithinBy}
+use Rattle.xot_circuits.specs.declared.header.Header.{Header}
+use Rattle.xot_circuits.specs.declared.header.Header.TheVariants.{Cut, OtherVersion, Length}
+use Rattle.xot_circuits.specs.declared.joining.Beginning.TheVariants.{Begins, TooFew, Other}
+use Rattle.xot_circuits.specs.declared.joining.Expected.{Expected}
+
+too_few : (t : Bool) → cond t TooFew Other ≡ Begins → ⊥
+too_few true h = cc h
+too_few false h = cc h
+
+begun : (t : Bool) → cond t Begins Other ≡ Begins → t ≡ true
+begun true h = refl
+begun false h = absurd (cc h)
+
+begins_plausible : (e : Expected) (xs : List ℕ) → beginning e xs ≡ Begins → is_plausible (header xs) ≡ true
+unfolding are_plausible
+begins_plausible e [] h = absurd (too_few (may_begin []) h)
+begins_plausible e (a ∷ []) h = absurd (too_few (may_begin (a ∷ [])) h)
+begins_plausible e (a ∷ b ∷ []) h = absurd (too_few (may_begin (a ∷ b ∷ [])) h)
+begins_plausible e (a ∷ b ∷ c ∷ []) h = absurd (too_few (may_begin (a ∷ b ∷ c ∷ [])) h)
+begins_plausible e (a ∷ b ∷ c ∷ d ∷ []) h = absurd (too_few (may_begin (a ∷ b ∷ c ∷ d ∷ [])) h)
+begins_plausible e (a ∷ b ∷ c ∷ d ∷ x ∷ []) h = absurd (too_few (may_begin (a ∷ b ∷ c ∷ d ∷ x ∷ [])) h)
+begins_plausible e (a ∷ b ∷ c ∷ d ∷ x ∷ y ∷ []) h = absurd (too_few (may_begin (a ∷ b ∷ c ∷ d ∷ x ∷ y ∷ [])) h)
+begins_plausible e (a ∷ b ∷ c ∷ d ∷ x ∷ y ∷ z ∷ xs) h =
+    let all : List ℕ = a ∷ b ∷ c ∷ d ∷ x ∷ y ∷ z ∷ xs in
+    let parts = and_parts (is_expected e x y) (are_plausible 0 all) (begun (is_expected e x y && are_plausible 0 all) h) in
+    (and_parts (is_plausible (header (a ∷ b ∷ c ∷ d ∷ []))) (are_plausible (c * 256 + d) (x ∷ y ∷ z ∷ xs)) parts.1).0
+
+within_by : (h : Header) (n : ℕ) → is_plausible h ≡ true → n < 7 → IsWithinBy h n
+within_by Cut n p lt = tt
+within_by (OtherVersion v) n p lt = absurd (true≢false (sym p))
+within_by (Length m) n p lt = omega (arith, lt, leb-true 3 m (and_parts (nat_le 3 m) (nat_le m 4200) p).0)
+
+within : (rest segment : List ℕ) → is_plausible (header (rest ++ segment)) ≡ true → length rest < 7 → IsWithinBy (header rest) (length rest)
+within [] segment p lt = tt
+within (a ∷ []) segment p lt = tt
+within (a ∷ b ∷ []) segment p lt = tt
+within (a ∷ b ∷ c ∷ []) segment p lt = tt
+within (a ∷ b ∷ c ∷ d ∷ xs) segment p lt = within_by (header (a ∷ b ∷ c ∷ d ∷ xs)) (length (a ∷ b ∷ c ∷ d ∷ xs)) p lt
+
+pub begins_within : (e : Expected) (rest segment : List ℕ) → beginning e (rest ++ segment) ≡ Begins → length rest < 7 → IsWithinBy (header rest) (length rest)
+begins_within e rest segment h lt = within rest segment (begins_plausible e (rest ++ segment) h) lt
+
+too_few_by : (t : Bool) → cond t Begins Other ≡ TooFew → ⊥
+too_few_by true h = cc h
+too_few_by false h = cc h
+
+-- octets that are too few to decide are fewer than seven
+pub few : (e : Expected) (xs : List ℕ) → beginning e xs ≡ TooFew → length xs < 7
+few e [] h = omega arith
+few e (a ∷ []) h = omega arith
+few e (a ∷ b ∷ []) h = omega arith
+few e (a ∷ b ∷ c ∷ []) h = omega arith
+few e (a ∷ b ∷ c ∷ d ∷ []) h = omega arith
+few e (a ∷ b ∷ c ∷ d ∷ x ∷ []) h = omega arith
+few e (a ∷ b ∷ c ∷ d ∷ x ∷ y ∷ []) h = omega arith
+few e (a ∷ b ∷ c ∷ d ∷ x ∷ y ∷ z ∷ xs) h = absurd (too_few_by (is_expected e x y && are_plausible 0 (a ∷ b ∷ c ∷ d ∷ x ∷ y ∷ z ∷ xs)) h)
