@@ -1,11 +1,12 @@
 -- What is kept before a segment with which a packet begins.
-use Rattle.std.proofs.Common.{◌≡◌, refl, sym, ℕ, ◌+◌, ◌*◌, ◌<◌, ◌&&◌, nat_le, Bool, true, false, cond, List, [], ◌∷◌, ◌++◌, arith, length, true≢false}
+use Rattle.std.proofs.Common.{◌≡◌, refl, sym, ℕ, ◌+◌, ◌*◌, ◌<◌, ◌&&◌, nat_le, Bool, true, false, cond, List, [], ◌∷◌, ◌++◌, arith, length, true≢false, Some}
 use Rattle.std.proofs.lemmas.Bool.{and_parts, leb-true}
 use Rattle.xot_circuits.specs.Packets.{header}
-use Rattle.xot_circuits.specs.Joining.{are_plausible, beginning, is_expected, is_plausible, may_begin}
+use Rattle.xot_circuits.specs.Joining.{FirstBegins, are_plausible, beginning, is_expected, is_plausible, joined, joined_by, joining_by, may_begin, sought}
 use Rattle.xot_circuits.specs.Streams.{IsWithinBy}
 use Rattle.xot_circuits.specs.declared.header.Header.{Header}
 use Rattle.xot_circuits.specs.declared.header.Header.TheVariants.{Cut, OtherVersion, Length}
+use Rattle.xot_circuits.specs.declared.joining.Beginning.{Beginning}
 use Rattle.xot_circuits.specs.declared.joining.Beginning.TheVariants.{Begins, TooFew, Other}
 use Rattle.xot_circuits.specs.declared.joining.Expected.{Expected}
 
@@ -60,3 +61,13 @@ few e (a ∷ b ∷ c ∷ d ∷ []) h = omega arith
 few e (a ∷ b ∷ c ∷ d ∷ x ∷ []) h = omega arith
 few e (a ∷ b ∷ c ∷ d ∷ x ∷ y ∷ []) h = omega arith
 few e (a ∷ b ∷ c ∷ d ∷ x ∷ y ∷ z ∷ xs) h = absurd (too_few_by (is_expected e x y && are_plausible 0 (a ∷ b ∷ c ∷ d ∷ x ∷ y ∷ z ∷ xs)) h)
+
+joined_at : (e : Expected) (s : List ℕ) (ss : List (List ℕ)) (b : Beginning) → (b ≡ TooFew → ⊥) → sought e [] ss ≡ joined e ss
+    → cond (joining_by b b [] s).is_sought (sought e (joining_by b b [] s).rest ss) (Some (s ∷ ss)) ≡ joined_by b (Some (s ∷ ss)) (joined e ss)
+joined_at e s ss Begins n later = refl
+joined_at e s ss TooFew n later = absurd (n refl)
+joined_at e s ss Other n later = later
+
+pub first_begins : FirstBegins
+first_begins e [] long = refl
+first_begins e (s ∷ ss) long = joined_at e s ss (beginning e s) long.0 (first_begins e ss long.1)

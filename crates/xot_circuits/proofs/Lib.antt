@@ -4,3 +4,4 @@ pub mod Whole
 pub mod Apart
 pub mod Ranges
 pub mod Joined
+pub mod ClearLemmas

@@ -1,5 +1,7 @@
 -- The call of a circuit.
-use Rattle.std.specs.Prelude.{ℕ, ◌+◌, ◌*◌, ◌%◌, ◌==◌, ◌&&◌, ◌||◌, Bool, true, false, not, List, [], ◌∷◌, Option, Some, None, unwrap_or, if◌then◌else◌}
+use Rattle.std.specs.Prelude.{◌≡◌, ℕ, ◌+◌, ◌*◌, ◌%◌, ◌==◌, ◌&&◌, ◌||◌, Bool, true, false, not, List, [], ◌∷◌, ◌++◌, Option, Some, None, unwrap_or, if◌then◌else◌}
+use Rattle.std.specs.List.{AllByRecursion}
+use Rattle.line_model.specs.channels.Channels.{other}
 use Rattle.line_model.specs.declared.state.Side.{Side}
 use Rattle.line_model.specs.declared.state.Side.TheVariants.{T, N}
 use Rattle.xot_circuits.specs.Joining.{modulus_of}
@@ -31,19 +33,14 @@ answered T N = Confirmed
 answered N T = Confirmed
 answered N N = By N
 
-abbrev pub cleared : Side → Clearing → Clearing
-cleared s Open = By s
-cleared s (By t) = answered s t
-cleared s Confirmed = Confirmed
-
-abbrev pub confirmed : Side → Clearing → Clearing
-confirmed s Open = Open
-confirmed s (By t) = answered s t
-confirmed s Confirmed = Confirmed
-
 -- a call request begins a call, a clear ends it, and a confirmation or a clear of the other side answers that
+abbrev pub clearing_by : Side → (kind : ℕ) → Clearing → Clearing
+clearing_by s kind Open = if kind == 0x13 then By s else Open
+clearing_by s kind (By t) = if kind == 0x13 || kind == 0x17 then answered s t else By t
+clearing_by s kind Confirmed = Confirmed
+
 abbrev pub clearing_after : Side → (kind : ℕ) → Clearing → Clearing
-clearing_after s kind c = if kind == 0x0B then Open else if kind == 0x13 then cleared s c else if kind == 0x17 then confirmed s c else c
+clearing_after s kind c = if kind == 0x0B then Open else clearing_by s kind c
 
 abbrev pub is_confirmed : Clearing → Bool
 is_confirmed Open = false
@@ -69,3 +66,35 @@ after_gap c = record c { is_spoiled = c.is_spoiled || is_confirmed c.clearing }
 -- the channel is surely in p1
 abbrev pub is_clear : Call → Bool
 is_clear c = is_confirmed c.clearing && (not c.is_spoiled && not c.is_permanent)
+
+-- what a recorder has of a call: a packet of a side, or a gap
+pub data Step : Type 0 where
+  Sent : Side → Head → Step
+  Missed : Step
+
+abbrev pub after_step : Step → Call → Call
+after_step (Sent s h) c = after_packet s h c
+after_step Missed c = after_gap c
+
+abbrev pub after_steps : List Step → Call → Call
+after_steps [] c = c
+after_steps (s ∷ ss) c = after_steps ss (after_step s c)
+
+abbrev pub IsOfN : Step → Type 0
+IsOfN (Sent N h) = Unit {0}
+IsOfN (Sent T h) = ⊥
+IsOfN Missed = ⊥
+
+-- of these steps one answers the clear of the other side, and only packets of the DCE come after it
+pub record IsAnswered (steps : List Step) (c : Call) : Type 0 where
+  pub before : List Step
+  pub after : List Step
+  pub side : Side
+  pub head : Head
+  pub steps_are : steps ≡ before ++ Sent side head ∷ after
+  pub cleared : (after_steps before c).clearing ≡ By (other side)
+  pub answers : (head.kind == 0x13 || head.kind == 0x17) ≡ true
+  pub quiet : AllByRecursion IsOfN after
+
+abbrev pub ClearIsAnswered : Type 0
+ClearIsAnswered = (steps : List Step) (called : Bool) → is_clear (after_steps steps (new_call called)) ≡ true → IsAnswered steps (new_call called)

@@ -1,5 +1,6 @@
 -- Where the packets of a stream are joined again after a gap.
-use Rattle.std.specs.Prelude.{ℕ, zero, suc, ◌+◌, ◌*◌, ◌/◌, ◌%◌, ◌==◌, ◌&&◌, ◌||◌, nat_le, Bool, true, false, List, [], ◌∷◌, ◌++◌, length, Option, Some, None, if◌then◌else◌}
+use Rattle.std.specs.Prelude.{◌≡◌, ◌≢◌, ℕ, zero, suc, ◌+◌, ◌*◌, ◌/◌, ◌%◌, ◌==◌, ◌&&◌, ◌||◌, nat_le, Bool, true, false, List, [], ◌∷◌, ◌++◌, length, Option, Some, None, if◌then◌else◌}
+use Rattle.std.specs.List.{AllByRecursion}
 use Rattle.xot_circuits.specs.Packets.{header}
 use Rattle.xot_circuits.specs.declared.header.Header.{Header}
 use Rattle.xot_circuits.specs.declared.header.Header.TheVariants.{Cut, OtherVersion, Length}
@@ -69,3 +70,21 @@ joining_by Other Other rest segment = record { rest = []; is_sought = true; pass
 -- a segment after octets that were too few to decide: a packet begins with them, or else with it
 abbrev pub joining : Expected → (rest segment : List ℕ) → Joining
 joining e rest segment = joining_by (beginning e (rest ++ segment)) (beginning e segment) rest segment
+
+-- the segments from the first one on that begins with a packet
+abbrev pub joined_by : Beginning → (from later : Option (List (List ℕ))) → Option (List (List ℕ))
+joined_by Begins from later = from
+joined_by b from later = later
+
+abbrev pub joined : Expected → List (List ℕ) → Option (List (List ℕ))
+joined e [] = None
+joined e (s ∷ ss) = joined_by (beginning e s) (Some (s ∷ ss)) (joined e ss)
+
+-- the segments from the one on after which no packet is sought
+abbrev pub sought : Expected → (rest : List ℕ) → List (List ℕ) → Option (List (List ℕ))
+sought e rest [] = None
+sought e rest (s ∷ ss) = if (joining e rest s).is_sought then sought e (joining e rest s).rest ss else Some (s ∷ ss)
+
+-- where each segment has enough octets to decide, these are the same
+abbrev pub FirstBegins : Type 0
+FirstBegins = (e : Expected) (segments : List (List ℕ)) → AllByRecursion (λ s. beginning e s ≢ TooFew) segments → sought e [] segments ≡ joined e segments

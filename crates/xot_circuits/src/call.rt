@@ -1,7 +1,7 @@
 //! The call of a circuit: whether its channel is surely in p1 again.
 
 ghost use Rattle.std.specs.Prelude.{◌≡◌, false, true};
-ghost use Rattle.xot_circuits.specs.Calls.{answered, clearing_after, cleared, confirmed, head_of, is_confirmed, is_t, spoils};
+ghost use Rattle.xot_circuits.specs.Calls.{answered, clearing_after, head_of, is_confirmed, is_t, spoils};
 
 use crate::joining::modulus_of;
 use line_model::state::Side;
@@ -42,7 +42,7 @@ pub fn read_head(octets: &[u8]) -> Option<Head>
 }
 
 /// How far a call is cleared.
-#[derive(Clone, Copy, PartialEq, Eq, Debug)]
+#[derive(Clone, Copy)]
 pub enum Clearing {
     /// No side cleared it.
     Open,
@@ -85,35 +85,16 @@ fn answered(side: Side, by: Side) -> Clearing
     }
 }
 
-/// Returns how far a call is cleared after a clear request or indication of a side.
-fn cleared(side: Side, clearing: Clearing) -> Clearing
-    ensures { result ≡ cleared side clearing }
-{
-    match clearing {
-        Clearing::Open => Clearing::By(side),
-        Clearing::By(by) => answered(side, by),
-        Clearing::Confirmed => Clearing::Confirmed,
-    }
-}
-
-/// Returns how far a call is cleared after a clear confirmation of a side.
-fn confirmed(side: Side, clearing: Clearing) -> Clearing
-    ensures { result ≡ confirmed side clearing }
-{
-    match clearing {
-        Clearing::By(by) => answered(side, by),
-        _ => clearing,
-    }
-}
-
 /// Returns how far a call is cleared after a packet of a side.
 fn clearing_after(side: Side, kind: u8, clearing: Clearing) -> Clearing
     ensures { result ≡ clearing_after side kind clearing }
 {
-    match kind {
-        CALL => Clearing::Open,
-        CLEAR => cleared(side, clearing),
-        CONFIRMATION => confirmed(side, clearing),
+    if kind == CALL {
+        return Clearing::Open;
+    }
+    match clearing {
+        Clearing::Open if kind == CLEAR => Clearing::By(side),
+        Clearing::By(by) if kind == CLEAR || kind == CONFIRMATION => answered(side, by),
         _ => clearing,
     }
 }

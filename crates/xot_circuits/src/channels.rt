@@ -9,7 +9,7 @@ use std::alloc::{AllocError, Global};
 use std::marker::Model;
 
 /// For what a circuit needs a logical channel.
-#[derive(Clone, Copy, PartialEq, Eq, Debug)]
+#[derive(Clone, Copy)]
 pub enum Purpose {
     /// A permanent circuit.
     Permanent,
@@ -31,7 +31,7 @@ pub struct Wanted {
 }
 
 /// A logical channel of the trace.
-#[derive(Clone, Copy, PartialEq, Eq, Debug)]
+#[derive(Clone, Copy)]
 pub struct Given {
     /// Its number.
     pub channel: u16,

@@ -12,7 +12,7 @@ use line_model::state::Side;
 const PERMANENT_SET_UP: u8 = 0xF5;
 
 /// What a packet in a connection is.
-#[derive(Clone, Copy, PartialEq, Eq, Debug)]
+#[derive(Clone, Copy)]
 pub enum What {
     /// A packet of the circuit.
     Packet,

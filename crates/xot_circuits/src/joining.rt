@@ -27,7 +27,7 @@ pub struct Expected {
 }
 
 /// Whether a packet begins at the front of octets.
-#[derive(Clone, Copy, PartialEq, Eq, Debug)]
+#[derive(Clone, Copy)]
 pub enum Beginning {
     /// It does: a plausible header, an expected packet, and plausible headers up to the end.
     Begins,

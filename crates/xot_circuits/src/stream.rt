@@ -94,13 +94,6 @@ impl Stream {
         self.is_sought
     }
 
-    /// Returns how many octets came of the next packet.
-    pub fn len(&self) -> usize
-        ensures { result ≡ length self.now.rest }
-    {
-        self.rest.len()
-    }
-
     /// Returns the last packet that came in several pieces.
     pub fn packet(&self) -> &[u8]
         ensures { result.now ≡ self.now.packet }
