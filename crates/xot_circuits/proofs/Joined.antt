@@ -47,21 +47,6 @@ within (a ∷ b ∷ c ∷ d ∷ xs) segment p lt = within_by (header (a ∷ b �
 pub begins_within : (e : Expected) (rest segment : List ℕ) → beginning e (rest ++ segment) ≡ Begins → length rest < 7 → IsWithinBy (header rest) (length rest)
 begins_within e rest segment h lt = within rest segment (begins_plausible e (rest ++ segment) h) lt
 
-too_few_by : (t : Bool) → cond t Begins Other ≡ TooFew → ⊥
-too_few_by true h = cc h
-too_few_by false h = cc h
-
--- octets that are too few to decide are fewer than seven
-pub few : (e : Expected) (xs : List ℕ) → beginning e xs ≡ TooFew → length xs < 7
-few e [] h = omega arith
-few e (a ∷ []) h = omega arith
-few e (a ∷ b ∷ []) h = omega arith
-few e (a ∷ b ∷ c ∷ []) h = omega arith
-few e (a ∷ b ∷ c ∷ d ∷ []) h = omega arith
-few e (a ∷ b ∷ c ∷ d ∷ x ∷ []) h = omega arith
-few e (a ∷ b ∷ c ∷ d ∷ x ∷ y ∷ []) h = omega arith
-few e (a ∷ b ∷ c ∷ d ∷ x ∷ y ∷ z ∷ xs) h = absurd (too_few_by (is_expected e x y && are_plausible 0 (a ∷ b ∷ c ∷ d ∷ x ∷ y ∷ z ∷ xs)) h)
-
 joined_at : (e : Expected) (s : List ℕ) (ss : List (List ℕ)) (b : Beginning) → (b ≡ TooFew → ⊥) → sought e [] ss ≡ joined e ss
     → cond (joining_by b b [] s).is_sought (sought e (joining_by b b [] s).rest ss) (Some (s ∷ ss)) ≡ joined_by b (Some (s ∷ ss)) (joined e ss)
 joined_at e s ss Begins n later = refl
