@@ -1,0 +1,6 @@
+pub mod Packets
+pub mod Joining
+pub mod Streams
+pub mod Calls
+pub mod Circuits
+pub mod Plans

@@ -1,0 +1,10 @@
+//! XOT (RFC 1613): the packets in the octets of TCP connections, one connection a circuit.
+#![tactic(auto)]
+
+pub mod call;
+pub mod channels;
+pub mod circuit;
+pub mod header;
+pub mod joining;
+pub mod laws;
+pub mod stream;
