@@ -60,6 +60,7 @@ enum RecordStart {
 impl PcapForm {
     /// Returns what begins at the front of a file, of which these are the first octets: the header of a record at
     /// least, or all.
+    #[inline(always)]
     fn start(&self, octets: &[u8]) -> RecordStart
         ensures { IsStart self.now octets.now result }
     {
@@ -89,6 +90,7 @@ impl Pcap {
 
     /// Returns the entry of a record, whose octets were consumed last: all of its `size`, or those up to the end of the
     /// file.
+    #[inline(always)]
     fn record(&mut self, octets: &[u8], size: usize) -> Entry
         requires { header_size self.old.form.header ≤ length octets.now }
         ensures some { IsSome result.frame }
@@ -122,6 +124,7 @@ impl Pcap {
     }
 
     /// Consumes the record at the front, of `size` octets with its header, or what there is of it.
+    #[inline(always)]
     fn take_record<S: RoomSource>(
         &mut self,
         window: &mut Window,
@@ -144,6 +147,8 @@ impl Pcap {
     }
 
     /// Consumes the next octets of a search, and ends it where records go on, or where the file ends.
+    #[cold]
+    #[inline(never)]
     fn search_on<S: RoomSource>(
         &mut self,
         window: &mut Window,
@@ -199,6 +204,8 @@ impl Pcap {
     }
 
     /// Returns the entry of the first octets of a header, with which the file ends.
+    #[cold]
+    #[inline(never)]
     fn header_cut(&mut self, octets: u32) -> Entry
         ensures { result.frame ≡ None }
     {
@@ -212,6 +219,7 @@ impl Pcap {
 
     /// Consumes the next record, or the next octets of a search for one, and returns what they give; `None` at the end
     /// of the file. Fails where the source fails, and when memory is refused; nothing is consumed then.
+    #[inline(always)]
     pub fn next<S: RoomSource>(
         &mut self,
         window: &mut Window,
