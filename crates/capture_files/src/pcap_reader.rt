@@ -6,6 +6,7 @@ ghost use Rattle.capture_files.specs.Numbers.{next_number};
 ghost use Rattle.capture_files.specs.PcapFiles.{pcap_left};
 ghost use Rattle.capture_files.specs.PcapRecords.{Begins, header_size, kept, pcap_frame};
 ghost use Rattle.capture_files.specs.PcapSteps.{IsPcapEntry, IsPcapStep, IsStart};
+ghost use Rattle.capture_files.specs.declared.pcap_reader.RecordStart.TheVariants.{Record};
 ghost use Rattle.capture_files.specs.Records.{Follows, record_in};
 ghost use Rattle.capture_files.specs.Windows.{Advances, IsAtEnd, still};
 
@@ -119,7 +120,9 @@ impl Pcap {
         Entry {
             frame: Some(head),
             damage,
-            ..Entry::NOTHING
+            frame_damage: None,
+            dropped: None,
+            other_block: None,
         }
     }
 
@@ -217,10 +220,49 @@ impl Pcap {
         }
     }
 
+    /// Returns the size of the next record with its header, where these octets have its header and no record is sought.
+    #[inline(always)]
+    fn size_ahead(&self, octets: &[u8]) -> Option<usize>
+        ensures free { IsSome result → self.now.search ≡ None }
+        ensures begins { IfSome result (λ size. IsStart self.now.form octets.now (Record size)) }
+    {
+        if self.search.is_some() {
+            return None;
+        }
+        match self.form.start(octets) {
+            RecordStart::Record(size) => Some(size),
+            _ => None,
+        }
+    }
+
     /// Consumes the next record, or the next octets of a search for one, and returns what they give; `None` at the end
     /// of the file. Fails where the source fails, and when memory is refused; nothing is consumed then.
     #[inline(always)]
     pub fn next<S: RoomSource>(
+        &mut self,
+        window: &mut Window,
+        source: &mut S,
+    ) -> Result<Option<Entry>, Fault>
+        ensures passes { OnOk result (Advances window.old (S.left source.old) window.new (S.left source.new) window.new.last) }
+        ensures refused { OnErr result (Advances window.old (S.left source.old) window.new (S.left source.new) []) }
+        ensures end { IfOk result (λ entry. IfNone entry
+            (IsAtEnd (still window.old.ahead (S.left source.old)) (S.left source.new))) }
+        ensures step { IfOk result (λ entry. IsPcapStep self.old window.new entry) }
+        ensures follows { IfOk result (λ entry. Follows (pcap_left self.old (still window.old.ahead (S.left source.old)))
+            (pcap_left self.new (still window.new.ahead (S.left source.new))) (record_in window.new.last entry)) }
+        ensures kept { OnErr result (self.new ≡ self.old) }
+    {
+        match self.size_ahead(window.ahead()) {
+            Some(size) => Ok(Some(self.take_record(window, source, size)?)),
+            None => self.read_on(window, source),
+        }
+    }
+
+    /// Does the same where the window has not the header of a record ahead, or a record is sought. It is not inlined: what
+    /// it owns is large, and few records need it.
+    #[cold]
+    #[inline(never)]
+    fn read_on<S: RoomSource>(
         &mut self,
         window: &mut Window,
         source: &mut S,
