@@ -75,6 +75,7 @@ impl CaptureFile {
     /// Consumes the next record or block, or the next octets of a search after a damage, and returns what they give;
     /// `None` at the end of the file. The octets are those that the window consumed last. Fails where the source fails,
     /// and when memory is refused; nothing is consumed then.
+    #[inline(always)]
     pub fn next<S: RoomSource>(
         &mut self,
         window: &mut Window,

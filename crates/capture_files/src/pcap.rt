@@ -80,6 +80,7 @@ fn direction_of_kind(kind: u8) -> Direction
 
 impl PcapForm {
     /// Returns how many octets the frame of a record had on the line, without its check sequence.
+    #[inline(always)]
     fn line_length(&self, octets: &[u8]) -> u32
         requires { 16 ≤ length octets.now }
         ensures { result ≡ line_length self.now octets.now }
@@ -90,6 +91,7 @@ impl PcapForm {
     }
 
     /// Returns the time of a record.
+    #[inline(always)]
     fn time(&self, octets: &[u8]) -> Nanos
         requires { 16 ≤ length octets.now }
         ensures { result ≡ record { count = pos (nanoseconds self.now octets.now) } }
@@ -104,6 +106,7 @@ impl PcapForm {
     }
 
     /// Returns the frame of a record, whole or its first octets.
+    #[inline(always)]
     pub(crate) fn head(&self, number: u64, octets: &[u8]) -> FrameHead
         requires { header_size self.now.header ≤ length octets.now }
         ensures frame { frame_at result octets.now ≡ pcap_frame self.now number octets.now }

@@ -6,6 +6,7 @@ ghost use Rattle.capture_files.specs.Numbers.{next_number};
 ghost use Rattle.capture_files.specs.PcapFiles.{pcap_left};
 ghost use Rattle.capture_files.specs.PcapRecords.{Begins, header_size, kept, pcap_frame};
 ghost use Rattle.capture_files.specs.PcapSteps.{IsPcapEntry, IsPcapStep, IsStart};
+ghost use Rattle.capture_files.specs.declared.pcap_reader.RecordStart.TheVariants.{Record};
 ghost use Rattle.capture_files.specs.Records.{Follows, record_in};
 ghost use Rattle.capture_files.specs.Windows.{Advances, IsAtEnd, still};
 
@@ -60,6 +61,7 @@ enum RecordStart {
 impl PcapForm {
     /// Returns what begins at the front of a file, of which these are the first octets: the header of a record at
     /// least, or all.
+    #[inline(always)]
     fn start(&self, octets: &[u8]) -> RecordStart
         ensures { IsStart self.now octets.now result }
     {
@@ -89,6 +91,7 @@ impl Pcap {
 
     /// Returns the entry of a record, whose octets were consumed last: all of its `size`, or those up to the end of the
     /// file.
+    #[inline(always)]
     fn record(&mut self, octets: &[u8], size: usize) -> Entry
         requires { header_size self.old.form.header ≤ length octets.now }
         ensures some { IsSome result.frame }
@@ -117,11 +120,14 @@ impl Pcap {
         Entry {
             frame: Some(head),
             damage,
-            ..Entry::NOTHING
+            frame_damage: None,
+            dropped: None,
+            other_block: None,
         }
     }
 
     /// Consumes the record at the front, of `size` octets with its header, or what there is of it.
+    #[inline(always)]
     fn take_record<S: RoomSource>(
         &mut self,
         window: &mut Window,
@@ -144,6 +150,8 @@ impl Pcap {
     }
 
     /// Consumes the next octets of a search, and ends it where records go on, or where the file ends.
+    #[cold]
+    #[inline(never)]
     fn search_on<S: RoomSource>(
         &mut self,
         window: &mut Window,
@@ -199,6 +207,8 @@ impl Pcap {
     }
 
     /// Returns the entry of the first octets of a header, with which the file ends.
+    #[cold]
+    #[inline(never)]
     fn header_cut(&mut self, octets: u32) -> Entry
         ensures { result.frame ≡ None }
     {
@@ -210,9 +220,49 @@ impl Pcap {
         }
     }
 
+    /// Returns the size of the next record with its header, where these octets have its header and no record is sought.
+    #[inline(always)]
+    fn size_ahead(&self, octets: &[u8]) -> Option<usize>
+        ensures free { IsSome result → self.now.search ≡ None }
+        ensures begins { IfSome result (λ size. IsStart self.now.form octets.now (Record size)) }
+    {
+        if self.search.is_some() {
+            return None;
+        }
+        match self.form.start(octets) {
+            RecordStart::Record(size) => Some(size),
+            _ => None,
+        }
+    }
+
     /// Consumes the next record, or the next octets of a search for one, and returns what they give; `None` at the end
     /// of the file. Fails where the source fails, and when memory is refused; nothing is consumed then.
+    #[inline(always)]
     pub fn next<S: RoomSource>(
+        &mut self,
+        window: &mut Window,
+        source: &mut S,
+    ) -> Result<Option<Entry>, Fault>
+        ensures passes { OnOk result (Advances window.old (S.left source.old) window.new (S.left source.new) window.new.last) }
+        ensures refused { OnErr result (Advances window.old (S.left source.old) window.new (S.left source.new) []) }
+        ensures end { IfOk result (λ entry. IfNone entry
+            (IsAtEnd (still window.old.ahead (S.left source.old)) (S.left source.new))) }
+        ensures step { IfOk result (λ entry. IsPcapStep self.old window.new entry) }
+        ensures follows { IfOk result (λ entry. Follows (pcap_left self.old (still window.old.ahead (S.left source.old)))
+            (pcap_left self.new (still window.new.ahead (S.left source.new))) (record_in window.new.last entry)) }
+        ensures kept { OnErr result (self.new ≡ self.old) }
+    {
+        match self.size_ahead(window.ahead()) {
+            Some(size) => Ok(Some(self.take_record(window, source, size)?)),
+            None => self.read_on(window, source),
+        }
+    }
+
+    /// Does the same where the window has not the header of a record ahead, or a record is sought. It is not inlined: what
+    /// it owns is large, and few records need it.
+    #[cold]
+    #[inline(never)]
+    fn read_on<S: RoomSource>(
         &mut self,
         window: &mut Window,
         source: &mut S,

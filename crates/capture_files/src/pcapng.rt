@@ -435,6 +435,7 @@ impl Pcapng {
 
     /// Consumes the next block, or the next octets of a search for one, and returns what they give; `None` at the end of
     /// the file. Fails where the source fails, and when memory is refused; nothing is consumed then.
+    #[inline(never)]
     pub fn next<S: RoomSource>(
         &mut self,
         window: &mut Window,

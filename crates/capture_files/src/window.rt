@@ -133,7 +133,22 @@ impl Window {
 
     /// Has this number of octets ahead, or all up to the end of the source. Fails where the source fails, and when
     /// memory is refused; no octet is lost then.
+    #[inline(always)]
     pub fn fill<S: RoomSource>(&mut self, source: &mut S, many: usize) -> Result<(), Fault>
+        ensures passes { Advances self.old (S.left source.old) self.new (S.left source.new) [] }
+        ensures grown { (more : List ℕ) × (self.new.ahead ≡ self.old.ahead ++ more) }
+        ensures there { OnOk result ((many ≤ length self.new.ahead) ⊎ IsAtEnd (still self.old.ahead (S.left source.old)) (S.left source.new)) }
+    {
+        if self.len() < many {
+            return self.read_on(source, many);
+        }
+        Ok(())
+    }
+
+    /// Reads until there are so many octets ahead, or the source ends. It is not inlined: most records are there.
+    #[cold]
+    #[inline(never)]
+    fn read_on<S: RoomSource>(&mut self, source: &mut S, many: usize) -> Result<(), Fault>
         ensures passes { Advances self.old (S.left source.old) self.new (S.left source.new) [] }
         ensures grown { (more : List ℕ) × (self.new.ahead ≡ self.old.ahead ++ more) }
         ensures there { OnOk result ((many ≤ length self.new.ahead) ⊎ IsAtEnd (still self.old.ahead (S.left source.old)) (S.left source.new)) }

@@ -7,6 +7,7 @@ mod HeaderLemmas
 mod HeaderTextLemmas
 mod GivingLemmas
 mod HeldLemmas
+mod HexDigitLemmas
 mod LinkLemmas
 mod PlaceLemmas
 mod ReadingLemmas

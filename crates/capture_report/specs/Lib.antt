@@ -11,6 +11,7 @@ pub mod Recordings
 pub mod HeaderChannels
 pub mod Headers
 pub mod HeaderTexts
+pub mod HexDigits
 pub mod TraceRows
 pub mod Laws
 pub mod Sights

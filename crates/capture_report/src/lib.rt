@@ -10,6 +10,7 @@ mod gaps;
 pub mod header;
 mod header_channels;
 pub mod header_text;
+mod hex_digits;
 pub mod laws;
 mod line_reading;
 pub mod plan;

@@ -5,9 +5,9 @@ ghost use Rattle.capture_report.specs.Contents.{Gap, content_view, row_view};
 ghost use Rattle.trace_text.specs.RowTexts.{octets_word, row_text, side_letter};
 ghost use Rattle.capture_report.specs.Texts.{channel_text, content_text, decimals, first_printer, nano_units, nanos_text, number_if, part_text, place_text, seconds_text, sign_text, split_decimal, time_text, least_number, with_row};
 
+use crate::hex_digits::append_digits;
 use crate::row::{Content, Row};
 use capture_model::time::Nanos;
-use hex::encode_upper;
 use itoa::Buffer;
 use lapb_link::frames::Place;
 use line_model::state::Side;
@@ -146,9 +146,10 @@ fn append_place(place: Place, out: &mut Vec<u8>) -> Result<(), AllocError>
 {
     out.extend_from_slice(b"#@ ")?;
     append_time(place.time, out)?;
-    out.extend_from_slice(b" ")?;
+    out.push(b' ')?;
     append_number(place.frame, out)?;
-    out.extend_from_slice(b"\n")
+    out.push(b'\n')?;
+    Ok(())
 }
 
 /// Appends a number.
@@ -260,8 +261,7 @@ fn append_octets(octets: &[u8], out: &mut Vec<u8>) -> Result<(), AllocError>
     if octets.is_empty() {
         return out.extend_from_slice(b"-");
     }
-    let digits = encode_upper(*out.allocator(), octets)?;
-    out.extend_from_slice(digits.as_bytes())
+    append_digits(octets, out)
 }
 
 /// Appends the line of a packet.
@@ -277,7 +277,8 @@ fn append_packet(
     append_number(number.into(), out)?;
     out.extend_from_slice(&[b' ', side_letter(side), b' '])?;
     append_octets(octets, out)?;
-    out.extend_from_slice(b"\n")
+    out.push(b'\n')?;
+    Ok(())
 }
 
 /// Appends the word of a gap's channel, or of all channels.

@@ -121,6 +121,7 @@ impl Ends {
     }
 
     /// Returns who sent a command or a response, by its address and its station.
+    #[inline(always)]
     pub fn sender(&mut self, source: Option<u64>, by_address: Side) -> Sender
         ensures sender { result ≡ (sender_from source by_address self.old).sender }
         ensures after { self.new ≡ (sender_from source by_address self.old).after }

@@ -134,6 +134,7 @@ impl Link {
 
     /// Reads an I frame.
     #[tactic(auto, unfolding(crate::specs::Links::information_read))]
+    #[inline(always)]
     fn read_information<'a>(
         &mut self,
         sender: Sender,
@@ -165,6 +166,7 @@ impl Link {
 
     /// Reads a supervisory frame. Where it may be a command or a response, it proves no loss.
     #[tactic(auto, unfolding(crate::specs::Links::supervisory_read))]
+    #[inline(never)]
     fn read_supervisory<'a>(
         &mut self,
         frame: &LinkFrame<'a>,
@@ -189,6 +191,8 @@ impl Link {
 
     /// Reads an unnumbered frame.
     #[tactic(auto, unfolding(crate::specs::Links::unnumbered_read))]
+    #[cold]
+    #[inline(never)]
     fn read_unnumbered<'a>(
         &mut self,
         alloc: Global,
@@ -259,6 +263,7 @@ impl Link {
     }
 
     /// Reads the N(R) of a supervisory frame or an I frame, for the frames of a side.
+    #[inline(always)]
     fn supervise(
         &mut self,
         side: Side,
@@ -283,6 +288,7 @@ impl Link {
     }
 
     /// Reads an I frame of a side.
+    #[inline(always)]
     fn inform(
         &mut self,
         side: Side,
@@ -310,6 +316,7 @@ impl Link {
     }
 
     /// Keeps the frame as that of the last gap, if a gap or a cut packet was shown from an index on.
+    #[inline(always)]
     fn mark(&mut self, frame: u64, out: &Vec<Shown>, before: usize)
         requires { before ≤ vec_len out.now }
         ensures { self.new ≡ marked frame (drop before out.now.items) self.old }
@@ -320,6 +327,7 @@ impl Link {
     }
 
     /// Returns what the receiver of a side has to know of a frame.
+    #[inline(always)]
     fn reading(&self, side: Side, place: Place) -> Reading
         ensures { result ≡ reading_of side place self.now }
     {
@@ -334,6 +342,7 @@ impl Link {
     /// Returns who sent a frame that is surely a command or a response. Where it shows that both ends have one address, an
     /// RR of its end that was recorded before may have been read as one of the other end.
     #[tactic(auto, unfolding(crate::specs::Links::identified))]
+    #[inline(always)]
     fn sender(
         &mut self,
         alloc: Global,

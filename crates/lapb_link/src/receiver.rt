@@ -1,6 +1,6 @@
 //! The receiver of one direction: which of its I frames it accepted.
 
-ghost use Rattle.std.specs.Prelude.{◌≡◌, ◌++◌, ◌<◌, IfOk, OnOk, true};
+ghost use Rattle.std.specs.Prelude.{◌≡◌, ◌-◌, ◌++◌, ◌<◌, ◌||◌, IfOk, OnOk, filter, length, not, true};
 ghost use Rattle.lapb_link.specs.Frames.{i_frame};
 ghost use Rattle.lapb_link.specs.Receiving.{given, passed_over};
 
@@ -172,7 +172,8 @@ impl Progress {
 }
 
 impl Receiver {
-    ghost use Rattle.lapb_link.specs.Receiving.{accepted, acknowledged, all_passed, caught_up, expected, first_acknowledged, forgotten, freed, held_shown, informed, is_beyond, is_holding, is_inside, is_repeated_number, new_frame, recall_of, refused, rejected, selected, set_up_again, supervised, unknown, widened};
+    ghost use Rattle.lapb_link.specs.Frames.{is_kept};
+    ghost use Rattle.lapb_link.specs.Receiving.{accepted, acknowledged, all_passed, caught_up, count_shown, expected, first_acknowledged, forgotten, freed, gap_if, held_shown, informed, is_beyond, is_holding, is_inside, is_repeated_number, new_frame, recall_of, refused, rejected, selected, set_up_again, supervised, unknown, widened};
 
     /// Returns the receiver of a link of which nothing was read.
     pub fn new(alloc: Global) -> Result<Self, AllocError>
@@ -260,6 +261,7 @@ impl Receiver {
     }
 
     /// Reads a supervisory frame, or the N(R) of an I frame. `proves`: it is surely of the receiver.
+    #[inline(always)]
     pub fn supervise(
         &mut self,
         reading: &Reading,
@@ -281,6 +283,8 @@ impl Receiver {
     }
 
     /// Reads a REJ: the receiver refused the frames that are held.
+    #[cold]
+    #[inline(never)]
     fn reject(
         &mut self,
         reading: &Reading,
@@ -320,6 +324,8 @@ impl Receiver {
     }
 
     /// Reads an SREJ: the receiver keeps frames out of sequence.
+    #[cold]
+    #[inline(never)]
     fn reject_one(
         &mut self,
         reading: &Reading,
@@ -336,6 +342,7 @@ impl Receiver {
     }
 
     /// Reads an N(R), of an I frame, an RR or an RNR.
+    #[inline(always)]
     fn acknowledge(
         &mut self,
         reading: &Reading,
@@ -361,6 +368,8 @@ impl Receiver {
     }
 
     /// Reads an N(R) before the first I frame.
+    #[cold]
+    #[inline(never)]
     fn acknowledge_first(
         &mut self,
         reading: &Reading,
@@ -391,6 +400,7 @@ impl Receiver {
     }
 
     /// Returns whether an N(R) acknowledges frames that were recorded.
+    #[inline(always)]
     fn is_inside(&self, modulus: Modulus, receive: u8, next: u8) -> bool
         ensures { result ≡ is_inside modulus receive next self.now }
     {
@@ -413,6 +423,8 @@ impl Receiver {
     }
 
     /// Goes on to a number: frames before it were accepted.
+    #[cold]
+    #[inline(never)]
     fn catch_up(
         &mut self,
         reading: &Reading,
@@ -450,6 +462,7 @@ impl Receiver {
     }
 
     /// Reads an I frame.
+    #[inline(always)]
     pub fn information(
         &mut self,
         reading: &Reading,
@@ -477,6 +490,7 @@ impl Receiver {
     }
 
     /// Removes the held frames that were refused, as a frame shows that comes.
+    #[inline(always)]
     fn drop_refused(
         &mut self,
         next: u8,
@@ -489,12 +503,33 @@ impl Receiver {
             ≡ out.old.items ++ (freed next (i_frame frame.now) self.old).shown) }
     {
         let comes = frame.send == next;
-        let again = self.held.has(frame.send) && self.recent.is_repeated(frame, self.set_up);
-        let before = self.held.len();
-        self.held
-            .drop_refused(frame.send, again, self.rejects && comes)?;
+        if self.held.len() > 0 {
+            let again = self.held.has(frame.send) && self.recent.is_repeated(frame, self.set_up);
+            self.drop_held(frame.send, again, self.rejects && comes, out)?;
+        }
         self.rejects = self.rejects && !comes;
         self.doubtful = self.doubtful && self.held.len() > 0;
+        Ok(())
+    }
+
+    /// Removes held frames that were refused: with `again` those that have a number, with `rejected` those that came
+    /// after a reject.
+    #[cold]
+    #[inline(never)]
+    fn drop_held(
+        &mut self,
+        send: u8,
+        again: bool,
+        rejected: bool,
+        out: &mut Vec<Shown>,
+    ) -> Result<(), AllocError>
+        ensures after { OnOk result (self.new
+            ≡ record self.old { held = filter (is_kept send again rejected) self.old.held }) }
+        ensures shown { OnOk result (out.new.items ≡ out.old.items
+            ++ count_shown (length self.old.held - length (filter (is_kept send again rejected) self.old.held))) }
+    {
+        let before = self.held.len();
+        self.held.drop_refused(send, again, rejected)?;
         let refused = before.saturating_sub(self.held.len());
         if refused > 0 {
             out.push(Shown::Refused(refused))?;
@@ -503,6 +538,7 @@ impl Receiver {
     }
 
     /// Returns what is known of the number of a frame.
+    #[inline(always)]
     fn recall(&self, modulus: Modulus, next: u8, frame: &Information<'_>) -> Recall
         requires { frame.now.send < 128 }
         ensures { result ≡ recall_of modulus next (i_frame frame.now) self.now }
@@ -535,6 +571,8 @@ impl Receiver {
     }
 
     /// Goes on by all numbers, to one.
+    #[cold]
+    #[inline(never)]
     fn pass_all(
         &mut self,
         reading: &Reading,
@@ -555,6 +593,7 @@ impl Receiver {
     }
 
     /// Reads a frame with a new number.
+    #[inline(always)]
     fn take_new(
         &mut self,
         reading: &Reading,
@@ -580,6 +619,7 @@ impl Receiver {
     }
 
     /// Notes that the receiver acknowledged so many frames that a window reaches a number.
+    #[inline(always)]
     fn widen(&mut self, modulus: Modulus, next: u8, send: u8)
         ensures { self.new ≡ widened modulus next send self.old }
     {
@@ -597,6 +637,7 @@ impl Receiver {
     }
 
     /// Accepts a frame with the next number, and holds another.
+    #[inline(always)]
     fn take_expected(
         &mut self,
         reading: &Reading,
@@ -618,7 +659,27 @@ impl Receiver {
         Ok(Fate::Held)
     }
 
+    /// Says that the held frames may be of numbers that all have passed, except after a selective reject.
+    #[cold]
+    #[inline(never)]
+    fn doubt_held(&mut self, place: Place, out: &mut Vec<Shown>) -> Result<(), AllocError>
+        ensures after { OnOk result (self.new
+            ≡ record self.old { doubtful = self.old.doubtful || not self.old.selective }) }
+        ensures shown { OnOk result (out.new.items
+            ≡ out.old.items ++ gap_if (not self.old.selective) self.old.since place) }
+    {
+        if !self.selective {
+            self.doubtful = true;
+            out.push(Shown::Gap(Gap {
+                since: self.since,
+                place,
+            }))?;
+        }
+        Ok(())
+    }
+
     /// Accepts a frame.
+    #[inline(always)]
     fn accept(
         &mut self,
         reading: &Reading,
@@ -631,18 +692,9 @@ impl Receiver {
             ≡ out.old.items ++ (accepted reading.now (i_frame frame.now) self.old).shown) }
         ensures fate { IfOk result (λ fate. fate ≡ (accepted reading.now (i_frame frame.now) self.old).fate) }
     {
-        let before = self.held.len();
-        if before > 0 && !self.selective {
-            self.doubtful = true;
-            out.push(Shown::Gap(Gap {
-                since: self.since,
-                place: frame.place,
-            }))?;
-        }
-        self.held.drop_refused(frame.send, true, false)?;
-        let refused = before.saturating_sub(self.held.len());
-        if refused > 0 {
-            out.push(Shown::Refused(refused))?;
+        if self.held.len() > 0 {
+            self.doubt_held(frame.place, out)?;
+            self.drop_held(frame.send, true, false, out)?;
         }
         self.recent.keep(frame)?;
         self.next = Some(reading.modulus.after(frame.send, 1));

@@ -1,7 +1,7 @@
 -- No octet was lost so far; each read brings more octets.
 use Rattle.std.proofs.Common.{◌≡◌, ◌-◌, ◌++◌, ℕ, List, [], length}
 use Rattle.capture_files.specs.Windows.{Passes, still}
-use Rattle.capture_files.proofs.window.Window.fill.Given as goal
+use Rattle.capture_files.proofs.window.Window.read_on.Given as goal
 
 abbrev pub invariant-loop-self : goal.invariant-loop-self
 invariant-loop-self g l = record {

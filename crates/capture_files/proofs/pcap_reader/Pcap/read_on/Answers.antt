@@ -3,7 +3,7 @@ use Rattle.std.proofs.Common.{◌∙◌, ◌++◌, ap, arith, inl, inr, length, 
 use Rattle.capture_files.specs.Windows.{still}
 use Rattle.capture_files.proofs.FileLemmas.{follows_filled, follows_impossible}
 use Rattle.capture_files.proofs.RecordLemmas.{no_frame, none_begins}
-use Rattle.capture_files.proofs.pcap_reader.Pcap.next.Goals as goal
+use Rattle.capture_files.proofs.pcap_reader.Pcap.read_on.Goals as goal
 
 pub returns-in_ok-search_on-in-Impossible-clause-step : goal.returns-in_ok-search_on-in-Impossible-clause-step
 returns-in_ok-search_on-in-Impossible-clause-step g c =

@@ -1,7 +1,7 @@
 -- A read that gave nothing leaves a source at its end.
 use Rattle.std.proofs.Common.{◌≡◌, inr, length, rules}
 use Rattle.capture_files.proofs.WindowLemmas.{at_end}
-use Rattle.capture_files.proofs.window.Window.fill.Goals as goal
+use Rattle.capture_files.proofs.window.Window.read_on.Goals as goal
 
 pub returns-then-branch-eq0-clause-there : goal.returns-then-branch-eq0-clause-there
 returns-then-branch-eq0-clause-there g c =
