@@ -1,0 +1,96 @@
+-- The connections of a recording, by their ends.
+use Rattle.std.specs.Prelude.{ℕ, ◌×◌, ◌+◌, ◌-◌, ◌^◌, ◌==◌, ◌&&◌, ◌||◌, nat_lt, min, not, Bool, true, false, List, [], ◌∷◌, length, Option, Some, None, is_some, if◌then◌else◌}
+use Rattle.std.specs.BTreeMap.{insert_entry, is_at}
+use Rattle.std.specs.Map.{lookup, remove_entry}
+use Rattle.ip_segments.specs.Segments.{Segment}
+use Rattle.tcp_streams.specs.Connections.{goes_on, new_connection}
+use Rattle.tcp_streams.specs.Ends.{turned}
+use Rattle.tcp_streams.specs.contracts.ends.EndsOrd.TheImpl.{ghosts}
+use Rattle.tcp_streams.specs.declared.connection.End.{End}
+use Rattle.tcp_streams.specs.declared.connection.End.TheVariants.{Opener, Answerer}
+use Rattle.tcp_streams.specs.declared.connections.Connections.{Connections}
+use Rattle.tcp_streams.specs.declared.connections.Place.{Place}
+use Rattle.tcp_streams.specs.declared.connections.Placed.{Placed}
+use Rattle.tcp_streams.specs.declared.connections.Placed.TheVariants.{Begins, GoesOn, Nowhere}
+use Rattle.tcp_streams.specs.declared.connections.Tracked.{Tracked}
+use Rattle.tcp_streams.specs.declared.ends.Ends.{Ends}
+
+-- the latest connection of each opener to another end, and how many began
+pub record Table : Type 0 where
+  pub latest : List (Ends × Tracked)
+  pub begun : ℕ
+
+abbrev pub table_of : Connections → Table
+table_of c = record { latest = c.latest.entries; begun = c.begun }
+
+abbrev pub no_connections : Table
+no_connections = record { latest = []; begun = 0 }
+
+-- the latest connection that the first end opened to the second
+abbrev pub opened_by : Ends → Table → Option Tracked
+opened_by e t = lookup (is_at (ghosts.cmp e)) t.latest
+
+-- the latest connection between two ends, and who sends
+abbrev pub place_at : Ends → End → Option Tracked → Option Place
+place_at e from None = None
+place_at e from (Some c) = Some (record { ends = e; from = from; number = c.number })
+
+abbrev pub found_or : Option Place → Option Place → Option Place
+found_or (Some p) q = Some p
+found_or None q = q
+
+abbrev pub found : Ends → Table → Option Place
+found e t = found_or (place_at e Opener (opened_by e t)) (place_at (turned e) Answerer (opened_by (turned e) t))
+
+-- a segment goes on with that connection, unless it is a SYN of another one
+abbrev pub goes_on_with : Option Tracked → End → Segment → Bool
+goes_on_with None from s = false
+goes_on_with (Some c) from s = not s.is_syn || goes_on from s c.connection
+
+abbrev pub goes_on_at : Place → Segment → Table → Bool
+goes_on_at p s t = goes_on_with (opened_by p.ends t) p.from s
+
+-- where there is none, a SYN begins one, and octets do
+abbrev pub opens : Segment → Bool
+opens s = s.is_syn || (not s.is_reset && (nat_lt 0 (length s.payload.octets) || nat_lt 0 s.payload.length))
+
+-- the first segment is the opener's, unless it is the answer to a SYN, or comes from a server
+abbrev pub opens_as : (is_from_server : Bool) → Segment → End
+opens_as from_server s = if (if s.is_syn then is_some s.acknowledged else from_server) then Answerer else Opener
+
+abbrev pub opener_first : End → Ends → Ends
+opener_first Opener e = e
+opener_first Answerer e = turned e
+
+-- a connection that begins has the next number, and takes the place of that of its opener before it
+abbrev pub next_number : Table → ℕ
+next_number t = min (t.begun + 1) (2 ^ 64 - 1)
+
+abbrev pub begun_place : Ends → End → Table → Place
+begun_place e from t = record { ends = opener_first from e; from = from; number = next_number t }
+
+abbrev pub begun_after : Ends → End → Table → Table
+begun_after e from t = record {
+  latest = insert_entry ghosts.cmp t.latest (opener_first from e) (record { number = next_number t; connection = new_connection });
+  begun = next_number t;
+}
+
+-- what a segment does where a connection is known between its ends, and where none is
+abbrev pub without : Place → Table → Table
+without p t = record t { latest = remove_entry (is_at (ghosts.cmp p.ends)) t.latest }
+
+abbrev pub placed_by : Option Place → Ends → (is_from_server : Bool) → Segment → Table → Placed
+placed_by (Some p) e server s t = if goes_on_at p s t then GoesOn p
+    else Begins (begun_place e (opens_as server s) t) (opened_by p.ends t)
+placed_by None e server s t = if opens s then Begins (begun_place e (opens_as server s) t) None else Nowhere
+
+abbrev pub placed_after_by : Option Place → Ends → (is_from_server : Bool) → Segment → Table → Table
+placed_after_by (Some p) e server s t = if goes_on_at p s t then t
+    else begun_after e (opens_as server s) (without p t)
+placed_after_by None e server s t = if opens s then begun_after e (opens_as server s) t else t
+
+abbrev pub placed : Ends → (is_from_server : Bool) → Segment → Table → Placed
+placed e server s t = placed_by (found e t) e server s t
+
+abbrev pub placed_after : Ends → (is_from_server : Bool) → Segment → Table → Table
+placed_after e server s t = placed_after_by (found e t) e server s t

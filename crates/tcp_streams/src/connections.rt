@@ -1,0 +1,176 @@
+//! The connections of a recording, by their ends.
+
+ghost use Rattle.std.specs.Prelude.{◌≡◌, IfOk, OnOk};
+ghost use Rattle.ip_segments.specs.Views.{segment_view};
+ghost use Rattle.tcp_streams.specs.Tables.{opener_first, opens, opens_as};
+
+use crate::connection::{Connection, End};
+use crate::ends::Ends;
+use ip_segments::segment::Segment;
+use std::alloc::{AllocError, Global};
+use std::collections::BTreeMap;
+
+/// A connection with its number.
+#[derive(Drop)]
+pub struct Tracked {
+    /// Its number: that of the first connection is 1.
+    pub number: u64,
+    /// What was read of it.
+    pub connection: Connection,
+}
+
+/// Which connection a segment belongs to.
+#[derive(Clone, Copy, PartialEq, Eq, Debug)]
+pub struct Place {
+    /// The ends of the connection: its opener is the first one.
+    pub ends: Ends,
+    /// The end that sent the segment.
+    pub from: End,
+    /// The number of the connection.
+    pub number: u64,
+}
+
+/// What a segment does.
+#[derive(Drop)]
+pub enum Placed {
+    /// It goes on with a connection.
+    GoesOn(Place),
+    /// It begins a connection, and ends the one before it between its ends.
+    Begins(Place, Option<Tracked>),
+    /// It belongs to none, and has no octets.
+    Nowhere,
+}
+
+/// The connections of a recording: of those between two ends the latest one.
+#[derive(Drop)]
+pub struct Connections {
+    latest: BTreeMap<Ends, Tracked>,
+    begun: u64,
+    alloc: Global,
+}
+
+/// Returns whether a segment begins a connection, where none is known between its ends: a SYN does, and octets do.
+fn opens(segment: &Segment<'_>) -> bool
+    ensures { result ≡ opens (segment_view segment.now) }
+{
+    segment.is_syn
+        || !segment.is_reset && (0 < segment.payload.octets.len() || 0 < segment.payload.length)
+}
+
+/// Returns whose segment is the first one of a connection: the opener's, unless it is a SYN that answers another one, or
+/// else comes from a server.
+fn opens_as(segment: &Segment<'_>, is_from_server: bool) -> End
+    ensures { result ≡ opens_as is_from_server (segment_view segment.now) }
+{
+    let is_answer = if segment.is_syn {
+        segment.acknowledged.is_some()
+    } else {
+        is_from_server
+    };
+    if is_answer {
+        End::Answerer
+    } else {
+        End::Opener
+    }
+}
+
+/// Returns the ends of a connection, its opener first, of which one sends a segment.
+fn opener_first(ends: Ends, from: End) -> Ends
+    ensures { result ≡ opener_first from ends }
+{
+    match from {
+        End::Opener => ends,
+        End::Answerer => ends.turned(),
+    }
+}
+
+impl Connections {
+    ghost use Rattle.tcp_streams.specs.Tables.{begun_after, begun_place, found, goes_on_at, no_connections, placed, placed_after, table_of};
+
+    /// Returns a table without a connection.
+    pub fn new(alloc: Global) -> Self
+        ensures { table_of result ≡ no_connections }
+    {
+        Connections {
+            latest: BTreeMap::new(alloc),
+            begun: 0,
+            alloc,
+        }
+    }
+
+    /// Returns the place of what one end sends to another: that in the latest connection between them.
+    pub fn find(&self, ends: Ends) -> Option<Place>
+        ensures { result ≡ found ends (table_of self.now) }
+    {
+        if let Some(tracked) = self.latest.get(&ends) {
+            return Some(Place {
+                ends,
+                from: End::Opener,
+                number: tracked.number,
+            });
+        }
+        let tracked = self.latest.get(&ends.turned())?;
+        Some(Place {
+            ends: ends.turned(),
+            from: End::Answerer,
+            number: tracked.number,
+        })
+    }
+
+    /// Returns whether a segment at a place goes on with its connection: each one does, apart from a SYN that opens another.
+    fn goes_on(&self, place: &Place, segment: &Segment<'_>) -> bool
+        ensures { result ≡ goes_on_at place.now (segment_view segment.now) (table_of self.now) }
+    {
+        match self.latest.get(&place.ends) {
+            Some(tracked) => { !segment.is_syn || tracked.connection.goes_on(place.from, segment) }
+            None => false,
+        }
+    }
+
+    /// Begins a connection, and returns the place of what its one end sends.
+    fn begin(&mut self, ends: Ends, from: End) -> Result<Place, AllocError>
+        ensures place { IfOk result (λ place. place ≡ begun_place ends from (table_of self.old)) }
+        ensures after { OnOk result (table_of self.new ≡ begun_after ends from (table_of self.old)) }
+    {
+        let number = self.begun.saturating_add(1);
+        let ends = opener_first(ends, from);
+        let tracked = Tracked {
+            number,
+            connection: Connection::new(self.alloc),
+        };
+        self.latest.insert(ends, tracked)?;
+        self.begun = number;
+        Ok(Place { ends, from, number })
+    }
+
+    /// Returns which connection a segment belongs to that one end sends to another. Where it begins one, `is_from_server`
+    /// says whether its sender would answer. The connection before it between these ends is taken from the table then: the
+    /// caller finishes it.
+    pub fn place(
+        &mut self,
+        ends: Ends,
+        segment: &Segment<'_>,
+        is_from_server: bool,
+    ) -> Result<Placed, AllocError>
+        ensures placed { IfOk result (λ p. p ≡ placed ends is_from_server (segment_view segment.now) (table_of self.old)) }
+        ensures after { OnOk result (table_of self.new
+            ≡ placed_after ends is_from_server (segment_view segment.now) (table_of self.old)) }
+    {
+        let mut before = None;
+        match self.find(ends) {
+            Some(place) => {
+                if self.goes_on(&place, segment) {
+                    return Ok(Placed::GoesOn(place));
+                }
+                before = self.latest.remove(&place.ends);
+            }
+            None => {
+                if !opens(segment) {
+                    return Ok(Placed::Nowhere);
+                }
+            }
+        }
+        let place = self.begin(ends, opens_as(segment, is_from_server))?;
+        Ok(Placed::Begins(place, before))
+    }
+}
