@@ -1,30 +1,34 @@
 -- The connections of a recording, by their ends.
-use Rattle.std.specs.Prelude.{ℕ, ◌×◌, ◌+◌, ◌-◌, ◌^◌, ◌==◌, ◌&&◌, ◌||◌, nat_lt, min, not, Bool, true, false, List, [], ◌∷◌, length, Option, Some, None, is_some, if◌then◌else◌}
+use Rattle.std.specs.Prelude.{ℕ, ◌+◌, ◌-◌, ◌^◌, ◌++◌, ◌==◌, ◌&&◌, ◌||◌, nat_lt, min, not, Bool, false, List, [], ◌∷◌, length, Option, Some, None, is_some, if◌then◌else◌}
 use Rattle.std.specs.BTreeMap.{insert_entry, is_at}
-use Rattle.std.specs.Map.{lookup, remove_entry}
+use Rattle.std.specs.Map.{lookup, remove_entry, set_value}
 use Rattle.ip_segments.specs.Segments.{Segment}
-use Rattle.tcp_streams.specs.Connections.{goes_on, new_connection}
+use Rattle.tcp_streams.specs.Connections.{fed_after, fed_of, goes_on, is_next, lent_if, new_connection}
 use Rattle.tcp_streams.specs.Ends.{turned}
 use Rattle.tcp_streams.specs.contracts.ends.EndsOrd.TheImpl.{ghosts}
+use Rattle.tcp_streams.specs.declared.connection.Connection.{Connection}
 use Rattle.tcp_streams.specs.declared.connection.End.{End}
 use Rattle.tcp_streams.specs.declared.connection.End.TheVariants.{Opener, Answerer}
+use Rattle.tcp_streams.specs.declared.connection.Fed.{Fed}
 use Rattle.tcp_streams.specs.declared.connections.Connections.{Connections}
 use Rattle.tcp_streams.specs.declared.connections.Place.{Place}
 use Rattle.tcp_streams.specs.declared.connections.Placed.{Placed}
 use Rattle.tcp_streams.specs.declared.connections.Placed.TheVariants.{Begins, GoesOn, Nowhere}
 use Rattle.tcp_streams.specs.declared.connections.Tracked.{Tracked}
 use Rattle.tcp_streams.specs.declared.ends.Ends.{Ends}
+use Rattle.tcp_streams.specs.declared.piece.Recorded.{Recorded}
 
--- the latest connection of each opener to another end, and how many began
+-- the latest connection of each opener to another end, how many began, and those that are over
 pub record Table : Type 0 where
   pub latest : List (Ends × Tracked)
   pub begun : ℕ
+  pub over : List Place
 
 abbrev pub table_of : Connections → Table
-table_of c = record { latest = c.latest.entries; begun = c.begun }
+table_of c = record { latest = c.latest.entries; begun = c.begun; over = c.over.items }
 
 abbrev pub no_connections : Table
-no_connections = record { latest = []; begun = 0 }
+no_connections = record { latest = []; begun = 0; over = [] }
 
 -- the latest connection that the first end opened to the second
 abbrev pub opened_by : Ends → Table → Option Tracked
@@ -70,7 +74,7 @@ abbrev pub begun_place : Ends → End → Table → Place
 begun_place e from t = record { ends = opener_first from e; from = from; number = next_number t }
 
 abbrev pub begun_after : Ends → End → Table → Table
-begun_after e from t = record {
+begun_after e from t = record t {
   latest = insert_entry ghosts.cmp t.latest (opener_first from e) (record { number = next_number t; connection = new_connection });
   begun = next_number t;
 }
@@ -94,3 +98,44 @@ placed e server s t = placed_by (found e t) e server s t
 
 abbrev pub placed_after : Ends → (is_from_server : Bool) → Segment → Table → Table
 placed_after e server s t = placed_after_by (found e t) e server s t
+
+-- what a segment does to the connection at a place
+abbrev pub changed : Option Tracked → Place → (Connection → Connection) → Table → Table
+changed None p f t = t
+changed (Some c) p f t = record t { latest = set_value (is_at (ghosts.cmp p.ends)) t.latest (record c { connection = f c.connection }) }
+
+abbrev pub is_lent_to : Option Tracked → Place → Segment → Bool
+is_lent_to None p s = false
+is_lent_to (Some c) p s = is_next p.from s c.connection
+
+abbrev pub is_lent_at : Place → Segment → Table → Bool
+is_lent_at p s t = is_lent_to (opened_by p.ends t) p s
+
+abbrev pub lent_in : Place → Segment → Table → Table
+lent_in p s t = changed (opened_by p.ends t) p (lent_if p.from s) t
+
+abbrev pub fed_to : Option Tracked → Place → Segment → Recorded → Option Fed
+fed_to None p s r = None
+fed_to (Some c) p s r = Some (fed_of p.from s r c.connection)
+
+abbrev pub fed_at : Place → Segment → Recorded → Table → Option Fed
+fed_at p s r t = fed_to (opened_by p.ends t) p s r
+
+abbrev pub fed_in : Place → Segment → Recorded → Table → Table
+fed_in p s r t = changed (opened_by p.ends t) p (fed_after p.from s r) t
+
+-- of the connections that are over 1,000 stay, and a place that has another one keeps it
+abbrev pub has_number : Option Tracked → ℕ → Bool
+has_number None n = false
+has_number (Some c) n = c.number == n
+
+abbrev pub forgotten : Place → Table → Table
+forgotten p t = if has_number (opened_by p.ends t) p.number then without p t else t
+
+abbrev pub first_forgotten : List Place → Table → Table
+first_forgotten [] t = t
+first_forgotten (p ∷ ps) t = forgotten p (record t { over = ps })
+
+abbrev pub ended_after : Place → Table → Table
+ended_after p t = let over = t.over ++ p ∷ [] in
+    if nat_lt 1000 (length over) then first_forgotten over (record t { over = over }) else record t { over = over }

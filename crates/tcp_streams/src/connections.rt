@@ -4,11 +4,15 @@ ghost use Rattle.std.specs.Prelude.{◌≡◌, IfOk, OnOk};
 ghost use Rattle.ip_segments.specs.Views.{segment_view};
 ghost use Rattle.tcp_streams.specs.Tables.{opener_first, opens, opens_as};
 
-use crate::connection::{Connection, End};
+use crate::connection::{Connection, End, Fed};
 use crate::ends::Ends;
+use crate::piece::Recorded;
 use ip_segments::segment::Segment;
 use std::alloc::{AllocError, Global};
-use std::collections::BTreeMap;
+use std::collections::{BTreeMap, VecDeque};
+
+/// How many connections that are over are remembered.
+const MOST_OVER: usize = 1000;
 
 /// A connection with its number.
 #[derive(Drop)]
@@ -46,6 +50,8 @@ pub enum Placed {
 pub struct Connections {
     latest: BTreeMap<Ends, Tracked>,
     begun: u64,
+    /// Those that are over, the first one first.
+    over: VecDeque<Place>,
     alloc: Global,
 }
 
@@ -85,7 +91,7 @@ fn opener_first(ends: Ends, from: End) -> Ends
 }
 
 impl Connections {
-    ghost use Rattle.tcp_streams.specs.Tables.{begun_after, begun_place, found, goes_on_at, no_connections, placed, placed_after, table_of};
+    ghost use Rattle.tcp_streams.specs.Tables.{begun_after, begun_place, ended_after, fed_at, fed_in, forgotten, found, goes_on_at, is_lent_at, lent_in, no_connections, placed, placed_after, table_of};
 
     /// Returns a table without a connection.
     pub fn new(alloc: Global) -> Self
@@ -94,6 +100,7 @@ impl Connections {
         Connections {
             latest: BTreeMap::new(alloc),
             begun: 0,
+            over: VecDeque::new(alloc),
             alloc,
         }
     }
@@ -172,5 +179,64 @@ impl Connections {
         }
         let place = self.begin(ends, opens_as(segment, is_from_server))?;
         Ok(Placed::Begins(place, before))
+    }
+
+    /// Fast path: reads a segment at a place as `Connection::lend` does, and returns whether it is read.
+    pub fn lend(&mut self, place: &Place, segment: &Segment<'_>) -> bool
+        ensures lent { result ≡ is_lent_at place.now (segment_view segment.now) (table_of self.old) }
+        ensures after { table_of self.new ≡ lent_in place.now (segment_view segment.now) (table_of self.old) }
+    {
+        match self.latest.get_mut(&place.ends) {
+            Some(tracked) => tracked.connection.lend(place.from, segment),
+            None => false,
+        }
+    }
+
+    /// Reads a segment at a place as `Connection::feed` does; `None` where no connection is there.
+    pub fn feed(
+        &mut self,
+        place: &Place,
+        segment: &Segment<'_>,
+        recorded: Recorded,
+    ) -> Result<Option<Fed>, AllocError>
+        ensures fed { IfOk result (λ fed. fed ≡ fed_at place.now (segment_view segment.now) recorded (table_of self.old)) }
+        ensures after { OnOk result (table_of self.new
+            ≡ fed_in place.now (segment_view segment.now) recorded (table_of self.old)) }
+    {
+        match self.latest.get_mut(&place.ends) {
+            Some(tracked) => {
+                let fed = tracked.connection.feed(place.from, segment, recorded)?;
+                Ok(Some(fed))
+            }
+            None => Ok(None),
+        }
+    }
+
+    /// Removes a connection from the table, unless another one is at its place.
+    fn forget(&mut self, place: &Place)
+        ensures { table_of self.new ≡ forgotten place.now (table_of self.old) }
+    {
+        let is_there = match self.latest.get(&place.ends) {
+            Some(tracked) => tracked.number == place.number,
+            None => false,
+        };
+        if is_there {
+            self.latest.remove(&place.ends);
+        }
+    }
+
+    /// Notes that a connection is over; callers say so once. It stays in the table for segments that come again. Of those
+    /// that are over 1,000 stay at most: the first one is forgotten, unless another one began at its place.
+    pub fn end(&mut self, place: &Place) -> Result<(), AllocError>
+        ensures { OnOk result (table_of self.new ≡ ended_after place.now (table_of self.old)) }
+    {
+        self.over.push_back(*place)?;
+        if self.over.len() <= MOST_OVER {
+            return Ok(());
+        }
+        if let Some(first) = self.over.pop_front() {
+            self.forget(&first);
+        }
+        Ok(())
     }
 }
