@@ -1,14 +1,16 @@
 -- The connections of a recording, by their ends.
 use Rattle.std.specs.Prelude.{ℕ, ◌+◌, ◌-◌, ◌^◌, ◌++◌, ◌==◌, ◌&&◌, ◌||◌, nat_lt, min, not, Bool, false, List, [], ◌∷◌, length, Option, Some, None, is_some, if◌then◌else◌}
 use Rattle.std.specs.BTreeMap.{insert_entry, is_at}
+use Rattle.std.specs.Option.{option_map}
 use Rattle.std.specs.Map.{lookup, remove_entry, set_value}
 use Rattle.ip_segments.specs.Segments.{Segment}
-use Rattle.tcp_streams.specs.Connections.{fed_after, fed_of, goes_on, is_next, lent_if, new_connection}
+use Rattle.tcp_streams.specs.Connections.{fed_after, fed_of, goes_on, is_next, last_event, lent_if, new_connection, next_event, Next}
 use Rattle.tcp_streams.specs.Ends.{turned}
 use Rattle.tcp_streams.specs.contracts.ends.EndsOrd.TheImpl.{ghosts}
 use Rattle.tcp_streams.specs.declared.connection.Connection.{Connection}
 use Rattle.tcp_streams.specs.declared.connection.End.{End}
 use Rattle.tcp_streams.specs.declared.connection.End.TheVariants.{Opener, Answerer}
+use Rattle.tcp_streams.specs.declared.connection.Event.{Event}
 use Rattle.tcp_streams.specs.declared.connection.Fed.{Fed}
 use Rattle.tcp_streams.specs.declared.connections.Connections.{Connections}
 use Rattle.tcp_streams.specs.declared.connections.Place.{Place}
@@ -123,6 +125,27 @@ fed_at p s r t = fed_to (opened_by p.ends t) p s r
 
 abbrev pub fed_in : Place → Segment → Recorded → Table → Table
 fed_in p s r t = changed (opened_by p.ends t) p (fed_after p.from s r) t
+
+-- what comes next in the connection at a place
+abbrev pub after_or : Option Next → Connection → Connection
+after_or None c = c
+after_or (Some n) c = n.after
+
+abbrev pub event_at : (Connection → Option Next) → Option Tracked → Option Event
+event_at next None = None
+event_at next (Some c) = option_map (λ n. n.event) (next c.connection)
+
+abbrev pub next_at : (full : Bool) → Place → Table → Option Event
+next_at full p t = event_at (next_event full) (opened_by p.ends t)
+
+abbrev pub next_in : (full : Bool) → Place → Table → Table
+next_in full p t = changed (opened_by p.ends t) p (λ c. after_or (next_event full c) c) t
+
+abbrev pub last_at : Place → Table → Option Event
+last_at p t = event_at last_event (opened_by p.ends t)
+
+abbrev pub last_in : Place → Table → Table
+last_in p t = changed (opened_by p.ends t) p (λ c. after_or (last_event c) c) t
 
 -- of the connections that are over 1,000 stay, and a place that has another one keeps it
 abbrev pub has_number : Option Tracked → ℕ → Bool

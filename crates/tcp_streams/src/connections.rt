@@ -4,7 +4,7 @@ ghost use Rattle.std.specs.Prelude.{◌≡◌, IfOk, OnOk};
 ghost use Rattle.ip_segments.specs.Views.{segment_view};
 ghost use Rattle.tcp_streams.specs.Tables.{opener_first, opens, opens_as};
 
-use crate::connection::{Connection, End, Fed};
+use crate::connection::{Connection, End, Event, Fed};
 use crate::ends::Ends;
 use crate::piece::Recorded;
 use ip_segments::segment::Segment;
@@ -91,7 +91,7 @@ fn opener_first(ends: Ends, from: End) -> Ends
 }
 
 impl Connections {
-    ghost use Rattle.tcp_streams.specs.Tables.{begun_after, begun_place, ended_after, fed_at, fed_in, forgotten, found, goes_on_at, is_lent_at, lent_in, no_connections, placed, placed_after, table_of};
+    ghost use Rattle.tcp_streams.specs.Tables.{begun_after, begun_place, ended_after, fed_at, fed_in, forgotten, found, goes_on_at, is_lent_at, last_at, last_in, lent_in, next_at, next_in, no_connections, placed, placed_after, table_of};
 
     /// Returns a table without a connection.
     pub fn new(alloc: Global) -> Self
@@ -209,6 +209,28 @@ impl Connections {
                 Ok(Some(fed))
             }
             None => Ok(None),
+        }
+    }
+
+    /// Returns what comes next in the connection at a place, as `Connection::next` does.
+    pub fn next(&mut self, place: &Place, is_memory_full: bool) -> Option<Event>
+        ensures event { result ≡ next_at is_memory_full place.now (table_of self.old) }
+        ensures after { table_of self.new ≡ next_in is_memory_full place.now (table_of self.old) }
+    {
+        match self.latest.get_mut(&place.ends) {
+            Some(tracked) => tracked.connection.next(is_memory_full),
+            None => None,
+        }
+    }
+
+    /// Returns what comes next in the connection at a place after its last segment, as `Connection::finish` does.
+    pub fn finish(&mut self, place: &Place) -> Option<Event>
+        ensures event { result ≡ last_at place.now (table_of self.old) }
+        ensures after { table_of self.new ≡ last_in place.now (table_of self.old) }
+    {
+        match self.latest.get_mut(&place.ends) {
+            Some(tracked) => tracked.connection.finish(),
+            None => None,
         }
     }
 
