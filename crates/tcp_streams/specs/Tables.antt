@@ -4,7 +4,7 @@ use Rattle.std.specs.BTreeMap.{insert_entry, is_at}
 use Rattle.std.specs.Option.{option_map}
 use Rattle.std.specs.Map.{lookup, remove_entry, set_value}
 use Rattle.ip_segments.specs.Segments.{Segment}
-use Rattle.tcp_streams.specs.Connections.{fed_after, fed_of, goes_on, is_next, last_event, lent_if, new_connection, next_event, Next}
+use Rattle.tcp_streams.specs.Connections.{cost, fed_after, fed_of, goes_on, is_next, last_event, lent_if, new_connection, next_event, Next}
 use Rattle.tcp_streams.specs.Ends.{turned}
 use Rattle.tcp_streams.specs.contracts.ends.EndsOrd.TheImpl.{ghosts}
 use Rattle.tcp_streams.specs.declared.connection.Connection.{Connection}
@@ -20,17 +20,18 @@ use Rattle.tcp_streams.specs.declared.connections.Tracked.{Tracked}
 use Rattle.tcp_streams.specs.declared.ends.Ends.{Ends}
 use Rattle.tcp_streams.specs.declared.piece.Recorded.{Recorded}
 
--- the latest connection of each opener to another end, how many began, and those that are over
+-- the latest connection of each opener to another end, how many began, those that are over, and what waits in all
 pub record Table : Type 0 where
   pub latest : List (Ends × Tracked)
   pub begun : ℕ
   pub over : List Place
+  pub waiting : ℕ
 
 abbrev pub table_of : Connections → Table
-table_of c = record { latest = c.latest.entries; begun = c.begun; over = c.over.items }
+table_of c = record { latest = c.latest.entries; begun = c.begun; over = c.over.items; waiting = c.waiting }
 
 abbrev pub no_connections : Table
-no_connections = record { latest = []; begun = 0; over = [] }
+no_connections = record { latest = []; begun = 0; over = []; waiting = 0 }
 
 -- the latest connection that the first end opened to the second
 abbrev pub opened_by : Ends → Table → Option Tracked
@@ -81,10 +82,19 @@ begun_after e from t = record t {
   begun = next_number t;
 }
 
--- what a segment does where a connection is known between its ends, and where none is
-abbrev pub without : Place → Table → Table
-without p t = record t { latest = remove_entry (is_at (ghosts.cmp p.ends)) t.latest }
+-- what waits in all connections, where what waits in one of them changes
+abbrev pub recharged : (waiting before after : ℕ) → ℕ
+recharged w before after = min (w + after) (2 ^ 64 - 1) - before
 
+-- without the connection of an opener
+abbrev pub without_of : Option Tracked → Ends → Table → Table
+without_of None e t = t
+without_of (Some c) e t = record t { latest = remove_entry (is_at (ghosts.cmp e)) t.latest; waiting = recharged t.waiting (cost c.connection) 0 }
+
+abbrev pub without : Ends → Table → Table
+without e t = without_of (opened_by e t) e t
+
+-- what a segment does where a connection is known between its ends, and where none is
 abbrev pub placed_by : Option Place → Ends → (is_from_server : Bool) → Segment → Table → Placed
 placed_by (Some p) e server s t = if goes_on_at p s t then GoesOn p
     else Begins (begun_place e (opens_as server s) t) (opened_by p.ends t)
@@ -92,7 +102,7 @@ placed_by None e server s t = if opens s then Begins (begun_place e (opens_as se
 
 abbrev pub placed_after_by : Option Place → Ends → (is_from_server : Bool) → Segment → Table → Table
 placed_after_by (Some p) e server s t = if goes_on_at p s t then t
-    else begun_after e (opens_as server s) (without p t)
+    else begun_after e (opens_as server s) (without p.ends t)
 placed_after_by None e server s t = if opens s then begun_after e (opens_as server s) t else t
 
 abbrev pub placed : Ends → (is_from_server : Bool) → Segment → Table → Placed
@@ -105,6 +115,10 @@ placed_after e server s t = placed_after_by (found e t) e server s t
 abbrev pub changed : Option Tracked → Place → (Connection → Connection) → Table → Table
 changed None p f t = t
 changed (Some c) p f t = record t { latest = set_value (is_at (ghosts.cmp p.ends)) t.latest (record c { connection = f c.connection }) }
+
+abbrev pub charged : Option Tracked → Place → (Connection → Connection) → Table → Table
+charged None p f t = t
+charged (Some c) p f t = record (changed (Some c) p f t) { waiting = recharged t.waiting (cost c.connection) (cost (f c.connection)) }
 
 abbrev pub is_lent_to : Option Tracked → Place → Segment → Bool
 is_lent_to None p s = false
@@ -124,7 +138,7 @@ abbrev pub fed_at : Place → Segment → Recorded → Table → Option Fed
 fed_at p s r t = fed_to (opened_by p.ends t) p s r
 
 abbrev pub fed_in : Place → Segment → Recorded → Table → Table
-fed_in p s r t = changed (opened_by p.ends t) p (fed_after p.from s r) t
+fed_in p s r t = charged (opened_by p.ends t) p (fed_after p.from s r) t
 
 -- what comes next in the connection at a place
 abbrev pub after_or : Option Next → Connection → Connection
@@ -135,17 +149,21 @@ abbrev pub event_at : (Connection → Option Next) → Option Tracked → Option
 event_at next None = None
 event_at next (Some c) = option_map (λ n. n.event) (next c.connection)
 
-abbrev pub next_at : (full : Bool) → Place → Table → Option Event
-next_at full p t = event_at (next_event full) (opened_by p.ends t)
+-- memory is full where more than 64 MiB wait in all connections
+abbrev pub is_full : Table → Bool
+is_full t = nat_lt 0x4000000 t.waiting
 
-abbrev pub next_in : (full : Bool) → Place → Table → Table
-next_in full p t = changed (opened_by p.ends t) p (λ c. after_or (next_event full c) c) t
+abbrev pub next_at : Place → Table → Option Event
+next_at p t = event_at (next_event (is_full t)) (opened_by p.ends t)
+
+abbrev pub next_in : Place → Table → Table
+next_in p t = charged (opened_by p.ends t) p (λ c. after_or (next_event (is_full t) c) c) t
 
 abbrev pub last_at : Place → Table → Option Event
 last_at p t = event_at last_event (opened_by p.ends t)
 
 abbrev pub last_in : Place → Table → Table
-last_in p t = changed (opened_by p.ends t) p (λ c. after_or (last_event c) c) t
+last_in p t = charged (opened_by p.ends t) p (λ c. after_or (last_event c) c) t
 
 -- of the connections that are over 1,000 stay, and a place that has another one keeps it
 abbrev pub has_number : Option Tracked → ℕ → Bool
@@ -153,7 +171,7 @@ has_number None n = false
 has_number (Some c) n = c.number == n
 
 abbrev pub forgotten : Place → Table → Table
-forgotten p t = if has_number (opened_by p.ends t) p.number then without p t else t
+forgotten p t = if has_number (opened_by p.ends t) p.number then without p.ends t else t
 
 abbrev pub first_forgotten : List Place → Table → Table
 first_forgotten [] t = t

@@ -2,7 +2,7 @@
 
 ghost use Rattle.std.specs.Prelude.{◌≡◌, IfOk, OnOk};
 ghost use Rattle.ip_segments.specs.Views.{segment_view};
-ghost use Rattle.tcp_streams.specs.Tables.{opener_first, opens, opens_as};
+ghost use Rattle.tcp_streams.specs.Tables.{opener_first, opens, opens_as, recharged};
 
 use crate::connection::{Connection, End, Event, Fed};
 use crate::ends::Ends;
@@ -13,6 +13,8 @@ use std::collections::{BTreeMap, VecDeque};
 
 /// How many connections that are over are remembered.
 const MOST_OVER: usize = 1000;
+/// The most that may wait in all connections, as `Connection::cost` counts it.
+const MOST_WAITING: u64 = 1 << 26;
 
 /// A connection with its number.
 #[derive(Drop)]
@@ -52,6 +54,8 @@ pub struct Connections {
     begun: u64,
     /// Those that are over, the first one first.
     over: VecDeque<Place>,
+    /// What waits in all of them.
+    waiting: u64,
     alloc: Global,
 }
 
@@ -90,8 +94,15 @@ fn opener_first(ends: Ends, from: End) -> Ends
     }
 }
 
+/// Returns what waits in all connections, where what waits in one of them changes.
+fn recharged(waiting: u64, before: u64, after: u64) -> u64
+    ensures { result ≡ recharged waiting before after }
+{
+    waiting.saturating_add(after).saturating_sub(before)
+}
+
 impl Connections {
-    ghost use Rattle.tcp_streams.specs.Tables.{begun_after, begun_place, ended_after, fed_at, fed_in, forgotten, found, goes_on_at, is_lent_at, last_at, last_in, lent_in, next_at, next_in, no_connections, placed, placed_after, table_of};
+    ghost use Rattle.tcp_streams.specs.Tables.{begun_after, begun_place, ended_after, fed_at, fed_in, forgotten, found, goes_on_at, is_lent_at, last_at, last_in, lent_in, next_at, next_in, no_connections, opened_by, placed, placed_after, table_of, without};
 
     /// Returns a table without a connection.
     pub fn new(alloc: Global) -> Self
@@ -101,6 +112,7 @@ impl Connections {
             latest: BTreeMap::new(alloc),
             begun: 0,
             over: VecDeque::new(alloc),
+            waiting: 0,
             alloc,
         }
     }
@@ -132,6 +144,16 @@ impl Connections {
             Some(tracked) => { !segment.is_syn || tracked.connection.goes_on(place.from, segment) }
             None => false,
         }
+    }
+
+    /// Takes the connection of an opener from the table.
+    fn take(&mut self, ends: &Ends) -> Option<Tracked>
+        ensures taken { result ≡ opened_by ends.now (table_of self.old) }
+        ensures after { table_of self.new ≡ without ends.now (table_of self.old) }
+    {
+        let tracked = self.latest.remove(ends)?;
+        self.waiting = recharged(self.waiting, tracked.connection.cost(), 0);
+        Some(tracked)
     }
 
     /// Begins a connection, and returns the place of what its one end sends.
@@ -169,7 +191,7 @@ impl Connections {
                 if self.goes_on(&place, segment) {
                     return Ok(Placed::GoesOn(place));
                 }
-                before = self.latest.remove(&place.ends);
+                before = self.take(&place.ends);
             }
             None => {
                 if !opens(segment) {
@@ -205,20 +227,29 @@ impl Connections {
     {
         match self.latest.get_mut(&place.ends) {
             Some(tracked) => {
+                let before = tracked.connection.cost();
                 let fed = tracked.connection.feed(place.from, segment, recorded)?;
+                self.waiting = recharged(self.waiting, before, tracked.connection.cost());
                 Ok(Some(fed))
             }
             None => Ok(None),
         }
     }
 
-    /// Returns what comes next in the connection at a place, as `Connection::next` does.
-    pub fn next(&mut self, place: &Place, is_memory_full: bool) -> Option<Event>
-        ensures event { result ≡ next_at is_memory_full place.now (table_of self.old) }
-        ensures after { table_of self.new ≡ next_in is_memory_full place.now (table_of self.old) }
+    /// Returns what comes next in the connection at a place, as `Connection::next` does. Memory is full where more than
+    /// 64 MiB wait in all connections.
+    pub fn next(&mut self, place: &Place) -> Option<Event>
+        ensures event { result ≡ next_at place.now (table_of self.old) }
+        ensures after { table_of self.new ≡ next_in place.now (table_of self.old) }
     {
+        let is_memory_full = MOST_WAITING < self.waiting;
         match self.latest.get_mut(&place.ends) {
-            Some(tracked) => tracked.connection.next(is_memory_full),
+            Some(tracked) => {
+                let before = tracked.connection.cost();
+                let event = tracked.connection.next(is_memory_full);
+                self.waiting = recharged(self.waiting, before, tracked.connection.cost());
+                event
+            }
             None => None,
         }
     }
@@ -229,7 +260,12 @@ impl Connections {
         ensures after { table_of self.new ≡ last_in place.now (table_of self.old) }
     {
         match self.latest.get_mut(&place.ends) {
-            Some(tracked) => tracked.connection.finish(),
+            Some(tracked) => {
+                let before = tracked.connection.cost();
+                let event = tracked.connection.finish();
+                self.waiting = recharged(self.waiting, before, tracked.connection.cost());
+                event
+            }
             None => None,
         }
     }
@@ -243,7 +279,7 @@ impl Connections {
             None => false,
         };
         if is_there {
-            self.latest.remove(&place.ends);
+            self.take(&place.ends);
         }
     }
 
