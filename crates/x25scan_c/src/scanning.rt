@@ -87,7 +87,7 @@ impl Scanning {
     }
 
     /// Keeps the fault of a refusal, and what is wrong with its line, and returns its number.
-    fn refuse(&mut self, alloc: Global, fault: Fault, line: Option<KeptLine>) -> u32
+    fn refuse(&mut self, alloc: Global, fault: Fault, last: Option<KeptLine>) -> u32
         ensures reading { self.new.reading ≡ self.old.reading }
         ensures findings { (self.new.found ≡ self.old.found) × (self.new.found_taken ≡ self.old.found_taken) }
         ensures number { result ≡ number_of fault }
@@ -102,8 +102,8 @@ impl Scanning {
                 None => false,
             };
             if !is_known {
-                self.advice = match line {
-                    Some(kept) => advice(alloc, kind, kept.line()).ok(),
+                self.advice = match last {
+                    Some(last) => advice(alloc, kind, last.line()).ok(),
                     None => None,
                 };
                 self.refused = Some((line, kind));
