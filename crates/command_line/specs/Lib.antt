@@ -1,5 +1,7 @@
 pub mod Channels
 pub mod Options
+pub mod Numbers
+pub mod Captures
 pub mod Asked
 pub mod Pasted
 pub mod Explaining

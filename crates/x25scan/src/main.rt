@@ -1,7 +1,10 @@
 //! Reads the recorded packets of an X.25 interface, and reports what an observer of it finds.
 #![tactic(auto)]
 
+use capture_report::options::CaptureOptions;
 use capture_report::recordings::Recordings;
+use command_line::asked::Asked;
+use command_line::options::parse;
 use command_line::program::{OTHER_FAULT, USAGE, program};
 use std::env;
 use std::io::{ErrorKind, IsTerminal};
@@ -13,13 +16,22 @@ use streams::io::{FileInput, WriteSink};
 use streams::progress::Progress;
 use streams::system::System;
 
+/// Returns how captures are read that the words name. Words that ask for no trace have no say in this.
+fn capture_options(rt: &HostRuntime, words: &[&str]) -> CaptureOptions {
+    match parse(rt.alloc(), words) {
+        Ok(Asked::Trace(trace)) => trace.capture,
+        _ => CaptureOptions::plain(),
+    }
+}
+
 /// Runs the program over the streams of the process.
 fn run_streams<R: Threads + Wait + Clock + Sync>(
     rt: &HostRuntime,
     threads: &R,
     words: &[&str],
 ) -> u8 {
-    let recordings = Recordings::new(rt.alloc(), System::new(rt), rt.stderr());
+    let options = capture_options(rt, words);
+    let recordings = Recordings::new(rt.alloc(), System::new(rt), rt.stderr(), options);
     let mut source = FileInput::new(
         rt.alloc(),
         &recordings,
