@@ -47,19 +47,19 @@ impl<F: Read + Drop> CaptureText<F> {
         head: Vec<u8>,
     ) -> Result<CaptureText<F>, OpenRefusal>
         ensures left { IfOk result (λ text. capture_left F.Read text
-            ≡ option_map (λ records. head.items ++ rows_printed (first_printer (has_frame_numbers first.survey.last)) (rows_from (Order.Placed first.plan) (line_by first.unknown) records))
+            ≡ option_map (λ records. head.items ++ rows_printed (first_printer (has_frame_numbers first.survey.last)) (rows_from (Order.Placed first.plan) (line_by first.options) records))
             (option_and_then (records_of true 0) (F.remaining file))) }
         ensures reason { IfErr result IsByItsReason }
     {
         let by_frames = first.survey.last() <= MOST_NUMBERED;
         let FirstReading {
             plan,
-            unknown,
+            options,
             last,
             ..
         } = first;
         let frames = open_frames(alloc, file)?;
-        let line = line(alloc, unknown)?;
+        let line = line(alloc, &options)?;
         let page = Page::new(head, by_frames);
         let reader = Reader::new(line, Order::Placed(plan), page);
         Ok(CaptureText {

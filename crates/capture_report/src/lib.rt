@@ -12,6 +12,7 @@ mod header_channels;
 pub mod header_text;
 pub mod laws;
 mod line_reading;
+pub mod options;
 pub mod plan;
 pub mod print;
 pub mod reader;

@@ -6,7 +6,7 @@ use Rattle.clap.specs.ValueTests.{accepts}
 use Rattle.clap.specs.Words.{Text}
 use Rattle.clap.specs.declared.builder.value_parser.ValueParser.TheVariants.{Unsigned}
 use Rattle.clap.proofs.ValueTestLemmas.{Accepts-accepts, accepts-Accepts}
-use Rattle.command_line.specs.Asked.{number_of}
+use Rattle.command_line.specs.Numbers.{number_of}
 
 -- what is parsed of a text is the number that it writes
 pub number_read : {E : Type 0} (bits : ℕ) (text : Text) (r : Result ℕ E) → 0 < 2 ^ bits → 2 ^ bits ≤ 2 ^ 64 → ParsesUnsigned bits 10 text r → result_ok r ≡ number_of bits (Some text)

@@ -39,5 +39,5 @@ IsAnswerTo read write print named (Wrong kinds) source source′ sink sink′ er
     (source′ ≡ source) × IsWordsAnswer kinds (write.taken sink) (write.taken sink′) (write.failures sink′ ≡ write.failures sink) status
 IsAnswerTo read write print named Conflict source source′ sink sink′ errors errors′ status = IsRefused source source′ sink sink′ status
 IsAnswerTo read write print named (Explanation word) source source′ sink sink′ errors errors′ status = (source′ ≡ source) × IsAnswered word (write.taken sink) (write.taken sink′) status
-IsAnswerTo read write print named (Trace name progress output) source source′ sink sink′ errors errors′ status =
+IsAnswerTo read write print named (Trace name progress output capture) source source′ sink sink′ errors errors′ status =
     IsOutput read write print output (trace_of name (read.left source) named) source′ sink sink′ errors errors′ status

@@ -1,15 +1,15 @@
 -- What the words ask for (profile).
-use Rattle.std.specs.Prelude.{◌-◌, ◌^◌, ℕ, Bool, false, true, not, ◌&&◌, ◌||◌, List, [], ◌∷◌, Option, None, Some, codes, is_some, option_map, if◌then◌else◌}
-use Rattle.std.specs.Str.Parse.{digits_value, without_leading_plus}
+use Rattle.std.specs.Prelude.{Bool, false, true, not, ◌&&◌, ◌||◌, List, [], ◌∷◌, Option, None, Some, codes, is_some, option_map, if◌then◌else◌}
 use Rattle.annotated_trace.specs.declared.rows.Rows.{Rows}
 use Rattle.annotated_trace.specs.declared.rows.Rows.TheVariants.{All, Chosen}
-use Rattle.clap.specs.ValueTests.{accepts}
 use Rattle.clap.specs.Words.{Kinds, Text, first_of, first_value, found_of, matches_of}
-use Rattle.clap.specs.declared.builder.value_parser.ValueParser.TheVariants.{Unsigned}
 use Rattle.clap.specs.declared.parser.matches.ArgMatches.{ArgMatches}
 use Rattle.streams.specs.declared.progress.ShowProgress.{ShowProgress}
 use Rattle.streams.specs.declared.progress.ShowProgress.TheVariants.{Always, Never, OnTerminal}
-use Rattle.command_line.specs.Options.{command, is_given, named_by, words_fault}
+use Rattle.command_line.specs.Captures.{capture_of, excludes_captures}
+use Rattle.command_line.specs.Numbers.{Values, has, number_of}
+use Rattle.command_line.specs.Options.{command, named_by, words_fault}
+use Rattle.capture_report.specs.declared.options.CaptureOptions.{CaptureOptions}
 use Rattle.command_line.specs.declared.asked.Asked as declared
 use Rattle.command_line.specs.declared.asked.OutputForm.{OutputForm}
 use Rattle.command_line.specs.declared.asked.OutputForm.TheVariants.{Comments, Objects, Table, TableObjects}
@@ -23,20 +23,7 @@ pub data AskedWords : Type 0 where
   Wrong : Kinds → AskedWords
   Conflict : AskedWords
   Explanation : Text → AskedWords
-  Trace : (name : Option Text) → ShowProgress → TraceOutput → AskedWords
-
--- the first value of each argument, by its name
-abbrev pub Values : Type 0
-Values = Text → Option Text
-
--- whether a flag is set
-abbrev pub has : Values → Text → Bool
-has values name = is_given (values name)
-
--- the number of so many bits that a text writes; a plus may come first
-abbrev pub number_of : (bits : ℕ) → Option Text → Option ℕ
-number_of bits None = None
-number_of bits (Some text) = if accepts false (Unsigned 0 (2 ^ bits - 1)) text then Some (digits_value 10 (without_leading_plus text)) else None
+  Trace : (name : Option Text) → ShowProgress → TraceOutput → CaptureOptions → AskedWords
 
 -- the rows of the channel and of the call that are named, and all where neither is
 abbrev pub rows_by : (channel call : Option Text) → Rows
@@ -97,14 +84,17 @@ excludes_notes (Report report) values = is_some (values (codes "workers")) && no
 excludes_notes output values = true
 
 -- whether words ask for what can't be asked for together
+abbrev pub output_conflicts : TraceOutput → Values → Bool
+output_conflicts output values = (has values (codes "notes") && excludes_notes output values) || excludes output values
+
 abbrev pub conflicts : TraceOutput → Values → Bool
-conflicts output values = (has values (codes "notes") && excludes_notes output values) || excludes output values
+conflicts output values = output_conflicts output values || excludes_captures values
 
 -- what is printed of a trace, or a conflict
 abbrev pub trace_by : Values → TraceOutput → AskedWords
 trace_by values output =
     if conflicts output values then Conflict
-    else Trace (named_by (values (codes "trace"))) (progress_by (has values (codes "progress")) (has values (codes "follow")) output) output
+    else Trace (named_by (values (codes "trace"))) (progress_by (has values (codes "progress")) (has values (codes "follow")) output) output (capture_of values)
 
 -- an explanation in place of all else
 abbrev pub explained_by : (word : Option Text) → AskedWords → AskedWords
@@ -130,4 +120,4 @@ values_in found name = first_value (found_of found) name
 abbrev pub asked_words : declared.Asked → AskedWords
 asked_words (declared.TheVariants.Conflict text) = Conflict
 asked_words (declared.TheVariants.Explanation word) = Explanation word.now
-asked_words (declared.TheVariants.Trace trace) = Trace (option_map (λ name. name.now) trace.name) trace.progress trace.output
+asked_words (declared.TheVariants.Trace trace) = Trace (option_map (λ name. name.now) trace.name) trace.progress trace.output trace.capture

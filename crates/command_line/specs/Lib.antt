@@ -1,4 +1,6 @@
 pub mod Options
+pub mod Numbers
+pub mod Captures
 pub mod Asked
 pub mod Pasted
 pub mod Explaining

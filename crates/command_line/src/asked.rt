@@ -1,6 +1,7 @@
 //! What the words ask for.
 
 use annotated_trace::rows::Rows;
+use capture_report::options::CaptureOptions;
 use streams::progress::ShowProgress;
 
 /// What is printed in place of the report.
@@ -68,6 +69,8 @@ pub struct AskedTrace<'a> {
     pub progress: ShowProgress,
     /// What is printed.
     pub output: TraceOutput,
+    /// How it is read, if it is a capture.
+    pub capture: CaptureOptions,
 }
 
 /// What the words ask for.

@@ -1,7 +1,8 @@
 //! What can't be asked for together, and what is printed of it.
 
 ghost use Rattle.std.specs.Prelude.{◌≡◌, ◌&&◌, is_some};
-ghost use Rattle.command_line.specs.Asked.{conflicts, excludes, excludes_form, excludes_notes, values_in};
+ghost use Rattle.command_line.specs.Asked.{conflicts, excludes, excludes_form, excludes_notes, output_conflicts, values_in};
+ghost use Rattle.command_line.specs.Captures.{excludes_captures, excludes_numbers};
 
 use crate::asked::{OutputForm, TraceOutput};
 use crate::matches::{annotates, is_given};
@@ -83,9 +84,44 @@ fn output_conflict(matches: &ArgMatches<'_>, output: TraceOutput) -> Option<&'st
     }
 }
 
-/// Why what is asked for can't be printed together, if it can't. A conflict with a note comes first.
+/// Why numbers of a header can't be given together, if they can't.
+fn header_conflict(matches: &ArgMatches<'_>) -> Option<&'static str>
+    ensures { is_some result ≡ excludes_numbers (values_in matches.now) }
+{
+    let is_refused = matches.get_str("svc").is_some()
+        && (matches.get_str("in").is_some()
+            || matches.get_str("two").is_some()
+            || matches.get_str("out").is_some());
+    is_refused.then_some(
+        "error: --svc is the last of all channels, and --in, --two and --out name the last ones of their kinds: leave out --svc\n",
+    )
+}
+
+/// Why what is said of a capture can't be given together, if it can't.
+fn capture_conflict(matches: &ArgMatches<'_>) -> Option<&'static str>
+    ensures { is_some result ≡ excludes_captures (values_in matches.now) }
+{
+    if is_given(matches, "join") && is_given(matches, "no-join") {
+        return Some(
+            "error: the recording began in the middle, or it did not: leave out --join or --no-join\n",
+        );
+    }
+    header_conflict(matches)
+}
+
+/// Why what is asked for can't be given together, if it can't.
 pub(crate) fn conflict(matches: &ArgMatches<'_>, output: TraceOutput) -> Option<&'static str>
     ensures { is_some result ≡ conflicts output (values_in matches.now) }
+{
+    match printed_conflict(matches, output) {
+        Some(text) => Some(text),
+        None => capture_conflict(matches),
+    }
+}
+
+/// Why what is asked for can't be printed together, if it can't. A conflict with a note comes first.
+fn printed_conflict(matches: &ArgMatches<'_>, output: TraceOutput) -> Option<&'static str>
+    ensures { is_some result ≡ output_conflicts output (values_in matches.now) }
 {
     if !is_given(matches, "notes") {
         return output_conflict(matches, output);

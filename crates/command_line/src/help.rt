@@ -29,6 +29,22 @@ Options:
   -h, --help              Print help
   -V, --version           Print the version, and the kit that proved the program
 
+Options of captures:
+      --mod <N>           The modulus of packets, 8 or 128; numbers that are not given are estimated
+      --win <N>           The default window, 1 to 127
+      --size <N>          The default packet size, a power of two from 16 to 4096
+      --pvc <N>           The last permanent logical channel
+      --svc <N>           The last logical channel
+      --in <N>            The last logical channel for incoming calls
+      --two <N>           The last two-way logical channel
+      --out <N>           The last logical channel for outgoing calls
+      --join              The recording began in the middle, so no logical channel is known
+      --no-join           All logical channels were fresh when it began
+      --as <KIND>         What frames of unknown link types hold: ethernet, sll, sll2, lapb, lapb-dir, hdlc, x25 or x25-dir
+      --only <CARRIER>    Read only what LAPB carries, lapb, or packets without it, x25
+      --interface <N>     Read only this interface of a pcapng file, or this device of cooked frames of version 2
+      --lapb-modulo <N>   How LAPB counts its frames, 8 or 128, where SABM and SABME don't say it
+
 Examples:
   x25scan day.trace                     print the report of a trace
   x25scan --alone < day.trace           read standard input, in one thread
@@ -39,7 +55,8 @@ Examples:
   x25scan --calls day.trace > calls.csv write a table of the calls for a spreadsheet
   x25scan --annotate --call 7 day.trace print the trace, with comments on the rows of call 7
   x25scan --try-headers day.trace       print which window and packet size explain the rows best
-  x25trace day.pcap | x25scan           read a capture
+  x25scan --win 2 --size 128 day.pcap   read a capture, under a header with these numbers
+  x25trace day.pcap | x25scan           read a capture of XOT
   x25scan --explain 22                  explain a word of the report or of a refusal
   x25scan --explain 'P(S)'              explain a term, such as window, gap or T21
   x25scan --explain 'F 5 T d1 1'        explain each word of a line of the report

@@ -4,6 +4,7 @@
 
 pub mod annotated_scan;
 pub mod asked;
+mod capture_words;
 mod conflicts;
 mod explaining;
 mod faults;

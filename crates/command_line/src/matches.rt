@@ -1,10 +1,12 @@
 //! What the matches of the command ask for.
 
 ghost use Rattle.std.specs.Prelude.{◌≡◌, codes, option_map};
+ghost use Rattle.command_line.specs.Numbers.{has, number_of};
 ghost use Rattle.command_line.specs.Options.{named_by};
-ghost use Rattle.command_line.specs.Asked.{annotates, asked_by, asked_words, has, mode_of, number_of, output_of, progress_by, report_of, rows_of, table_of, trace_by, values_in};
+ghost use Rattle.command_line.specs.Asked.{annotates, asked_by, asked_words, mode_of, output_of, progress_by, report_of, rows_of, table_of, trace_by, values_in};
 
 use crate::asked::{Asked, AskedReport, AskedTrace, OutputForm, Printing, ScanMode, TraceOutput};
+use crate::capture_words::capture_in;
 use crate::conflicts::conflict;
 use annotated_trace::rows::Rows;
 use clap::ArgMatches;
@@ -31,31 +33,31 @@ fn trace_in<'a>(matches: &ArgMatches<'a>) -> Option<&'a str>
     }
 }
 
-/// The logical channel that is named.
-fn channel_in(matches: &ArgMatches<'_>) -> Option<u16>
-    ensures { result ≡ number_of 16 (values_in matches.now (codes "channel")) }
+/// The number that an option has.
+pub(crate) fn number_in(matches: &ArgMatches<'_>, id: &str) -> Option<u16>
+    ensures { result ≡ number_of 16 (values_in matches.now id.now) }
 {
-    match matches.get_str("channel") {
+    match matches.get_str(id) {
         Some(text) => text.parse::<u16>().ok(),
         None => None,
     }
 }
 
-/// The call that is named.
-fn call_in(matches: &ArgMatches<'_>) -> Option<u32>
-    ensures { result ≡ number_of 32 (values_in matches.now (codes "call")) }
+/// The number that an option has, of any call or interface.
+pub(crate) fn long_number_in(matches: &ArgMatches<'_>, id: &str) -> Option<u32>
+    ensures { result ≡ number_of 32 (values_in matches.now id.now) }
 {
-    match matches.get_str("call") {
+    match matches.get_str(id) {
         Some(text) => text.parse::<u32>().ok(),
         None => None,
     }
 }
 
-/// How many workers are asked for.
-fn workers_in(matches: &ArgMatches<'_>) -> Option<u8>
-    ensures { result ≡ number_of 8 (values_in matches.now (codes "workers")) }
+/// The number that an option has, below 256.
+pub(crate) fn short_number_in(matches: &ArgMatches<'_>, id: &str) -> Option<u8>
+    ensures { result ≡ number_of 8 (values_in matches.now id.now) }
 {
-    match matches.get_str("workers") {
+    match matches.get_str(id) {
         Some(text) => text.parse::<u8>().ok(),
         None => None,
     }
@@ -68,8 +70,8 @@ fn rows_in(matches: &ArgMatches<'_>) -> Rows
     match (matches.get_str("channel"), matches.get_str("call")) {
         (None, None) => Rows::All,
         _ => Rows::Chosen {
-            channel: channel_in(matches),
-            call: call_in(matches),
+            channel: number_in(matches, "channel"),
+            call: long_number_in(matches, "call"),
         },
     }
 }
@@ -92,7 +94,7 @@ fn mode_in(matches: &ArgMatches<'_>) -> ScanMode
     } else if is_given(matches, "alone") || is_given(matches, "notes") {
         ScanMode::Alone
     } else {
-        ScanMode::Workers(workers_in(matches))
+        ScanMode::Workers(short_number_in(matches, "workers"))
     }
 }
 
@@ -174,6 +176,7 @@ fn trace_asked<'a>(matches: &ArgMatches<'a>) -> Asked<'a>
             name: trace_in(matches),
             progress: progress_in(matches, output),
             output,
+            capture: capture_in(matches),
         }),
     }
 }

@@ -1,15 +1,31 @@
 //! The command line.
 
-ghost use Rattle.std.specs.Prelude.{◌≡◌, IfOk, false, map};
+ghost use Rattle.std.specs.Prelude.{◌≡◌, ◌≤◌, IfOk, false, map};
 ghost use Rattle.clap.specs.Words.{FailsBy, app_of, rule_of};
 ghost use Rattle.command_line.specs.Asked.{asked_of, asked_words};
-ghost use Rattle.command_line.specs.Options.{call_rule, channel_rule, command, explain_rule, flag_rule, trace_rule, versioned, with_asking, with_scanning, with_writing, words_fault, workers_rule};
+ghost use Rattle.command_line.specs.Options.{call_rule, choice_rule, command, explain_rule, flag_rule, number_rule, trace_rule, versioned, with_asking, with_capture, with_header, with_scanning, with_writing, words_fault, workers_rule};
 
 use crate::asked::Asked;
 use crate::help::VERSION;
 use crate::matches::asked_in;
 use clap::{Arg, ArgAction, Command, Error, value_parser};
 use std::alloc::{AllocError, Global};
+
+/// The moduli of sequence numbers.
+const MODULI: &[&str] = &["8", "128"];
+
+/// The packet sizes.
+const SIZES: &[&str] = &[
+    "16", "32", "64", "128", "256", "512", "1024", "2048", "4096",
+];
+
+/// What frames of an unknown link type hold.
+const KINDS: &[&str] = &[
+    "ethernet", "sll", "sll2", "lapb", "lapb-dir", "hdlc", "x25", "x25-dir",
+];
+
+/// What carries the packets that are read.
+const CARRIERS: &[&str] = &["lapb", "x25"];
 
 /// The option that says how many workers there are.
 fn workers<'a>(alloc: Global) -> Arg<'a>
@@ -44,16 +60,29 @@ fn explain<'a>(alloc: Global) -> Arg<'a>
         .default_missing_value("")
 }
 
-/// The option that says of which logical channel rows are written.
-fn channel<'a>(alloc: Global) -> Arg<'a>
-    ensures rule { rule_of result ≡ channel_rule }
+/// An option of this name whose value is a number.
+fn number<'a>(alloc: Global, name: &'a str, first: u16, last: u16) -> Arg<'a>
+    requires { first ≤ last }
+    ensures rule { rule_of result ≡ number_rule name.entry.now first last }
     ensures local { result.global ≡ false }
 {
-    Arg::new(alloc, "channel")
-        .long("channel")
+    Arg::new(alloc, name)
+        .long(name)
         .value_name("N")
         .action(ArgAction::Set)
-        .value_parser(value_parser!(u16).range(1..=4095))
+        .value_parser(value_parser!(u16).range(i64::from(first)..=i64::from(last)))
+}
+
+/// An option of this name whose value is one of these.
+fn choice<'a>(alloc: Global, name: &'a str, values: &'a [&'a str]) -> Arg<'a>
+    ensures rule { rule_of result ≡ choice_rule name.entry.now values.entry }
+    ensures local { result.global ≡ false }
+{
+    Arg::new(alloc, name)
+        .long(name)
+        .value_name("VALUE")
+        .action(ArgAction::Set)
+        .value_parser(values)
 }
 
 /// The option that says of which call rows are written.
@@ -97,9 +126,37 @@ fn with_writing<'a>(alloc: Global, command: Command<'a>) -> Result<Command<'a>, 
         .arg(flag(alloc, "annotate"))?
         .arg(flag(alloc, "rows"))?
         .arg(flag(alloc, "calls"))?
-        .arg(channel(alloc))?
+        .arg(number(alloc, "channel", 1, 4095))?
         .arg(call(alloc))?
         .arg(flag(alloc, "try-headers"))
+}
+
+/// Adds the options of the numbers in the header of a capture.
+fn with_header<'a>(alloc: Global, command: Command<'a>) -> Result<Command<'a>, AllocError>
+    ensures { IfOk result (λ after. app_of after ≡ with_header (app_of command.entry)) }
+{
+    command
+        .arg(choice(alloc, "mod", MODULI))?
+        .arg(number(alloc, "win", 1, 127))?
+        .arg(choice(alloc, "size", SIZES))?
+        .arg(number(alloc, "pvc", 0, 4095))?
+        .arg(number(alloc, "svc", 1, 4095))?
+        .arg(number(alloc, "in", 0, 4095))?
+        .arg(number(alloc, "two", 0, 4095))?
+        .arg(number(alloc, "out", 1, 4095))?
+        .arg(flag(alloc, "join"))?
+        .arg(flag(alloc, "no-join"))
+}
+
+/// Adds the options of how the frames of a capture are read.
+fn with_capture<'a>(alloc: Global, command: Command<'a>) -> Result<Command<'a>, AllocError>
+    ensures { IfOk result (λ after. app_of after ≡ with_capture (app_of command.entry)) }
+{
+    command
+        .arg(choice(alloc, "as", KINDS))?
+        .arg(choice(alloc, "only", CARRIERS))?
+        .arg(number(alloc, "interface", 0, 65_535))?
+        .arg(choice(alloc, "lapb-modulo", MODULI))
 }
 
 /// Adds the options that ask for more, and the name of the trace.
@@ -127,7 +184,9 @@ fn command<'a>(alloc: Global) -> Result<Command<'a>, AllocError>
 {
     let scanning = with_scanning(alloc, plain(alloc))?;
     let writing = with_writing(alloc, scanning)?;
-    with_asking(alloc, writing)
+    let headed = with_header(alloc, writing)?;
+    let reading = with_capture(alloc, headed)?;
+    with_asking(alloc, reading)
 }
 
 /// Reads the program's name and its arguments. Fails with an error of a kind that the words have, or when memory is

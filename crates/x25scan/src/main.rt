@@ -5,7 +5,10 @@ ghost use Rattle.std.specs.Prelude.{map};
 ghost use Rattle.command_line.specs.Asked.{asked_of};
 ghost use Rattle.x25scan.specs.Captures.{ReportsCaptures};
 
+use capture_report::options::CaptureOptions;
 use capture_report::recordings::Recordings;
+use command_line::asked::Asked;
+use command_line::options::parse;
 use command_line::program::{OTHER_FAULT, USAGE, program};
 use line_model::device::Sink;
 use std::alloc::Global;
@@ -20,6 +23,14 @@ use streams::opener::Opener;
 use streams::output::Output;
 use streams::progress::Progress;
 use streams::system::System;
+
+/// Returns how captures are read that the words name. Words that ask for no trace have no say in this.
+fn capture_options(rt: &HostRuntime, words: &[&str]) -> CaptureOptions {
+    match parse(rt.alloc(), words) {
+        Ok(Asked::Trace(trace)) => trace.capture,
+        _ => CaptureOptions::plain(),
+    }
+}
 
 /// Runs the program over recordings. Where the words ask for the report of a file, and the system shows that it is a pcap
 /// file without damage, a status below 2 says that the sink accepted the report of one observer over the rows of the
@@ -51,7 +62,8 @@ fn run_streams<R: Threads + Wait + Clock + Sync>(
     threads: &R,
     words: &[&str],
 ) -> u8 {
-    let recordings = Recordings::new(rt.alloc(), System::new(rt), rt.stderr());
+    let options = capture_options(rt, words);
+    let recordings = Recordings::new(rt.alloc(), System::new(rt), rt.stderr(), options);
     let mut source = FileInput::new(
         rt.alloc(),
         &recordings,

@@ -1,0 +1,11 @@
+use Rattle.std.proofs.Common.{◌∙◌, ap₂, refl}
+use Rattle.std.proofs.lemmas.Result.{IfOk-weaker}
+use Rattle.clap.specs.Words.{with_rule}
+use Rattle.command_line.proofs.options.with_capture.Goals as goal
+
+pub returns : goal.returns
+returns c =
+    IfOk-weaker c.arg-4.result _ _ (λ shown added. added.shape c.choice-3.ensures.local
+    ∙ ap₂ with_rule (c.in_ok-arg-3.ensures.shape c.number.ensures.local
+    ∙ ap₂ with_rule (c.in_ok-arg-2.ensures.shape c.choice-2.ensures.local
+    ∙ ap₂ with_rule (c.in_ok-arg.ensures.shape c.choice.ensures.local ∙ ap₂ with_rule refl c.choice.ensures.rule) c.choice-2.ensures.rule) c.number.ensures.rule) c.choice-3.ensures.rule) c.arg-4.ensures
