@@ -15,13 +15,14 @@ use Rattle.capture_files.specs.PcapRecords.{header_size, line_length, pcap_frame
 use Rattle.capture_files.specs.declared.pcap.PcapForm.{PcapForm}
 use Rattle.capture_files.proofs.PcapLaw.{records_law}
 use Rattle.lapb_link.specs.Ends.{by_address}
-use Rattle.capture_report.specs.CaptureTexts.{capture_rows, has_frame_numbers, interface_seen, line_by, numbered_rows, options_of, sight_in}
+use Rattle.capture_report.specs.CaptureTexts.{capture_rows, has_frame_numbers, interface_seen, line_by, numbered_rows, options_of, printer_by, sight_in}
+use Rattle.capture_report.specs.Given.{has_ranges}
 use Rattle.capture_report.specs.HeaderTexts.{head_text, header_line}
 use Rattle.capture_report.specs.Laws.{FileLaw, HasRows, IsFrame, IsRecord}
 use Rattle.capture_report.specs.Plans.{plan_of}
 use Rattle.capture_report.specs.Records.{Record}
 use Rattle.capture_report.specs.Rows.{shown_from}
-use Rattle.capture_report.specs.Texts.{first_printer, rows_printed}
+use Rattle.capture_report.specs.Texts.{rows_printed}
 use Rattle.capture_report.specs.declared.options.CaptureOptions.{CaptureOptions}
 use Rattle.capture_report.specs.declared.reader.Order.TheVariants.{Placed}
 use Rattle.capture_report.proofs.CaptureRowLemmas.{rows_law}
@@ -65,16 +66,16 @@ file_records octets records h = at (form_of true octets)
 
 -- a text with the header of an interface
 text_read : (o : CaptureOptions) (octets : List ℕ) (records : List Record) (i : Interface) (text : List ℕ) → IsBytes octets → records_of true 0 octets ≡ Some records
-    → head_text i (sight_in o records).seen o.header ++ rows_printed (first_printer (has_frame_numbers (sight_in o records).last)) (capture_rows o records) ≡ text → fault text ≡ None → HasRows text i (numbered_rows o records)
+    → head_text i (sight_in o records).seen o.header ++ rows_printed (printer_by o (sight_in o records)) (capture_rows o records) ≡ text → fault text ≡ None → HasRows text i (numbered_rows o records)
 text_read o octets records i text h is same sound =
     let v = (sight_in o records).seen in
     let line = line_by (options_of o records) in
     let are = rows_law (Placed (plan_of (shown_from line records))) line records (record { modulus = (options_of o records).modulus; ends = by_address; new = refl }) (file_records octets records h is) in
     subst (λ text. HasRows text i (numbered_rows o records)) same
-    (sound_law i (head_text i v o.header) (header_line i) (has_frame_numbers (sight_in o records).last) (capture_rows o records) (head_content i v o.header) (header_read i) (head_is_read i v o.header).whole are (ap fault same ∙ sound))
+    (sound_law i (head_text i v o.header) (header_line (has_ranges o.header) i) (has_frame_numbers (sight_in o records).last) o.is_swapped (capture_rows o records) (head_content i v o.header) (header_read (has_ranges o.header) i) (head_is_read i v o.header).whole are (ap fault same ∙ sound))
 
 text_with : (o : CaptureOptions) (octets : List ℕ) (records : List Record) (text : List ℕ) → IsBytes octets → records_of true 0 octets ≡ Some records → (found : Option Interface)
-    → option_map (λ head. head ++ rows_printed (first_printer (has_frame_numbers (sight_in o records).last)) (capture_rows o records)) (option_map (λ i. head_text i (sight_in o records).seen o.header) found) ≡ Some text → fault text ≡ None
+    → option_map (λ head. head ++ rows_printed (printer_by o (sight_in o records)) (capture_rows o records)) (option_map (λ i. head_text i (sight_in o records).seen o.header) found) ≡ Some text → fault text ≡ None
     → (i : Interface) × (found ≡ Some i) × HasRows text i (numbered_rows o records)
 text_with o octets records text h is None same sound = cc same
 text_with o octets records text h is (Some i) same sound = (i, refl, text_read o octets records i text h is (cc same) sound)

@@ -9,11 +9,14 @@ use Rattle.line_model.specs.basics.Limits.{IsInterface, is_numbering, packet_siz
 use Rattle.line_model.specs.declared.interface.Interface.{Interface}
 use Rattle.trace_text.proofs.HeaderLemmas.{own_numbers}
 use Rattle.packet_decode.specs.Shown.{IsPacketSize}
-use Rattle.capture_report.specs.Given.{none_given}
+use Rattle.lapb_link.specs.declared.modulus.Modulus.{Modulus}
+use Rattle.line_model.specs.text.Header.{interface_with}
+use Rattle.capture_report.specs.Given.{is_unnamed, none_given}
 use Rattle.capture_report.specs.HeaderChannels.{ChannelList, channel_at, last_below, widened}
 use Rattle.capture_report.specs.Headers.{last_channel, modulus_by, numbers_with, permanent_seen, size_seen, smallest_size, window_below}
 use Rattle.capture_report.specs.Laws.{PlainLaw}
 use Rattle.capture_report.specs.declared.header.Seen.{Seen}
+use Rattle.capture_report.specs.declared.options.GivenHeader.{GivenHeader}
 use Rattle.capture_report.specs.declared.header_channels.SeenChannel.{SeenChannel}
 
 -- a channel more is one of those that the list lacks
@@ -86,11 +89,29 @@ in_range : (m w s p a l : ℕ) → is_numbering m w ≡ true → IsPacketSize s 
 in_range m w s p a l numbering size few same some most =
     rw (numbering, size, le-leb 1 l some, le-leb l 4095 most, le-leb p a few, le-leb a l same, le-leb l l (omega arith)) refl
 
-pub header_there : PlainLaw
-header_there v =
+plain_header : (v : Seen) → is_some (interface_with (numbers_with none_given v)) ≡ true
+plain_header v =
     let n = numbers_with none_given v in
     let last = last_channel v in
     let few : permanent_seen v ≤ last = omega (arith, last_few v.channels (min v.first_call (last + 1))) in
     let lawful = in_range n.modulus n.window n.size n.pvc n.incoming n.svc (window_there v) (size_listed v) (omega (arith, few)) (omega (arith, few)) (omega (arith, few)) (omega (arith, few)) in
     let i : Interface = record { modulus = n.modulus; window = n.window; size = n.size; pvc = n.pvc; incoming = n.incoming; two_way = n.two_way; svc = n.svc; join = n.join; gaps = n.gaps; lawful = lawful } in
     ap (λ o. is_some o) (own_numbers i)
+
+unnamed : (g : GivenHeader) → is_unnamed g ≡ true → g ≡ none_given
+unnamed g h = at g.modulus g.window g.size g.pvc g.incoming g.two_way g.svc g.outgoing g.join h
+  where
+    at : (m : Option Modulus) (w s p i t l o : Option ℕ) (j : Option Bool) → let given : GivenHeader = record { modulus = m; window = w; size = s; pvc = p; incoming = i; two_way = t; svc = l; outgoing = o; join = j } in is_unnamed given ≡ true → given ≡ none_given
+    at None None None None None None None None None h = refl
+    at (Some m) w s p i t l o j h = cc h
+    at None (Some w) s p i t l o j h = cc h
+    at None None (Some s) p i t l o j h = cc h
+    at None None None (Some p) i t l o j h = cc h
+    at None None None None (Some i) t l o j h = cc h
+    at None None None None None (Some t) l o j h = cc h
+    at None None None None None None (Some l) o j h = cc h
+    at None None None None None None None (Some o) j h = cc h
+    at None None None None None None None None (Some j) h = cc h
+
+pub header_there : PlainLaw
+header_there g v h = ap (λ (given : GivenHeader). is_some (interface_with (numbers_with given v))) (unnamed g h) ∙ plain_header v

@@ -20,8 +20,8 @@ use Rattle.trace_text.proofs.CutLemmas.{words-found, words-none}
 use Rattle.trace_text.proofs.HeaderLemmas.{numbers_of, own_numbers}
 use Rattle.trace_text.proofs.NumberLemmas.{both}
 use Rattle.trace_text.proofs.RowFront.{lacks-append, number_lacks}
-use Rattle.capture_report.specs.HeaderTexts.{IsHead, all_estimates, channel_numbers, comment_text, estimate_text, first_numbers, form_digit, form_word, has_estimates, head_text, header_line, is_first_form, joining, last_name, lead, named, numbering_estimates, size_estimates, size_source, window_source}
-use Rattle.capture_report.specs.Given.{is_whole}
+use Rattle.capture_report.specs.HeaderTexts.{IsHead, all_estimates, channel_numbers, comment_text, estimate_text, first_numbers, form_digit, form_word, has_estimates, has_first_form, head_text, header_line, is_first_form, joining, last_name, lead, named, numbering_estimates, size_estimates, size_source, window_source}
+use Rattle.capture_report.specs.Given.{has_ranges, is_whole, last_given}
 use Rattle.capture_report.specs.declared.header.Seen.{Seen}
 use Rattle.capture_report.specs.declared.options.GivenHeader.{GivenHeader}
 
@@ -227,32 +227,32 @@ numbers_left_out i h =
     let c = both (not i.join) (not i.gaps) b.1 in
     rw (eqb-true i.incoming i.pvc a.0, eqb-true i.two_way i.svc b.0, is_false i.join c.0, is_false i.gaps c.1) refl
 
-words_say : (b : Bool) (i : Interface) → IsSmall i → is_first_form i ≡ b → numbers_in (codes "X25" ∷ later_words b i) ≡ Some (numbers_of i)
-words_say true i s h =
+words_say : (r b : Bool) (i : Interface) → IsSmall i → has_first_form r i ≡ b → numbers_in (codes "X25" ∷ later_words b i) ≡ Some (numbers_of i)
+words_say r true i s h =
     first_says (decimal i.modulus) (decimal i.window) (decimal i.size) (decimal i.pvc) (decimal i.svc) i.modulus i.window i.size i.pvc i.svc
     (decimal_number i.modulus s.modulus) (decimal_number i.window s.window) (decimal_number i.size s.size) (decimal_number i.pvc s.pvc) (decimal_number i.svc s.svc)
-    ∙ ap Some (numbers_left_out i h)
-words_say false i s h =
+    ∙ ap Some (numbers_left_out i (both (not r) (is_first_form i) h).1)
+words_say r false i s h =
     ranges_say (decimal i.modulus) (decimal i.window) (decimal i.size) (decimal i.pvc) (decimal i.incoming) (decimal i.two_way) (decimal i.svc) i.modulus i.window i.size i.pvc i.incoming i.two_way i.svc i.join i.gaps
     (decimal_number i.modulus s.modulus) (decimal_number i.window s.window) (decimal_number i.size s.size) (decimal_number i.pvc s.pvc) (decimal_number i.incoming s.incoming) (decimal_number i.two_way s.two_way) (decimal_number i.svc s.svc)
 
-line_says : (i : Interface) → IsSmall i → header_numbers (header_line i) ≡ Some (numbers_of i)
+line_says : (r : Bool) (i : Interface) → IsSmall i → header_numbers (header_line r i) ≡ Some (numbers_of i)
 unfolding header_numbers
-line_says i s =
-    let b = is_first_form i in
-    ap (λ line. numbers_in (words_of line)) (line_is b i) ∙ ap numbers_in (line_words (codes "X25") (later_words b i) (are_words b i s)) ∙ words_say b i s refl
+line_says r i s =
+    let b = has_first_form r i in
+    ap (λ line. numbers_in (words_of line)) (line_is b i) ∙ ap numbers_in (line_words (codes "X25") (later_words b i) (are_words b i s)) ∙ words_say r b i s refl
 
-line_interface : (i : Interface) → IsSmall i → interface_of (header_line i) ≡ Some i
+line_interface : (r : Bool) (i : Interface) → IsSmall i → interface_of (header_line r i) ≡ Some i
 unfolding interface_of
-line_interface i s = ap (λ n. option_and_then interface_with n) (line_says i s) ∙ own_numbers i
+line_interface r i s = ap (λ n. option_and_then interface_with n) (line_says r i s) ∙ own_numbers i
 
-line_has_no_lf : (i : Interface) → IsSmall i → Lacks 10 (header_line i)
-line_has_no_lf i s = let b = is_first_form i in ap (list_any (λ c. c == 10)) (line_is b i) ∙ line_lacks (codes "X25" ∷ later_words b i) (are_words b i s)
+line_has_no_lf : (r : Bool) (i : Interface) → IsSmall i → Lacks 10 (header_line r i)
+line_has_no_lf r i s = let b = has_first_form r i in ap (list_any (λ c. c == 10)) (line_is b i) ∙ line_lacks (codes "X25" ∷ later_words b i) (are_words b i s)
 
-line_length : (i : Interface) → IsSmall i → length (header_line i) ≤ 180
-line_length i s =
-    let b = is_first_form i in
-    let same : length (header_line i) ≡ length (line_of (codes "X25" ∷ later_words b i)) = ap (λ (l : Line). length l) (line_is b i) in
+line_length : (r : Bool) (i : Interface) → IsSmall i → length (header_line r i) ≤ 180
+line_length r i s =
+    let b = has_first_form r i in
+    let same : length (header_line r i) ≡ length (line_of (codes "X25" ∷ later_words b i)) = ap (λ (l : Line). length l) (line_is b i) in
     omega (arith, same, line_short (codes "X25" ∷ later_words b i) (are_words b i s), few b)
   where
     at_most_one : (join : Bool) → length (joined join) ≤ 1
@@ -335,7 +335,7 @@ comment_is i v g s = by (is_whole g)
     by true = record { part = record { no_lf = refl; few = omega arith }; is_comment = refl }
     by false = record {
       part = joined_parts _ _ 40 455 (words_part (codes "# estimated from what was seen:") refl refl)
-          (joined_parts _ _ 182 273 (numbering_part i v g s) (joined_parts _ _ 182 91 (sizes_part i v g s) (last_part (is_some g.svc) (has_estimates g) (is_first_form i) i.svc s.svc)));
+          (joined_parts _ _ 182 273 (numbering_part i v g s) (joined_parts _ _ 182 91 (sizes_part i v g s) (last_part (is_some (last_given g)) (has_estimates g) (has_first_form (has_ranges g) i) i.svc s.svc)));
       is_comment = refl;
     }
 
@@ -344,37 +344,37 @@ comment_is i v g s = by (is_whole g)
 one_line : (l : Line) → HasNoLf l → ended_lines (l ++ 10 ∷ []) ≡ l ∷ []
 one_line l h = ended-lf l ∙ ap (λ ls. ls ++ begun_line l ∷ []) (ended-more [] l h) ∙ ap (λ (x : Line). x ∷ []) (begun-more [] l h)
 
-head_lines : (i : Interface) (v : Seen) (g : GivenHeader) → IsSmall i → ended_lines (head_text i v g) ≡ comment_text i v g ∷ header_line i ∷ []
+head_lines : (i : Interface) (v : Seen) (g : GivenHeader) → IsSmall i → ended_lines (head_text i v g) ≡ comment_text i v g ∷ header_line (has_ranges g) i ∷ []
 head_lines i v g s =
     let c = (comment_is i v g s).part in
-    let same : head_text i v g ≡ (comment_text i v g ++ 10 ∷ []) ++ (header_line i ++ 10 ∷ []) = sym (append_assoc (comment_text i v g) (10 ∷ []) (header_line i ++ 10 ∷ [])) in
-    let two = seam (comment_text i v g ++ 10 ∷ []) (header_line i ++ 10 ∷ []) (begun-lf (comment_text i v g)) in
-    ap ended_lines same ∙ two.lines ∙ ap (λ ls. ls ++ ended_lines (header_line i ++ 10 ∷ [])) (one_line (comment_text i v g) c.no_lf)
-    ∙ ap (λ ls. comment_text i v g ∷ ls) (one_line (header_line i) (line_has_no_lf i s))
+    let same : head_text i v g ≡ (comment_text i v g ++ 10 ∷ []) ++ (header_line (has_ranges g) i ++ 10 ∷ []) = sym (append_assoc (comment_text i v g) (10 ∷ []) (header_line (has_ranges g) i ++ 10 ∷ [])) in
+    let two = seam (comment_text i v g ++ 10 ∷ []) (header_line (has_ranges g) i ++ 10 ∷ []) (begun-lf (comment_text i v g)) in
+    ap ended_lines same ∙ two.lines ∙ ap (λ ls. ls ++ ended_lines (header_line (has_ranges g) i ++ 10 ∷ [])) (one_line (comment_text i v g) c.no_lf)
+    ∙ ap (λ ls. comment_text i v g ∷ ls) (one_line (header_line (has_ranges g) i) (line_has_no_lf (has_ranges g) i s))
 
 -- one of its lines is no comment: that of the header
-pub head_content : (i : Interface) (v : Seen) (g : GivenHeader) → content_of (ended_lines (head_text i v g)) ≡ header_line i ∷ []
+pub head_content : (i : Interface) (v : Seen) (g : GivenHeader) → content_of (ended_lines (head_text i v g)) ≡ header_line (has_ranges g) i ∷ []
 head_content i v g =
-    ap content_of (head_lines i v g (is_small i)) ∙ ap (λ (b : Bool). let ls : List Line = if not b then comment_text i v g ∷ header_line i ∷ [] else header_line i ∷ [] in ls) (comment_is i v g (is_small i)).is_comment
+    ap content_of (head_lines i v g (is_small i)) ∙ ap (λ (b : Bool). let ls : List Line = if not b then comment_text i v g ∷ header_line (has_ranges g) i ∷ [] else header_line (has_ranges g) i ∷ [] in ls) (comment_is i v g (is_small i)).is_comment
 
-pub header_read : (i : Interface) → interface_of (header_line i) ≡ Some i
-header_read i = line_interface i (is_small i)
+pub header_read : (r : Bool) (i : Interface) → interface_of (header_line r i) ≡ Some i
+header_read r i = line_interface r i (is_small i)
 
 head_is : (i : Interface) (v : Seen) (g : GivenHeader) → IsSmall i → IsHead i (head_text i v g)
 head_is i v g s =
     let commented = comment_is i v g s in
     let c = commented.part in
-    let same : head_text i v g ≡ (comment_text i v g ++ 10 ∷ []) ++ (header_line i ++ 10 ∷ []) = sym (append_assoc (comment_text i v g) (10 ∷ []) (header_line i ++ 10 ∷ [])) in
-    let two = seam (comment_text i v g ++ 10 ∷ []) (header_line i ++ 10 ∷ []) (begun-lf (comment_text i v g)) in
+    let same : head_text i v g ≡ (comment_text i v g ++ 10 ∷ []) ++ (header_line (has_ranges g) i ++ 10 ∷ []) = sym (append_assoc (comment_text i v g) (10 ∷ []) (header_line (has_ranges g) i ++ 10 ∷ [])) in
+    let two = seam (comment_text i v g ++ 10 ∷ []) (header_line (has_ranges g) i ++ 10 ∷ []) (begun-lf (comment_text i v g)) in
     let few = c.few in
     record {
       comment = comment_text i v g;
-      header = header_line i;
+      header = header_line (has_ranges g) i;
       lines = head_lines i v g s;
-      whole = ap begun_line same ∙ two.begun ∙ begun-lf (header_line i);
+      whole = ap begun_line same ∙ two.begun ∙ begun-lf (header_line (has_ranges g) i);
       is_comment = commented.is_comment;
-      interface = line_interface i s;
-      few = omega (arith, few, line_length i s, length-append (comment_text i v g) (10 ∷ (header_line i ++ 10 ∷ [])), length-append (header_line i) (10 ∷ []));
+      interface = line_interface (has_ranges g) i s;
+      few = omega (arith, few, line_length (has_ranges g) i s, length-append (comment_text i v g) (10 ∷ (header_line (has_ranges g) i ++ 10 ∷ [])), length-append (header_line (has_ranges g) i) (10 ∷ []));
     }
 
 pub head_is_read : (i : Interface) (v : Seen) (g : GivenHeader) → IsHead i (head_text i v g)

@@ -13,12 +13,13 @@ use Rattle.std.specs.Prelude.{IfOk, Result, option_map}
 use Rattle.std.proofs.lemmas.Result.{IfOk-weaker}
 use Rattle.std.specs.Option.{option_and_then}
 use Rattle.capture_model.specs.declared.kind.LinkKind.{LinkKind}
-use Rattle.capture_report.specs.CaptureTexts.{IsFirstReading, IsLastReading, capture_text, captured, has_frame_numbers, head_lines, likely_in, line_by, options_of, options_with, sight_by, trace_by}
+use Rattle.capture_report.specs.CaptureTexts.{IsFirstReading, IsLastReading, capture_text, captured, head_lines, likely_in, line_by, options_of, options_with, printer_by, sight_by, trace_by}
+use Rattle.capture_report.specs.Contents.{Row}
 use Rattle.capture_report.specs.Recordings.{IsOpened, begins_as_capture, is_magic, recorded}
 use Rattle.capture_report.specs.Records.{Record}
 use Rattle.capture_report.specs.Rows.{placed, rows_from}
 use Rattle.capture_report.specs.Sights.{Sight, sight_of}
-use Rattle.capture_report.specs.Texts.{first_printer, rows_printed}
+use Rattle.capture_report.specs.Texts.{rows_printed}
 use Rattle.capture_report.specs.declared.first_reading.FirstReading.{FirstReading}
 use Rattle.capture_report.specs.declared.options.CaptureOptions.{CaptureOptions}
 use Rattle.capture_report.specs.declared.reader.Order.TheVariants.{Placed}
@@ -77,24 +78,24 @@ last_reading o left first last look shown given is again same = λ records e. (
 
 -- the rows behind a header, by a first reading
 abbrev text_by : FirstReading → (head : List ℕ) → List Record → List ℕ
-text_by first head records = head ++ rows_printed (first_printer (has_frame_numbers first.survey.last)) (rows_from (Placed first.plan) (line_by first.options) records)
+text_by first head records = head ++ rows_printed (printer_by first.options (sight_of first.survey)) (rows_from (Placed first.plan) (line_by first.options) records)
 
 same_text : (o : CaptureOptions) (now left : Option (List Record)) (first : FirstReading) (head : List ℕ) → now ≡ left → Some head ≡ head_lines first.options.header first.survey.seen → IsLastReading o left first
     → option_map (text_by first head) now ≡ option_and_then (capture_text o) left
 same_text o now None first head same is last = ap (λ records. option_map (text_by first head) records) same
 same_text o now (Some records) first head same is last =
     let shown = (last records refl).0 in
-    let printed = rows_printed (first_printer (has_frame_numbers first.survey.last)) (rows_from (Placed first.plan) (line_by first.options) records) in
+    let printed = rows_printed (printer_by first.options (sight_of first.survey)) (rows_from (Placed first.plan) (line_by first.options) records) in
     ap (λ records. option_map (text_by first head) records) same
     ∙ ap (λ h. option_map (λ (xs : List ℕ). xs ++ printed) h) is
-    ∙ ap (trace_by first.options.header (sight_of first.survey)) shown.rows
-    ∙ ap (λ s. trace_by first.options.header s (placed (line_by first.options) records)) shown.sight
-    ∙ ap (λ (p : CaptureOptions). trace_by p.header (sight_by p records) (placed (line_by p) records)) (last records refl).1
-    ∙ ap (λ g. trace_by g (sight_by (options_of o records) records) (placed (line_by (options_of o records)) records)) (same_header (likely_in o.choices.unknown (sight_by o records)))
+    ∙ ap (trace_by first.options (sight_of first.survey)) shown.rows
+    ∙ ap (λ s. trace_by first.options s (placed (line_by first.options) records)) shown.sight
+    ∙ ap (λ (p : CaptureOptions). trace_by p (sight_by p records) (placed (line_by p) records)) (last records refl).1
+    ∙ same_trace (likely_in o.choices.unknown (sight_by o records)) (sight_by (options_of o records) records) (placed (line_by (options_of o records)) records)
   where
-    same_header : (look : Option LinkKind) → (options_with look o).header ≡ o.header
-    same_header None = refl
-    same_header (Some kind) = refl
+    same_trace : (look : Option LinkKind) (s : Sight) (rows : List Row) → trace_by (options_with look o) s rows ≡ trace_by o s rows
+    same_trace None s rows = refl
+    same_trace (Some kind) s rows = refl
 
 pub opened_text : {T E : Type 0} (left : T → Option (List ℕ)) (r : Result T E) (o : CaptureOptions) (file named : Option (List ℕ)) (first : FirstReading) (head : List ℕ) → file ≡ named → Some head ≡ head_lines first.options.header first.survey.seen
     → IsLastReading o (option_and_then (records_of true 0) named) first → IfOk r (λ text. left text ≡ option_map (text_by first head) (option_and_then (records_of true 0) file)) → IfOk r (λ text. left text ≡ captured o named)

@@ -22,6 +22,7 @@ use Rattle.capture_report.specs.declared.first_reading.FirstReading.{FirstReadin
 use Rattle.capture_report.specs.declared.header.Seen.{Seen}
 use Rattle.capture_report.specs.declared.options.CaptureOptions.{CaptureOptions}
 use Rattle.capture_report.specs.declared.options.GivenHeader.{GivenHeader}
+use Rattle.capture_report.specs.declared.print.Printer.{Printer}
 use Rattle.capture_report.specs.declared.reader.Order.TheVariants.{Placed}
 
 -- a line of which nothing was read, by what is given
@@ -63,17 +64,21 @@ has_frame_numbers last = nat_le last 499999999
 abbrev pub head_lines : GivenHeader → Seen → Option (List ℕ)
 head_lines g v = option_map (λ i. head_text i v g) (interface_with (numbers_with g v))
 
+-- what numbers its rows, and gives them the sides of the capture or the other ones
+abbrev pub printer_by : CaptureOptions → Sight → Printer
+printer_by o s = first_printer (has_frame_numbers s.last) o.is_swapped
+
 -- the lines of a header, and those of rows
-abbrev pub trace_by : GivenHeader → Sight → List Row → Option (List ℕ)
-trace_by g s rows = option_map (λ head. head ++ rows_printed (first_printer (has_frame_numbers s.last)) rows) (head_lines g s.seen)
+abbrev pub trace_by : CaptureOptions → Sight → List Row → Option (List ℕ)
+trace_by o s rows = option_map (λ head. head ++ rows_printed (printer_by o s) rows) (head_lines o.header s.seen)
 
 -- the text of its trace: the header of what is given and what was seen, and its rows. There is none without a header
 abbrev pub capture_text : CaptureOptions → List Record → Option (List ℕ)
-capture_text o records = trace_by o.header (sight_in o records) (capture_rows o records)
+capture_text o records = trace_by o (sight_in o records) (capture_rows o records)
 
 -- its rows as the trace has them
 abbrev pub numbered_rows : CaptureOptions → List Record → List trace.Row
-numbered_rows o records = trace_rows (first_printer (has_frame_numbers (sight_in o records).last)) (capture_rows o records)
+numbered_rows o records = trace_rows (printer_by o (sight_in o records)) (capture_rows o records)
 
 -- the trace of a file that is a pcap file without damage
 abbrev pub captured : CaptureOptions → (file : Option (List ℕ)) → Option (List ℕ)

@@ -3,7 +3,7 @@ use Rattle.std.specs.Prelude.{◌≡◌, ℕ, ◌≤◌, ◌==◌, ◌&&◌, ◌
 use Rattle.line_model.specs.declared.interface.Interface.{Interface}
 use Rattle.line_model.specs.text.Header.{interface_of}
 use Rattle.line_model.specs.text.Text.{Line, begun_line, ended_lines, is_comment}
-use Rattle.capture_report.specs.Given.{is_whole}
+use Rattle.capture_report.specs.Given.{has_ranges, is_whole, last_given}
 use Rattle.capture_report.specs.declared.header.Seen.{Seen}
 use Rattle.capture_report.specs.declared.options.GivenHeader.{GivenHeader}
 
@@ -35,8 +35,12 @@ abbrev pub channel_numbers : (is_first : Bool) → Interface → List ℕ
 channel_numbers true i = named (codes " SVC ") i.svc
 channel_numbers false i = named (codes " IN ") i.incoming ++ (named (codes " TWO ") i.two_way ++ (named (codes " OUT ") i.svc ++ joining i.join))
 
-abbrev pub header_line : Interface → Line
-header_line i = form_word (is_first_form i) i.gaps ++ (first_numbers i ++ channel_numbers (is_first_form i) i)
+-- one whose ranges are given names them
+abbrev pub has_first_form : (ranged : Bool) → Interface → Bool
+has_first_form ranged i = not ranged && is_first_form i
+
+abbrev pub header_line : (ranged : Bool) → Interface → Line
+header_line ranged i = form_word (has_first_form ranged i) i.gaps ++ (first_numbers i ++ channel_numbers (has_first_form ranged i) i)
 
 -- ---- the comment before it
 
@@ -71,7 +75,7 @@ abbrev pub has_estimates : GivenHeader → Bool
 has_estimates g = is_none g.modulus || (is_none g.window || (is_none g.size || is_none g.pvc))
 
 abbrev pub last_estimate : Interface → GivenHeader → List ℕ
-last_estimate i g = estimate_text (is_some g.svc) (has_estimates g) (last_name (is_first_form i)) i.svc (codes " (the channels used)")
+last_estimate i g = estimate_text (is_some (last_given g)) (has_estimates g) (last_name (has_first_form (has_ranges g) i)) i.svc (codes " (the channels used)")
 
 abbrev pub all_estimates : Interface → Seen → GivenHeader → List ℕ
 all_estimates i v g = numbering_estimates i v g ++ (size_estimates i v g ++ last_estimate i g)
@@ -81,7 +85,7 @@ abbrev pub comment_text : Interface → Seen → GivenHeader → Line
 comment_text i v g = if is_whole g then codes "# the header is given" else codes "# estimated from what was seen:" ++ all_estimates i v g
 
 abbrev pub head_text : Interface → Seen → GivenHeader → List ℕ
-head_text i v g = comment_text i v g ++ 10 ∷ (header_line i ++ 10 ∷ [])
+head_text i v g = comment_text i v g ++ 10 ∷ (header_line (has_ranges g) i ++ 10 ∷ [])
 
 -- a comment, and a line that is read as the header of an interface
 pub record IsHead (i : Interface) (text : List ℕ) : Type 0 where

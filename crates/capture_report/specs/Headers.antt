@@ -15,6 +15,7 @@ use Rattle.capture_report.specs.Contents.{Content, Row}
 use Rattle.capture_report.specs.HeaderChannels.{all_swept, channel_at, channel_seen, is_set_up, last_below, missed, none_seen, outstanding, user_data, with_channel}
 use Rattle.lapb_link.specs.Numbers.{size}
 use Rattle.lapb_link.specs.declared.modulus.Modulus.{Modulus}
+use Rattle.capture_report.specs.Given.{last_given}
 use Rattle.capture_report.specs.declared.options.GivenHeader.{GivenHeader}
 use Rattle.capture_report.specs.declared.header.Beginning.{Beginning}
 use Rattle.capture_report.specs.declared.header.Beginning.TheVariants.{Empty, Joined, Restarting, Whole}
@@ -161,7 +162,7 @@ last_by None g pvc v = max (max (max (last_channel v) pvc) (unwrap_or g.two_way 
 last_by (Some last) g pvc v = last
 
 abbrev pub last_with : GivenHeader → (pvc : ℕ) → Seen → ℕ
-last_with g pvc v = last_by g.svc g pvc v
+last_with g pvc v = last_by (last_given g) g pvc v
 
 -- the numbers that are given, and for the others what was seen; a trace that begins in the middle, or has gaps, has the third form
 abbrev pub numbers_with : GivenHeader → Seen → HeaderNumbers

@@ -99,8 +99,7 @@ pub(crate) fn line(alloc: Global, options: &CaptureOptions) -> Result<Line, Open
 }
 
 /// Why a header is refused whose numbers are given.
-const NO_HEADER: &str =
-    "the numbers of the header do not go together: WIN is below MOD, and PVC, IN, TWO and OUT do not fall";
+const NO_HEADER: &str = "no header has these numbers: WIN < MOD, and PVC <= IN <= TWO <= OUT";
 
 /// Returns the lines of a trace that come before its rows. Fails where numbers that are given are not those of an interface.
 pub(crate) fn head(alloc: Global, first: &FirstReading) -> Result<Vec<u8>, OpenRefusal>

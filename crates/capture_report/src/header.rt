@@ -61,8 +61,8 @@ fn is_numbered(modulus: u8, window: u8) -> bool
     (modulus == 8 || modulus == 128) && 1 <= window && window < modulus
 }
 
-/// Returns whether this is a packet size.
-fn is_packet_size(size: u16) -> bool
+/// Returns whether this is a packet size (X.25 clause 6.9).
+pub fn is_packet_size(size: u16) -> bool
     ensures { result ≡ list_any (λ n. size == n) packet_sizes }
 {
     matches!(size, 16 | 32 | 64 | 128 | 256 | 512 | 1024 | 2048 | 4096)
@@ -432,7 +432,7 @@ impl Seen {
     fn last_with(&self, given: &GivenHeader, pvc: u16) -> u16
         ensures { result ≡ last_with given.now pvc self.now }
     {
-        match given.svc {
+        match given.last() {
             Some(last) => last,
             None => self
                 .last_channel()

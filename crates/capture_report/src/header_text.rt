@@ -1,7 +1,7 @@
 //! The lines of a trace that come before its rows.
 
 ghost use Rattle.std.specs.Prelude.{◌≡◌, ◌++◌, OnOk, codes};
-ghost use Rattle.capture_report.specs.HeaderTexts.{IsHead, all_estimates, channel_numbers, comment_text, estimate_text, first_numbers, form_word, has_estimates, head_text, header_line, is_first_form, joining, last_estimate, last_name, lead, named, numbering_estimates, size_estimates, size_source, window_source};
+ghost use Rattle.capture_report.specs.HeaderTexts.{IsHead, all_estimates, channel_numbers, comment_text, estimate_text, first_numbers, form_word, has_estimates, has_first_form, head_text, header_line, is_first_form, joining, last_estimate, last_name, lead, named, numbering_estimates, size_estimates, size_source, window_source};
 ghost use Rattle.capture_report.specs.declared.header.Seen.{Seen as AnySeen};
 ghost use Rattle.capture_report.specs.declared.options.GivenHeader.{GivenHeader as AnyGiven};
 ghost use Rattle.line_model.specs.declared.interface.Interface.{Interface as AnyInterface};
@@ -26,6 +26,13 @@ fn is_first_form(header: &Interface) -> bool
     ensures { result ≡ is_first_form header.now }
 {
     header.incoming == header.pvc && header.two_way == header.svc && !header.join && !header.gaps
+}
+
+/// Returns whether a header is written in the first form: one whose ranges are given names them.
+fn has_first_form(is_ranged: bool, header: &Interface) -> bool
+    ensures { result ≡ has_first_form is_ranged header.now }
+{
+    !is_ranged && is_first_form(header)
 }
 
 /// Returns how a header begins.
@@ -70,10 +77,10 @@ fn append_channels(is_first: bool, header: &Interface, out: &mut Vec<u8>) -> Res
 }
 
 /// Appends the header line.
-fn append_header(header: &Interface, out: &mut Vec<u8>) -> Result<(), AllocError>
-    ensures { OnOk result (out.new.items ≡ out.old.items ++ header_line header.now) }
+fn append_header(is_ranged: bool, header: &Interface, out: &mut Vec<u8>) -> Result<(), AllocError>
+    ensures { OnOk result (out.new.items ≡ out.old.items ++ header_line is_ranged header.now) }
 {
-    let is_first = is_first_form(header);
+    let is_first = has_first_form(is_ranged, header);
     out.extend_from_slice(form_word(is_first, header.gaps))?;
     append_first(header, out)?;
     append_channels(is_first, header, out)
@@ -225,11 +232,11 @@ fn append_last(header: &Interface, given: &GivenHeader, out: &mut Vec<u8>) -> Re
     ensures { OnOk result (out.new.items ≡ out.old.items ++ last_estimate header.now given.now) }
 {
     let last = Estimate {
-        name: last_name(is_first_form(header)),
+        name: last_name(has_first_form(given.has_ranges(), header)),
         number: header.svc,
         source: b" (the channels used)",
     };
-    append_estimate(given.svc.is_some(), has_estimates(given), &last, out)
+    append_estimate(given.last().is_some(), has_estimates(given), &last, out)
 }
 
 /// Appends the comment that says what the numbers were estimated from that are not given.
@@ -274,7 +281,7 @@ pub fn print_head(
 {
     append_comment(header, seen, given, out)?;
     end_line(out)?;
-    append_header(header, out)?;
+    append_header(given.has_ranges(), header, out)?;
     end_line(out)
 }
 

@@ -1,7 +1,7 @@
 //! What is given of how captures are read.
 
 ghost use Rattle.std.specs.Prelude.{◌≡◌};
-ghost use Rattle.capture_report.specs.Given.{is_plain, is_unnamed, is_whole, none_given, plain, with_unknown};
+ghost use Rattle.capture_report.specs.Given.{has_ranges, is_plain, is_unnamed, is_whole, last_given, none_given, plain, with_unknown};
 
 use capture_model::kind::LinkKind;
 use capture_rows::choices::Choices;
@@ -26,6 +26,8 @@ pub struct GivenHeader {
     pub two_way: Option<u16>,
     /// The last channel.
     pub svc: Option<u16>,
+    /// The last channel too, as that for outgoing calls.
+    pub outgoing: Option<u16>,
     /// Whether the recording began in the middle.
     pub join: Option<bool>,
 }
@@ -43,6 +45,7 @@ impl GivenHeader {
             incoming: None,
             two_way: None,
             svc: None,
+            outgoing: None,
             join: None,
         }
     }
@@ -55,7 +58,21 @@ impl GivenHeader {
             && self.window.is_some()
             && self.size.is_some()
             && self.pvc.is_some()
-            && self.svc.is_some()
+            && self.last().is_some()
+    }
+
+    /// Returns the last channel, by either name.
+    pub(crate) fn last(&self) -> Option<u16>
+        ensures { result ≡ last_given self.now }
+    {
+        self.svc.or(self.outgoing)
+    }
+
+    /// Returns whether the last channels of kinds of calls are given.
+    pub(crate) fn has_ranges(&self) -> bool
+        ensures { result ≡ has_ranges self.now }
+    {
+        self.incoming.is_some() || self.two_way.is_some() || self.outgoing.is_some()
     }
 
     /// Returns whether nothing is given.
@@ -69,6 +86,7 @@ impl GivenHeader {
             && self.incoming.is_none()
             && self.two_way.is_none()
             && self.svc.is_none()
+            && self.outgoing.is_none()
             && self.join.is_none()
     }
 }
@@ -82,6 +100,8 @@ pub struct CaptureOptions {
     pub choices: Choices,
     /// How LAPB counts its frames, where SABM and SABME don't show it.
     pub modulus: Option<Modulus>,
+    /// Whether the sides are exchanged: what the choices call the DTE is the DCE of the trace.
+    pub is_swapped: bool,
 }
 
 impl CaptureOptions {
@@ -99,6 +119,7 @@ impl CaptureOptions {
                 host: Side::T,
             },
             modulus: None,
+            is_swapped: false,
         }
     }
 
@@ -124,5 +145,6 @@ impl CaptureOptions {
             && self.choices.carrier.is_none()
             && self.choices.interface.is_none()
             && self.modulus.is_none()
+            && !self.is_swapped
     }
 }

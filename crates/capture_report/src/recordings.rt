@@ -118,8 +118,7 @@ impl<R: Opener + Drop, E: Eprint + Drop> Recordings<R, E> {
 }
 
 /// Why a trace is refused where options of captures are given.
-const NO_CAPTURE: &str =
-    "it is a trace, which has its header and its sides: leave out the options of captures";
+const NO_CAPTURE: &str = "a trace has its own header and sides: leave out the options of captures";
 
 /// What is advised on an estimated header.
 const ADVICE: &str =

@@ -5,7 +5,7 @@ use capture_report::header::Seen;
 use capture_report::header_text::print_head;
 use capture_report::options::{CaptureOptions, GivenHeader};
 use capture_report::plan::Plan;
-use capture_report::print::Page;
+use capture_report::print::{Page, Printer};
 use capture_report::reader::{Order, Reader};
 use capture_report::row::{Content, Row};
 use capture_report::survey::Survey;
@@ -49,7 +49,11 @@ fn frames(alloc: Global) -> Result<FileFrames<SliceSource<'static>>, Fail> {
 
 /// Returns the text of the trace.
 fn text(alloc: Global, order: Order) -> Result<Vec<u8>, Fail> {
-    let reader = Reader::new(line(alloc)?, order, Page::new(Vec::new(alloc), true));
+    let reader = Reader::new(
+        line(alloc)?,
+        order,
+        Page::new(Vec::new(alloc), Printer::new(true, false)),
+    );
     let Ok(mut trace) = file_trace(alloc, SliceSource::new(FILE), true, 0, reader) else {
         return Err(Fail::from("no capture"));
     };
