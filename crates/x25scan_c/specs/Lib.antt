@@ -1,3 +1,4 @@
+pub mod Waits
 pub mod Owning
 pub mod Sound
 pub mod Found

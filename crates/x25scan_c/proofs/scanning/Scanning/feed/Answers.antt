@@ -1,7 +1,0 @@
-use Rattle.x25scan_c.proofs.scanning.Scanning.feed.Goals as goal
-
-pub returns-in_default-clause-fed : goal.returns-in_default-clause-fed
-returns-in_default-clause-fed c text was ok = c.feed_on-answer.ensures.fed text (rw (← c.remember.ensures.reading) at was) ok
-
-pub returns-in-len1-up-clause-fed : goal.returns-in-len1-up-clause-fed
-returns-in-len1-up-clause-fed c text was ok = c.feed_on-answer.ensures.fed text (rw (← c.remember.ensures.reading) at was) ok
