@@ -4,6 +4,8 @@
 #[cfg(test)]
 mod annotations;
 #[cfg(test)]
+mod channels;
+#[cfg(test)]
 mod json;
 #[cfg(test)]
 mod observing;

@@ -1,8 +1,10 @@
-//! The queue in one thread, step by step.
+//! The queue in one thread, step by step, and between many threads.
 
-ghost use Rattle.std.specs.Prelude.{◌≡◌, ℕ, ◌+◌, false, IfSome, OnOk};
+ghost use Rattle.std.specs.Prelude.{◌≡◌, ℕ, ◌+◌, ◌<◌, ◌≤◌, [], false, IfSome, OnOk};
 ghost use Rattle.line_model.specs.work.Book.{once_below, times};
+ghost use Rattle.shared_work.specs.queue.Rule.{worker};
 
+use crate::host::Host;
 use line_model::gap::EpochStart;
 use line_model::piece::Piece;
 use line_model::piece_items::PieceItems;
@@ -10,8 +12,10 @@ use shared_work::queue::{Bundle, FeederPass, Taken, Work, WorkerPass};
 use std::alloc::Global;
 use std::marker::Brand;
 use std::process::Abort;
-use std::sync::Wait;
+use std::sync::{Mutex, Wait};
 use std::test::Fail;
+use std::thread;
+use std::thread::Scope;
 use tests_devices::interfaces::PLAIN;
 
 /// A piece without rows.
@@ -168,5 +172,148 @@ fn a_witness_knows_what_each_worker_took(rt: HostRuntime) -> Result<(), Fail> {
     assert!(rt; matches!(work.take(&rt, &mut other), Taken::Got(_)));
     work.learn(&mut witness, work.witness_of(&mut other));
     work.confirm(feeder, witness);
+    Ok(())
+}
+
+/// How many pieces a trace of three epochs on four channels has.
+const PIECES: u32 = 12;
+
+/// How often each piece was taken.
+type Counts = Mutex<[u32; 12]>;
+
+/// Counts a piece.
+fn count(rt: &impl Wait, counts: &Counts, id: u32) {
+    if let Some(count) = counts.lock(rt).get_mut(id as usize) {
+        *count = count.wrapping_add(1);
+    }
+}
+
+/// Counts the pieces of a bundle.
+fn count_all(rt: &impl Wait, counts: &Counts, bundle: &Bundle) {
+    let (front, last) = bundle.parts();
+    for piece in front {
+        count(rt, counts, piece.id);
+    }
+    count(rt, counts, last.id);
+}
+
+/// Takes pieces until its end comes.
+fn drain<R: Wait>(rt: &R, work: &Work<Brand>, mut pass: WorkerPass, counts: &Counts)
+    requires { (pass.queue ≡ work.now.queue) × (pass.record_of ≡ worker [] false 0) }
+{
+    for _ in rt.forever() {
+        match work.take(rt, &mut pass) {
+            Taken::Got(bundle) => count_all(rt, counts, &bundle),
+            Taken::Finish => return,
+            Taken::Empty => thread::yield_now(),
+        }
+    }
+}
+
+/// Feeds a piece, again while the queue is full.
+fn feed_one<R: Wait>(rt: &R, alloc: Global, work: &Work<Brand>, feeder: &mut FeederPass, id: u32)
+    requires queue { feeder.old.queue ≡ work.now.queue }
+    requires next { feeder.old.record_of.fed ≡ id }
+    requires open { feeder.old.record_of.ends ≡ 0 }
+    ensures queue { feeder.new.queue ≡ work.now.queue }
+    ensures fed { feeder.new.record_of.fed ≡ id + 1 }
+    ensures open { feeder.new.record_of.ends ≡ 0 }
+{
+    let mut next = piece(alloc, id);
+    for _ in rt.forever() {
+        match work.feed(rt, next, feeder) {
+            Ok(()) => return,
+            Err(back) => next = back,
+        }
+        thread::yield_now();
+    }
+    unreachable!()
+}
+
+/// Feeds all pieces.
+fn feed_all<R: Wait>(rt: &R, alloc: Global, work: &Work<Brand>, feeder: &mut FeederPass)
+    requires queue { feeder.old.queue ≡ work.now.queue }
+    requires fresh { feeder.old.record_of.fed ≡ 0 }
+    requires open { feeder.old.record_of.ends ≡ 0 }
+    ensures { feeder.new.queue ≡ work.now.queue }
+{
+    for id in 0..PIECES {
+        feed_one(rt, alloc, work, feeder, id);
+    }
+}
+
+/// Feeds an end for each worker.
+fn feed_ends<R: Wait>(rt: &R, work: &Work<Brand>, feeder: &mut FeederPass, workers: u32)
+    requires { feeder.old.queue ≡ work.now.queue }
+{
+    let mut left = workers;
+    for _ in rt.forever() {
+        if left == 0 {
+            return;
+        }
+        match work.feed_end(rt, feeder) {
+            Ok(()) => left -= 1,
+            Err(()) => thread::yield_now(),
+        }
+    }
+}
+
+/// Starts workers; says how many threads were made.
+fn start<'s, 'e: 's, R: Wait + Sync>(
+    scope: &'s Scope<'s, &'e ()>,
+    rt: &'s R,
+    work: &'s Work<Brand>,
+    feeder: &mut FeederPass,
+    counts: &'s Counts,
+    workers: u32,
+) -> u32
+    requires { feeder.old.queue ≡ work.now.queue }
+    ensures queue { feeder.new.queue ≡ work.now.queue }
+    ensures fed { feeder.new.record_of.fed ≡ feeder.old.record_of.fed }
+    ensures open { feeder.new.record_of.ends ≡ feeder.old.record_of.ends }
+{
+    let mut started: u32 = 0;
+    for _ in 0..workers {
+        let pass = work.split(feeder);
+        let worker = scope.spawn(
+            move ||
+                requires { (pass.queue ≡ work.now.queue) × (pass.record_of ≡ worker [] false 0) }
+            { drain(rt, work, pass, counts) },
+        );
+        if worker.is_ok() {
+            started = started.wrapping_add(1);
+        }
+    }
+    started
+}
+
+/// How often each piece was taken by `workers` workers.
+fn run<R: Host>(rt: &R, workers: u32, capacity: usize) -> Result<[u32; 12], Fail>
+    requires some { 0 < capacity }
+    requires few { capacity ≤ 4096 }
+{
+    let (work, mut feeder) = Work::<Brand>::new(rt.alloc(), capacity)?;
+    let counts = Mutex::new([0; 12]);
+    let (queue, counted) = (&work, &counts);
+    thread::scope(
+        thread::scope_env(),
+        rt,
+        |scope|
+            requires { (feeder.queue ≡ queue.now.queue) × (feeder.record_of.fed ≡ 0) × (feeder.record_of.ends ≡ 0) }
+        {
+            let started = start(scope, rt, queue, &mut feeder, counted, workers);
+            feed_all(rt, rt.alloc(), queue, &mut feeder);
+            feed_ends(rt, queue, &mut feeder, started);
+        },
+    );
+    Ok(counts.into_inner())
+}
+
+#[test]
+fn each_piece_is_taken_once_by_any_number_of_workers(rt: HostRuntime) -> Result<(), Fail> {
+    for (workers, capacity) in [(1, 1), (1, 64), (2, 1), (2, 64), (64, 1), (64, 64)] {
+        let counts = run(&rt, workers, capacity)?;
+        assert!(rt; counts == [1; 12], "{workers} workers, capacity {capacity}");
+    }
     Ok(())
 }
