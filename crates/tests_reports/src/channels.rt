@@ -21,6 +21,8 @@ use std::test::Fail;
 use tests_devices::interfaces::PLAIN;
 use tests_devices::scarce::{Scarce, refuse_each};
 
+type Heap<'a> = &'a Scarce<Global>;
+
 /// A PAD call, messages with cut pairs, and a restart.
 const ROWS: [(Side, &[u8]); 8] = [
     (Side::T, b"\x10\x01\x0b\0\0\x01\0\0\0"),
@@ -51,8 +53,7 @@ fn push<A: Allocator + Copy>(
         gap: None,
     };
     let packet = decode(&cutter.interface(), row.octets.as_slice());
-    cutter.push(&row.item(packet), out)?;
-    Ok(())
+    Ok(cutter.push(&row.item(packet), out)?)
 }
 
 /// The piece of the call, which the restart ends.
@@ -68,62 +69,60 @@ fn pad_call<A: Allocator + Copy>(alloc: A) -> Result<Piece<A>, Fail> {
 /// What is seen of a channel: its state, whether a call is open, and how many events it reported.
 type Seen = (ChannelState, bool, usize);
 
-fn seen_of<'a, C: Channel<&'a Scarce<Global>>>(channel: &C, events: usize) -> Seen {
-    (channel.state(), channel.is_open(), events)
+fn seen_of<'a, C: Channel<Heap<'a>>>(channel: &C, events: &Vec<Event, Heap<'a>>) -> Seen {
+    (channel.state(), channel.is_open(), events.len())
 }
 
 /// Steps a channel. Where memory is refused it is as it was, and the same step succeeds.
-fn step<'a, C: Channel<&'a Scarce<Global>>>(
+fn step<'a, C: Channel<Heap<'a>>>(
     rt: &impl Abort,
     channel: &mut C,
     item: &ItemRef<'_>,
-    events: &mut Vec<Event, &'a Scarce<Global>>,
+    events: &mut Vec<Event, Heap<'a>>,
 ) -> Result<(), Fail>
     requires item { IsItem (C.interface_of channel.old) (C.number_of channel.old) item.now }
     ensures interface { (g : gaps.GapChannel) → C.represents channel.old g → OnOk result (C.interface_of channel.new ≡ C.interface_of channel.old) }
     ensures number { (g : gaps.GapChannel) → C.represents channel.old g → OnOk result (C.number_of channel.new ≡ C.number_of channel.old) }
     ensures represented { (g : gaps.GapChannel) → C.represents channel.old g → OnOk result ((h : gaps.GapChannel) × C.represents channel.new h) }
 {
-    let before = seen_of(channel, events.len());
+    let before = seen_of(channel, events);
     if let Err(fault) = channel.advance(1, item, events) {
-        assert!(rt; fault == Fault::Memory && seen_of(channel, events.len()) == before);
+        assert!(rt; fault == Fault::Memory && seen_of(channel, events) == before);
         channel.advance(1, item, events)?;
     }
     Ok(())
 }
 
 /// Steps a fresh channel through the rows of a piece. Returns what is seen at the end.
-fn step_through<'a, C: Channel<&'a Scarce<Global>>>(
+fn step_through<'a, C: Channel<Heap<'a>>>(
     rt: &impl Abort,
-    heap: &'a Scarce<Global>,
-    piece: &Piece<&'a Scarce<Global>>,
+    heap: Heap<'a>,
+    piece: &Piece<Heap<'a>>,
 ) -> Result<Seen, Fail> {
-    let mut channel = C::fresh(
-        heap,
-        &piece.interface,
-        piece.channel,
-        1,
-        EpochStart::Restarted,
-    );
+    let start = EpochStart::Restarted;
+    let mut channel = C::fresh(heap, &piece.interface, piece.channel, 1, start);
     let mut events = Vec::new(heap);
     for item in piece.rows() {
         step(rt, &mut channel, &item, &mut events)?;
     }
-    Ok(seen_of(&channel, events.len()))
+    Ok(seen_of(&channel, &events))
 }
 
 /// Refuses one growth of the steps of a call: it comes up, four data packets are accepted, of which two are faulty
 /// messages and one sets a parameter. Returns whether there was such a growth.
-fn check_steps<'a, C: Channel<&'a Scarce<Global>>>(
+fn check_steps<'a, C: Channel<Heap<'a>>>(
     rt: &impl Abort,
-    heap: &'a Scarce<Global>,
+    heap: Heap<'a>,
     good: u64,
 ) -> Result<bool, Fail> {
     let piece = pad_call(heap)?;
     heap.refuse_one(good);
     let seen = step_through::<C>(rt, heap, &piece);
     let refused = heap.was_refused();
-    assert!(rt; seen? == (ChannelState::Transfer(DState::D1), true, 9), "growth {good}");
+    assert!(rt;
+        seen? == (ChannelState::Transfer(DState::D1), true, 9),
+        "growth {good}"
+    );
     Ok(refused)
 }
 
@@ -132,22 +131,25 @@ fn a_step_out_of_memory_leaves_the_channel_as_it_was(rt: HostRuntime) -> Result<
     let heap = Scarce::new(rt.alloc());
     refuse_each(
         &heap,
-        |good| check_steps::<PlainChannel<&Scarce<Global>>>(&rt, &heap, good),
+        |good| check_steps::<PlainChannel<Heap<'_>>>(&rt, &heap, good),
     )?;
     refuse_each(
         &heap,
-        |good| check_steps::<PackedChannel<&Scarce<Global>>>(&rt, &heap, good),
+        |good| check_steps::<PackedChannel<Heap<'_>>>(&rt, &heap, good),
     )
 }
 
-/// Refuses one growth of a run, and sees that it is out of memory. Returns whether there was such a growth.
-fn check_run(rt: &impl Abort, heap: &Scarce<Global>, good: u64) -> Result<bool, Fail> {
+/// Refuses one growth of a run. Returns whether there was such a growth.
+fn check_run<'a>(rt: &impl Abort, heap: Heap<'a>, good: u64) -> Result<bool, Fail> {
     let piece = pad_call(heap)?;
     heap.refuse_one(good);
-    let report = run_piece::<&Scarce<Global>, PlainChannel<&Scarce<Global>>>(heap, &piece);
+    let report = run_piece::<Heap<'a>, PlainChannel<Heap<'a>>>(heap, &piece);
     let refused = heap.was_refused();
     let wanted = if refused { Err(Fault::Memory) } else { Ok(2) };
-    assert!(rt; report.map(|report| report.findings.len()) == wanted, "growth {good}");
+    assert!(rt;
+        report.map(|report| report.findings.len()) == wanted,
+        "growth {good}"
+    );
     Ok(refused)
 }
 

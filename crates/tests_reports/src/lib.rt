@@ -1,4 +1,4 @@
-//! The tests of reports: merging, JSON lines, the report of a trace that grows, and annotations.
+//! The tests of reports: merging, JSON lines, the report of a trace that grows, annotations, and channels.
 #![tactic(auto)]
 
 #[cfg(test)]

@@ -203,48 +203,36 @@ fn two_threads_post_and_look(rt: HostRuntime) -> Result<(), Fail> {
     Ok(())
 }
 
-/// The reports that are posted while memory is refused, each with a finding and 130 octets in 2 segments.
-fn forty<A: Allocator + Copy>(alloc: A) -> Result<Vec<PieceReport<A>, A>, Fault> {
-    let mut reports = Vec::new(alloc);
-    for id in 0..40 {
-        reports.push(report(alloc, (id, 1, 130, 2))?)?;
-    }
-    Ok(reports)
-}
-
-/// Posts a report. Where memory is refused it comes back as it was, a look by the same share is not below it, and the
-/// same post succeeds.
-fn post_again<'a, R: Wait + Abort, L: Ledgers>(
+/// Posts forty reports, each with one growth refused after `good` others. A report that comes back is as it was, a look
+/// by the same share is not below it, and the same post succeeds then. Returns whether there was such a growth.
+fn post_refused<'a, R: Wait + Abort, L: Ledgers>(
     rt: &R,
-    posts: &LockedPosts<Brand, L, &'a Scarce<Global>>,
-    share: &mut Share<L>,
-    report: PieceReport<&'a Scarce<Global>>,
-) {
-    let (id, before) = (report.id, share.totals());
-    if let Err((back, fault)) = posts.post(rt, report, share, AnyReport) {
-        assert!(rt; fault == Fault::Memory && back.findings.as_slice() == [FINDING].as_slice());
-        assert!(rt; (back.id, back.octets, back.segments) == (id, 130, 2));
-        assert!(rt; share.totals() == before && posts.look(rt, share) == before);
-        assert!(rt; posts.post(rt, back, share, AnyReport).is_ok());
-    }
-}
-
-/// Posts reports by the first share.
-fn post_all<'a, R: Wait + Abort, L: Ledgers>(
-    rt: &R,
+    heap: &'a Scarce<Global>,
     posts: &LockedPosts<Brand, L, &'a Scarce<Global>>,
     shares: &mut [Share<L>],
-    reports: Vec<PieceReport<&'a Scarce<Global>>, &'a Scarce<Global>>,
-) {
-    if let [share, ..] = shares {
-        for report in reports {
-            post_again(rt, posts, share, report);
+    good: u64,
+) -> Result<bool, Fail> {
+    let [share, ..] = shares else {
+        return Err("there is no share")?;
+    };
+    let mut refused = false;
+    for id in 0..40 {
+        let (before, report) = (share.totals(), report(heap, (id, 1, 130, 2))?);
+        heap.refuse_one(good);
+        let answer = posts.post(rt, report, share, AnyReport);
+        assert!(rt; heap.was_refused() == answer.is_err());
+        if let Err((back, fault)) = answer {
+            refused = true;
+            assert!(rt; fault == Fault::Memory && back.findings.as_slice() == [FINDING].as_slice());
+            assert!(rt; (back.id, back.octets, back.segments) == (id, 130, 2));
+            assert!(rt; share.totals() == before && posts.look(rt, share) == before);
+            assert!(rt; posts.post(rt, back, share, AnyReport).is_ok());
         }
     }
+    Ok(refused)
 }
 
-/// Posts forty reports with one growth refused, to a book over the ledgers of these blanks. It has each once then.
-/// Returns whether there was such a growth.
+/// The same with a book over the ledgers of these blanks, which has each report once then.
 fn check_in<R: Host, L: Ledgers>(
     rt: &R,
     heap: &Scarce<Global>,
@@ -255,14 +243,11 @@ fn check_in<R: Host, L: Ledgers>(
 {
     let mut book = Book::<Brand, L, &Scarce<Global>>::new(heap, blanks, AnyReport);
     let mut shares = two_shares(heap, &mut book)?;
-    let reports = forty(heap)?;
-    heap.refuse_one(good);
-    post_all(rt, book.locked_posts(), &mut shares, reports);
-    let refused = heap.was_refused();
+    let refused = post_refused(rt, heap, book.locked_posts(), &mut shares, good);
     let (all, reports, _) = book.gather(shares);
     assert!(rt; all == totals(40, 40, 5200, 80));
     assert!(rt; reports.iter().map(|report| report.id).eq(0..40));
-    Ok(refused)
+    refused
 }
 
 /// The same with a book over four new ledgers.
