@@ -186,10 +186,15 @@ packed_in-packed_word w p h e =
 
 -- the numbers of a side are read at its places
 pub direction_read : (x : Side) (w : ℕ) →
-    record { window = number_at w (window_at x); sent = number_at w (sent_at x); acknowledged = number_at w (acknowledged_at x); unconfirmed = bit_at w (unconfirmed_at x) }
+    record { window = number_at w (window_at x); sent = number_at w (sent_at x); acknowledged = number_at w (acknowledged_at x) }
     ≡ direction_of x (kept_in w)
 direction_read T w = refl
 direction_read N w = refl
+
+-- and its interrupt
+pub unconfirmed_read : (x : Side) (w : ℕ) → bit_at w (unconfirmed_at x) ≡ of_side x (kept_in w).unconfirmed
+unconfirmed_read T w = refl
+unconfirmed_read N w = refl
 
 -- a word that keeps these, in range
 pub record Keeps (w : ℕ) (p : Packed) : Type 0 where
@@ -277,9 +282,11 @@ pub word_of-kept_in : (w : ℕ) → w / 2 ^ 45 ≡ 0 → word_of (kept_in w) ≡
 word_of-kept_in w e = omega (arith, e, packed_word-packed_in w)
 
 -- what is read of a word, by its parts
-pub parts_of : (w m : ℕ) (t n : Direction) → m ≡ (kept_in w).modulus → t ≡ direction_of T (kept_in w) → n ≡ direction_of N (kept_in w) →
-    kept (record { modulus = m; of_t = t; of_n = n }) ≡ kept_in w
-parts_of w m t n e f g = ap (λ (p : Inside). kept p) (λ i. record { modulus = e i; of_t = f i; of_n = g i })
+pub parts_of : (w m : ℕ) (t n : Direction) (u v : Bool) → m ≡ (kept_in w).modulus → t ≡ direction_of T (kept_in w) → n ≡ direction_of N (kept_in w) →
+    u ≡ (kept_in w).unconfirmed.of_t → v ≡ (kept_in w).unconfirmed.of_n →
+    kept (record { modulus = m; of_t = t; of_n = n; unconfirmed_t = u; unconfirmed_n = v }) ≡ kept_in w
+parts_of w m t n u v e f g a b =
+    ap (λ (p : Inside). kept p) (λ i. record { modulus = e i; of_t = f i; of_n = g i; unconfirmed_t = a i; unconfirmed_n = b i })
 
 -- what is read of a side is in range where the word is that of what can be kept
 pub range_read : (x : Side) (w m : ℕ) (d : Direction) (k : FlowResidues) → m ≡ (kept_in w).modulus → d ≡ direction_of x (kept_in w) →

@@ -10,7 +10,6 @@ direction_of x k = record {
   window = of_side x k.windows;
   sent = of_side x k.sent;
   acknowledged = of_side x k.acknowledged;
-  unconfirmed = of_side x k.unconfirmed;
 }
 
 -- what is kept with other numbers of a side
@@ -19,5 +18,4 @@ with_direction x d k = record k {
   windows = with_side x d.window k.windows;
   sent = with_side x d.sent k.sent;
   acknowledged = with_side x d.acknowledged k.acknowledged;
-  unconfirmed = with_side x d.unconfirmed k.unconfirmed;
 }

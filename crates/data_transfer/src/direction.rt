@@ -1,17 +1,16 @@
 //! The sequence numbers of one direction of transfer, by their residues.
 
-ghost use Rattle.std.specs.Prelude.{◌≡◌, ◌⊎◌, ◌<◌, ◌≤◌, ℕ, ◌+◌, ◌%◌, false, min, IsTrue};
+ghost use Rattle.std.specs.Prelude.{◌≡◌, ◌⊎◌, ◌<◌, ◌≤◌, ℕ, ◌+◌, ◌%◌, min, IsTrue};
 ghost use Rattle.line_model.specs.channels.FlowControl.{is_send_valid};
 ghost use Rattle.data_transfer.specs.FlowResidues.{outstanding, IsDirection, Residues, IsAcknowledged};
 
-/// What is kept of one direction: its window, the residues of the numbers of packets sent and acknowledged, and
-/// whether an interrupt is unconfirmed.
+/// What is kept of one direction: its window, and the residues of the numbers of packets sent and acknowledged. Its three
+/// bytes are copied one by one: LLVM copies four as one number, and keeps them in it.
 #[derive(Clone, Copy)]
 pub(crate) struct Direction {
     pub(crate) window: u8,
     pub(crate) sent: u8,
     pub(crate) acknowledged: u8,
-    pub(crate) unconfirmed: bool,
 }
 
 /// Returns the residue of a number. The modulus is a power of two: a mask replaces a division, which would cost more
@@ -30,14 +29,12 @@ impl Direction {
           window = window;
           sent = 0;
           acknowledged = 0;
-          unconfirmed = false;
         } }
     {
         Direction {
             window,
             sent: 0,
             acknowledged: 0,
-            unconfirmed: false,
         }
     }
 

@@ -21,6 +21,8 @@ pub struct Flow {
     pub(crate) modulus: u8,
     pub(crate) of_t: Direction,
     pub(crate) of_n: Direction,
+    pub(crate) unconfirmed_t: bool,
+    pub(crate) unconfirmed_n: bool,
 }
 
 impl Model for Flow {
@@ -65,6 +67,8 @@ impl Flow {
             modulus,
             of_t: Direction::fresh(window_t),
             of_n: Direction::fresh(window_n),
+            unconfirmed_t: false,
+            unconfirmed_n: false,
         }
     }
 
@@ -140,17 +144,10 @@ impl Flow {
         ensures counts { (c : Counts) → ResiduesRepresent self.old c
             → Answers result self.old self.new (count_interrupt c side) }
     {
-        let sender = self.direction(side);
-        if sender.unconfirmed {
+        if self.is_unconfirmed(side) {
             return Err(UNAUTHORIZED_INTERRUPT);
         }
-        self.set(
-            side,
-            Direction {
-                unconfirmed: true,
-                ..sender
-            },
-        );
+        self.set_interrupted(side, true);
         Ok(())
     }
 
@@ -165,17 +162,10 @@ impl Flow {
         ensures counts { (c : Counts) → ResiduesRepresent self.old c
             → Answers result self.old self.new (count_confirm c side) }
     {
-        let confirmed = self.direction(side.other());
-        if !confirmed.unconfirmed {
+        if !self.is_unconfirmed(side.other()) {
             return Err(UNAUTHORIZED_INTERRUPT_CONFIRMATION);
         }
-        self.set(
-            side.other(),
-            Direction {
-                unconfirmed: false,
-                ..confirmed
-            },
-        );
+        self.set_interrupted(side.other(), false);
         Ok(())
     }
 
@@ -192,13 +182,12 @@ impl Flow {
             window,
             sent,
             acknowledged,
-            unconfirmed,
         } = self.direction(side);
         SendWindow {
             next: sent,
             lowest: acknowledged,
             window,
-            interrupted: unconfirmed,
+            interrupted: self.is_unconfirmed(side),
         }
     }
 
@@ -217,6 +206,8 @@ impl Flow {
     {
         self.of_t = Direction::fresh(self.of_t.window);
         self.of_n = Direction::fresh(self.of_n.window);
+        self.unconfirmed_t = false;
+        self.unconfirmed_n = false;
     }
 
     /// Sets the numbers of a side some of whose packets were not seen: its next P(S), and its lower window edge.
@@ -233,9 +224,9 @@ impl Flow {
         self.set(
             side,
             Direction {
+                window: direction.window,
                 sent: next,
                 acknowledged: lowest,
-                ..direction
             },
         );
     }
@@ -246,14 +237,20 @@ impl Flow {
           unconfirmed = with_side side unconfirmed self.old.unconfirmed;
         } }
     {
-        let direction = self.direction(side);
-        self.set(
-            side,
-            Direction {
-                unconfirmed,
-                ..direction
-            },
-        );
+        match side {
+            Side::T => self.unconfirmed_t = unconfirmed,
+            Side::N => self.unconfirmed_n = unconfirmed,
+        }
+    }
+
+    /// Returns whether an interrupt of a side is unconfirmed.
+    fn is_unconfirmed(&self, side: Side) -> bool
+        ensures { result ≡ of_side side self.now.unconfirmed }
+    {
+        match side {
+            Side::T => self.unconfirmed_t,
+            Side::N => self.unconfirmed_n,
+        }
     }
 
     /// Returns the numbers of the packets of a side.

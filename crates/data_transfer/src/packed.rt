@@ -7,7 +7,7 @@ ghost use Rattle.data_transfer.specs.Directions.{direction_of};
 
 use crate::direction::Direction;
 use crate::flow::Flow;
-use crate::word::{direction, modulus, with_field};
+use crate::word::{direction, modulus, unconfirmed, with_field};
 use line_model::state::Side;
 use std::marker::Model;
 
@@ -81,6 +81,8 @@ impl FlowWord {
             modulus: self.modulus(),
             of_t: self.direction(Side::T),
             of_n: self.direction(Side::N),
+            unconfirmed_t: unconfirmed(self.word, Side::T),
+            unconfirmed_n: unconfirmed(self.word, Side::N),
         }
     }
 
@@ -118,7 +120,7 @@ impl FlowWord {
         ensures flow { self.new.flow ≡ flow.now }
         ensures owner_bits { self.new.owner_bits ≡ self.old.owner_bits }
     {
-        let interrupts = u64::from(flow.of_t.unconfirmed) + (u64::from(flow.of_n.unconfirmed) << 1);
+        let interrupts = u64::from(flow.unconfirmed_t) + (u64::from(flow.unconfirmed_n) << 1);
         self.word = with_field(self.word, 43, 2, interrupts);
     }
 

@@ -4,6 +4,7 @@ ghost use Rattle.std.specs.Prelude.{◌≡◌, ◌⊎◌, ◌==◌, ◌<◌, ◌
 ghost use Rattle.data_transfer.specs.FlowResidues.{FlowResidues, AreFlowResidues, word_of};
 ghost use Rattle.data_transfer.specs.Packed.{kept_in, number_at, bit_at, sent_at, acknowledged_at, window_at, unconfirmed_at};
 ghost use Rattle.data_transfer.specs.Directions.{direction_of};
+ghost use Rattle.line_model.specs.channels.Channels.{of_side};
 
 use crate::direction::Direction;
 use crate::flow::Flow;
@@ -85,8 +86,14 @@ pub(crate) fn direction(word: u64, side: Side) -> Direction
         window: number(word, window_at(side)),
         sent: number(word, sent_at(side)),
         acknowledged: number(word, acknowledged_at(side)),
-        unconfirmed: bit(word, unconfirmed_at(side)),
     }
+}
+
+/// Whether an interrupt of a side is unconfirmed, as a word keeps it.
+pub(crate) fn unconfirmed(word: u64, side: Side) -> bool
+    ensures { result ≡ of_side side (kept_in word).unconfirmed }
+{
+    bit(word, unconfirmed_at(side))
 }
 
 /// A word with another value in the `width` bits from bit `from` up.
@@ -116,8 +123,8 @@ impl Flow {
             + (u64::from(self.of_n.acknowledged) << 22)
             + (u64::from(self.of_t.window) << 29)
             + (u64::from(self.of_n.window) << 36)
-            + (u64::from(self.of_t.unconfirmed) << 43)
-            + (u64::from(self.of_n.unconfirmed) << 44)
+            + (u64::from(self.unconfirmed_t) << 43)
+            + (u64::from(self.unconfirmed_n) << 44)
     }
 
     /// Returns the windows and interrupts that `pack` makes this word of; `None` where there are none: a residue or
@@ -131,11 +138,15 @@ impl Flow {
         let modulus = modulus(word);
         let of_t = direction(word, Side::T);
         let of_n = direction(word, Side::N);
+        let unconfirmed_t = unconfirmed(word, Side::T);
+        let unconfirmed_n = unconfirmed(word, Side::N);
         if word >> 45 == 0 && of_t.is_in_range(modulus) && of_n.is_in_range(modulus) {
             Some(Flow {
                 modulus,
                 of_t,
                 of_n,
+                unconfirmed_t,
+                unconfirmed_n,
             })
         } else {
             None

@@ -7,10 +7,8 @@ returns c =
       c.number.ensures,
       c.number-2.ensures,
       c.number-3.ensures,
-      c.bit.ensures,
       c.window_at.ensures.place,
       c.sent_at.ensures.place,
       c.acknowledged_at.ensures.place,
-      c.unconfirmed_at.ensures.place,
     )
     (direction_read c.args.side c.args.word)

@@ -15,8 +15,8 @@ written c =
       c.with_field-self-inside.ensures,
       c.from.ensures,
       c.from-2.ensures,
-      bit_below c.flow.inside.of_t.unconfirmed,
-      bit_below c.flow.inside.of_n.unconfirmed,
+      bit_below c.flow.inside.unconfirmed_t,
+      bit_below c.flow.inside.unconfirmed_n,
     ))
 
 pub invariant_of-self : goal.invariant_of-self
