@@ -49,15 +49,10 @@ impl<A: Allocator + Clone, S: StatusStore> StatusChannel<A, S> {
             Packet::Channel {
                 kind: PacketKind::Data(Some(header)),
                 ..
-            } => {
-                if header.qualified {
-                    return self.handle_by_table(epoch, item, events);
-                }
-                match self.judge_unqualified(header, item) {
-                    Ok(octets) => Ok(Some(octets)),
-                    Err(code) => self.refuse(epoch, item, code, events),
-                }
-            }
+            } if !header.qualified => match self.judge_unqualified(header, item) {
+                Ok(octets) => Ok(Some(octets)),
+                Err(code) => self.refuse(epoch, item, code, events),
+            },
             Packet::Channel {
                 kind: PacketKind::Rr(Some(receive)),
                 ..
