@@ -5,18 +5,18 @@ use Rattle.capture_model.specs.declared.kind.LinkKind.TheVariants as kind
 use Rattle.capture_rows.specs.declared.choices.Carrier.TheVariants as carrier
 use Rattle.lapb_link.specs.declared.modulus.Modulus.TheVariants.{Basic, Extended}
 use Rattle.clap.proofs.OnLiterals.{clap_on_literals}
-use Rattle.clap.specs.Words.{Text}
-use Rattle.clap.specs.declared.error.kind.ErrorKind.TheVariants.{ArgumentConflict, DisplayHelp, DisplayVersion, InvalidValue, UnknownArgument, ValueValidation}
+use Rattle.clap.specs.Words as words
+use Rattle.clap.specs.declared.error.kind.ErrorKind.TheVariants.{ArgumentConflict, DisplayHelp, DisplayVersion, UnknownArgument, ValueValidation}
 use Rattle.streams.specs.declared.progress.ShowProgress.TheVariants.{Always, Never, OnTerminal}
 use Rattle.capture_report.specs.Given.{none_given, plain, plain_choices}
 use Rattle.command_line.specs.Asked.{AskedWords, Conflict, Explanation, Trace, Wrong, asked_of}
 use Rattle.command_line.specs.declared.asked.OutputForm.TheVariants.{Comments, Objects, TableObjects}
 use Rattle.command_line.specs.declared.asked.ScanMode.TheVariants.{Alone, Follow, Workers}
-use Rattle.command_line.specs.declared.asked.TraceOutput.TheVariants.{Headers, Printing, Report}
+use Rattle.command_line.specs.declared.asked.TraceOutput.TheVariants.{Headers, Printing, Report, Text}
 
 -- what words after the name of the program ask for
-abbrev Ask : List Text → AskedWords → Type 0
-Ask words asked = asked_of (codes "x25scan" ∷ words) ≡ asked
+abbrev Ask : List words.Text → AskedWords → Type 0
+Ask given asked = asked_of (codes "x25scan" ∷ given) ≡ asked
 
 no_words : Ask ([]) (Trace None OnTerminal (Report (record { mode = Workers None; json = false; notes = false })) plain)
 unfolding clap_on_literals
@@ -135,18 +135,34 @@ unfolding clap_on_literals
 notes_of_calls = refl
 
 header_given : Ask (codes "--mod" ∷ codes "128" ∷ codes "--win" ∷ codes "9" ∷ codes "--size" ∷ codes "256" ∷ codes "--out" ∷ codes "7" ∷ codes "--no-join" ∷ codes "day.pcap" ∷ []) (Trace (Some (codes "day.pcap")) OnTerminal (Report (record { mode = Workers None; json = false; notes = false }))
-    (record plain { header = record none_given { modulus = Some Extended; window = Some 9; size = Some 256; svc = Some 7; join = Some false } }))
+    (record plain { header = record none_given { modulus = Some Extended; window = Some 9; size = Some 256; outgoing = Some 7; join = Some false } }))
 unfolding clap_on_literals
 header_given = refl
 
-line_chosen : Ask (codes "--as" ∷ codes "x25" ∷ codes "--only" ∷ codes "x25" ∷ codes "--interface" ∷ codes "3" ∷ codes "--lapb-modulo" ∷ codes "8" ∷ []) (Trace None OnTerminal (Report (record { mode = Workers None; json = false; notes = false }))
+line_chosen : Ask (codes "--as" ∷ codes "x25" ∷ codes "--only" ∷ codes "x25" ∷ codes "--interface" ∷ codes "3" ∷ codes "--lapb-modulo" ∷ codes "8" ∷ codes "day.pcap" ∷ []) (Trace (Some (codes "day.pcap")) OnTerminal (Report (record { mode = Workers None; json = false; notes = false }))
     (record plain { choices = record plain_choices { unknown = Some kind.Packet; carrier = Some carrier.Packet; interface = Some 3 }; modulus = Some Basic }))
 unfolding clap_on_literals
 line_chosen = refl
 
-other_size : Ask (codes "--size" ∷ codes "100" ∷ []) (Wrong (InvalidValue ∷ []))
+other_size : Ask (codes "--size" ∷ codes "100" ∷ []) Conflict
 unfolding clap_on_literals
 other_size = refl
+
+kind_with_link_type : Ask (codes "--as" ∷ codes "147=lapb" ∷ []) Conflict
+unfolding clap_on_literals
+kind_with_link_type = refl
+
+swapped : Ask (codes "--swap" ∷ codes "--trace" ∷ codes "--only" ∷ codes "lapb" ∷ codes "day.pcap" ∷ []) (Trace (Some (codes "day.pcap")) Never Text (record plain { choices = record plain_choices { carrier = Some carrier.Lapb }; is_swapped = true }))
+unfolding clap_on_literals
+swapped = refl
+
+swapped_standard : Ask (codes "--swap" ∷ codes "-" ∷ []) Conflict
+unfolding clap_on_literals
+swapped_standard = refl
+
+text_as_json : Ask (codes "--trace" ∷ codes "--json" ∷ []) Conflict
+unfolding clap_on_literals
+text_as_json = refl
 
 last_channels_twice : Ask (codes "--svc" ∷ codes "7" ∷ codes "--out" ∷ codes "7" ∷ []) Conflict
 unfolding clap_on_literals

@@ -16,7 +16,7 @@ use Rattle.command_line.specs.declared.asked.OutputForm.TheVariants.{Comments, O
 use Rattle.command_line.specs.declared.asked.ScanMode.{ScanMode}
 use Rattle.command_line.specs.declared.asked.ScanMode.TheVariants.{Alone, Follow, Workers}
 use Rattle.command_line.specs.declared.asked.TraceOutput.{TraceOutput}
-use Rattle.command_line.specs.declared.asked.TraceOutput.TheVariants.{Headers, Printing, Report}
+use Rattle.command_line.specs.declared.asked.TraceOutput.TheVariants.{Headers, Printing, Report, Text as Copy}
 
 -- what words ask for; the faults of words by the rules of `clap`, with `--help` and `--version` among them, come first
 pub data AskedWords : Type 0 where
@@ -55,7 +55,8 @@ report_of values = Report (record { mode = mode_of values; json = has values (co
 -- what is printed of the trace: the first of these that is asked for, and otherwise the report
 abbrev pub output_of : Values → TraceOutput
 output_of values =
-    if has values (codes "try-headers") then Headers
+    if has values (codes "trace") then Copy
+    else if has values (codes "try-headers") then Headers
     else if has values (codes "calls") then Printing (record { form = table_of values; rows = All })
     else if has values (codes "rows") then Printing (record { form = Objects; rows = rows_of values })
     else if annotates values then Printing (record { form = Comments; rows = rows_of values })
@@ -64,6 +65,7 @@ output_of values =
 -- when progress is printed: of a trace that is followed only where it is asked for, since its reader waits for more
 abbrev pub progress_by : (asked followed : Bool) → TraceOutput → ShowProgress
 progress_by asked followed (Printing printing) = Never
+progress_by asked followed Copy = Never
 progress_by asked followed output = if asked then Always else if followed then Never else OnTerminal
 
 -- whether a form can't be printed with what else is asked for: comments with JSON, objects with comments, and the table of calls with following, rows or comments
@@ -72,11 +74,17 @@ excludes_form Comments values = has values (codes "json")
 excludes_form Objects values = has values (codes "annotate")
 excludes_form form values = has values (codes "follow") || has values (codes "rows") || annotates values
 
--- whether an output can't be printed with what else is asked for; headers are tried with none of the others
+-- whether a report, rows or the table of calls are asked for in some form
+abbrev pub has_form : Values → Bool
+has_form values = has values (codes "json") || has values (codes "follow") || has values (codes "rows") || annotates values || has values (codes "calls")
+
+-- whether an output can't be printed with what else is asked for; the text of the trace and headers that are tried are printed with none of the
+-- others
 abbrev pub excludes : TraceOutput → Values → Bool
 excludes (Report report) values = false
 excludes (Printing printing) values = excludes_form printing.form values
-excludes Headers values = has values (codes "json") || has values (codes "follow") || has values (codes "rows") || annotates values || has values (codes "calls")
+excludes Headers values = has_form values
+excludes Copy values = has_form values || has values (codes "try-headers")
 
 -- whether a note of the data that was not counted can't be printed with an output: it is for a report that one thread makes
 abbrev pub excludes_notes : TraceOutput → Values → Bool
@@ -94,7 +102,7 @@ conflicts output values = output_conflicts output values || excludes_captures va
 abbrev pub trace_by : Values → TraceOutput → AskedWords
 trace_by values output =
     if conflicts output values then Conflict
-    else Trace (named_by (values (codes "trace"))) (progress_by (has values (codes "progress")) (has values (codes "follow")) output) output (capture_of values)
+    else Trace (named_by (values (codes "file"))) (progress_by (has values (codes "progress")) (has values (codes "follow")) output) output (capture_of values)
 
 -- an explanation in place of all else
 abbrev pub explained_by : (word : Option Text) → AskedWords → AskedWords

@@ -58,6 +58,8 @@ pub enum TraceOutput {
     Printing(Printing),
     /// How each header explains the rows, best first.
     Headers,
+    /// The text of the trace: of a capture, the trace that is made of it.
+    Text,
 }
 
 /// A trace, and what is printed of it.
@@ -76,7 +78,7 @@ pub struct AskedTrace<'a> {
 /// What the words ask for.
 #[derive(Clone, Copy)]
 pub enum Asked<'a> {
-    /// What can't be asked for together; the text says so.
+    /// What can't be asked for, or not together; the text says so.
     Conflict(&'static str),
     /// The meaning of a word or of a line; the list of all words where it is empty.
     Explanation(&'a str),

@@ -1,11 +1,12 @@
 //! What the matches of the command say of captures.
 
 ghost use Rattle.std.specs.Prelude.{◌≡◌};
-ghost use Rattle.command_line.specs.Captures.{capture_of, carrier_named, carrier_of, choices_of, header_of, joining_of, kind_named, kind_of, modulus_named, modulus_of};
+ghost use Rattle.command_line.specs.Captures.{capture_of, carrier_named, carrier_of, choices_of, header_of, joining_of, kind_named, kind_of, modulus_named, modulus_of, size_of};
 ghost use Rattle.command_line.specs.Asked.{values_in};
 
 use crate::matches::{is_given, long_number_in, number_in, short_number_in};
 use capture_model::kind::LinkKind;
+use capture_report::header::is_packet_size;
 use capture_report::options::{CaptureOptions, GivenHeader};
 use capture_rows::choices::{Carrier, Choices};
 use capture_rows::station::StationBy;
@@ -65,12 +66,22 @@ fn carrier_named(text: &str) -> Option<Carrier>
 }
 
 /// The modulus that an option has.
-fn modulus_in(matches: &ArgMatches<'_>, id: &str) -> Option<Modulus>
+pub(crate) fn modulus_in(matches: &ArgMatches<'_>, id: &str) -> Option<Modulus>
     ensures { result ≡ modulus_of (values_in matches.now id.now) }
 {
     match matches.get_str(id) {
         Some(text) => modulus_named(text),
         None => None,
+    }
+}
+
+/// The packet size that is given.
+pub(crate) fn size_in(matches: &ArgMatches<'_>) -> Option<u16>
+    ensures { result ≡ size_of (values_in matches.now) }
+{
+    match number_in(matches, "size") {
+        Some(size) if is_packet_size(size) => Some(size),
+        _ => None,
     }
 }
 
@@ -94,11 +105,12 @@ fn header_in(matches: &ArgMatches<'_>) -> GivenHeader
     GivenHeader {
         modulus: modulus_in(matches, "mod"),
         window: short_number_in(matches, "win"),
-        size: number_in(matches, "size"),
+        size: size_in(matches),
         pvc: number_in(matches, "pvc"),
         incoming: number_in(matches, "in"),
         two_way: number_in(matches, "two"),
-        svc: number_in(matches, "svc").or(number_in(matches, "out")),
+        svc: number_in(matches, "svc"),
+        outgoing: number_in(matches, "out"),
         join: joining_in(matches),
     }
 }
@@ -117,7 +129,7 @@ fn choices_in(matches: &ArgMatches<'_>) -> Choices
 }
 
 /// The link header of unknown link types.
-fn kind_in(matches: &ArgMatches<'_>) -> Option<LinkKind>
+pub(crate) fn kind_in(matches: &ArgMatches<'_>) -> Option<LinkKind>
     ensures { result ≡ kind_of (values_in matches.now) }
 {
     match matches.get_str("as") {
@@ -127,7 +139,7 @@ fn kind_in(matches: &ArgMatches<'_>) -> Option<LinkKind>
 }
 
 /// The carrier of the packets that are read.
-fn carrier_in(matches: &ArgMatches<'_>) -> Option<Carrier>
+pub(crate) fn carrier_in(matches: &ArgMatches<'_>) -> Option<Carrier>
     ensures { result ≡ carrier_of (values_in matches.now) }
 {
     match matches.get_str("only") {
@@ -144,5 +156,6 @@ pub(crate) fn capture_in(matches: &ArgMatches<'_>) -> CaptureOptions
         header: header_in(matches),
         choices: choices_in(matches),
         modulus: modulus_in(matches, "lapb-modulo"),
+        is_swapped: is_given(matches, "swap"),
     }
 }

@@ -6,6 +6,7 @@ pub mod annotated_scan;
 pub mod asked;
 mod capture_words;
 mod conflicts;
+mod copying;
 mod explaining;
 mod faults;
 mod help;

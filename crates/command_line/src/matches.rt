@@ -23,11 +23,11 @@ pub(crate) fn is_given(matches: &ArgMatches<'_>, id: &str) -> bool
 }
 
 /// The name of the trace; none for `-`, which means standard input.
-fn trace_in<'a>(matches: &ArgMatches<'a>) -> Option<&'a str>
+pub(crate) fn trace_in<'a>(matches: &ArgMatches<'a>) -> Option<&'a str>
     ensures { option_map (λ name. name.now) result
-        ≡ named_by (values_in matches.now (codes "trace")) }
+        ≡ named_by (values_in matches.now (codes "file")) }
 {
-    match matches.get_str("trace") {
+    match matches.get_str("file") {
         Some(name) if name != "-" => Some(name),
         _ => None,
     }
@@ -133,7 +133,9 @@ fn rows_as(form: OutputForm, rows: Rows) -> TraceOutput
 fn output_in(matches: &ArgMatches<'_>) -> TraceOutput
     ensures { result ≡ output_of (values_in matches.now) }
 {
-    if is_given(matches, "try-headers") {
+    if is_given(matches, "trace") {
+        TraceOutput::Text
+    } else if is_given(matches, "try-headers") {
         TraceOutput::Headers
     } else if is_given(matches, "calls") {
         rows_as(table_in(matches), Rows::All)
@@ -152,7 +154,7 @@ fn progress_in(matches: &ArgMatches<'_>, output: TraceOutput) -> ShowProgress
         (has (values_in matches.now) (codes "follow")) output }
 {
     match output {
-        TraceOutput::Printing(_) => ShowProgress::Never,
+        TraceOutput::Printing(_) | TraceOutput::Text => ShowProgress::Never,
         _ => {
             if is_given(matches, "progress") {
                 ShowProgress::Always

@@ -3,41 +3,13 @@
 ghost use Rattle.std.specs.Prelude.{◌≡◌, ◌≤◌, IfOk, false, map};
 ghost use Rattle.clap.specs.Words.{FailsBy, app_of, rule_of};
 ghost use Rattle.command_line.specs.Asked.{asked_of, asked_words};
-ghost use Rattle.command_line.specs.Options.{call_rule, choice_rule, command, explain_rule, flag_rule, number_rule, trace_rule, versioned, with_asking, with_capture, with_header, with_scanning, with_writing, words_fault, workers_rule};
+ghost use Rattle.command_line.specs.Options.{command, explain_rule, file_rule, flag_rule, number_rule, text_rule, versioned, with_asking, with_capture, with_header, with_scanning, with_writing, words_fault};
 
 use crate::asked::Asked;
 use crate::help::VERSION;
 use crate::matches::asked_in;
 use clap::{Arg, ArgAction, Command, Error, value_parser};
 use std::alloc::{AllocError, Global};
-
-/// The moduli of sequence numbers.
-const MODULI: &[&str] = &["8", "128"];
-
-/// The packet sizes.
-const SIZES: &[&str] = &[
-    "16", "32", "64", "128", "256", "512", "1024", "2048", "4096",
-];
-
-/// What frames of an unknown link type hold.
-const KINDS: &[&str] = &[
-    "ethernet", "sll", "sll2", "lapb", "lapb-dir", "hdlc", "x25", "x25-dir",
-];
-
-/// What carries the packets that are read.
-const CARRIERS: &[&str] = &["lapb", "x25"];
-
-/// The option that says how many workers there are.
-fn workers<'a>(alloc: Global) -> Arg<'a>
-    ensures rule { rule_of result ≡ workers_rule }
-    ensures local { result.global ≡ false }
-{
-    Arg::new(alloc, "workers")
-        .long("workers")
-        .value_name("N")
-        .action(ArgAction::Set)
-        .value_parser(value_parser!(u8).range(1..=64))
-}
 
 /// A flag of this name.
 fn flag<'a>(alloc: Global, name: &'a str) -> Arg<'a>
@@ -61,8 +33,8 @@ fn explain<'a>(alloc: Global) -> Arg<'a>
 }
 
 /// An option of this name whose value is a number.
-fn number<'a>(alloc: Global, name: &'a str, first: u16, last: u16) -> Arg<'a>
-    requires { first ≤ last }
+#[tactic(auto, using(crate::proofs::NumberLemmas::narrowed))]
+fn number<'a>(alloc: Global, name: &'a str, first: u32, last: u32) -> Arg<'a>
     ensures rule { rule_of result ≡ number_rule name.entry.now first last }
     ensures local { result.global ≡ false }
 {
@@ -70,39 +42,26 @@ fn number<'a>(alloc: Global, name: &'a str, first: u16, last: u16) -> Arg<'a>
         .long(name)
         .value_name("N")
         .action(ArgAction::Set)
-        .value_parser(value_parser!(u16).range(i64::from(first)..=i64::from(last)))
+        .value_parser(value_parser!(u32).range(i64::from(first)..=i64::from(last)))
 }
 
-/// An option of this name whose value is one of these.
-fn choice<'a>(alloc: Global, name: &'a str, values: &'a [&'a str]) -> Arg<'a>
-    ensures rule { rule_of result ≡ choice_rule name.entry.now values.entry }
+/// An option of this name whose value is a text. What the text may be is no rule of the words: see `crate::conflicts`.
+fn text<'a>(alloc: Global, name: &'a str, value: &'a str) -> Arg<'a>
+    ensures rule { rule_of result ≡ text_rule name.entry.now }
     ensures local { result.global ≡ false }
 {
     Arg::new(alloc, name)
         .long(name)
-        .value_name("VALUE")
+        .value_name(value)
         .action(ArgAction::Set)
-        .value_parser(values)
-}
-
-/// The option that says of which call rows are written.
-fn call<'a>(alloc: Global) -> Arg<'a>
-    ensures rule { rule_of result ≡ call_rule }
-    ensures local { result.global ≡ false }
-{
-    Arg::new(alloc, "call")
-        .long("call")
-        .value_name("N")
-        .action(ArgAction::Set)
-        .value_parser(value_parser!(u32).range(1..=999_999_999))
 }
 
 /// The name of the trace.
-fn trace<'a>(alloc: Global) -> Arg<'a>
-    ensures rule { rule_of result ≡ trace_rule }
+fn file<'a>(alloc: Global) -> Arg<'a>
+    ensures rule { rule_of result ≡ file_rule }
     ensures local { result.global ≡ false }
 {
-    Arg::new(alloc, "trace")
+    Arg::new(alloc, "file")
         .value_name("FILE")
         .action(ArgAction::Set)
 }
@@ -112,7 +71,7 @@ fn with_scanning<'a>(alloc: Global, command: Command<'a>) -> Result<Command<'a>,
     ensures { IfOk result (λ after. app_of after ≡ with_scanning (app_of command.entry)) }
 {
     command
-        .arg(workers(alloc))?
+        .arg(number(alloc, "workers", 1, 64))?
         .arg(flag(alloc, "alone"))?
         .arg(flag(alloc, "follow"))
 }
@@ -127,8 +86,9 @@ fn with_writing<'a>(alloc: Global, command: Command<'a>) -> Result<Command<'a>, 
         .arg(flag(alloc, "rows"))?
         .arg(flag(alloc, "calls"))?
         .arg(number(alloc, "channel", 1, 4095))?
-        .arg(call(alloc))?
-        .arg(flag(alloc, "try-headers"))
+        .arg(number(alloc, "call", 1, 999_999_999))?
+        .arg(flag(alloc, "try-headers"))?
+        .arg(flag(alloc, "trace"))
 }
 
 /// Adds the options of the numbers in the header of a capture.
@@ -136,9 +96,9 @@ fn with_header<'a>(alloc: Global, command: Command<'a>) -> Result<Command<'a>, A
     ensures { IfOk result (λ after. app_of after ≡ with_header (app_of command.entry)) }
 {
     command
-        .arg(choice(alloc, "mod", MODULI))?
+        .arg(text(alloc, "mod", "N"))?
         .arg(number(alloc, "win", 1, 127))?
-        .arg(choice(alloc, "size", SIZES))?
+        .arg(text(alloc, "size", "N"))?
         .arg(number(alloc, "pvc", 0, 4095))?
         .arg(number(alloc, "svc", 1, 4095))?
         .arg(number(alloc, "in", 0, 4095))?
@@ -153,10 +113,11 @@ fn with_capture<'a>(alloc: Global, command: Command<'a>) -> Result<Command<'a>, 
     ensures { IfOk result (λ after. app_of after ≡ with_capture (app_of command.entry)) }
 {
     command
-        .arg(choice(alloc, "as", KINDS))?
-        .arg(choice(alloc, "only", CARRIERS))?
-        .arg(number(alloc, "interface", 0, 65_535))?
-        .arg(choice(alloc, "lapb-modulo", MODULI))
+        .arg(text(alloc, "as", "KIND"))?
+        .arg(text(alloc, "only", "CARRIER"))?
+        .arg(number(alloc, "interface", 0, u32::MAX))?
+        .arg(text(alloc, "lapb-modulo", "N"))?
+        .arg(flag(alloc, "swap"))
 }
 
 /// Adds the options that ask for more, and the name of the trace.
@@ -167,7 +128,7 @@ fn with_asking<'a>(alloc: Global, command: Command<'a>) -> Result<Command<'a>, A
         .arg(flag(alloc, "progress"))?
         .arg(flag(alloc, "notes"))?
         .arg(explain(alloc))?
-        .arg(trace(alloc))
+        .arg(file(alloc))
 }
 
 /// The program with a version, without options. `clap` reads the words; what help and the version print is in

@@ -12,6 +12,6 @@ returns c =
     ∙ ap₂ with_rule (c.in_ok-arg-6.ensures.shape c.number-4.ensures.local
     ∙ ap₂ with_rule (c.in_ok-arg-5.ensures.shape c.number-3.ensures.local
     ∙ ap₂ with_rule (c.in_ok-arg-4.ensures.shape c.number-2.ensures.local
-    ∙ ap₂ with_rule (c.in_ok-arg-3.ensures.shape c.choice-2.ensures.local
+    ∙ ap₂ with_rule (c.in_ok-arg-3.ensures.shape c.text-2.ensures.local
     ∙ ap₂ with_rule (c.in_ok-arg-2.ensures.shape c.number.ensures.local
-    ∙ ap₂ with_rule (c.in_ok-arg.ensures.shape c.choice.ensures.local ∙ ap₂ with_rule refl c.choice.ensures.rule) c.number.ensures.rule) c.choice-2.ensures.rule) c.number-2.ensures.rule) c.number-3.ensures.rule) c.number-4.ensures.rule) c.number-5.ensures.rule) c.number-6.ensures.rule) c.flag.ensures.rule) c.flag-2.ensures.rule) c.arg-10.ensures
+    ∙ ap₂ with_rule (c.in_ok-arg.ensures.shape c.text.ensures.local ∙ ap₂ with_rule refl c.text.ensures.rule) c.number.ensures.rule) c.text-2.ensures.rule) c.number-2.ensures.rule) c.number-3.ensures.rule) c.number-4.ensures.rule) c.number-5.ensures.rule) c.number-6.ensures.rule) c.flag.ensures.rule) c.flag-2.ensures.rule) c.arg-10.ensures
