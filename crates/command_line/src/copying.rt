@@ -18,7 +18,7 @@ const MOST: usize = 1 << 30;
 /// Returns the number of a line after bytes, by its number before them.
 fn line_after(line: u32, bytes: &[u8]) -> u32 {
     let ended = bytes.iter().filter(|byte| **byte == b'\n').count();
-    line.saturating_add(ended as u32)
+    line.saturating_add(u32::try_from(ended).unwrap_or(u32::MAX))
 }
 
 /// Copies all bytes that a source gives to a sink, read by read. Fails where one of them fails, and at the line in which a
