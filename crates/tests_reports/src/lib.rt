@@ -1,6 +1,8 @@
-//! The tests of reports: their merging, their JSON lines, and the report of a trace that grows.
+//! The tests of reports: merging, JSON lines, the report of a trace that grows, and annotations.
 #![tactic(auto)]
 
+#[cfg(test)]
+mod annotations;
 #[cfg(test)]
 mod json;
 #[cfg(test)]

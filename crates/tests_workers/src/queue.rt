@@ -1,19 +1,34 @@
-//! The queue in one thread, step by step, and between many threads.
+//! The queue in one thread, step by step.
 
-ghost use Rattle.std.specs.Prelude.{◌≡◌, ℕ, ◌+◌, ◌<◌, ◌≤◌, [], false, IfSome, OnOk};
+ghost use Rattle.std.specs.Prelude.{◌≡◌, ℕ, ◌+◌, false, IfSome, OnOk};
 ghost use Rattle.line_model.specs.work.Book.{once_below, times};
-ghost use Rattle.shared_work.specs.queue.Rule.{worker};
 
-use crate::pieces::{PIECES, piece};
+use line_model::gap::EpochStart;
 use line_model::piece::Piece;
+use line_model::piece_items::PieceItems;
 use shared_work::queue::{Bundle, FeederPass, Taken, Work, WorkerPass};
 use std::alloc::Global;
 use std::marker::Brand;
 use std::process::Abort;
-use std::sync::{Mutex, Wait};
+use std::sync::Wait;
 use std::test::Fail;
-use std::thread;
-use std::thread::{Scope, Threads};
+use tests_devices::interfaces::PLAIN;
+
+/// A piece without rows.
+fn piece(alloc: Global, id: u32) -> Piece
+    ensures { result.id ≡ id }
+{
+    Piece {
+        id,
+        interface: PLAIN,
+        epoch: 1,
+        start: EpochStart::Restarted,
+        channel: 1,
+        items: PieceItems::new(alloc),
+        last_gap: None,
+        end: None,
+    }
+}
 
 /// The id of the piece that a worker takes, if one waits. No end waits.
 fn take_one<R: Wait>(rt: &R, work: &Work<Brand>, pass: &mut WorkerPass) -> Result<Option<u32>, Fail>
@@ -146,201 +161,12 @@ fn a_witness_knows_what_each_worker_took(rt: HostRuntime) -> Result<(), Fail> {
     let mut witness = work.witness(&mut feeder);
     let mut one = work.split(&mut feeder);
     let mut other = work.split(&mut feeder);
-    feed_one(&rt, rt.alloc(), &work, &mut feeder, 0);
+    feed_now(&rt, &work, piece(rt.alloc(), 0), &mut feeder)?;
     assert!(rt; matches!(work.take(&rt, &mut one), Taken::Got(_)));
     work.learn(&mut witness, work.witness_of(&mut one));
-    feed_one(&rt, rt.alloc(), &work, &mut feeder, 1);
+    feed_now(&rt, &work, piece(rt.alloc(), 1), &mut feeder)?;
     assert!(rt; matches!(work.take(&rt, &mut other), Taken::Got(_)));
     work.learn(&mut witness, work.witness_of(&mut other));
     work.confirm(feeder, witness);
-    Ok(())
-}
-
-/// Counts a piece that was received.
-fn count(rt: &impl Wait, taken: &Mutex<[u32; 12]>, id: u32) {
-    let mut counts = taken.lock(rt);
-    if let Some(count) = counts.get_mut(id as usize) {
-        *count = count.wrapping_add(1);
-    }
-}
-
-/// Counts the pieces of a bundle that was received.
-fn count_all(rt: &impl Wait, taken: &Mutex<[u32; 12]>, bundle: &Bundle) {
-    let (front, last) = bundle.parts();
-    for piece in front {
-        count(rt, taken, piece.id);
-    }
-    count(rt, taken, last.id);
-}
-
-/// Takes pieces until its end comes.
-fn drain<R: Wait>(rt: &R, work: &Work<Brand>, mut pass: WorkerPass, taken: &Mutex<[u32; 12]>)
-    requires { (pass.queue ≡ work.now.queue) × (pass.record_of ≡ worker [] false 0) }
-{
-    for _ in rt.forever() {
-        match work.take(rt, &mut pass) {
-            Taken::Got(bundle) => count_all(rt, taken, &bundle),
-            Taken::Finish => return,
-            Taken::Empty => thread::yield_now(),
-        }
-    }
-}
-
-/// Feeds a piece, again while the queue is full.
-fn feed_one<R: Wait>(rt: &R, alloc: Global, work: &Work<Brand>, feeder: &mut FeederPass, id: u32)
-    requires queue { feeder.old.queue ≡ work.now.queue }
-    requires next { feeder.old.record_of.fed ≡ id }
-    requires open { feeder.old.record_of.ends ≡ 0 }
-    ensures queue { feeder.new.queue ≡ work.now.queue }
-    ensures fed { feeder.new.record_of.fed ≡ id + 1 }
-    ensures open { feeder.new.record_of.ends ≡ 0 }
-    ensures pending { feeder.new.record_of.pending ≡ feeder.old.record_of.pending }
-{
-    let mut next = piece(alloc, id);
-    for _ in rt.forever() {
-        match work.feed(rt, next, feeder) {
-            Ok(()) => return,
-            Err(back) => next = back,
-        }
-        thread::yield_now();
-    }
-    unreachable!()
-}
-
-/// Feeds all pieces.
-fn feed_all<R: Wait>(rt: &R, alloc: Global, work: &Work<Brand>, feeder: &mut FeederPass)
-    requires queue { feeder.old.queue ≡ work.now.queue }
-    requires fresh { feeder.old.record_of.fed ≡ 0 }
-    requires open { feeder.old.record_of.ends ≡ 0 }
-    ensures { feeder.new.queue ≡ work.now.queue }
-{
-    for id in 0..PIECES {
-        feed_one(rt, alloc, work, feeder, id);
-    }
-}
-
-/// Feeds an end for each worker.
-fn feed_ends<R: Wait>(rt: &R, work: &Work<Brand>, feeder: &mut FeederPass, workers: u32)
-    requires { feeder.old.queue ≡ work.now.queue }
-    ensures queue { feeder.new.queue ≡ work.now.queue }
-    ensures fed { feeder.new.record_of.fed ≡ feeder.old.record_of.fed }
-    ensures pending { feeder.new.record_of.pending ≡ feeder.old.record_of.pending }
-{
-    let mut left = workers;
-    for _ in rt.forever() {
-        if left == 0 {
-            return;
-        }
-        match work.feed_end(rt, feeder) {
-            Ok(()) => left -= 1,
-            Err(()) => thread::yield_now(),
-        }
-    }
-    unreachable!()
-}
-
-/// Starts workers; says how many threads were made.
-fn start<'s, 'e: 's, R: Wait + Sync>(
-    scope: &'s Scope<'s, &'e ()>,
-    rt: &'s R,
-    work: &'s Work<Brand>,
-    feeder: &mut FeederPass,
-    taken: &'s Mutex<[u32; 12]>,
-    workers: u32,
-) -> u32
-    requires { feeder.old.queue ≡ work.now.queue }
-    ensures queue { feeder.new.queue ≡ work.now.queue }
-    ensures fed { feeder.new.record_of.fed ≡ feeder.old.record_of.fed }
-    ensures open { feeder.new.record_of.ends ≡ feeder.old.record_of.ends }
-{
-    let mut started: u32 = 0;
-    for _ in 0..workers {
-        let pass = work.split(feeder);
-        let worker = scope.spawn(
-            move ||
-                requires { (pass.queue ≡ work.now.queue) × (pass.record_of ≡ worker [] false 0) }
-            { drain(rt, work, pass, taken) },
-        );
-        if worker.is_ok() {
-            started = started.wrapping_add(1);
-        }
-    }
-    started
-}
-
-/// How often each piece was received by `workers` workers.
-fn run<R: Threads + Wait + Sync>(
-    rt: &R,
-    alloc: Global,
-    workers: u32,
-    capacity: usize,
-) -> Result<[u32; 12], Fail>
-    requires some { 0 < capacity }
-    requires few { capacity ≤ 4096 }
-{
-    let (work, mut feeder) = Work::<Brand>::new(alloc, capacity)?;
-    let taken = Mutex::new([0; 12]);
-    let (queue, counts) = (&work, &taken);
-    thread::scope(
-        thread::scope_env(),
-        rt,
-        |scope|
-            requires { (feeder.queue ≡ queue.now.queue) × (feeder.record_of.fed ≡ 0) × (feeder.record_of.ends ≡ 0) }
-        {
-            let started = start(scope, rt, queue, &mut feeder, counts, workers);
-            feed_all(rt, alloc, queue, &mut feeder);
-            feed_ends(rt, queue, &mut feeder, started);
-        },
-    );
-    Ok(taken.into_inner())
-}
-
-/// Takes the ends of both workers and joins them, if both ends come. The feeder's record has pieces 0 and 1 then, each
-/// once, and no other.
-fn join_both<R: Wait>(
-    rt: &R,
-    work: &Work<Brand>,
-    mut feeder: FeederPass,
-    mut one: WorkerPass,
-    mut other: WorkerPass,
-) -> Option<FeederPass>
-    requires feeder { (feeder.queue ≡ work.now.queue) × (feeder.record_of.fed ≡ 2)
-        × (feeder.record_of.pending ≡ 2) }
-    requires one { (one.queue ≡ work.now.queue) × (one.record_of.finished ≡ false) }
-    requires other { (other.queue ≡ work.now.queue) × (other.record_of.finished ≡ false) }
-    ensures each_once { IfSome result (λ joined. (x : ℕ)
-        → times x joined.record_of.taken ≡ once_below x 2) }
-{
-    let Taken::Finish = work.take(rt, &mut one) else {
-        return None;
-    };
-    let Taken::Finish = work.take(rt, &mut other) else {
-        return None;
-    };
-    work.join(&mut feeder, one);
-    work.join(&mut feeder, other);
-    Some(feeder)
-}
-
-#[test]
-fn the_end_of_each_worker_comes_after_the_pieces(rt: HostRuntime) -> Result<(), Fail> {
-    let (work, mut feeder) = Work::<Brand>::new(rt.alloc(), 4)?;
-    let mut one = work.split(&mut feeder);
-    let mut other = work.split(&mut feeder);
-    feed_one(&rt, rt.alloc(), &work, &mut feeder, 0);
-    feed_one(&rt, rt.alloc(), &work, &mut feeder, 1);
-    feed_ends(&rt, &work, &mut feeder, 2);
-    assert!(rt; matches!(work.take(&rt, &mut one), Taken::Got(_)));
-    assert!(rt; matches!(work.take(&rt, &mut other), Taken::Got(_)));
-    assert!(rt; join_both(&rt, &work, feeder, one, other).is_some());
-    Ok(())
-}
-
-#[test]
-fn each_piece_is_taken_once_by_any_number_of_workers(rt: HostRuntime) -> Result<(), Fail> {
-    for (workers, capacity) in [(1, 1), (1, 64), (2, 1), (2, 64), (64, 1), (64, 64)] {
-        let counts = run(&rt, rt.alloc(), workers, capacity)?;
-        assert!(rt; counts == [1; 12], "{workers} workers, capacity {capacity}");
-    }
     Ok(())
 }
