@@ -4,3 +4,5 @@ pub mod Flows
 pub mod Connections
 pub mod Tiles
 pub mod Runs
+pub mod Ends
+pub mod Tables

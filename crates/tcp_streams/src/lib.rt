@@ -2,6 +2,8 @@
 #![tactic(auto)]
 
 pub mod connection;
+pub mod connections;
+pub mod ends;
 pub mod flow;
 pub mod laws;
 pub mod numbers;
