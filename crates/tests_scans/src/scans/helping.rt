@@ -56,7 +56,7 @@ fn check_helping(rt: &impl Host, text: &[u8], wanted: Wanted<'_>, workers: usize
     );
     let asked = gate.asked.load(SeqCst);
     assert!(rt;
-        asked >= 12 + workers as u64,
+        asked >= (workers as u64).saturating_add(12),
         "{workers} workers asked {asked} times"
     );
 }
