@@ -9,13 +9,14 @@ use line_model::piece::PieceReport;
 use line_model::state::{Side, StateName};
 use line_model::totals::Totals;
 use shared_work::findings::{AnyReport, Blanks, Book, Ledgers, LockedPosts, Share};
-use std::alloc::Global;
+use std::alloc::{Allocator, Global};
 use std::marker::Brand;
 use std::process::Abort;
 use std::sync::Wait;
 use std::test::Fail;
 use std::thread;
 use std::thread::Threads;
+use tests_devices::scarce::{Scarce, refuse_each};
 
 /// A report of a piece: its id, and its numbers of findings (one or two), octets and segments.
 type Post = (u32, u32, u16, u16);
@@ -39,7 +40,7 @@ const FINDING: Finding = Finding {
 };
 
 /// One finding or two.
-fn findings(alloc: Global, count: u32) -> Result<Vec<Finding>, Fault>
+fn findings<A: Allocator>(alloc: A, count: u32) -> Result<Vec<Finding, A>, Fault>
     ensures few { IfOk result (λ findings. vec_len findings ≤ 2) }
 {
     Ok(match count {
@@ -49,7 +50,7 @@ fn findings(alloc: Global, count: u32) -> Result<Vec<Finding>, Fault>
 }
 
 /// The report of a piece without calls.
-fn report(alloc: Global, post: Post) -> Result<PieceReport, Fault> {
+fn report<A: Allocator + Copy>(alloc: A, post: Post) -> Result<PieceReport<A>, Fault> {
     let (id, count, octets, segments) = post;
     Ok(PieceReport {
         id,
@@ -63,7 +64,10 @@ fn report(alloc: Global, post: Post) -> Result<PieceReport, Fault> {
 }
 
 /// The first two shares of a book.
-fn two_shares<L: Ledgers>(alloc: Global, book: &mut Book<Brand, L>) -> Result<Vec<Share<L>>, Fault>
+fn two_shares<L: Ledgers, A: Allocator>(
+    alloc: A,
+    book: &mut Book<Brand, L, A>,
+) -> Result<Vec<Share<L>, A>, Fault>
     requires fresh { book.old ≡ 0 }
     ensures all { IfOk result (λ shares. vec_len shares ≡ book.new) }
 {
@@ -197,4 +201,62 @@ fn two_threads_post_and_look(rt: HostRuntime) -> Result<(), Fail> {
     let reports = play(&rt, Scenario::SideBySide, totals(2, 3, 3, 1))?;
     assert!(rt; reports.len() == 2);
     Ok(())
+}
+
+/// Posts forty reports, each with one growth refused after `good` others. A report that comes back is as it was, a look
+/// by the same share is not below it, and the same post succeeds then. Returns whether there was such a growth.
+fn post_refused<'a, R: Wait + Abort, L: Ledgers>(
+    rt: &R,
+    heap: &'a Scarce<Global>,
+    posts: &LockedPosts<Brand, L, &'a Scarce<Global>>,
+    shares: &mut [Share<L>],
+    good: u64,
+) -> Result<bool, Fail> {
+    let [share, ..] = shares else {
+        return Err("there is no share")?;
+    };
+    let mut refused = false;
+    for id in 0..40 {
+        let (before, report) = (share.totals(), report(heap, (id, 1, 130, 2))?);
+        heap.refuse_one(good);
+        let answer = posts.post(rt, report, share, AnyReport);
+        assert!(rt; heap.was_refused() == answer.is_err());
+        if let Err((back, fault)) = answer {
+            refused = true;
+            assert!(rt; fault == Fault::Memory && back.findings.as_slice() == [FINDING].as_slice());
+            assert!(rt; (back.id, back.octets, back.segments) == (id, 130, 2));
+            assert!(rt; share.totals() == before && posts.look(rt, share) == before);
+            assert!(rt; posts.post(rt, back, share, AnyReport).is_ok());
+        }
+    }
+    Ok(refused)
+}
+
+/// The same with a book over the ledgers of these blanks, which has each report once then.
+fn check_in<R: Host, L: Ledgers>(
+    rt: &R,
+    heap: &Scarce<Global>,
+    blanks: Blanks,
+    good: u64,
+) -> Result<bool, Fail>
+    requires names { blanks ≡ L.names }
+{
+    let mut book = Book::<Brand, L, &Scarce<Global>>::new(heap, blanks, AnyReport);
+    let mut shares = two_shares(heap, &mut book)?;
+    let refused = post_refused(rt, heap, book.locked_posts(), &mut shares, good);
+    let (all, reports, _) = book.gather(shares);
+    assert!(rt; all == totals(40, 40, 5200, 80));
+    assert!(rt; reports.iter().map(|report| report.id).eq(0..40));
+    refused
+}
+
+/// The same with a book over four new ledgers.
+fn check_growth<R: Host>(rt: &R, heap: &Scarce<Global>, good: u64) -> Result<bool, Fail> {
+    check_in::<R, Brand>(rt, heap, Blanks::new(), good)
+}
+
+#[test]
+fn a_post_out_of_memory_gives_its_report_back(rt: HostRuntime) -> Result<(), Fail> {
+    let heap = Scarce::new(rt.alloc());
+    refuse_each(&heap, |good| check_growth(&rt, &heap, good))
 }
