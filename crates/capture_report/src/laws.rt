@@ -1,6 +1,6 @@
 //! Theorems about the definitions alone.
 
-ghost use Rattle.capture_report.specs.Laws.{CaptureLaw, FileLaw, NumberLaw, RowsLaw, TextLaw};
+ghost use Rattle.capture_report.specs.Laws.{CaptureLaw, FileLaw, NumberLaw, PlainLaw, RowsLaw, TextLaw};
 
 /// The observer reads the text of rows, after that of a header, as these rows: with the numbers of the page, each packet
 /// with its side and its octets, each gap with its channel. Its report is that of one observer over them.
@@ -16,7 +16,8 @@ pub fn rows_have_packets()
 {}
 
 /// Where the trace of an undamaged pcap file has no fault, the observer reads it as the rows of the capture, under the
-/// interface that was seen.
+/// interface of what is given and what was seen. Where no number of it is given there is always one.
 pub fn file_is_read()
-    ensures { FileLaw }
+    ensures read { FileLaw }
+    ensures header { PlainLaw }
 {}

@@ -10,6 +10,7 @@ ghost use Rattle.command_line.specs.Stopped.{HaltsRun, IsCause, IsStopped, asked
 ghost use Rattle.command_line.specs.Program.{IsAskedTextTaken, IsReportStatus, IsScanRefusal, IsStatusOfShown, IsUnread, RefusesLine, asked_text, fault_status, is_followed, lag_of, status_of, summary_status, trace_of, words_status};
 
 use crate::asked::{Asked, AskedReport, AskedTrace, ScanMode, TraceOutput};
+use crate::copying::run_copy;
 use crate::explaining::explain_word;
 use crate::help::{HELP, VERSION};
 use crate::json::scan_json;
@@ -223,6 +224,7 @@ fn print_output<S: Input, K: Output, E: Sink, R: Threads + Wait + Clock + Sync>(
         TraceOutput::Report(report) => scan(host, report, source, sink, errors),
         TraceOutput::Printing(printing) => run_print(host.alloc, printing, source, sink, errors),
         TraceOutput::Headers => run_try(host.alloc, source, sink, errors),
+        TraceOutput::Text => run_copy(host.alloc, source, sink, errors),
     }
 }
 

@@ -1,6 +1,8 @@
-//! The tests of link headers, of LAPB links and of lines and of their traces.
+//! The tests of link headers, of circuits of XOT, of LAPB links and of lines and of their traces.
 #![tactic(auto)]
 
+#[cfg(test)]
+mod circuits;
 #[cfg(test)]
 mod headers;
 #[cfg(test)]

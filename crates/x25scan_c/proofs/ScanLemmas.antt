@@ -1,36 +1,99 @@
--- What a scan keeps of a refusal, and what waits of a report.
-use Rattle.std.proofs.Common.{◌≡◌, ℕ, List, Option, Some, arith, refl}
+-- What a scan keeps of a refusal, and what waits of rows.
+use Rattle.std.proofs.Common.{◌≡◌, ◌∙◌, ◌++◌, ℕ, List, [], None, OnOk, Option, Result, Ok, Err, Some, ap, append-nil, arith, refl, subst, sym}
+use Rattle.std.specs.Prelude.{IfErr, IfSome}
+use Rattle.std.specs.Result.{result_err}
+use Rattle.annotated_trace.specs.Printed.{HasAppended}
+use Rattle.annotated_trace.specs.Printers.{HasPrintBefore, HasPrinted, IsEndRefusal, IsRefusalOf}
+use Rattle.channel_run.specs.declared.run.Channel.{Ghosts as Machine}
+use Rattle.line_model.proofs.DeviceLemmas.{with_more-nil}
 use Rattle.line_model.specs.declared.fault.Fault.{Fault}
-use Rattle.line_model.specs.declared.fault.Fault.TheVariants.{Memory, Trace, Read, Write, Start, Double, UnknownPiece, Missing}
+use Rattle.line_model.specs.declared.fault.Fault.TheVariants.{Memory, Trace}
 use Rattle.line_model.specs.declared.fault.Kind.{Kind}
 use Rattle.line_model.specs.declared.state.Side.{Side}
-use Rattle.line_model.specs.text.Text.{fault}
-use Rattle.live_report.specs.Reports.{IsRefusal}
-use Rattle.trace_text.specs.Represents.{IsFaultOf}
+use Rattle.line_model.specs.text.Text.{Line, ended_lines, good_lines}
+use Rattle.live_report.specs.Lives.{IsFed, WasFed}
+use Rattle.live_report.specs.declared.live.Live.{Live}
+use Rattle.trace_text.specs.Represents.{IsFaultOf, IsTextFault}
 use Rattle.x25scan_c.specs.declared.scanning.Scanning.{Scanning}
-use Rattle.x25scan_c.specs.Sound.{KeepsFault, number_of}
+use Rattle.x25scan_c.specs.Rows.{AddsRows, AddsRowsBefore, AreRowObjects, EndsRows}
+use Rattle.x25scan_c.specs.Sound.{KeepsEndFault, KeepsFault, number_of}
+
+-- a line is refused while it is read, by one who prints no rows
+pub refusal_of : (at : Option (ℕ × Kind)) (f : Fault) → IsFaultOf at f → IsRefusalOf at f
+refusal_of at Memory is = tt
+refusal_of at (Trace line kind) is = is
+refusal_of at _ is = absurd is
 
 -- a line was refused, and is kept
-pub keeps_line : (at : Option (ℕ × Kind)) (f : Fault) (s : Scanning) (n : ℕ) → IsFaultOf at f → n ≡ number_of f → ((line : ℕ) (kind : Kind) → f ≡ Trace line kind → s.refused ≡ Some (line, kind)) → n ≡ 2 → KeepsFault at s
-keeps_line at Memory s n is number kept two = absurd (omega (arith, number, two))
-keeps_line at (Trace line kind) s n is number kept two = record { line = line; kind = kind; is = is; kept = kept line kind refl }
-keeps_line at Read s n is number kept two = absurd is
-keeps_line at Write s n is number kept two = absurd is
-keeps_line at Start s n is number kept two = absurd is
-keeps_line at (Double piece) s n is number kept two = absurd is
-keeps_line at (UnknownPiece piece) s n is number kept two = absurd is
-keeps_line at (Missing piece) s n is number kept two = absurd is
+pub keeps_line : (at : Option (ℕ × Kind)) (f : Fault) (s : Scanning) (n : ℕ) → ((line : ℕ) (kind : Kind) → f ≡ Trace line kind → at ≡ Some (line, kind)) → n ≡ number_of f → ((line : ℕ) (kind : Kind) → f ≡ Trace line kind → s.refused ≡ Some (line, kind)) → n ≡ 2 → KeepsFault at s
+keeps_line at (Trace line kind) s n is number kept two = record { line = line; kind = kind; is = is line kind refl; kept = kept line kind refl }
+keeps_line at _ s n is number kept two = absurd (omega (arith, number, two))
 
--- the same of a report
-pub keeps_fault : (text : List ℕ) (f : Fault) (s : Scanning) (n : ℕ) → IsRefusal text f → n ≡ number_of f → ((line : ℕ) (kind : Kind) → f ≡ Trace line kind → s.refused ≡ Some (line, kind)) → n ≡ 2 → KeepsFault (fault text) s
-keeps_fault text Memory s n is number kept two = absurd (omega (arith, number, two))
-keeps_fault text (Trace line kind) s n is number kept two = record { line = line; kind = kind; is = is; kept = kept line kind refl }
-keeps_fault text Read s n is number kept two = absurd is
-keeps_fault text Write s n is number kept two = absurd (omega (arith, number, two))
-keeps_fault text Start s n is number kept two = absurd is
-keeps_fault text (Double piece) s n is number kept two = absurd is
-keeps_fault text (UnknownPiece piece) s n is number kept two = absurd is
-keeps_fault text (Missing piece) s n is number kept two = absurd is
+-- the same at the end of a text of rows
+pub keeps_end : (text : List ℕ) (f : Fault) (s : Scanning) (n : ℕ) → IsEndRefusal text f → n ≡ number_of f → ((line : ℕ) (kind : Kind) → f ≡ Trace line kind → s.refused ≡ Some (line, kind)) → n ≡ 2 → KeepsEndFault text s
+keeps_end text (Trace line kind) s n is number kept two = record { line = line; kind = kind; is = is; kept = kept line kind refl }
+keeps_end text _ s n is number kept two = absurd (omega (arith, number, two))
+
+-- the objects of the rows before the line that was refused
+pub rows_before : (at : Option (ℕ × Kind)) (f : Fault) (n : ℕ) (ls ls_after : List Line) (waits waits_after : List ℕ) → IsRefusalOf at f → n ≡ number_of f → n ≡ 2 → AddsRowsBefore ls ls_after waits waits_after f → AddsRows ls (good_lines at ls_after) waits waits_after
+rows_before at (Trace line kind) n ls ls_after waits waits_after is number two h = subst (λ a. AddsRows ls (good_lines a ls_after) waits waits_after) (sym is) h
+rows_before at _ n ls ls_after waits waits_after is number two h = absurd (omega (arith, number, two))
+
+-- a trace that was fed a text may be reported
+pub was_fed : {A C : Type 0} (m : Machine C A) (text : List ℕ) (live : Live A C) → WasFed m text live → IsFed m.interface_of m.number_of m.represents live
+was_fed m text live w = record { fed = λ running. (text, w); kinds = subst (λ r. IfSome r IsTextFault) (sym w.running) tt }
+
+-- a sink has nothing of the objects that are gone
+pub none_sent : (gone held : List ℕ) (before : Option (List ℕ)) (ls : List Line) → held ≡ [] → AreRowObjects ls gone → HasPrinted (λ l bytes. AreRowObjects l (gone ++ bytes)) before before held ls
+none_sent gone held before ls none h = record {
+  sent = [];
+  taken_is = sym (with_more-nil before);
+  lines = subst (AreRowObjects ls) (sym (ap (λ xs. gone ++ xs) none ∙ append-nil gone)) h;
+}
+
+some_same : (xs ys : List ℕ) → Some xs ≡ Some ys → xs ≡ ys
+some_same xs ys e = cc
+
+-- what was printed waits
+printed_waits : (is_print : List Line → List ℕ → Type 0) (waits waits_after : List ℕ) (ls : List Line) → HasPrinted is_print (Some waits) (Some waits_after) [] ls → HasAppended (is_print ls) waits waits_after
+printed_waits is_print waits waits_after ls h = record { bytes = h.sent; appended = some_same waits_after (waits ++ h.sent) h.taken_is; formed = subst (is_print ls) (append-nil h.sent) h.lines }
+
+pub adds_rows : {T E : Type 0} (r : Result T E) (ls ls_after : List Line) (waits waits_after : List ℕ) → ((gone : List ℕ) → AreRowObjects ls gone → OnOk r (HasPrinted (λ l bytes. AreRowObjects l (gone ++ bytes)) (Some waits) (Some waits_after) [] ls_after)) → OnOk r (AddsRows ls ls_after waits waits_after)
+adds_rows (Ok x) ls ls_after waits waits_after printed = λ gone before. printed_waits (λ l bytes. AreRowObjects l (gone ++ bytes)) waits waits_after ls_after (printed gone before)
+adds_rows (Err e) ls ls_after waits waits_after printed = tt
+
+pub adds_rows_before : {T : Type 0} (r : Result T Fault) (ls ls_after : List Line) (waits waits_after : List ℕ) → ((gone : List ℕ) → AreRowObjects ls gone → IfErr r (HasPrintBefore (λ l bytes. AreRowObjects l (gone ++ bytes)) (Some waits) (Some waits_after) ls_after)) → IfErr r (AddsRowsBefore ls ls_after waits waits_after)
+adds_rows_before (Ok x) ls ls_after waits waits_after printed = tt
+adds_rows_before (Err (Trace line kind)) ls ls_after waits waits_after printed = λ gone before. printed_waits (λ l bytes. AreRowObjects l (gone ++ bytes)) waits waits_after _ (printed gone before)
+adds_rows_before (Err f) ls ls_after waits waits_after printed = tt
+
+-- what holds of a result without a fault
+pub ok_by : {T : Type 0} (r : Result T Fault) (P : Type 0) → OnOk r P → result_err r ≡ None → P
+ok_by (Ok x) P h none = h
+ok_by (Err f) P h none = absurd (let bad : Some f ≡ None = none in cc)
+
+-- and of what keeps its fault
+pub ok_kept : {T : Type 0} (r : Result T Fault) (o : Option Fault) (P Q R : Type 0) → o ≡ result_err r → OnOk r P → OnOk r Q → (P → Q → o ≡ None → R) → OnOk r R
+ok_kept (Ok x) o P Q R e p q to = to p q e
+ok_kept (Err f) o P Q R e p q to = tt
+
+-- what was written at the end waits after what waited
+pub end_waits : (text waits waits_after written : List ℕ) → waits_after ≡ waits ++ written → EndsRows text (Some []) (Some written) → EndsRows text (Some waits) (Some waits_after)
+end_waits text waits waits_after written e ends gone before =
+    let end = ends gone before in
+    let p = end.1 in (
+      end.0,
+      record {
+        report = p.report;
+        reported = p.reported;
+        lines = p.lines;
+        closing = p.closing;
+        print = p.print;
+        closed = p.closed;
+        taken = ap (λ xs. Some xs) (e ∙ ap (λ xs. waits ++ xs) (some_same written (p.lines ++ p.closing) p.taken));
+        counted = p.counted;
+      },
+    )
 
 -- the same side by both
 pub same_side : (o : Option Side) (x s : Side) → o ≡ Some x → o ≡ Some s → x ≡ s
