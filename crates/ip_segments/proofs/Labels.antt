@@ -2,8 +2,7 @@
 use Rattle.std.proofs.Common.{◌≡◌, sym, refl, true≢false, ℕ, ◌-◌, ◌/◌, ◌%◌, ◌==◌, ◌<◌, ◌≤◌, true, false, List, [], ◌∷◌, drop, length, slice_index, arith}
 use Rattle.std.proofs.lemmas.Bool.{cond-true, cond-false}
 use Rattle.capture_model.specs.Views.{Payload}
-use Rattle.ip_segments.specs.Numbers.{after}
-use Rattle.ip_segments.specs.Carriers.{Layer, Neither, by_labels, by_version, has_label, labels}
+use Rattle.ip_segments.specs.Carriers.{Neither, by_labels, by_version, has_label}
 use Rattle.ip_segments.specs.declared.carriers.CarrierFault.TheVariants as fault
 
 abbrev pub plain : List ℕ → ℕ → Payload

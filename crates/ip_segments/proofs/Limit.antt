@@ -1,10 +1,10 @@
 -- At most 64 datagrams wait.
-use Rattle.std.proofs.Common.{◌≡◌, inl, inr, ℕ, suc, ◌+◌, ◌-◌, ◌<◌, ◌≤◌, min, nat_lt, Bool, true, false, List, [], ◌∷◌, ◌++◌, length, take, drop, slice_get, Option, Some, None, if◌then◌else◌, arith}
+use Rattle.std.proofs.Common.{◌≡◌, inl, inr, ℕ, suc, ◌+◌, ◌-◌, ◌≤◌, min, nat_lt, Bool, true, false, List, [], ◌∷◌, length, take, drop, slice_get, Option, Some, None, if◌then◌else◌, arith}
 use Rattle.std.specs.List.{insert, remove}
 use Rattle.std.proofs.lemmas.Bool.{cases_Bool, cases_lt, le-ltb, lt-ltb}
 use Rattle.std.proofs.lemmas.List.{length-append, length-drop, length-take}
 use Rattle.ip_segments.specs.Datagrams.{Datagram}
-use Rattle.ip_segments.specs.Fragments.{Outcome, added, added_by, fault_of, first_given_up, gathered_at, limited, place_of, settled, settled_by, without}
+use Rattle.ip_segments.specs.Fragments.{added, added_by, fault_of, first_given_up, gathered_at, limited, place_of, settled_by, without}
 use Rattle.ip_segments.specs.Gathering.{whole, with_fragment}
 use Rattle.ip_segments.specs.declared.datagram.Fragment.{Fragment}
 use Rattle.ip_segments.specs.declared.fragments.FragmentFault.{FragmentFault}
@@ -40,7 +40,7 @@ few_settled : (o : Option (List ℕ)) (k : ℕ) (g : Gathered) (gs : List Gather
 few_settled (Some xs) k g gs h = h
 few_settled None k g gs h =
     let more = inserted_one k g gs in
-    let least = few_limited (insert gs k g) (omega (arith, h, more)) in elim (cases_Bool (nat_lt 2048 (length g.places))) [
+    let least = few_limited (insert gs k g) (omega (arith, h, more)) in elim (cases_Bool (nat_lt 512 (length g.places))) [
       | inl many ↦ rw many h
       | inr few ↦ rw few least
     ]

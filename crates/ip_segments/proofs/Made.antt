@@ -1,12 +1,12 @@
 -- What fragments make has the first copy of each octet.
-use Rattle.std.proofs.Common.{◌≡◌, ◌∙◌, inl, inr, refl, sym, ap, subst, ℕ, ◌+◌, ◌-◌, ◌==◌, ◌<◌, ◌≤◌, min, nat_lt, true, false, List, [], ◌∷◌, ◌++◌, length, map, take, get_or, slice_index, Option, Some, None, arith}
+use Rattle.std.proofs.Common.{◌≡◌, ◌∙◌, inl, inr, refl, sym, ap, subst, ℕ, ◌+◌, ◌-◌, ◌==◌, ◌<◌, ◌≤◌, nat_lt, true, false, List, [], ◌∷◌, ◌++◌, length, map, take, get_or, slice_index, Option, Some, None, arith}
 use Rattle.std.specs.List.{list_any}
 use Rattle.std.proofs.lemmas.Bool.{cases_Bool, cases_lt, cond-true, cond-false, lt-ltb, le-ltb}
 use Rattle.std.proofs.lemmas.List.{get_or-append_right, get_or-take, get_or_append_left, length-append, length-take-le}
 use Rattle.ip_segments.specs.Datagrams.{Datagram}
 use Rattle.ip_segments.specs.FirstCopies.{AreOrdered, IsMade, IsMadeOf, Part, copy_at, gathered, kept, last_of, octet_at, or_later, piece_of}
 use Rattle.ip_segments.specs.Gathering.{begun, whole, whole_by, with_fragment, with_part}
-use Rattle.ip_segments.specs.Pieces.{all_octets, inserted, reach}
+use Rattle.ip_segments.specs.Pieces.{all_octets, reach}
 use Rattle.ip_segments.specs.declared.gathered.Gathered.{Gathered}
 use Rattle.ip_segments.specs.declared.gathered.Last.{Last}
 use Rattle.ip_segments.specs.declared.pieces.Piece.{Piece}

@@ -1,5 +1,5 @@
 -- Each step into a carrier goes to a part of it.
-use Rattle.std.proofs.Common.{◌≡◌, ◌∙◌, refl, ap, ℕ, zero, suc, ◌+◌, ◌-◌, ◌*◌, ◌/◌, ◌%◌, ◌==◌, ◌<◌, ◌≤◌, ◌&&◌, ◌||◌, nat_lt, Bool, true, false, List, [], ◌∷◌, drop, length, slice_index, Result, Ok, Err, IfOk, if◌then◌else◌, arith}
+use Rattle.std.proofs.Common.{◌∙◌, refl, ap, ℕ, zero, suc, ◌+◌, ◌-◌, ◌/◌, ◌%◌, ◌==◌, ◌<◌, ◌≤◌, ◌||◌, nat_lt, Bool, true, false, List, [], ◌∷◌, drop, length, slice_index, Result, Ok, Err, IfOk, if◌then◌else◌, arith}
 use Rattle.std.proofs.lemmas.List.{drop-drop}
 use Rattle.capture_model.specs.Ethernet.{is_tag, two_octets, untagged}
 use Rattle.capture_model.specs.LinkHeaders.{has_control}

@@ -1,6 +1,6 @@
 -- Carriers between a link header and a datagram, and between datagrams.
-use Rattle.std.specs.Prelude.{ℕ, zero, suc, ◌+◌, ◌-◌, ◌*◌, ◌/◌, ◌%◌, ◌==◌, ◌&&◌, ◌||◌, nat_lt, Bool, false, List, [], ◌∷◌, length, slice_index, Result, Ok, Err, if◌then◌else◌}
-use Rattle.capture_model.specs.Ethernet.{is_tag, two_octets, untagged}
+use Rattle.std.specs.Prelude.{ℕ, zero, suc, ◌+◌, ◌-◌, ◌*◌, ◌/◌, ◌%◌, ◌==◌, ◌&&◌, ◌||◌, nat_lt, Bool, false, List, ◌∷◌, length, slice_index, Result, Ok, Err, if◌then◌else◌}
+use Rattle.capture_model.specs.Ethernet.{is_tag, untagged}
 use Rattle.capture_model.specs.LinkHeaders.{has_control}
 use Rattle.capture_model.specs.Views.{Payload}
 use Rattle.capture_model.specs.declared.kind.LinkKind.{LinkKind}

@@ -4,7 +4,7 @@
 -- second is left out, and of two copies of an octet the first one counts (Gathering). The fragment that makes a datagram whole
 -- gives it the number and the time of its frame.
 --
--- At most 64 datagrams wait, and of each at most 2,048 fragments with 65,535 octets. Of more than 64 the first one is given up.
+-- At most 64 datagrams wait, and of each at most 512 fragments with 65,535 octets. Of more than 64 the first one is given up.
 -- One with more fragments is given up itself. Each one that is given up is said, with the number of its fragments.
 use Rattle.std.specs.Prelude.{ℕ, ◌+◌, ◌==◌, ◌||◌, nat_lt, not, Bool, List, [], ◌∷◌, length, slice_get, Option, Some, None, if◌then◌else◌}
 use Rattle.std.specs.List.{insert, position_or_len, remove}
@@ -56,7 +56,7 @@ limited gs = if nat_lt 64 (length gs) then first_given_up gs else record { added
 -- a datagram with one more fragment is whole, or has too many of them, or waits where it waited
 abbrev pub settled_by : Option (List ℕ) → ℕ → Gathered → List Gathered → Outcome
 settled_by (Some xs) k g gs = record { added = Whole xs; waiting = gs }
-settled_by None k g gs = if nat_lt 2048 (length g.places) then record { added = GaveUp (given_up g); waiting = gs } else limited (insert gs k g)
+settled_by None k g gs = if nat_lt 512 (length g.places) then record { added = GaveUp (given_up g); waiting = gs } else limited (insert gs k g)
 
 abbrev pub settled : ℕ → Gathered → List Gathered → Outcome
 settled k g gs = settled_by (whole g) k g gs

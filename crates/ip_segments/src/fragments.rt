@@ -15,7 +15,7 @@ use std::marker::Model;
 /// How many datagrams wait for fragments (profile).
 const MOST_DATAGRAMS: usize = 64;
 /// How many fragments of a datagram wait (profile).
-const MOST_FRAGMENTS: usize = 2048;
+const MOST_FRAGMENTS: usize = 512;
 /// How many octets a datagram has at the most.
 const LONGEST: usize = 0xFFFF;
 
@@ -39,7 +39,7 @@ pub enum Added {
     Whole(Octets),
     /// It waits for others.
     Waits,
-    /// A datagram is given up: its own, which has more than 2,048 fragments, or the first of more than 64.
+    /// A datagram is given up: its own, which has more than 512 fragments, or the first of more than 64.
     GaveUp(GivenUp),
 }
 
