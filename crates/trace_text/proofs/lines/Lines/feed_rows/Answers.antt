@@ -10,14 +10,14 @@ use Rattle.trace_text.proofs.ChunkLemmas.{all-fed, fed-head, fed-more, fed-no-me
 use Rattle.trace_text.proofs.RefusalLemmas.{head_stopped}
 use Rattle.trace_text.proofs.lines.Lines.feed_rows.Goals as goal
 
-pub returns-in_err-clone-clause-appended : goal.returns-in_err-clone-clause-appended
-returns-in_err-clone-clause-appended g c text s =
+pub returns-in_err-row-clause-appended : goal.returns-in_err-row-clause-appended
+returns-in_err-row-clause-appended g c text s =
     let exit = err_from_is_err_and c.from_residual.result c.from_residual.ensures.1 in
     rw (exit.1, exit.2)
     (fed-no-memory (Unit {0}) c.args.self.now c.loop-row.self c.args.out.now.items c.loop-row.out.items c.args.chunk.now c.loop-row.rest.now c.loop-row.invariant text s)
 
-pub returns-in_err-clone-clause-header : goal.returns-in_err-clone-clause-header
-returns-in_err-clone-clause-header g c text s =
+pub returns-in_err-row-clause-header : goal.returns-in_err-row-clause-header
+returns-in_err-row-clause-header g c text s =
     let f = c.loop-row.invariant in
     let exit = err_from_is_err_and c.from_residual.result c.from_residual.ensures.1 in
     rw (exit.1, exit.2)
