@@ -9,8 +9,10 @@ use Rattle.line_model.proofs.DeviceLemmas.{with_more-nil}
 use Rattle.line_model.specs.declared.fault.Fault.{Fault}
 use Rattle.line_model.specs.declared.fault.Fault.TheVariants.{Memory, Trace}
 use Rattle.line_model.specs.declared.fault.Kind.{Kind}
+use Rattle.line_model.specs.declared.finding.Finding.{Finding}
 use Rattle.line_model.specs.declared.state.Side.{Side}
 use Rattle.line_model.specs.text.Text.{Line, ended_lines, good_lines}
+use Rattle.live_report.specs.Found.{HasFound, HasFoundSome, IsFoundBy, IsFoundUpTo}
 use Rattle.live_report.specs.Lives.{IsFed, WasFed}
 use Rattle.live_report.specs.declared.live.Live.{Live}
 use Rattle.trace_text.specs.Represents.{IsFaultOf, IsTextFault}
@@ -38,6 +40,39 @@ keeps_end text _ s n is number kept two = absurd (omega (arith, number, two))
 pub rows_before : (at : Option (ℕ × Kind)) (f : Fault) (n : ℕ) (ls ls_after : List Line) (waits waits_after : List ℕ) → IsRefusalOf at f → n ≡ number_of f → n ≡ 2 → AddsRowsBefore ls ls_after waits waits_after f → AddsRows ls (good_lines at ls_after) waits waits_after
 rows_before at (Trace line kind) n ls ls_after waits waits_after is number two h = subst (λ a. AddsRows ls (good_lines a ls_after) waits waits_after) (sym is) h
 rows_before at _ n ls ls_after waits waits_after is number two h = absurd (omega (arith, number, two))
+
+-- what was found waits after what waited
+found_after : (out new known known_after : List Finding) → HasFound [] new known known_after → HasFound out (out ++ new) known known_after
+found_after out new known known_after h = record { more = h.more; out_has = ap (λ xs. out ++ xs) h.out_has; known_has = h.known_has }
+
+some_after : (out new known known_after : List Finding) → HasFoundSome [] new known known_after → HasFoundSome out (out ++ new) known known_after
+some_after out new known known_after h = record { more = h.more; rest = h.rest; out_has = ap (λ xs. out ++ xs) h.out_has; known_has = h.known_has }
+
+pub found_on : {T : Type 0} (r : Result T Fault) (out new known known_after : List Finding) → IsFoundBy r [] new known known_after → IsFoundBy r out (out ++ new) known known_after
+found_on (Ok x) out new known known_after h = found_after out new known known_after h
+found_on (Err Memory) out new known known_after h = some_after out new known known_after h
+found_on (Err _) out new known known_after h = found_after out new known known_after h
+
+-- or none of it, where memory was refused
+pub none_on : {T : Type 0} (r : Result T Fault) (out out_after new known known_after : List Finding) → out_after ≡ out → IsFoundBy r [] new known known_after → HasFoundSome out out_after known known_after
+none_on (Ok x) out out_after new known known_after e h = record { more = []; rest = h.more; out_has = e ∙ sym (append-nil out); known_has = h.known_has }
+none_on (Err Memory) out out_after new known known_after e h = record { more = []; rest = h.more ++ h.rest; out_has = e ∙ sym (append-nil out); known_has = h.known_has }
+none_on (Err _) out out_after new known known_after e h = record { more = []; rest = h.more; out_has = e ∙ sym (append-nil out); known_has = h.known_has }
+
+-- what a reading of reports brings
+pub brings_found : {T : Type 0} (r : Result T Fault) (P : Type 0) (out out_after known known_after : List Finding) (waits : List ℕ) → OnOk r P → IsFoundBy r out out_after known known_after → OnOk r (P × HasFound out out_after known known_after × (waits ≡ waits))
+brings_found (Ok x) P out out_after known known_after waits p h = (p, h, refl)
+brings_found (Err f) P out out_after known known_after waits p h = tt
+
+-- where it refused
+pub found_up_to : {T : Type 0} (r : Result T Fault) (out out_after known known_after : List Finding) → IsFoundBy r out out_after known known_after → IfErr r (λ f. IsFoundUpTo f out out_after known known_after)
+found_up_to (Ok x) out out_after known known_after h = tt
+found_up_to (Err f) out out_after known known_after h = h
+
+-- what the rows before a faulty line found
+pub found_before : (f : Fault) (n : ℕ) (out out_after known known_after : List Finding) → n ≡ number_of f → n ≡ 2 → IsFoundUpTo f out out_after known known_after → HasFound out out_after known known_after
+found_before (Trace line kind) n out out_after known known_after number two h = h
+found_before _ n out out_after known known_after number two h = absurd (omega (arith, number, two))
 
 -- a trace that was fed a text may be reported
 pub was_fed : {A C : Type 0} (m : Machine C A) (text : List ℕ) (live : Live A C) → WasFed m text live → IsFed m.interface_of m.number_of m.represents live
