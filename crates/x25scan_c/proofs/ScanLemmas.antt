@@ -1,7 +1,6 @@
 -- What a scan keeps of a refusal, and what waits of rows.
 use Rattle.std.proofs.Common.{◌≡◌, ◌∙◌, ◌++◌, ℕ, List, [], None, OnOk, Option, Result, Ok, Err, Some, ap, append-nil, arith, refl, subst, sym}
 use Rattle.std.specs.Prelude.{IfErr, IfSome}
-use Rattle.std.specs.Result.{result_err}
 use Rattle.annotated_trace.specs.Printed.{HasAppended}
 use Rattle.annotated_trace.specs.Printers.{HasPrintBefore, HasPrinted, IsEndRefusal, IsRefusalOf}
 use Rattle.channel_run.specs.declared.run.Channel.{Ghosts as Machine}
@@ -101,16 +100,6 @@ pub adds_rows_before : {T : Type 0} (r : Result T Fault) (ls ls_after : List Lin
 adds_rows_before (Ok x) ls ls_after waits waits_after printed = tt
 adds_rows_before (Err (Trace line kind)) ls ls_after waits waits_after printed = λ gone before. printed_waits (λ l bytes. AreRowObjects l (gone ++ bytes)) waits waits_after _ (printed gone before)
 adds_rows_before (Err f) ls ls_after waits waits_after printed = tt
-
--- what holds of a result without a fault
-pub ok_by : {T : Type 0} (r : Result T Fault) (P : Type 0) → OnOk r P → result_err r ≡ None → P
-ok_by (Ok x) P h none = h
-ok_by (Err f) P h none = absurd (let bad : Some f ≡ None = none in cc)
-
--- and of what keeps its fault
-pub ok_kept : {T : Type 0} (r : Result T Fault) (o : Option Fault) (P Q R : Type 0) → o ≡ result_err r → OnOk r P → OnOk r Q → (P → Q → o ≡ None → R) → OnOk r R
-ok_kept (Ok x) o P Q R e p q to = to p q e
-ok_kept (Err f) o P Q R e p q to = tt
 
 -- what was written at the end waits after what waited
 pub end_waits : (text waits waits_after written : List ℕ) → waits_after ≡ waits ++ written → EndsRows text (Some []) (Some written) → EndsRows text (Some waits) (Some waits_after)

@@ -1,12 +1,13 @@
 use Rattle.std.proofs.Common.{subst, sym}
+use Rattle.live_report.proofs.LiveLemmas.{on_sound}
 use Rattle.live_report.specs.Found.{IsFoundBy}
-use Rattle.x25scan_c.proofs.ScanLemmas.{found_on, none_on, ok_kept}
+use Rattle.x25scan_c.proofs.ScanLemmas.{found_on, none_on}
 use Rattle.x25scan_c.proofs.report_reading.ReportReading.feed.Goals as goal
 use Rattle.x25scan_c.specs.Waits.{waiting}
 
 pub returns-in-Ok-clause-fed : goal.returns-in-Ok-clause-fed
 returns-in-Ok-clause-fed g c text w =
-    ok_kept c.feed-answer.result _ _ _ _ c.err-self.ensures.value (c.feed-answer.ensures.represented text w.0) (c.feed-answer.ensures.represented text w.0) (λ fed same none. (fed, none))
+    on_sound c.feed-answer.result _ _ _ c.err-self.ensures.value (c.feed-answer.ensures.represented text w.0) (λ fed none. (fed, none))
 
 pub returns-in-Ok-clause-found : goal.returns-in-Ok-clause-found
 returns-in-Ok-clause-found g c text w =
