@@ -1,5 +1,5 @@
 -- What a scan holds: what it was fed, and what waits to be taken.
-use Rattle.std.specs.Prelude.{◌≡◌, ◌⊎◌, ℕ, Bool, true, false, List, [], ◌++◌, Option, Some, None, if◌then◌else◌, ◌==◌}
+use Rattle.std.specs.Prelude.{◌≡◌, ◌⊎◌, ℕ, Bool, true, false, List, ◌++◌, Option, Some, None, if◌then◌else◌, ◌==◌}
 use Rattle.annotated_trace.specs.Printers.{IsFull}
 use Rattle.channel_run.specs.declared.run.Channel.{Ghosts as Machine}
 use Rattle.json_lines.specs.Json.{json_text}

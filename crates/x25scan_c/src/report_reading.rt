@@ -1,6 +1,6 @@
 //! A trace whose findings and report are asked for while it is read.
 
-ghost use Rattle.std.specs.Prelude.{◌≡◌, ◌++◌, ℕ, List, [], Ok, IfErr, OnOk};
+ghost use Rattle.std.specs.Prelude.{◌≡◌, ◌++◌, ℕ, List, [], true, false, Ok, IfErr, OnOk};
 ghost use Rattle.line_model.specs.text.Text.{early};
 ghost use Rattle.live_report.specs.Found.{HasFound, IsFoundBy, found as findings_of};
 ghost use Rattle.live_report.specs.Lives.{IsFed, WasFed};

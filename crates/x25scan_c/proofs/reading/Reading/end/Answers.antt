@@ -5,9 +5,9 @@ use Rattle.x25scan_c.specs.declared.reading.Reading.TheVariants.{Rows}
 pub returns-in-Rows-clause-rows : goal.returns-in-Rows-clause-rows
 returns-in-Rows-clause-rows g c text was prints =
     let same : c.args.self.now ≡ Rows c.in-Rows.printed = search rules in
-    c.end-2.ensures.rows text (rw same at was)
+    c.end-in-Rows.ensures.rows text (rw same at was)
 
 pub returns-in-Rows-clause-stopped : goal.returns-in-Rows-clause-stopped
 returns-in-Rows-clause-stopped g c text was prints =
     let same : c.args.self.now ≡ Rows c.in-Rows.printed = search rules in
-    c.end-2.ensures.refused text (rw same at was)
+    c.end-in-Rows.ensures.refused text (rw same at was)
