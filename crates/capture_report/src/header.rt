@@ -488,7 +488,9 @@ impl Seen {
         let words = if !is_numbered(modulus, window) {
             format!(in alloc; "WIN {window} is not below MOD {modulus}")
         } else if given.has_ranges() {
-            format!(in alloc; "PVC {pvc}, IN {incoming}, TWO {two_way}, OUT {svc}: none may be below the one before it")
+            format!(in alloc;
+                "PVC {pvc}, IN {incoming}, TWO {two_way}, OUT {svc}: none may be below the one before it"
+            )
         } else {
             format!(in alloc; "PVC {pvc} is above SVC {svc}")
         };
