@@ -3,7 +3,7 @@ mod CaptureRowLemmas
 mod FileLemmas
 mod FrameLemmas
 mod GapLemmas
-mod HeaderLemmas
+pub mod HeaderLemmas
 mod HeaderTextLemmas
 mod GivingLemmas
 mod HeldLemmas
