@@ -9,6 +9,7 @@ mod GivingLemmas
 mod HeldLemmas
 mod HexDigitLemmas
 mod LinkLemmas
+mod PcapngRecordLemmas
 mod PlaceLemmas
 mod ReadingLemmas
 mod RowWordLemmas
