@@ -28,7 +28,7 @@ within_bound (suc m) (suc n) big xs l k =
     let shorter : length (drop size xs) ≡ length xs - size = length-drop size xs in
     ap (from_option big xs (has_option big xs)) (within_bound m n big (drop size xs) (omega (arith, shorter, l)) (omega (arith, shorter, k)))
 
-pub options_more : (big : Bool) (xs : List ℕ) → has_option big xs ≡ true → options_in big xs ≡ first_option big xs ∷ options_in big (drop (option_size big xs) xs)
+options_more : (big : Bool) (xs : List ℕ) → has_option big xs ≡ true → options_in big xs ≡ first_option big xs ∷ options_in big (drop (option_size big xs) xs)
 options_more big [] has = cc has
 options_more big (x ∷ xs) has =
     let size : ℕ = option_size big (x ∷ xs) in
@@ -36,7 +36,7 @@ options_more big (x ∷ xs) has =
     ap (λ b. from_option big (x ∷ xs) b (options_within (length xs) big (drop size (x ∷ xs)))) has
     ∙ ap (λ os. first_option big (x ∷ xs) ∷ os) (within_bound (length xs) (length (drop size (x ∷ xs))) big (drop size (x ∷ xs)) (omega (arith, shorter)) (omega arith))
 
-pub options_none : (big : Bool) (xs : List ℕ) → has_option big xs ≡ false → options_in big xs ≡ []
+options_none : (big : Bool) (xs : List ℕ) → has_option big xs ≡ false → options_in big xs ≡ []
 options_none big [] none = refl
 options_none big (x ∷ xs) none = ap (λ b. from_option big (x ∷ xs) b (options_within (length xs) big (drop (option_size big (x ∷ xs)) (x ∷ xs)))) none
 
@@ -56,10 +56,6 @@ value_there block at from to size is end there =
     ap (λ k. take k (drop from block)) count
     ∙ take_min size (drop from block)
     ∙ ap (take size) (ap (λ k. drop k block) is ∙ sym (drop-drop 4 at block))
-
-or_value_none : (xs : List ℕ) → or_value xs [] ≡ xs
-or_value_none [] = refl
-or_value_none (x ∷ xs) = refl
 
 or_value_or : (xs ys zs : List ℕ) → or_value (or_value xs ys) zs ≡ or_value xs (or_value ys zs)
 or_value_or [] ys zs = refl
@@ -87,9 +83,6 @@ found_before code o found other = by_code (nat_eq o.code code) refl other
 -- the values that are found from a place on, and the one that was found before
 abbrev pub found_from : (code : ℕ) → Bool → (block : List ℕ) → (at : ℕ) → (found : List ℕ) → List ℕ
 found_from code big block at found = or_value (last_value code (options_in big (drop at block))) found
-
-pub found_first : (code : ℕ) (big : Bool) (block : List ℕ) (from : ℕ) → found_from code big block from [] ≡ last_value code (options_in big (drop from block))
-found_first code big block from = or_value_none (last_value code (options_in big (drop from block)))
 
 pub found_next : (code : ℕ) (big : Bool) (block : List ℕ) (at next : ℕ) (found : List ℕ) → has_option big (drop at block) ≡ true → next ≡ at + option_size big (drop at block)
     → found_from code big block next (or_value (value_if code (first_option big (drop at block))) found) ≡ found_from code big block at found

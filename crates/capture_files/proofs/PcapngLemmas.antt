@@ -11,7 +11,7 @@ use Rattle.capture_files.specs.BlockFrames.{options_behind, placed_in}
 use Rattle.capture_files.specs.BlockSteps.{first_snap}
 use Rattle.capture_files.specs.Entries.{frame_at}
 use Rattle.capture_files.specs.Numbers.{next_number}
-use Rattle.capture_files.specs.PcapngFiles.{IsRead, IsUnchanged, Reads, block_records, blocks_within, front_read, front_size, pcapng_ahead, pcapng_left, section_of}
+use Rattle.capture_files.specs.PcapngFiles.{IsRead, Reads, block_records, blocks_within, front_read, front_size, pcapng_ahead, pcapng_left, section_of}
 use Rattle.capture_files.specs.Options.{drop_count}
 use Rattle.capture_files.specs.PcapngRecords.{Reading, Section, block_read, dropped_before, frame_given, frame_here, frame_in, frame_of, frame_read, ordered, placed_drops, whole_read}
 use Rattle.capture_files.specs.Records.{Follows, Record, record_of}
@@ -20,7 +20,6 @@ use Rattle.capture_files.specs.declared.entry.Entry.{Entry}
 use Rattle.capture_files.specs.declared.entry.FrameHead.{FrameHead}
 use Rattle.capture_files.specs.declared.interface.Interface.{Interface}
 use Rattle.capture_files.specs.declared.packet_block.Placed.{Placed}
-use Rattle.capture_files.specs.declared.pcapng.BlockSearch.{BlockSearch}
 use Rattle.capture_files.specs.declared.pcapng.Pcapng.{Pcapng}
 use Rattle.capture_files.proofs.BlockLemmas.{frame_more, no_block, order_more}
 use Rattle.capture_files.proofs.FileLemmas.{follows_unshown, front_shown}
@@ -65,7 +64,7 @@ block_is s block whole = ap (λ b. if b then whole_read (ordered s block) block 
 -- ---- the block at the front
 
 -- more octets behind its head make no difference
-pub size_more : (s : Section) (xs ys : List ℕ) → 12 ≤ length xs → front_size s (xs ++ ys) ≡ block_length (order_at s.is_big xs) xs
+size_more : (s : Section) (xs ys : List ℕ) → 12 ≤ length xs → front_size s (xs ++ ys) ≡ block_length (order_at s.is_big xs) xs
 size_more s xs ys there = ap (λ b. block_length b (xs ++ ys)) (order_more s.is_big xs ys there) ∙ number_more (order_at s.is_big xs) xs ys 4 (omega (arith, there))
 
 -- it is there
@@ -173,10 +172,6 @@ front_begins s file t is =
 
 -- ---- what a block gives
 
--- octets without a reading
-pub unread : (reading : Option Reading) (p q : Pcapng) (octets : List ℕ) (e : Entry) → reading ≡ None → Reads reading p q octets e
-unread reading p q octets e none = λ sound free t is. cc (sym none ∙ is)
-
 -- the frame of a block
 pub frame_done : (p q : Pcapng) (kind : ℕ) (body : List ℕ) (placed : Placed) (i : Interface) (e : Entry) (h : FrameHead) → placed_in p.is_big kind (first_snap p.interfaces.items) body ≡ Some placed → slice_get p.interfaces.items placed.which ≡ Some i
     → e.frame ≡ Some h → frame_at h body ≡ frame_here (section_of p) placed i body
@@ -235,14 +230,9 @@ pub left_is : (p : Pcapng) (file : List ℕ) → p.search ≡ None → p.is_dama
 left_is p file free sound = ap (λ o. pcapng_ahead o p.is_damaged (section_of p) file) free ∙ ap (λ b. pcapng_ahead None b (section_of p) file) sound
 
 -- after a damage nothing is shown
-pub unshown_damaged : (p : Pcapng) (before : Option (List ℕ)) (after : Option (List Record)) (r : Option Record) → p.search ≡ None → p.is_damaged ≡ true → Follows (pcapng_left p before) after r
+unshown_damaged : (p : Pcapng) (before : Option (List ℕ)) (after : Option (List Record)) (r : Option Record) → p.search ≡ None → p.is_damaged ≡ true → Follows (pcapng_left p before) after r
 unshown_damaged p None after r free bad = follows_unshown _ _ _ (λ records shown. cc shown)
 unshown_damaged p (Some file) after r free bad = follows_unshown _ _ _ (λ records shown. cc (sym (ap (λ o. pcapng_ahead o p.is_damaged (section_of p) file) free ∙ ap (λ b. pcapng_ahead None b (section_of p) file) bad) ∙ shown))
-
--- nor in a search
-pub unshown_search : (p : Pcapng) (before : Option (List ℕ)) (after : Option (List Record)) (r : Option Record) (search_for : BlockSearch) → p.search ≡ Some search_for → Follows (pcapng_left p before) after r
-unshown_search p None after r search_for is = follows_unshown _ _ _ (λ records shown. cc shown)
-unshown_search p (Some file) after r search_for is = follows_unshown _ _ _ (λ records shown. cc (sym (ap (λ o. pcapng_ahead o p.is_damaged (section_of p) file) is) ∙ shown))
 
 -- the file does not begin with a whole block
 follows_damage : (p : Pcapng) (before : Option (List ℕ)) (after : Option (List Record)) (r : Option Record) → p.search ≡ None
@@ -274,25 +264,6 @@ follows_head p before left ahead after r free passes end some less = follows_dam
     let none : front.0 ≡ [] = cc (sym front.1 ∙ end file shown) in
     let whole : file ≡ ahead = front.2 ∙ ap (λ xs. ahead ++ xs) none ∙ append-nil ahead in
     (omega (arith, ap length whole, some), λ begins. omega (arith, ap length whole, less, begins.head)))
-
--- the file ends
-pub follows_end : (p q : Pcapng) (before left : Option (List ℕ)) (ahead next : List ℕ) → p.search ≡ None → Passes before (still ahead left) [] → IsAtEnd before left → ahead ≡ [] → next ≡ []
-    → section_of q ≡ section_of p → q.is_damaged ≡ p.is_damaged → q.search ≡ p.search → Follows (pcapng_left p before) (pcapng_left q (still next left)) None
-follows_end p q before left ahead next free passes end none no_more section damaged search_same = by_damage p.is_damaged refl before refl
-  where
-    by_damage : (b : Bool) → p.is_damaged ≡ b → (o : Option (List ℕ)) → before ≡ o → Follows (pcapng_left p before) (pcapng_left q (still next left)) None
-    by_damage true is o shown = unshown_damaged p before _ None free is
-    by_damage false is None shown = rw shown (follows_unshown _ _ _ (λ records is. cc is))
-    by_damage false is (Some file) shown =
-        let front = front_shown before left ahead file passes shown in
-        let nothing : front.0 ≡ [] = cc (sym front.1 ∙ end file shown) in
-        let empty : file ≡ [] = front.2 ∙ ap (λ xs. ahead ++ xs) nothing ∙ append-nil ahead ∙ none in
-        let had : pcapng_left p before ≡ Some [] = ap (pcapng_left p) (shown ∙ ap Some empty) ∙ left_is p [] free is in
-        let has : pcapng_left q (still next left) ≡ Some [] = ap (λ o. pcapng_left q (still next o)) (end file shown) ∙ ap (λ xs. pcapng_left q (Some (xs ++ []))) no_more ∙ left_is q [] (search_same ∙ free) (damaged ∙ is) in
-        record {
-          shown = λ records is_shown. ([], has, cc (sym is_shown ∙ had));
-          end = λ records is_shown _. cc (sym is_shown ∙ had);
-        }
 
 -- the entry of a block, whole or cut by the end of the file
 follows_block : (p q : Pcapng) (before left : Option (List ℕ)) (last ahead : List ℕ) (e : Entry) → p.search ≡ None → IsBlock (order_at p.is_big last) last ⊎ (IsCutBlock (order_at p.is_big last) last × (ahead ≡ []))
@@ -358,11 +329,3 @@ follows_after_fill p None filled after r passes next = follows_unshown _ _ _ (λ
 follows_after_fill p (Some file) filled after r passes next =
     let read = passes file refl in
     subst (λ o. Follows (pcapng_left p o) after r) (read.1 ∙ ap Some (sym read.2)) next
-
--- a reader that has not gone on has the same left
-pub unchanged_left : (p q : Pcapng) (file : Option (List ℕ)) → IsUnchanged p q → pcapng_left q file ≡ pcapng_left p file
-unchanged_left p q None same = refl
-unchanged_left p q (Some file) same =
-    ap (λ o. pcapng_ahead o q.is_damaged (section_of q) file) same.search
-    ∙ ap (λ b. pcapng_ahead p.search b (section_of q) file) same.damaged
-    ∙ ap (λ s. pcapng_ahead p.search p.is_damaged s file) same.section

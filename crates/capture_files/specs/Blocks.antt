@@ -40,7 +40,7 @@ is_whole big octets = nat_le 12 (length octets) && nat_eq (block_length big octe
 
 -- types of blocks without a frame that are numbered as if they had one, as Wireshark does: journal entries and custom blocks
 abbrev pub is_numbered : (kind : ℕ) → Bool
-is_numbered kind = nat_eq kind 9 || nat_eq kind 2989 || nat_eq kind 1073744813
+is_numbered kind = nat_eq kind 9 || nat_eq kind 0xBAD || nat_eq kind 0x40000BAD
 
 -- octets that are the beginning of a block
 pub record IsCutBlock (big : Bool) (octets : List ℕ) : Type 0 where

@@ -30,7 +30,7 @@ block_records s file = blocks_within (length file) s file
 
 -- the records of a whole file, after the frame of the number `last`, one for each block: its first block begins a section
 abbrev pub pcapng_records : (last : ℕ) → List ℕ → Option (List Record)
-pcapng_records last file = if nat_eq (number true file) 168627466 then block_records (no_section last) file else None
+pcapng_records last file = if nat_eq (number true file) 0x0A0D0D0A then block_records (no_section last) file else None
 
 -- octets are whole blocks, one behind the other, that give these records
 abbrev pub AreBlocks : Section → List ℕ → List Record → Type 0

@@ -1,4 +1,5 @@
--- What the blocks of a pcapng file give, one after the other.
+-- What the blocks of a pcapng file give, one after the other. A block has its type, its length, its content, and its length
+-- again, in the byte order of its section.
 use Rattle.std.specs.Prelude.{ℕ, ◌+◌, ◌-◌, ◌*◌, ◌^◌, ◌||◌, Bool, true, false, List, [], ◌∷◌, ◌++◌, Option, None, Some, drop, length, min, nat_eq, nat_le, nat_lt, slice_get, slice_set, if◌then◌else◌}
 use Rattle.capture_model.specs.Frames.{Frame}
 use Rattle.capture_files.specs.BlockFrames.{block_frame, body_of, frame_direction, options_behind, placed_in, time_of}
@@ -41,7 +42,7 @@ missing d = if nat_eq d.count 0 then None else Some d
 -- ---- each type of block; a body has the type and the first length of its block
 
 abbrev pub is_order : (magic : ℕ) → Bool
-is_order magic = nat_eq magic 439041101 || nat_eq magic 1295788826
+is_order magic = nat_eq magic 0x1A2B3C4D || nat_eq magic 0x4D3C2B1A
 
 -- the next section has no interface yet; their numbers go on
 abbrev pub begun : Section → Section
@@ -126,9 +127,11 @@ other_read s kind body = if nat_eq kind 5 then statistics_read s body
 
 -- ---- a block
 
+-- by its type: the first one begins a section, 1 describes an interface; 2 is an obsolete block with a frame, 3 a simple one
+-- and 6 an enhanced one
 abbrev pub content_read : Section → (kind : ℕ) → List ℕ → Option Reading
 content_read s kind body =
-    if nat_eq kind 168627466 then begin_read s body
+    if nat_eq kind 0x0A0D0D0A then begin_read s body
     else (if nat_eq kind 1 then interface_read s body
     else (if nat_eq kind 2 || nat_eq kind 3 || nat_eq kind 6 then frame_read s kind body
     else Some (other_read s kind body)))

@@ -1,5 +1,5 @@
 -- The records of a pcapng file are in the ranges of their types.
-use Rattle.std.proofs.Common.{◌≡◌, ◌∙◌, sym, ap, subst, refl, ℕ, zero, suc, ◌+◌, ◌-◌, ◌*◌, ◌/◌, ◌^◌, ◌<◌, ◌≤◌, ◌⊎◌, inl, inr, ℤ, pos, ◌+ℤ◌, ◌*ℤ◌, Bool, true, false, List, [], ◌∷◌, ◌++◌, length, max, min, Option, None, Some, IfSome, arith, cond, drop, ltb, nat_eq, nat_le, nat_lt}
+use Rattle.std.proofs.Common.{◌≡◌, sym, subst, refl, ℕ, zero, suc, ◌+◌, ◌-◌, ◌*◌, ◌/◌, ◌^◌, ◌<◌, ◌≤◌, ◌⊎◌, inl, inr, ℤ, pos, ◌+ℤ◌, ◌*ℤ◌, Bool, true, false, List, [], ◌∷◌, ◌++◌, length, max, min, Option, None, Some, IfSome, arith, cond, drop, ltb, nat_eq, nat_le, nat_lt}
 use Rattle.std.specs.Prelude.{◌||◌, if◌then◌else◌, option_map, slice_get}
 use Rattle.std.specs.Int.{w64, cast_signed}
 use Rattle.std.specs.Int.RustNames.{unsigned_abs}
@@ -11,7 +11,6 @@ use Rattle.std.proofs.lemmas.Int.{ints, unsigned_abs-mul}
 use Rattle.std.proofs.Math.Seq.{drop-append_seam, take-append_seam}
 use Rattle.hex.specs.Hex.{IsBytes}
 use Rattle.capture_model.specs.Frames.{Frame}
-use Rattle.capture_model.specs.declared.time.Nanos.{Nanos}
 use Rattle.capture_files.specs.BlockFrames.{body_of, frame_length, options_behind, placed_in, time_of}
 use Rattle.capture_files.specs.BlockSteps.{first_snap}
 use Rattle.capture_files.specs.Blocks.{block_length, is_numbered}
@@ -19,12 +18,12 @@ use Rattle.capture_files.specs.Interfaces.{interface_in}
 use Rattle.capture_files.specs.Numbers.{next_number, number, short_number}
 use Rattle.capture_files.specs.Options.{count_of, drop_count, last_value, options_in}
 use Rattle.capture_files.specs.PcapngFiles.{AreBlocks, block_records, pcapng_records}
-use Rattle.capture_files.specs.PcapngRecords.{Reading, Section, begin_read, begun, content_read, dropped_so_far, frame_given, frame_here, frame_in, frame_of, frame_read, interface_read, is_order, missing, no_section, ordered, other_read, passed, placed_drops, stamp_in, statistics_of, statistics_read, whole_read}
+use Rattle.capture_files.specs.PcapngRecords.{Reading, Section, begin_read, begun, content_read, dropped_so_far, frame_given, frame_here, frame_in, frame_of, frame_read, interface_read, is_order, missing, no_section, ordered, other_read, passed, placed_drops, stamp_in, statistics_of, statistics_read}
 use Rattle.capture_files.specs.declared.entry.Dropped.{Dropped}
 use Rattle.capture_files.specs.declared.interface.Interface.{Interface}
 use Rattle.capture_files.specs.declared.packet_block.Placed.{Placed}
 use Rattle.capture_files.proofs.PcapngLaw.{blocks_law}
-use Rattle.capture_report.specs.Laws.{IsFrame, IsRecord}
+use Rattle.capture_report.specs.Laws.{IsRecord}
 use Rattle.capture_report.specs.Records.{Record}
 use Rattle.capture_report.specs.TraceRows.{IsPlace}
 use Rattle.capture_report.proofs.LinkLemmas.{bytes_drop, bytes_take}
