@@ -24,7 +24,7 @@ use Rattle.capture_report.proofs.HeaderLemmas.{header_there}
 use Rattle.clap.specs.Words.{IsAmong, Kinds, Text, first_of, matches_of}
 use Rattle.clap.specs.declared.error.kind.ErrorKind.{ErrorKind}
 use Rattle.command_line.specs.Answer.{IsAnswerTo, IsReportOutput}
-use Rattle.command_line.specs.Asked.{AskedWords, Trace, asked_by, asked_of, unless_wrong}
+use Rattle.command_line.specs.Asked.{AskedWords, Trace, asked_by, asked_of, has_options, unless_wrong}
 use Rattle.command_line.specs.Copies.{CopiesOf}
 use Rattle.command_line.specs.Options.{command, words_fault}
 use Rattle.command_line.specs.Program.{HasFirstObjects, IsScanned, IsStatusOf, IsUnread, is_followed, lag_of, report_in}
@@ -85,9 +85,14 @@ report_same : (json : Bool) (text : List ℕ) (i : Interface) (rows : List Row) 
 report_same false text i rows h = h.report
 report_same true text i rows h = ap json_text h.report
 
+-- nothing was read: the status is none of a report
+unread_high : {A : Type 0} (status : ℕ) → (status ≡ 3) ⊎ (A × (status ≡ 64)) → status < 2 → ⊥
+unread_high status (inl three) few = omega (arith, three, few)
+unread_high status (inr usage) few = let is = usage.1 in omega (arith, is, few)
+
 pub reports : {S K E : Type 0} (read : Source S) (write : Sink K) (print : Sink E) (o : CaptureOptions) (named files : List ℕ → Option (List ℕ)) → ((name : List ℕ) → named name ≡ recorded o (files name)) → (asked : AskedWords) (source source′ : S) (sink sink′ : K) (errors errors′ : E) (status : ℕ)
-    → IsUnread source source′ sink sink′ status ⊎ IsAnswerTo read write print named asked source source′ sink sink′ errors errors′ status → ReportsCaptures files o asked (write.taken sink) (write.taken sink′) status
-reports read write print o named files is asked source source′ sink sink′ errors errors′ status (inl unread) = λ name progress report given octets records asks shows c header few. let other = unread.other in absurd (omega (arith, few, other))
+    → IsUnread (has_options asked) source source′ sink sink′ status ⊎ IsAnswerTo read write print named asked source source′ sink sink′ errors errors′ status → ReportsCaptures files o asked (write.taken sink) (write.taken sink′) status
+reports read write print o named files is asked source source′ sink sink′ errors errors′ status (inl unread) = λ name progress report given octets records asks shows c header few. absurd (unread_high status unread.other few)
 reports read write print o named files is asked source source′ sink sink′ errors errors′ status (inr answer) = λ name progress report given octets records asks shows c header few.
     let output : IsReportOutput read write print report (named name) source′ sink sink′ errors errors′ status = subst (λ a. IsAnswerTo read write print named a source source′ sink sink′ errors errors′ status) asks answer in
     let found = found_text o records header in
@@ -102,8 +107,8 @@ reports read write print o named files is asked source source′ sink sink′ er
 
 -- and of its text
 pub prints : {S K E : Type 0} (read : Source S) (write : Sink K) (print : Sink E) (o : CaptureOptions) (named files : List ℕ → Option (List ℕ)) → ((name : List ℕ) → named name ≡ recorded o (files name)) → (asked : AskedWords) (source source′ : S) (sink sink′ : K) (errors errors′ : E) (status : ℕ)
-    → IsUnread source source′ sink sink′ status ⊎ IsAnswerTo read write print named asked source source′ sink sink′ errors errors′ status → PrintsCaptures files o asked (write.taken sink) (write.taken sink′) status
-prints read write print o named files is asked source source′ sink sink′ errors errors′ status (inl unread) = λ name progress given octets records text asks shows c same none. let other = unread.other in absurd (omega (arith, none, other))
+    → IsUnread (has_options asked) source source′ sink sink′ status ⊎ IsAnswerTo read write print named asked source source′ sink sink′ errors errors′ status → PrintsCaptures files o asked (write.taken sink) (write.taken sink′) status
+prints read write print o named files is asked source source′ sink sink′ errors errors′ status (inl unread) = λ name progress given octets records text asks shows c same none. absurd (unread_high status unread.other (omega (arith, none)))
 prints read write print o named files is asked source source′ sink sink′ errors errors′ status (inr answer) = λ name progress given octets records text asks shows c same none.
     let copies : CopiesOf (named name) (write.taken sink) (write.taken sink′) status = subst (λ a. IsAnswerTo read write print named a source source′ sink sink′ errors errors′ status) asks answer in
     (copies text (is name ∙ shown_text o octets records (files name) shows c ∙ same)).whole none
