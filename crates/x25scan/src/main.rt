@@ -50,9 +50,9 @@ fn capture_options(alloc: Global, words: &[&str]) -> Result<CaptureOptions, u8>
 }
 
 /// Runs the program over recordings. Where the words ask for the report of a file, and the system shows that it is a pcap
-/// file without damage, a status below 2 says that the sink accepted the report of one observer over the rows of the
-/// capture, as the options of the recordings read them. Where they ask for the text of its trace, status 0 says that the
-/// sink accepted that.
+/// or pcapng file without damage, a status below 2 says that the sink accepted the report of one observer over the rows of
+/// the capture, as the options of the recordings read them. Where they ask for the text of its trace, status 0 says that
+/// the sink accepted that.
 fn run_over<
     O: Opener + Clock + Drop,
     P: Eprint + Drop,
