@@ -192,7 +192,7 @@ fn has_whole(alloc: Global) -> Result<bool, AllocError> {
 }
 
 #[test]
-fn what_comes_after_tags_lengths_and_headers_is_read(rt: HostRuntime) -> Result<(), Fail> {
+fn what_comes_after_tags_and_headers_is_read(rt: HostRuntime) {
     let octets =
         b"\x02\0\0\0\0\x01\x02\0\0\0\0\x02\x81\0\0\x05\x88\xA8\0\x06\x60\0\x02\0\x01\x3F\0\0";
     let header = read_header(LinkKind::Ethernet, &frame(octets.as_slice(), 28));
@@ -209,9 +209,17 @@ fn what_comes_after_tags_lengths_and_headers_is_read(rt: HostRuntime) -> Result<
     assert!(rt;
         lapb(header.carried).is_some_and(|payload| payload.octets == b"\x03\x73".as_slice())
     );
+}
+
+#[test]
+fn segments_are_found_in_datagrams_and_carriers(rt: HostRuntime) {
     assert!(rt; has_segment());
     assert!(rt; has_fragment());
     assert!(rt; has_carried());
+}
+
+#[test]
+fn fragments_make_a_datagram(rt: HostRuntime) -> Result<(), Fail> {
     let has_whole = has_whole(rt.alloc())?;
     assert!(rt; has_whole);
     Ok(())
