@@ -123,7 +123,7 @@ wrong_words words o kind among = at (words_fault words) (asked_by (λ name. firs
   where
     at : (kinds : Kinds) (asked : AskedWords) → IsAmong kind kinds → AsksOptions (unless_wrong kinds asked) o
     at [] asked among = absurd among
-    at (k ∷ kinds) asked among name progress output given asks = cc asks
+    at (k ∷ kinds) asked among = λ name progress output given asks. cc asks
 
 -- whatever is made of them
 pub refused_words : (words : List Text) (e : Error) (r : Result CaptureOptions ℕ) → HasKind (words_fault words) e → IfOk r (λ o. kind_of e ≢ OutOfMemory) → IfOk r (AsksOptions (asked_of words))
