@@ -1,6 +1,6 @@
 -- What the program answers of a capture is the report of its rows.
-use Rattle.std.proofs.Common.{◌≡◌, ◌∙◌, sym, ap, subst, refl, ℕ, zero, suc, ◌<◌, ◌⊎◌, inl, inr, Bool, true, false, List, [], Option, None, Some, arith}
-use Rattle.std.specs.Prelude.{◌||◌, is_some, option_map, if◌then◌else◌}
+use Rattle.std.proofs.Common.{◌≡◌, ◌∙◌, sym, ap, subst, refl, ℕ, zero, suc, ◌<◌, ◌⊎◌, inl, inr, Bool, true, false, List, [], ◌∷◌, ◌++◌, Option, Result, Ok, Err, None, Some, arith, map}
+use Rattle.std.specs.Prelude.{◌||◌, ◌≢◌, IfOk, is_some, option_map, if◌then◌else◌}
 use Rattle.std.specs.Option.{option_and_then}
 use Rattle.line_model.specs.basics.Device.{with_more}
 use Rattle.line_model.specs.basics.Records.{Row}
@@ -21,8 +21,10 @@ use Rattle.capture_report.specs.Texts.{rows_printed}
 use Rattle.capture_report.specs.declared.options.CaptureOptions.{CaptureOptions}
 use Rattle.capture_report.proofs.CaptureFileLemmas.{file_law}
 use Rattle.capture_report.proofs.HeaderLemmas.{header_there}
-use Rattle.clap.specs.Words.{IsAmong, Kinds, Text, first_of, matches_of}
+use Rattle.clap.specs.Words.{HasKind, IsAmong, Kinds, Text, first_of, kind_of, matches_of}
+use Rattle.clap.specs.declared.error.Error.{Error}
 use Rattle.clap.specs.declared.error.kind.ErrorKind.{ErrorKind}
+use Rattle.clap.specs.declared.error.kind.ErrorKind.TheVariants.{OutOfMemory}
 use Rattle.command_line.specs.Answer.{IsAnswerTo, IsReportOutput}
 use Rattle.command_line.specs.Asked.{AskedWords, Trace, asked_by, asked_of, has_options, unless_wrong}
 use Rattle.command_line.specs.Copies.{CopiesOf}
@@ -116,9 +118,15 @@ prints read write print o named files is asked source source′ sink sink′ err
 -- ---- the words
 
 -- words with a fault ask for no trace
-pub wrong_words : (words : List Text) (o : CaptureOptions) (kind : ErrorKind) → IsAmong kind (words_fault words) → AsksOptions (asked_of words) o
+wrong_words : (words : List Text) (o : CaptureOptions) (kind : ErrorKind) → IsAmong kind (words_fault words) → AsksOptions (asked_of words) o
 wrong_words words o kind among = at (words_fault words) (asked_by (λ name. first_of name (matches_of command words))) among
   where
     at : (kinds : Kinds) (asked : AskedWords) → IsAmong kind kinds → AsksOptions (unless_wrong kinds asked) o
     at [] asked among = absurd among
-    at (k ∷ kinds) asked among name progress output given asks = cc asks
+    at (k ∷ kinds) asked among = λ name progress output given asks. cc asks
+
+-- whatever is made of them
+pub refused_words : (words : List Text) (e : Error) (r : Result CaptureOptions ℕ) → HasKind (words_fault words) e → IfOk r (λ o. kind_of e ≢ OutOfMemory) → IfOk r (AsksOptions (asked_of words))
+refused_words words e (Ok o) (inl memory) other = absurd (other memory)
+refused_words words e (Ok o) (inr among) other = wrong_words words o (kind_of e) among
+refused_words words e (Err status) kinds other = tt
