@@ -99,7 +99,7 @@ pub(crate) fn is_by_options(reason: Option<io::Error>) -> bool
     ensures { result ≡ is_by_options reason }
 {
     match reason {
-        Some(reason) => reason.kind() == ErrorKind::InvalidInput,
+        Some(reason) => reason.kind() == ErrorKind::Other,
         None => false,
     }
 }
