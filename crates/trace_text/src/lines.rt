@@ -15,7 +15,7 @@ use line_model::device::LastLine;
 use line_model::fault::{Fault, Kind};
 use line_model::interface::Interface;
 use line_model::row::{ReadRow, Row, is_unqualified};
-use std::alloc::Allocator;
+use std::alloc::{AllocError, Allocator};
 use std::marker::Model;
 
 /// The bytes that a text may have.
@@ -73,6 +73,11 @@ pub struct TextEnd {
     pub interface: Interface,
     /// Whether a last line that no LF ended writes a row.
     pub has_row: bool,
+}
+
+/// Returns a row for others to be read into. It needs no memory.
+fn blank_row<A: Allocator + Clone>(alloc: &A) -> Result<ReadRow<A>, AllocError> {
+    Ok(ReadRow::blank(alloc.clone()?))
 }
 
 /// The row that was read with all its octets.
@@ -597,7 +602,7 @@ impl<A: Allocator + Clone> Lines<A> {
     {
         let mut rest = chunk;
         loop {
-            let mut row = ReadRow::blank(self.begun.allocator().clone()?);
+            let mut row = blank_row(self.begun.allocator())?;
             let Some(after) = self.find_row(rest, &mut row, true)? else {
                 return Ok(());
             };
@@ -666,7 +671,7 @@ impl<A: Allocator + Clone> Lines<A> {
         if let Some(fault) = self.refused {
             return Err(fault);
         }
-        let mut row = ReadRow::blank(self.begun.allocator().clone()?);
+        let mut row = blank_row(self.begun.allocator())?;
         let end = self.end_text(&mut row, true)?;
         if !end.has_row {
             return Ok(end.interface);
