@@ -97,7 +97,7 @@ static inline int x25scan_open(x25scan *scan, unsigned form) {
 
 /* Reads the next bytes of the text. In a scan of rows the objects of the packets whose lines have ended wait for
  * x25scan_read then, after what waits. Errors: TRACE at a line that is faulty however the text goes on, MEMORY, ENDED.
- * What the lines before a faulty line found, and their objects, can still be read. */
+ * What the lines before a faulty line found can still be read, and their objects, unless memory was refused to these. */
 static inline int x25scan_feed(x25scan *scan, const void *text, size_t length) {
     return scan && (text || !length) ? (int)x25scan_feed_text(scan, x25scan_bytes(text), length) : X25SCAN_NULL;
 }

@@ -91,6 +91,14 @@ int main(void) {
     EXPECT(needed == sizeof NUMBER - 1 && !memcmp(buffer, NUMBER, needed), 1);
     EXPECT(x25scan_packet(&early, 9, 'T', octets, 3), X25SCAN_TRACE);
     EXPECT(x25scan_close(&early), X25SCAN_OK);
+    EXPECT(x25scan_open(&early, X25SCAN_REPORTS), X25SCAN_OK);
+    EXPECT(x25scan_feed(&early, TEXT "1 T -\n", sizeof TEXT + 5), X25SCAN_TRACE);
+    EXPECT(x25scan_found(&early, &finding), X25SCAN_OK);
+    EXPECT((int)finding.packet, 1);
+    EXPECT(x25scan_found(&early, &finding), X25SCAN_NONE_LEFT);
+    EXPECT(x25scan_feed(&early, "2 T -\n", 6), X25SCAN_TRACE);
+    EXPECT(x25scan_found(&early, &finding), X25SCAN_NONE_LEFT);
+    EXPECT(x25scan_close(&early), X25SCAN_OK);
     EXPECT(x25scan_open(&rows, X25SCAN_ROW_OBJECTS), X25SCAN_OK);
     EXPECT(x25scan_feed(&rows, TEXT "2", sizeof TEXT), X25SCAN_OK);
     EXPECT(x25scan_read(&rows, buffer, sizeof buffer, &length, &left), X25SCAN_OK);

@@ -1,15 +1,14 @@
--- The trace of a pcap file has the rows of its records, where it has no fault.
+-- The trace of a capture file has the rows of its records, where it has no fault.
 use Rattle.std.proofs.Common.{◌≡◌, ◌∙◌, sym, ap, subst, refl, ℕ, ◌+◌, ◌*◌, ◌^◌, ◌<◌, Bool, true, false, List, [], ◌∷◌, ◌++◌, length, Option, None, Some, arith, drop}
 use Rattle.std.specs.Prelude.{if◌then◌else◌, option_map}
 use Rattle.std.specs.List.{AllByRecursion}
-use Rattle.std.specs.Option.{option_and_then}
 use Rattle.std.proofs.Math.Seq.{drop-append_seam, take-append_seam}
 use Rattle.hex.specs.Hex.{IsBytes}
 use Rattle.line_model.specs.declared.interface.Interface.{Interface}
 use Rattle.line_model.specs.text.Text.{fault}
-use Rattle.capture_files.specs.CaptureFiles.{records_of}
+use Rattle.capture_files.specs.CaptureFiles.{records_by, records_of}
 use Rattle.capture_files.specs.Numbers.{next_number, number}
-use Rattle.capture_files.specs.PcapFiles.{AreRecords, pcap_records}
+use Rattle.capture_files.specs.PcapFiles.{AreRecords}
 use Rattle.capture_files.specs.PcapHeaders.{form_of}
 use Rattle.capture_files.specs.PcapRecords.{header_size, line_length, pcap_frame}
 use Rattle.capture_files.specs.declared.pcap.PcapForm.{PcapForm}
@@ -28,14 +27,10 @@ use Rattle.capture_report.specs.declared.reader.Order.TheVariants.{Placed}
 use Rattle.capture_report.proofs.CaptureRowLemmas.{rows_law}
 use Rattle.capture_report.proofs.HeaderTextLemmas.{head_content, head_is_read, header_read}
 use Rattle.capture_report.proofs.LinkLemmas.{bytes_drop, bytes_take}
+use Rattle.capture_report.proofs.PcapngRecordLemmas.{number_small, pcapng_are}
 use Rattle.capture_report.proofs.TraceTextLemmas.{sound_law}
 
 -- ---- the records of octets
-
-number_small : (is_big : Bool) (xs : List ℕ) → IsBytes xs → number is_big xs < 2 ^ 32
-unfolding number
-number_small true xs h = let t = bytes_take 4 xs h in omega (arith, t 0, t 1, t 2, t 3)
-number_small false xs h = let t = bytes_take 4 xs h in omega (arith, t 0, t 1, t 2, t 3)
 
 time_small : (a b : ℕ) (is_nano : Bool) → a < 2 ^ 32 → b < 2 ^ 32 → a * 1000000000 + b * (if is_nano then 1 else 1000) < 2 ^ 128
 time_small a b true h k = omega (arith, h, k)
@@ -58,8 +53,8 @@ are_records f last octets (r ∷ rs) h a =
 file_records : (octets : List ℕ) (records : List Record) → IsBytes octets → records_of true 0 octets ≡ Some records → AllByRecursion IsRecord records
 file_records octets records h = at (form_of true octets)
   where
-    at : (form : Option PcapForm) → option_and_then (λ f. pcap_records f 0 (drop 24 octets)) form ≡ Some records → AllByRecursion IsRecord records
-    at None e = cc e
+    at : (form : Option PcapForm) → records_by form 0 octets ≡ Some records → AllByRecursion IsRecord records
+    at None e = pcapng_are octets records h e
     at (Some f) e = are_records f 0 (drop 24 octets) records (bytes_drop 24 octets h) ((records_law f 0 (drop 24 octets) records).0 e)
 
 -- ---- the trace

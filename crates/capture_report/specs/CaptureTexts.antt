@@ -80,7 +80,7 @@ capture_text o records = trace_by o (sight_in o records) (capture_rows o records
 abbrev pub numbered_rows : CaptureOptions → List Record → List trace.Row
 numbered_rows o records = trace_rows (printer_by o (sight_in o records)) (capture_rows o records)
 
--- the trace of a file that is a pcap file without damage
+-- the trace of a file that is a pcap or pcapng file without damage
 abbrev pub captured : CaptureOptions → (file : Option (List ℕ)) → Option (List ℕ)
 captured o file = option_and_then (capture_text o) (option_and_then (records_of true 0) file)
 

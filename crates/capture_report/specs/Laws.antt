@@ -90,8 +90,8 @@ CaptureLaw = (i : Interface) (header : List ℕ) (by_frames swapped : Bool) (r :
 abbrev pub PlainLaw : Type 0
 PlainLaw = (g : GivenHeader) (v : Seen) → is_unnamed g ≡ true → is_some (interface_with (numbers_with g v)) ≡ true
 
--- where the trace of an undamaged pcap file has no fault, the observer reads it as the rows of the capture, under the interface of what is
--- given and what was seen
+-- where the trace of an undamaged pcap or pcapng file has no fault, the observer reads it as the rows of the capture, under the interface of
+-- what is given and what was seen
 abbrev pub FileLaw : Type 0
 FileLaw = (o : CaptureOptions) (octets : List ℕ) (records : List Record) (text : List ℕ) → IsBytes octets → records_of true 0 octets ≡ Some records → capture_text o records ≡ Some text → fault text ≡ None
     → (i : Interface) × (interface_seen o records ≡ Some i) × HasRows text i (numbered_rows o records)

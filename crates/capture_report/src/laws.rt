@@ -15,8 +15,8 @@ pub fn rows_have_packets()
     ensures { RowsLaw }
 {}
 
-/// Where the trace of an undamaged pcap file has no fault, the observer reads it as the rows of the capture, under the
-/// interface of what is given and what was seen. Where no number of it is given there is always one.
+/// Where the trace of an undamaged pcap or pcapng file has no fault, the observer reads it as the rows of the capture,
+/// under the interface of what is given and what was seen. Where no number of it is given there is always one.
 pub fn file_is_read()
     ensures read { FileLaw }
     ensures header { PlainLaw }

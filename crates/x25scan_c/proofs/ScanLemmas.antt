@@ -1,28 +1,19 @@
--- What a scan keeps of a refusal, and what waits of rows.
-use Rattle.std.proofs.Common.{◌≡◌, ◌∙◌, ◌++◌, ℕ, List, [], None, OnOk, Option, Result, Ok, Err, Some, ap, append-nil, arith, refl, subst, sym}
-use Rattle.std.specs.Prelude.{IfErr, IfSome}
-use Rattle.std.specs.Result.{result_err}
+-- What a scan keeps of a refusal, and what waits of findings and rows.
+use Rattle.std.proofs.Common.{◌≡◌, ◌∙◌, ◌++◌, ℕ, List, [], OnOk, Option, Result, Ok, Err, Some, ap, append-nil, arith, refl, subst, sym}
+use Rattle.std.specs.Prelude.{IfErr}
 use Rattle.annotated_trace.specs.Printed.{HasAppended}
 use Rattle.annotated_trace.specs.Printers.{HasPrintBefore, HasPrinted, IsEndRefusal, IsRefusalOf}
-use Rattle.channel_run.specs.declared.run.Channel.{Ghosts as Machine}
 use Rattle.line_model.proofs.DeviceLemmas.{with_more-nil}
 use Rattle.line_model.specs.declared.fault.Fault.{Fault}
 use Rattle.line_model.specs.declared.fault.Fault.TheVariants.{Memory, Trace}
 use Rattle.line_model.specs.declared.fault.Kind.{Kind}
+use Rattle.line_model.specs.declared.finding.Finding.{Finding}
 use Rattle.line_model.specs.declared.state.Side.{Side}
-use Rattle.line_model.specs.text.Text.{Line, ended_lines, good_lines}
-use Rattle.live_report.specs.Lives.{IsFed, WasFed}
-use Rattle.live_report.specs.declared.live.Live.{Live}
-use Rattle.trace_text.specs.Represents.{IsFaultOf, IsTextFault}
+use Rattle.line_model.specs.text.Text.{Line, good_lines}
+use Rattle.live_report.specs.Found.{HasFound, HasFoundSome, IsFoundBy, IsFoundUpTo}
 use Rattle.x25scan_c.specs.declared.scanning.Scanning.{Scanning}
-use Rattle.x25scan_c.specs.Rows.{AddsRows, AddsRowsBefore, AreRowObjects, EndsRows}
+use Rattle.x25scan_c.specs.Rows.{AddsRows, AddsRowsBefore, AreRowObjects}
 use Rattle.x25scan_c.specs.Sound.{KeepsEndFault, KeepsFault, number_of}
-
--- a line is refused while it is read, by one who prints no rows
-pub refusal_of : (at : Option (ℕ × Kind)) (f : Fault) → IsFaultOf at f → IsRefusalOf at f
-refusal_of at Memory is = tt
-refusal_of at (Trace line kind) is = is
-refusal_of at _ is = absurd is
 
 -- a line was refused, and is kept
 pub keeps_line : (at : Option (ℕ × Kind)) (f : Fault) (s : Scanning) (n : ℕ) → ((line : ℕ) (kind : Kind) → f ≡ Trace line kind → at ≡ Some (line, kind)) → n ≡ number_of f → ((line : ℕ) (kind : Kind) → f ≡ Trace line kind → s.refused ≡ Some (line, kind)) → n ≡ 2 → KeepsFault at s
@@ -39,9 +30,28 @@ pub rows_before : (at : Option (ℕ × Kind)) (f : Fault) (n : ℕ) (ls ls_after
 rows_before at (Trace line kind) n ls ls_after waits waits_after is number two h = subst (λ a. AddsRows ls (good_lines a ls_after) waits waits_after) (sym is) h
 rows_before at _ n ls ls_after waits waits_after is number two h = absurd (omega (arith, number, two))
 
--- a trace that was fed a text may be reported
-pub was_fed : {A C : Type 0} (m : Machine C A) (text : List ℕ) (live : Live A C) → WasFed m text live → IsFed m.interface_of m.number_of m.represents live
-was_fed m text live w = record { fed = λ running. (text, w); kinds = subst (λ r. IfSome r IsTextFault) (sym w.running) tt }
+-- what was found waits after what waited
+found_after : (out new known known_after : List Finding) → HasFound [] new known known_after → HasFound out (out ++ new) known known_after
+found_after out new known known_after h = record { more = h.more; out_has = ap (λ xs. out ++ xs) h.out_has; known_has = h.known_has }
+
+some_after : (out new known known_after : List Finding) → HasFoundSome [] new known known_after → HasFoundSome out (out ++ new) known known_after
+some_after out new known known_after h = record { more = h.more; rest = h.rest; out_has = ap (λ xs. out ++ xs) h.out_has; known_has = h.known_has }
+
+pub found_on : {T : Type 0} (r : Result T Fault) (out new known known_after : List Finding) → IsFoundBy r [] new known known_after → IsFoundBy r out (out ++ new) known known_after
+found_on (Ok x) out new known known_after h = found_after out new known known_after h
+found_on (Err Memory) out new known known_after h = some_after out new known known_after h
+found_on (Err _) out new known known_after h = found_after out new known known_after h
+
+-- or none of it, where memory was refused
+pub none_on : {T : Type 0} (r : Result T Fault) (out out_after new known known_after : List Finding) → out_after ≡ out → IsFoundBy r [] new known known_after → HasFoundSome out out_after known known_after
+none_on (Ok x) out out_after new known known_after e h = record { more = []; rest = h.more; out_has = e ∙ sym (append-nil out); known_has = h.known_has }
+none_on (Err Memory) out out_after new known known_after e h = record { more = []; rest = h.more ++ h.rest; out_has = e ∙ sym (append-nil out); known_has = h.known_has }
+none_on (Err _) out out_after new known known_after e h = record { more = []; rest = h.more; out_has = e ∙ sym (append-nil out); known_has = h.known_has }
+
+-- what the rows before a faulty line found
+pub found_before : (f : Fault) (n : ℕ) (out out_after known known_after : List Finding) → n ≡ number_of f → n ≡ 2 → IsFoundUpTo f out out_after known known_after → HasFound out out_after known known_after
+found_before (Trace line kind) n out out_after known known_after number two h = h
+found_before _ n out out_after known known_after number two h = absurd (omega (arith, number, two))
 
 -- a sink has nothing of the objects that are gone
 pub none_sent : (gone held : List ℕ) (before : Option (List ℕ)) (ls : List Line) → held ≡ [] → AreRowObjects ls gone → HasPrinted (λ l bytes. AreRowObjects l (gone ++ bytes)) before before held ls
@@ -66,34 +76,6 @@ pub adds_rows_before : {T : Type 0} (r : Result T Fault) (ls ls_after : List Lin
 adds_rows_before (Ok x) ls ls_after waits waits_after printed = tt
 adds_rows_before (Err (Trace line kind)) ls ls_after waits waits_after printed = λ gone before. printed_waits (λ l bytes. AreRowObjects l (gone ++ bytes)) waits waits_after _ (printed gone before)
 adds_rows_before (Err f) ls ls_after waits waits_after printed = tt
-
--- what holds of a result without a fault
-pub ok_by : {T : Type 0} (r : Result T Fault) (P : Type 0) → OnOk r P → result_err r ≡ None → P
-ok_by (Ok x) P h none = h
-ok_by (Err f) P h none = absurd (let bad : Some f ≡ None = none in cc)
-
--- and of what keeps its fault
-pub ok_kept : {T : Type 0} (r : Result T Fault) (o : Option Fault) (P Q R : Type 0) → o ≡ result_err r → OnOk r P → OnOk r Q → (P → Q → o ≡ None → R) → OnOk r R
-ok_kept (Ok x) o P Q R e p q to = to p q e
-ok_kept (Err f) o P Q R e p q to = tt
-
--- what was written at the end waits after what waited
-pub end_waits : (text waits waits_after written : List ℕ) → waits_after ≡ waits ++ written → EndsRows text (Some []) (Some written) → EndsRows text (Some waits) (Some waits_after)
-end_waits text waits waits_after written e ends gone before =
-    let end = ends gone before in
-    let p = end.1 in (
-      end.0,
-      record {
-        report = p.report;
-        reported = p.reported;
-        lines = p.lines;
-        closing = p.closing;
-        print = p.print;
-        closed = p.closed;
-        taken = ap (λ xs. Some xs) (e ∙ ap (λ xs. waits ++ xs) (some_same written (p.lines ++ p.closing) p.taken));
-        counted = p.counted;
-      },
-    )
 
 -- the same side by both
 pub same_side : (o : Option Side) (x s : Side) → o ≡ Some x → o ≡ Some s → x ≡ s

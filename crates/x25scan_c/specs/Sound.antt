@@ -1,5 +1,5 @@
 -- What a scan holds: what it was fed, and what waits to be taken.
-use Rattle.std.specs.Prelude.{◌≡◌, ◌⊎◌, ℕ, Bool, true, false, List, [], ◌++◌, Option, Some, None, if◌then◌else◌, ◌==◌}
+use Rattle.std.specs.Prelude.{◌≡◌, ◌⊎◌, ℕ, Bool, true, false, List, ◌++◌, Option, Some, None, if◌then◌else◌, ◌==◌}
 use Rattle.annotated_trace.specs.Printers.{IsFull}
 use Rattle.channel_run.specs.declared.run.Channel.{Ghosts as Machine}
 use Rattle.json_lines.specs.Json.{json_text}
@@ -16,6 +16,7 @@ use Rattle.trace_text.specs.RowTexts.{row_text}
 use Rattle.x25scan_c.specs.Rows.{AddsRows, HasPrintedRows, IsPrintingRows}
 use Rattle.x25scan_c.specs.Waits.{refusals, waiting}
 use Rattle.x25scan_c.specs.declared.reading.Reading.{Reading}
+use Rattle.x25scan_c.specs.declared.report_reading.ReportReading.{ReportReading}
 use Rattle.std_heap.specs.declared.Global.{Global}
 use Rattle.channel_machine.specs.declared.gaps.channel.GapChannel.{GapChannel}
 use Rattle.channel_machine.specs.declared.packed.PackedStatus.{PackedStatus}
@@ -26,15 +27,23 @@ use Rattle.x25scan_c.specs.declared.reading.Reading.TheVariants.{Report, Rows, E
 abbrev pub ScanMachine : Type 1
 ScanMachine = Machine (GapChannel Global PackedStatus) Global
 
+-- a trace was fed some text, or it refused
+abbrev pub IsJudging : {A C : Type 0} → Machine C A → ReportReading A C → Type 0
+IsJudging m reports = IsFed m.interface_of m.number_of m.represents reports.live
+
+-- a trace was fed this text, and none of it was refused
+abbrev pub HasJudged : {A C : Type 0} → Machine C A → List ℕ → ReportReading A C → Type 0
+HasJudged m text reports = WasFed m text reports.live × (reports.refused ≡ None)
+
 -- a trace was fed this text, has refused none of it, and has not ended
 abbrev pub WasRead : {A C : Type 0} → Machine C A → List ℕ → Reading A C → Type 0
-WasRead m text (Report live) = WasFed m text live
+WasRead m text (Report reports) = HasJudged m text reports
 WasRead m text (Rows rows) = HasPrintedRows m text rows
 WasRead m text Ended = ⊥
 
 -- a trace that has not ended was fed some text, or it refused
 abbrev pub IsSound : {A C : Type 0} → Machine C A → Reading A C → Type 0
-IsSound m (Report live) = IsFed m.interface_of m.number_of m.represents live
+IsSound m (Report reports) = IsJudging m reports
 IsSound m (Rows rows) = IsPrintingRows m rows
 IsSound m Ended = Unit {0}
 
@@ -74,6 +83,10 @@ Brings true text text_after found found_after waits waits_after = (found_after �
 -- a scan that was fed a text was fed more in the same form, and has what it brings
 abbrev pub HasRead : ScanMachine → (text text_after : List ℕ) → Scanning → Scanning → Type 0
 HasRead m text text_after s t = WasRead m text_after t.reading × (prints_rows t.reading ≡ prints_rows s.reading) × Brings (prints_rows s.reading) text text_after (waiting s.found) (waiting t.found) (waiting s.text) (waiting t.text)
+
+-- what the rows before the faulty line of a text found waits
+abbrev pub HasFoundBefore : (text text_after : List ℕ) → Scanning → Scanning → Type 0
+HasFoundBefore text text_after s t = HasFound (waiting s.found) (waiting t.found) (findings_of text) (findings_of text_after)
 
 -- the objects of the rows before the faulty line of a text wait, unless memory was refused to them
 abbrev pub HasRowsBefore : (text text_after : List ℕ) → Scanning → Scanning → Type 0

@@ -13,7 +13,7 @@ ghost use Rattle.trace_text.specs.RowTexts.{side_letter};
 ghost use Rattle.x25scan_c.specs.Owning.{Holds};
 ghost use Rattle.x25scan_c.specs.Found.{numbers_of};
 ghost use Rattle.x25scan_c.specs.Rows.{EndsRows};
-ghost use Rattle.x25scan_c.specs.Sound.{HasRead, HasReport, HasRowsBefore, IsSound, IsSoundScan, KeepsEndFault, KeepsFault, OfScans, WasScanned, packet_line, scan_ended, scan_prints_rows};
+ghost use Rattle.x25scan_c.specs.Sound.{HasFoundBefore, HasRead, HasReport, HasRowsBefore, IsSound, IsSoundScan, KeepsEndFault, KeepsFault, OfScans, WasScanned, packet_line, scan_ended, scan_prints_rows};
 ghost use Rattle.x25scan_c.specs.Waits.{waiting};
 
 pub mod errors;
@@ -21,6 +21,7 @@ pub mod found;
 mod handle;
 mod loose;
 mod reading;
+mod report_reading;
 mod row_reading;
 mod scanning;
 mod waiting;
@@ -141,7 +142,10 @@ pub extern "C" fn x25scan_feed_text(alloc: Global, scan: &mut Scan, text: &[u8])
     // The trace is refused by its first faulty line, which is kept.
     ensures refused { (before : List ℕ) → WasScanned ⟦<PackedChannel<Global> as Channel<Global>>⟧ before scan.old.observer.value → result ≡ 2
         → IfSome scan.new.observer.value (KeepsFault (early (before ++ text.now))) }
-    // The objects of the rows before it wait.
+    // What the rows before it found waits, or their objects.
+    ensures found { (before : List ℕ) → WasScanned ⟦<PackedChannel<Global> as Channel<Global>>⟧ before scan.old.observer.value
+        → scan_prints_rows scan.old.observer.value ≡ false → result ≡ 2
+        → OfScans (HasFoundBefore before (before ++ text.now)) scan.old.observer.value scan.new.observer.value }
     ensures before { (before : List ℕ) → WasScanned ⟦<PackedChannel<Global> as Channel<Global>>⟧ before scan.old.observer.value
         → scan_prints_rows scan.old.observer.value ≡ true → result ≡ 2
         → OfScans (HasRowsBefore before (before ++ text.now)) scan.old.observer.value scan.new.observer.value }

@@ -6,15 +6,14 @@ ghost use Rattle.json_lines.specs.Json.{json_text};
 ghost use Rattle.line_model.specs.basics.Device.{with_more};
 ghost use Rattle.line_model.specs.text.Text.{early, ended_lines, fault};
 ghost use Rattle.line_model.specs.traces.Traces.{trace_report};
-ghost use Rattle.live_report.specs.Found.{HasFound, found as findings_of};
-ghost use Rattle.live_report.specs.Lives.{WasFed};
+ghost use Rattle.live_report.specs.Found.{IsFoundUpTo, found as findings_of};
 ghost use Rattle.live_report.specs.Reports.{IsRefusal};
 ghost use Rattle.trace_text.specs.EndedPart.{ended_part as ended};
-ghost use Rattle.trace_text.specs.Represents.{IsFaultOf};
 ghost use Rattle.x25scan_c.specs.Rows.{AddsRowsBefore, EndsRows};
 ghost use Rattle.x25scan_c.specs.Sound.{Brings, IsSound, WasRead, has_ended, packet_line, prints_rows};
 ghost use Rattle.x25scan_c.specs.Waits.{refusals, waiting};
 
+use crate::report_reading::ReportReading;
 use crate::row_reading::RowReading;
 use crate::waiting::Waiting;
 use channel_run::run::Channel;
@@ -22,7 +21,6 @@ use line_model::device::Sink;
 use line_model::fault::Fault;
 use line_model::finding::Finding;
 use line_model::state::Side;
-use live_report::live::Live;
 use live_report::uncounted::Uncounted;
 use std::alloc::{Allocator, Global};
 use std::mem::replace;
@@ -32,60 +30,11 @@ use streams::kept_line::KeptLine;
 #[derive(Drop)]
 pub enum Reading<A: Allocator, C: Channel<A>> {
     /// A trace whose report can be asked for at any moment.
-    Report(Live<A, C>),
+    Report(ReportReading<A, C>),
     /// A trace whose rows are printed as they come.
     Rows(RowReading<A, C>),
     /// The trace has ended.
     Ended,
-}
-
-/// Reads the next bytes of a trace text, as `Live::feed`, and appends what their rows found.
-fn feed_live<A: Allocator + Copy, C: Channel<A>>(
-    live: &mut Live<A, C>,
-    chunk: &[u8],
-    found: &mut Waiting<Finding, A>,
-) -> Result<(), Fault>
-    requires { IsSound C.Channel (Reading.Report live.old) }
-    ensures sound { IsSound C.Channel (Reading.Report live.new) }
-    ensures fed { (text : List ℕ) → WasFed C.Channel text live.old
-        → OnOk result (WasFed C.Channel (text ++ chunk.now) live.new) }
-    ensures found { (text : List ℕ) → WasFed C.Channel text live.old → OnOk result
-        (HasFound (waiting found.old) (waiting found.new) (findings_of text) (findings_of (text ++ chunk.now))) }
-    ensures refused { (text : List ℕ) → WasFed C.Channel text live.old
-        → IfErr result (IsFaultOf (early (text ++ chunk.now))) }
-{
-    live.feed(chunk)?;
-    found.append(live.found())?;
-    Ok(())
-}
-
-/// Reads a packet, as `Live::packet`, and appends what it found.
-#[inline(always)]
-fn live_packet<A: Allocator + Copy, C: Channel<A>>(
-    live: &mut Live<A, C>,
-    number: u32,
-    side: Side,
-    octets: &[u8],
-    found: &mut Waiting<Finding, A>,
-) -> Result<bool, Fault>
-    requires { IsSound C.Channel (Reading.Report live.old) }
-    ensures sound { IsSound C.Channel (Reading.Report live.new) }
-    ensures taken { (text : List ℕ) → WasFed C.Channel text live.old → result ≡ Ok true
-        → WasFed C.Channel (text ++ packet_line number side octets.now) live.new }
-    ensures passed { (text : List ℕ) → WasFed C.Channel text live.old → result ≡ Ok false
-        → WasFed C.Channel text live.new }
-    ensures found { (text : List ℕ) → WasFed C.Channel text live.old → result ≡ Ok true
-        → HasFound (waiting found.old) (waiting found.new) (findings_of text)
-        (findings_of (text ++ packet_line number side octets.now)) }
-    ensures unfound { result ≡ Ok false → found.new ≡ found.old }
-{
-    if !live.packet(number, side, octets)? {
-        return Ok(false);
-    }
-    if !live.found().is_empty() {
-        found.append(live.found())?;
-    }
-    Ok(true)
 }
 
 impl<A: Allocator + Copy, C: Channel<A>> Reading<A, C> {
@@ -98,7 +47,7 @@ impl<A: Allocator + Copy, C: Channel<A>> Reading<A, C> {
         if of_rows {
             Reading::Rows(RowReading::new(alloc))
         } else {
-            Reading::Report(Live::new(alloc))
+            Reading::Report(ReportReading::new(alloc))
         }
     }
 
@@ -112,7 +61,7 @@ impl<A: Allocator + Copy, C: Channel<A>> Reading<A, C> {
     /// Returns a copy of the last line that was read, as `Lines::last_line`.
     pub fn last_line(&self, alloc: Global) -> Option<KeptLine> {
         match self {
-            Reading::Report(live) => KeptLine::of(alloc, live.last_line()),
+            Reading::Report(reports) => KeptLine::of(alloc, reports.live.last_line()),
             Reading::Rows(printed) => KeptLine::of(alloc, printed.last_line()),
             Reading::Ended => None,
         }
@@ -126,7 +75,8 @@ impl<A: Allocator + Copy, C: Channel<A>> Reading<A, C> {
     }
 
     /// Reads the next bytes of the text, and appends what their rows found, or the objects of their rows. Fails with the
-    /// first line that is faulty however the text goes on, and when memory is refused; from then on it fails with the same.
+    /// first line that is faulty however the text goes on, after what the rows before it gave, and when memory is
+    /// refused; from then on it fails with the same.
     pub fn feed(
         &mut self,
         chunk: &[u8],
@@ -139,13 +89,16 @@ impl<A: Allocator + Copy, C: Channel<A>> Reading<A, C> {
             × Brings (prints_rows self.old) text (text ++ chunk.now) (waiting found.old) (waiting found.new) (waiting rows.old) (waiting rows.new)) }
         ensures refused { (text : List ℕ) → WasRead C.Channel text self.old
             → IfErr result (IsRefusalOf (early (text ++ chunk.now))) }
+        ensures found { (text : List ℕ) → WasRead C.Channel text self.old → prints_rows self.old ≡ false
+            → IfErr result (λ fault. IsFoundUpTo fault (waiting found.old) (waiting found.new) (findings_of text)
+            (findings_of (text ++ chunk.now))) }
         ensures before { (text : List ℕ) → WasRead C.Channel text self.old → prints_rows self.old ≡ true
             → refusals rows.new ≡ refusals rows.old → IfErr result (AddsRowsBefore (ended_lines text)
             (ended_lines (text ++ chunk.now)) (waiting rows.old) (waiting rows.new)) }
         ensures form { prints_rows self.new ≡ prints_rows self.old }
     {
         match self {
-            Reading::Report(live) => feed_live(live, chunk, found),
+            Reading::Report(reports) => reports.feed(chunk, found),
             Reading::Rows(printed) => printed.feed(chunk, rows),
             Reading::Ended => Ok(()),
         }
@@ -171,7 +124,7 @@ impl<A: Allocator + Copy, C: Channel<A>> Reading<A, C> {
         ensures form { prints_rows self.new ≡ prints_rows self.old }
     {
         match self {
-            Reading::Report(live) => live_packet(live, number, side, octets, found),
+            Reading::Report(reports) => reports.packet(number, side, octets, found),
             _ => Ok(false),
         }
     }
@@ -185,8 +138,8 @@ impl<A: Allocator + Copy, C: Channel<A>> Reading<A, C> {
         ensures refused { (text : List ℕ) → WasRead C.Channel text self.now → IfErr result (IsRefusal (ended text)) }
     {
         match self {
-            Reading::Report(live) => {
-                live.report(sink)?;
+            Reading::Report(reports) => {
+                reports.live.report(sink)?;
                 Ok(())
             }
             Reading::Rows(printed) => printed.report(alloc, sink),
@@ -209,8 +162,8 @@ impl<A: Allocator + Copy, C: Channel<A>> Reading<A, C> {
             → IfErr result (IsEndRefusal text) }
     {
         match replace(self, Reading::Ended) {
-            Reading::Report(live) => {
-                live.end(sink, &mut Uncounted::none())?;
+            Reading::Report(reports) => {
+                reports.live.end(sink, &mut Uncounted::none())?;
                 Ok(())
             }
             Reading::Rows(printed) => printed.end(sink),

@@ -9,7 +9,7 @@ ghost use Rattle.line_model.specs.text.Text.{early, fault};
 ghost use Rattle.trace_text.specs.EndedPart.{ended_part as ended};
 ghost use Rattle.trace_text.specs.RowTexts.{side_letter};
 ghost use Rattle.x25scan_c.specs.Rows.{EndsRows};
-ghost use Rattle.x25scan_c.specs.Sound.{HasRead, HasReport, HasRowsBefore, IsSound, Keeps, KeepsEndFault, KeepsFault, WasRead, has_ended, number_of, packet_line, prints_rows};
+ghost use Rattle.x25scan_c.specs.Sound.{HasFoundBefore, HasRead, HasReport, HasRowsBefore, IsSound, Keeps, KeepsEndFault, KeepsFault, WasRead, has_ended, number_of, packet_line, prints_rows};
 ghost use Rattle.x25scan_c.specs.Waits.{waiting};
 
 use crate::errors::{ARGUMENT, ENDED, LINE, MEMORY, OK, ROWS, number_of};
@@ -122,6 +122,8 @@ impl Scanning {
             → HasRead ⟦<PackedChannel<Global> as Channel<Global>>⟧ text (text ++ chunk.now) self.old self.new }
         ensures refused { (text : List ℕ) → WasRead ⟦<PackedChannel<Global> as Channel<Global>>⟧ text self.old.reading → result ≡ 2
             → KeepsFault (early (text ++ chunk.now)) self.new }
+        ensures found { (text : List ℕ) → WasRead ⟦<PackedChannel<Global> as Channel<Global>>⟧ text self.old.reading → prints_rows self.old.reading ≡ false
+            → result ≡ 2 → HasFoundBefore text (text ++ chunk.now) self.old self.new }
         ensures before { (text : List ℕ) → WasRead ⟦<PackedChannel<Global> as Channel<Global>>⟧ text self.old.reading → prints_rows self.old.reading ≡ true
             → result ≡ 2 → HasRowsBefore text (text ++ chunk.now) self.old self.new }
         ensures ended { has_ended self.old.reading ≡ true → (result ≡ 4) × (self.new ≡ self.old) }

@@ -1,7 +1,8 @@
 use Rattle.std.proofs.Common.{◌∙◌, ◌++◌, sym}
 use Rattle.annotated_trace.specs.declared.rows.Rows.TheVariants.{All}
 use Rattle.line_model.specs.text.Text.{ended_lines}
-use Rattle.x25scan_c.proofs.ScanLemmas.{adds_rows, adds_rows_before, none_sent, ok_by, ok_kept}
+use Rattle.live_report.proofs.LiveLemmas.{ok_by, on_both, on_sound}
+use Rattle.x25scan_c.proofs.ScanLemmas.{adds_rows, adds_rows_before, none_sent}
 use Rattle.x25scan_c.proofs.row_reading.RowReading.feed.Goals as goal
 
 pub feed-answer-requires : goal.feed-answer-requires
@@ -17,7 +18,7 @@ returns-clause-sound g c none =
 
 pub returns-clause-fed : goal.returns-clause-fed
 returns-clause-fed g c text w =
-    ok_kept c.feed-answer.result _ _ _ _ c.err-self.ensures.value (c.feed-answer.ensures.fed All text w.0) c.feed-answer.ensures.none_held (λ fed held none. (fed, held, none))
+    on_sound c.feed-answer.result _ _ _ c.err-self.ensures.value (on_both c.feed-answer.result _ _ (c.feed-answer.ensures.fed All text w.0) c.feed-answer.ensures.none_held) (λ both none. (both.0, both.1, none))
 
 pub returns-clause-rows : goal.returns-clause-rows
 returns-clause-rows g c text w =
