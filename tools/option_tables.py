@@ -24,6 +24,14 @@ FILES = ("FILE", "CAPTURE", "OUT", "PROGRAM")
 # What completes a value of which other values are allowed too.
 SUGGESTED = {"kinds": KINDS}
 TITLES_OF_ARGPARSE = ("positional arguments", "options")
+# The values that options of x25scan may have, where its help names them; it reads no capture of IP.
+CHOICES = {
+    "--mod": ("8", "128"),
+    "--lapb-modulo": ("8", "128"),
+    "--size": tuple(str(1 << power) for power in range(4, 13)),
+    "--as": tuple(it for it in KINDS if it != "ip"),
+    "--only": ("lapb", "x25"),
+}
 
 
 @dataclass
@@ -67,7 +75,8 @@ def options_of_help(helped: str) -> list[Option]:
     of_captures = OPTION.findall(section(helped, CAPTURES))
     operands = [Option((), text, value) for value, text in OPERAND.findall(section(helped, "Arguments"))]
     lettered = [Option((letter, name), text) for letter, name, _, _, text in found if letter]
-    return named + operands + lettered + [Option((name,), text, value, group=CAPTURES) for _, name, _, value, text in of_captures]
+    captures = [Option((name,), text, value, choices=CHOICES.get(name, ()), group=CAPTURES) for _, name, _, value, text in of_captures]
+    return named + operands + lettered + captures
 
 
 def option_of_action(action: argparse.Action, group: str) -> Option:

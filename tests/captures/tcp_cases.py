@@ -321,26 +321,6 @@ def ports_used_again():
     """))
 
 
-def repeated_with_one_that_waits():
-    """Frame 11 has the octets of frame 6 again, and those of frame 7, which waits for an RR that was not recorded.
-
-    The gap is that before frame 7, and frame 7 follows it.
-    """
-    talk, other = Talk(), Talk(ports=(1026, 1998))
-    frames = talk.open() + [talk.a(CALL), talk.b(ACCEPTED), talk.a(SENT[0])]
-    talk.b("100121")
-    frames += [talk.a(SENT[1]), *other.open()]
-    octets = b"".join(map(xot, SENT[:2]))
-    frames += [talk.segment(0, octets, at=talk.next[0] - len(octets))] + talk.close()
-    yield Case("tcp-repeated-with-one-that-waits", file_of(frames), gaps_header(7, 16) + text("""
-        4 T 10010B0000
-        5 N 10010F
-        6 T 100100A0
-        7 ? 1
-        8 T 100102A1
-    """), "--win 7 --size 16", status=1, report=with_gaps(report(4, 5, None, 2, 4), 1), tshark=None)
-
-
 def probes():
     """A SYN that is repeated, and probes: of an octet that was acknowledged, and of the one that is next."""
     rows = header() + text("""
@@ -371,8 +351,7 @@ def segments_after_the_end():
 TOPICS = (
     retransmission, out_of_order, overlapping, sequence_numbers_wrap, packets_split, packets_packed,
     packets_across_segments, gap_and_next_connection, gap_in_the_other_direction, answer_recorded_before_its_data,
-    snap_length, fragmented, fragment_missing, not_cleared, ports_used_again,
-    repeated_with_one_that_waits, probes, segments_after_the_end,
+    snap_length, fragmented, fragment_missing, not_cleared, ports_used_again, probes, segments_after_the_end,
 )
 
 

@@ -98,9 +98,6 @@ pub(crate) fn line(alloc: Global, options: &CaptureOptions) -> Result<Line, Open
     }
 }
 
-/// Why a header is refused whose numbers are given.
-const NO_HEADER: &str = "no header has these numbers: WIN < MOD, and PVC <= IN <= TWO <= OUT";
-
 /// Returns the lines of a trace that come before its rows. Fails where numbers that are given are not those of an interface.
 pub(crate) fn head(alloc: Global, first: &FirstReading) -> Result<Vec<u8>, OpenRefusal>
     ensures text { IfOk result (λ head. Some head.items ≡ head_lines first.now.options.header first.now.survey.seen) }
@@ -108,7 +105,7 @@ pub(crate) fn head(alloc: Global, first: &FirstReading) -> Result<Vec<u8>, OpenR
 {
     let (seen, given) = (first.survey.seen(), &first.options.header);
     let Some(header) = seen.header(given) else {
-        return Err(OpenRefusal::by_system(io::Error::other(NO_HEADER)));
+        return Err(OpenRefusal::by_system(seen.refusal(alloc, given)));
     };
     let mut head = Vec::new(alloc);
     match print_head(&header, seen, given, &mut head) {

@@ -17,6 +17,8 @@ use line_model::packet::{Packet, PacketKind};
 use line_model::state::Side;
 use packet_decode::decode::decode;
 use std::alloc::{AllocError, Global};
+use std::io;
+use std::io::ErrorKind;
 use std::marker::Model;
 
 /// How a recording begins.
@@ -470,5 +472,31 @@ impl Seen {
         ensures { result ≡ interface_with (numbers_with given.now self.now) }
     {
         interface_of(self.numbers(given))
+    }
+
+    /// Returns why there is no header with the numbers that are given and, for the others, those that were seen.
+    pub(crate) fn refusal(&self, alloc: Global, given: &GivenHeader) -> io::Error {
+        let Numbers {
+            modulus,
+            window,
+            pvc,
+            incoming,
+            two_way,
+            svc,
+            ..
+        } = self.numbers(given);
+        let words = if !is_numbered(modulus, window) {
+            format!(in alloc; "WIN {window} is not below MOD {modulus}")
+        } else if given.has_ranges() {
+            format!(in alloc;
+                "PVC {pvc}, IN {incoming}, TWO {two_way}, OUT {svc}: none may be below the one before it"
+            )
+        } else {
+            format!(in alloc; "PVC {pvc} is above SVC {svc}")
+        };
+        match words {
+            Ok(words) => io::Error::other(&words),
+            Err(_) => io::Error::from(ErrorKind::OutOfMemory),
+        }
     }
 }

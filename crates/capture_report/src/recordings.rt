@@ -90,11 +90,24 @@ impl<R: Opener + Drop, E: Eprint + Drop> Recordings<R, E> {
         }
         let first = self.read_first(name, begun)?;
         if let Some(fault) = first.survey.fault() {
-            return Err(OpenRefusal::of_capture(fault));
+            return Err(self.refusal(fault));
         }
         let head = head(self.alloc, &first)?;
         self.print_estimate(name, head.as_slice());
         CaptureText::new(self.alloc, self.system.open(name)?, first, head)
+    }
+
+    /// Returns why a capture has no trace. Where options choose packets, the capture may have others.
+    fn refusal(&self, fault: CaptureFault) -> OpenRefusal
+        ensures { IsByItsReason result }
+    {
+        let choices = &self.options.choices;
+        match fault {
+            CaptureFault::NoPacket if choices.carrier.is_some() || choices.interface.is_some() => {
+                OpenRefusal::by_system(io::Error::other(NO_CHOICE))
+            }
+            _ => OpenRefusal::of_capture(fault),
+        }
     }
 
     /// Prints the comment of the lines before the rows where numbers were estimated, as far as the errors accept it.
@@ -116,6 +129,9 @@ impl<R: Opener + Drop, E: Eprint + Drop> Recordings<R, E> {
         }
     }
 }
+
+/// Why a capture is refused of which options leave no packet.
+const NO_CHOICE: &str = "no packet of X.25 is left by --only or --interface: leave them out";
 
 /// Why a trace is refused where options of captures are given.
 const NO_CAPTURE: &str = "a trace has its own header and sides: leave out the options of captures";

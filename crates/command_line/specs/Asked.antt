@@ -6,6 +6,7 @@ use Rattle.clap.specs.Words.{Kinds, Text, first_of, first_value, found_of, match
 use Rattle.clap.specs.declared.parser.matches.ArgMatches.{ArgMatches}
 use Rattle.streams.specs.declared.progress.ShowProgress.{ShowProgress}
 use Rattle.streams.specs.declared.progress.ShowProgress.TheVariants.{Always, Never, OnTerminal}
+use Rattle.capture_report.specs.Given.{is_plain}
 use Rattle.command_line.specs.Captures.{capture_of, excludes_captures}
 use Rattle.command_line.specs.Numbers.{Values, has, number_of}
 use Rattle.command_line.specs.Options.{command, named_by, words_fault}
@@ -24,6 +25,11 @@ pub data AskedWords : Type 0 where
   Conflict : AskedWords
   Explanation : Text → AskedWords
   Trace : (name : Option Text) → ShowProgress → TraceOutput → CaptureOptions → AskedWords
+
+-- whether they ask for a trace and give options of captures
+abbrev pub has_options : AskedWords → Bool
+has_options (Trace name progress output capture) = not (is_plain capture)
+has_options asked = false
 
 -- the rows of the channel and of the call that are named, and all where neither is
 abbrev pub rows_by : (channel call : Option Text) → Rows

@@ -2,7 +2,6 @@
 
 ghost use Rattle.std.specs.Prelude.{◌≡◌, ◌+◌, ◌≤◌, false, length};
 ghost use Rattle.capture_model.specs.Ethernet.{is_tag, is_tagged, untagged};
-ghost use Rattle.capture_model.specs.LinkHeaders.{has_control};
 ghost use Rattle.capture_model.specs.Views.{payload_view};
 ghost use Rattle.ip_segments.specs.CarrierViews.{layer_view};
 ghost use Rattle.ip_segments.specs.Carriers.{by_labels, by_ppp, by_protocol, by_type, by_version, cisco, cooked, framed_ppp, has_label, is_cisco, labels, ppp, type_of, types};

@@ -1,6 +1,6 @@
 //! Fragments of datagrams, put together.
 
-ghost use Rattle.std.specs.Prelude.{◌≡◌, ◌≤◌, ◌+◌, [], IfNone, IfOk, OnOk, OnErr, length, slice_get};
+ghost use Rattle.std.specs.Prelude.{◌≡◌, ◌≤◌, ◌+◌, [], IfNone, IfOk, OnErr, length, slice_get};
 ghost use Rattle.std.specs.List.{position_or_len};
 ghost use Rattle.ip_segments.specs.Fragments.{fault_of, is_joined};
 ghost use Rattle.ip_segments.specs.Gathering.{is_of};

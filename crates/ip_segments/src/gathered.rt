@@ -1,8 +1,7 @@
 //! The fragments of a datagram.
 
-ghost use Rattle.std.specs.Prelude.{◌≡◌, ◌≤◌, ◌<◌, ◌+◌, [], IfOk, length};
+ghost use Rattle.std.specs.Prelude.{◌≡◌, ◌≤◌, ◌<◌, ◌+◌, ◌==◌, ◌++◌, [], ◌∷◌, IfOk, OnOk, length};
 ghost use Rattle.std.specs.List.{list_any};
-ghost use Rattle.std.specs.Prelude.{◌++◌, ◌∷◌, ◌==◌, OnOk};
 ghost use Rattle.ip_segments.specs.Gathering.{begun, last_by, part_of};
 ghost use Rattle.ip_segments.specs.Pieces.{part_view};
 ghost use Rattle.ip_segments.specs.Views.{datagram_view};
@@ -14,7 +13,7 @@ use std::alloc::{AllocError, Global};
 use std::marker::Model;
 
 /// The last fragment of a datagram.
-#[derive(Clone, Copy, PartialEq, Eq, Debug)]
+#[derive(Clone, Copy)]
 pub struct Last {
     /// The place of its first octet.
     pub(crate) at: u32,

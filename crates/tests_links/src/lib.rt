@@ -1,4 +1,4 @@
-//! The tests of link headers, of circuits of XOT, of LAPB links and of lines and of their traces.
+//! The tests of link headers, of TCP connections, of circuits of XOT, of LAPB links and of lines and of their traces.
 #![tactic(auto)]
 
 #[cfg(test)]
@@ -9,5 +9,7 @@ mod headers;
 mod lines;
 #[cfg(test)]
 mod links;
+#[cfg(test)]
+mod streams;
 #[cfg(test)]
 mod traces;

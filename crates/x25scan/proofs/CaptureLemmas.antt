@@ -1,6 +1,6 @@
 -- What the program answers of a capture is the report of its rows.
-use Rattle.std.proofs.Common.{◌≡◌, ◌∙◌, sym, ap, subst, refl, ℕ, zero, suc, ◌<◌, ◌⊎◌, inl, inr, Bool, true, false, List, [], Option, None, Some, arith}
-use Rattle.std.specs.Prelude.{◌||◌, is_some, option_map, if◌then◌else◌}
+use Rattle.std.proofs.Common.{◌≡◌, ◌∙◌, sym, ap, subst, refl, ℕ, zero, suc, ◌<◌, ◌⊎◌, inl, inr, Bool, true, false, List, [], ◌∷◌, ◌++◌, Option, Result, Ok, Err, None, Some, arith, map}
+use Rattle.std.specs.Prelude.{◌||◌, ◌≢◌, IfOk, is_some, option_map, if◌then◌else◌}
 use Rattle.std.specs.Option.{option_and_then}
 use Rattle.line_model.specs.basics.Device.{with_more}
 use Rattle.line_model.specs.basics.Records.{Row}
@@ -21,10 +21,12 @@ use Rattle.capture_report.specs.Texts.{rows_printed}
 use Rattle.capture_report.specs.declared.options.CaptureOptions.{CaptureOptions}
 use Rattle.capture_report.proofs.CaptureFileLemmas.{file_law}
 use Rattle.capture_report.proofs.HeaderLemmas.{header_there}
-use Rattle.clap.specs.Words.{IsAmong, Kinds, Text, first_of, matches_of}
+use Rattle.clap.specs.Words.{HasKind, IsAmong, Kinds, Text, first_of, kind_of, matches_of}
+use Rattle.clap.specs.declared.error.Error.{Error}
 use Rattle.clap.specs.declared.error.kind.ErrorKind.{ErrorKind}
+use Rattle.clap.specs.declared.error.kind.ErrorKind.TheVariants.{OutOfMemory}
 use Rattle.command_line.specs.Answer.{IsAnswerTo, IsReportOutput}
-use Rattle.command_line.specs.Asked.{AskedWords, Trace, asked_by, asked_of, unless_wrong}
+use Rattle.command_line.specs.Asked.{AskedWords, Trace, asked_by, asked_of, has_options, unless_wrong}
 use Rattle.command_line.specs.Copies.{CopiesOf}
 use Rattle.command_line.specs.Options.{command, words_fault}
 use Rattle.command_line.specs.Program.{HasFirstObjects, IsScanned, IsStatusOf, IsUnread, is_followed, lag_of, report_in}
@@ -85,9 +87,14 @@ report_same : (json : Bool) (text : List ℕ) (i : Interface) (rows : List Row) 
 report_same false text i rows h = h.report
 report_same true text i rows h = ap json_text h.report
 
+-- nothing was read: the status is none of a report
+unread_high : {A : Type 0} (status : ℕ) → (status ≡ 3) ⊎ (A × (status ≡ 64)) → status < 2 → ⊥
+unread_high status (inl three) few = omega (arith, three, few)
+unread_high status (inr usage) few = let is = usage.1 in omega (arith, is, few)
+
 pub reports : {S K E : Type 0} (read : Source S) (write : Sink K) (print : Sink E) (o : CaptureOptions) (named files : List ℕ → Option (List ℕ)) → ((name : List ℕ) → named name ≡ recorded o (files name)) → (asked : AskedWords) (source source′ : S) (sink sink′ : K) (errors errors′ : E) (status : ℕ)
-    → IsUnread source source′ sink sink′ status ⊎ IsAnswerTo read write print named asked source source′ sink sink′ errors errors′ status → ReportsCaptures files o asked (write.taken sink) (write.taken sink′) status
-reports read write print o named files is asked source source′ sink sink′ errors errors′ status (inl unread) = λ name progress report given octets records asks shows c header few. let other = unread.other in absurd (omega (arith, few, other))
+    → IsUnread (has_options asked) source source′ sink sink′ status ⊎ IsAnswerTo read write print named asked source source′ sink sink′ errors errors′ status → ReportsCaptures files o asked (write.taken sink) (write.taken sink′) status
+reports read write print o named files is asked source source′ sink sink′ errors errors′ status (inl unread) = λ name progress report given octets records asks shows c header few. absurd (unread_high status unread.other few)
 reports read write print o named files is asked source source′ sink sink′ errors errors′ status (inr answer) = λ name progress report given octets records asks shows c header few.
     let output : IsReportOutput read write print report (named name) source′ sink sink′ errors errors′ status = subst (λ a. IsAnswerTo read write print named a source source′ sink sink′ errors errors′ status) asks answer in
     let found = found_text o records header in
@@ -102,8 +109,8 @@ reports read write print o named files is asked source source′ sink sink′ er
 
 -- and of its text
 pub prints : {S K E : Type 0} (read : Source S) (write : Sink K) (print : Sink E) (o : CaptureOptions) (named files : List ℕ → Option (List ℕ)) → ((name : List ℕ) → named name ≡ recorded o (files name)) → (asked : AskedWords) (source source′ : S) (sink sink′ : K) (errors errors′ : E) (status : ℕ)
-    → IsUnread source source′ sink sink′ status ⊎ IsAnswerTo read write print named asked source source′ sink sink′ errors errors′ status → PrintsCaptures files o asked (write.taken sink) (write.taken sink′) status
-prints read write print o named files is asked source source′ sink sink′ errors errors′ status (inl unread) = λ name progress given octets records text asks shows c same none. let other = unread.other in absurd (omega (arith, none, other))
+    → IsUnread (has_options asked) source source′ sink sink′ status ⊎ IsAnswerTo read write print named asked source source′ sink sink′ errors errors′ status → PrintsCaptures files o asked (write.taken sink) (write.taken sink′) status
+prints read write print o named files is asked source source′ sink sink′ errors errors′ status (inl unread) = λ name progress given octets records text asks shows c same none. absurd (unread_high status unread.other (omega (arith, none)))
 prints read write print o named files is asked source source′ sink sink′ errors errors′ status (inr answer) = λ name progress given octets records text asks shows c same none.
     let copies : CopiesOf (named name) (write.taken sink) (write.taken sink′) status = subst (λ a. IsAnswerTo read write print named a source source′ sink sink′ errors errors′ status) asks answer in
     (copies text (is name ∙ shown_text o octets records (files name) shows c ∙ same)).whole none
@@ -111,9 +118,15 @@ prints read write print o named files is asked source source′ sink sink′ err
 -- ---- the words
 
 -- words with a fault ask for no trace
-pub wrong_words : (words : List Text) (o : CaptureOptions) (kind : ErrorKind) → IsAmong kind (words_fault words) → AsksOptions (asked_of words) o
+wrong_words : (words : List Text) (o : CaptureOptions) (kind : ErrorKind) → IsAmong kind (words_fault words) → AsksOptions (asked_of words) o
 wrong_words words o kind among = at (words_fault words) (asked_by (λ name. first_of name (matches_of command words))) among
   where
     at : (kinds : Kinds) (asked : AskedWords) → IsAmong kind kinds → AsksOptions (unless_wrong kinds asked) o
     at [] asked among = absurd among
-    at (k ∷ kinds) asked among name progress output given asks = cc asks
+    at (k ∷ kinds) asked among = λ name progress output given asks. cc asks
+
+-- whatever is made of them
+pub refused_words : (words : List Text) (e : Error) (r : Result CaptureOptions ℕ) → HasKind (words_fault words) e → IfOk r (λ o. kind_of e ≢ OutOfMemory) → IfOk r (AsksOptions (asked_of words))
+refused_words words e (Ok o) (inl memory) other = absurd (other memory)
+refused_words words e (Ok o) (inr among) other = wrong_words words o (kind_of e) among
+refused_words words e (Err status) kinds other = tt

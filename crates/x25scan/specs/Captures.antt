@@ -24,7 +24,7 @@ abbrev pub rows_report : (json : Bool) → Interface → List Row → List ℕ
 rows_report false i rows = report i (items_of i rows)
 rows_report true i rows = json_text (report i (items_of i rows))
 
--- octets are those of a pcap file without damage, which has these records
+-- octets are those of a pcap or pcapng file without damage, which has these records
 pub record IsCapture (octets : List ℕ) (records : List Record) : Type 0 where
   pub bytes : IsBytes octets
   pub begins : begins_as_capture octets ≡ true

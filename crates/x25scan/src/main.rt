@@ -1,12 +1,15 @@
 //! Reads the recorded packets of an X.25 interface, and reports what an observer of it finds.
 #![tactic(auto)]
 
-ghost use Rattle.std.specs.Prelude.{◌≡◌, IfErr, IfOk, map};
+ghost use Rattle.std.specs.Prelude.{◌≡◌, ◌≢◌, IfErr, IfOk, map};
+ghost use Rattle.clap.specs.Words.{kind_of};
+ghost use Rattle.clap.specs.declared.error.kind.ErrorKind.TheVariants.{OutOfMemory};
 ghost use Rattle.command_line.specs.Asked.{asked_of, asked_words};
 ghost use Rattle.x25scan.specs.Captures.{AsksOptions, PrintsCaptures, ReportsCaptures};
 
 use capture_report::options::CaptureOptions;
 use capture_report::recordings::Recordings;
+use clap::Error;
 use clap::error::ErrorKind as FaultKind;
 use command_line::asked::Asked;
 use command_line::options::parse;
@@ -35,6 +38,17 @@ fn options_of(asked: Asked<'_>) -> CaptureOptions
     }
 }
 
+/// Returns how captures are read where the words are refused. Fails with the exit status when memory is refused.
+fn refused_options(error: &Error) -> Result<CaptureOptions, u8>
+    ensures kind { IfOk result (λ options. kind_of error.now ≢ OutOfMemory) }
+    ensures status { IfErr result (λ status. status ≡ 3) }
+{
+    match error.kind() {
+        FaultKind::OutOfMemory => Err(OTHER_FAULT),
+        _ => Ok(CaptureOptions::plain()),
+    }
+}
+
 /// Returns how captures are read, as the words ask for it. Fails with the exit status when memory is refused.
 fn capture_options(alloc: Global, words: &[&str]) -> Result<CaptureOptions, u8>
     ensures asked { IfOk result (AsksOptions (asked_of (map (λ word. word.now) words.now))) }
@@ -42,17 +56,14 @@ fn capture_options(alloc: Global, words: &[&str]) -> Result<CaptureOptions, u8>
 {
     match parse(alloc, words) {
         Ok(asked) => Ok(options_of(asked)),
-        Err(error) => match error.kind() {
-            FaultKind::OutOfMemory => Err(OTHER_FAULT),
-            _ => Ok(CaptureOptions::plain()),
-        },
+        Err(error) => refused_options(&error),
     }
 }
 
 /// Runs the program over recordings. Where the words ask for the report of a file, and the system shows that it is a pcap
-/// file without damage, a status below 2 says that the sink accepted the report of one observer over the rows of the
-/// capture, as the options of the recordings read them. Where they ask for the text of its trace, status 0 says that the
-/// sink accepted that.
+/// or pcapng file without damage, a status below 2 says that the sink accepted the report of one observer over the rows of
+/// the capture, as the options of the recordings read them. Where they ask for the text of its trace, status 0 says that
+/// the sink accepted that.
 fn run_over<
     O: Opener + Clock + Drop,
     P: Eprint + Drop,

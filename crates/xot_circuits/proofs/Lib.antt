@@ -6,3 +6,4 @@ pub mod Ranges
 pub mod Joined
 pub mod ClearLemmas
 pub mod Heard
+pub mod Following

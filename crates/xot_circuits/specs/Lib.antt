@@ -5,4 +5,6 @@ pub mod Calls
 pub mod Circuits
 pub mod Items
 pub mod Exchanges
+pub mod Roles
+pub mod Recordings
 pub mod Plans

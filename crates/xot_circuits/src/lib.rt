@@ -9,4 +9,6 @@ pub mod header;
 pub mod item;
 pub mod joining;
 pub mod laws;
+pub mod recording;
+pub mod roles;
 pub mod stream;
