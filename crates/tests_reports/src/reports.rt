@@ -65,12 +65,14 @@ fn report_of<A: Allocator + Copy>(alloc: A, piece: Piece) -> Result<PieceReport<
         state: StateName::P1,
         code: Code::Number(20),
     };
+    let mut calls = Vec::new(alloc);
+    calls.push(open_call(alloc, epoch, channel, packet))?;
     Ok(PieceReport {
         id,
         epoch,
         channel,
         findings: vec![in alloc; finding]?,
-        calls: vec![in alloc; open_call(alloc, epoch, channel, packet)]?,
+        calls,
         octets: 0,
         segments: 0,
     })

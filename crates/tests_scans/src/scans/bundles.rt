@@ -4,9 +4,8 @@ use crate::scans::runs::{Way, scan_through};
 use crate::scans::seams::{push_restart, push_row};
 use line_model::fault::Fault;
 use line_model::piece::{Piece, PieceReport};
-use report_merge::reports::BundleReport;
-use shared_work::queue::Bundle;
 use std::alloc::{AllocError, Allocator, Global};
+use std::sync::Wait;
 use std::sync::atomic::AtomicU64;
 use std::sync::atomic::Ordering::SeqCst;
 use std::test::Fail;
@@ -14,46 +13,40 @@ use tests_devices::Cuts;
 use trace_scan::gate::OpenGate;
 use workers::Gate;
 
-/// Counts pieces and bundles, and bundles that are wrong: out of the order of their ids, or of several pieces with over
-/// 500 rows.
+/// Counts pieces and bundles, and pieces that are wrong: out of the order of their ids, or not the first of a bundle with
+/// over 500 rows up to them. The only worker asks for help before each bundle.
 #[derive(Drop)]
 struct Counting {
     pieces: AtomicU64,
     bundles: AtomicU64,
+    /// The rows of the bundle up to now.
+    rows: AtomicU64,
     wrong: AtomicU64,
 }
 
 impl Gate for Counting {
-    ghost use Rattle.std.specs.Prelude.{◌≡◌};
-    ghost use Rattle.line_model.specs.pieces.Plans.{result_of};
-
-    ghost ran = { λ gate piece report. report ≡ result_of piece };
+    ghost ran = { λ gate piece report. Unit {0} };
 
     fn run<A: Allocator + Copy>(
         &self,
         alloc: A,
         piece: &Piece<A>,
     ) -> Result<PieceReport<A>, Fault> {
+        let rows = piece.items.len() as u64;
+        let before = self.rows.fetch_add(rows, SeqCst);
+        if before == 0 {
+            self.bundles.fetch_add(1, SeqCst);
+        }
+        let number = self.pieces.fetch_add(1, SeqCst);
+        if u64::from(piece.id) != number || (0 < before && 500 < before.saturating_add(rows)) {
+            self.wrong.fetch_add(1, SeqCst);
+        }
         OpenGate.run(alloc, piece)
     }
 
-    fn run_bundle<A: Allocator + Copy>(
-        &self,
-        alloc: A,
-        bundle: &Bundle<A>,
-    ) -> Result<BundleReport<A>, Fault> {
-        let (front, last) = bundle.parts();
-        let mut rows = last.items.len();
-        for piece in front {
-            rows = rows.saturating_add(piece.items.len());
-        }
-        let others = front.len() as u64;
-        let first = self.pieces.fetch_add(others.saturating_add(1), SeqCst);
-        self.bundles.fetch_add(1, SeqCst);
-        if u64::from(last.id) != first.saturating_add(others) || (0 < others && 500 < rows) {
-            self.wrong.fetch_add(1, SeqCst);
-        }
-        OpenGate.run_bundle(alloc, bundle)
+    fn help<R: Wait>(&self, _rt: &R) -> bool {
+        self.rows.store(0, SeqCst);
+        false
     }
 }
 
@@ -108,6 +101,7 @@ fn the_pieces_of_a_list_of_more_than_64_are_taken_in_bundles_of_at_most_500_rows
         let gate = Counting {
             pieces: AtomicU64::new(0),
             bundles: AtomicU64::new(0),
+            rows: AtomicU64::new(0),
             wrong: AtomicU64::new(0),
         };
         let scanned = scan_through(

@@ -44,13 +44,9 @@ fn check_blocks(rt: &impl Host, text: &[u8], lines: usize, wanted: Wanted<'_>) {
 /// Scans a text without a fault by blocks of several numbers of lines: they write what the scan of one thread does.
 fn check_rows(rt: &impl Host, text: &[u8], sizes: &[usize]) {
     let alone = scan(rt, Way::Alone, text, Cuts::none());
+    assert!(rt; alone.answer.is_ok());
     for lines in sizes {
-        check_blocks(
-            rt,
-            text,
-            *lines,
-            (alone.summary().err(), alone.taken.as_slice()),
-        );
+        check_blocks(rt, text, *lines, (None, alone.taken.as_slice()));
     }
 }
 

@@ -66,13 +66,15 @@ fn push_all(items: &mut Items, lines: &[Line]) -> Result<(), Fail> {
 /// Whether the rows are these, in this order.
 fn rows_are(items: &Items, lines: &[Line]) -> bool {
     let mut same = items.len() == lines.len() && items.is_empty() == lines.is_empty();
-    for (row, line) in items.iter().zip(lines) {
-        let (number, side, packet, length, octets) = *line;
+    let mut rows = items.iter();
+    for (number, side, packet, length, octets) in lines {
+        let wanted = (*number, *side, *packet, *length);
         same = same
-            && (row.number, row.side, row.packet, row.length) == (number, side, packet, length)
-            && row.octets == octets;
+            && rows.next().is_some_and(|row| {
+                (row.number, row.side, row.packet, row.length) == wanted && row.octets == *octets
+            });
     }
-    same
+    same && rows.next().is_none()
 }
 
 /// The rows of a piece: `count` lines in a part, the others up to the last in another part of the same list, and the
