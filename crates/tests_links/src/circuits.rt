@@ -138,9 +138,7 @@ fn given(alloc: Global) -> Result<Vec<u8>, AllocError> {
 }
 
 #[test]
-fn packets_come_whole_are_joined_after_a_gap_and_circuits_share_no_channel(
-    rt: HostRuntime,
-) -> Result<(), Fail> {
+fn packets_come_whole_and_are_joined_after_a_gap(rt: HostRuntime) -> Result<(), Fail> {
     let mut stream = Stream::new(rt.alloc(), false);
     let mut circuit = Circuit::new(false);
     for (octets, expected) in &STEPS {
@@ -148,6 +146,11 @@ fn packets_come_whole_are_joined_after_a_gap_and_circuits_share_no_channel(
         read(&mut stream, &mut circuit, octets, &mut found)?;
         assert!(rt; found.as_slice() == *expected);
     }
+    Ok(())
+}
+
+#[test]
+fn circuits_share_no_channel(rt: HostRuntime) -> Result<(), Fail> {
     assert!(rt; given(rt.alloc())?.as_slice() == b"\x02\x01\x03\x03\x00".as_slice());
     Ok(())
 }

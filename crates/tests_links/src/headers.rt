@@ -212,9 +212,13 @@ fn what_comes_after_tags_and_headers_is_read(rt: HostRuntime) {
 }
 
 #[test]
-fn segments_are_found_in_datagrams_and_carriers(rt: HostRuntime) {
+fn datagrams_and_segments_are_read(rt: HostRuntime) {
     assert!(rt; has_segment());
     assert!(rt; has_fragment());
+}
+
+#[test]
+fn segments_are_found_in_carriers(rt: HostRuntime) {
     assert!(rt; has_carried());
 }
 
