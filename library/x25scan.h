@@ -2,7 +2,7 @@
  *
  * A scan reads a trace: a header line, and a line for each packet between the DTE and the DCE (docs/TRACE.md). It is fed
  * the bytes of the text in pieces of any size, or packet by packet, or both. It says what each packet breaks, and gives
- * the report of x25scan(1) at any moment.
+ * the report of x25scan(1) at any moment. Or it gives an object for each packet, as it comes.
  *
  *     x25scan scan = X25SCAN_INIT;
  *     int error = x25scan_open_header(&scan, "X25 1 MOD 8 WIN 2 SIZE 128 PVC 0 SVC 4");
@@ -52,7 +52,7 @@ enum x25scan_form {
     X25SCAN_LINES = 0,        /* The report as lines. */
     X25SCAN_JSON = 1,         /* The report as JSON lines. */
     X25SCAN_REPORTS = 0,      /* A scan that gives findings and reports. */
-    X25SCAN_ROW_OBJECTS = 2   /* A scan that gives an object for each packet, and then those of the report. */
+    X25SCAN_ROW_OBJECTS = 2   /* A scan that gives an object for each packet as it comes, and at the end those of the report. */
 };
 
 /* A scan, in the caller's memory. */
@@ -95,8 +95,9 @@ static inline int x25scan_open(x25scan *scan, unsigned form) {
     return scan ? (int)x25scan_open_form(scan, form) : X25SCAN_NULL;
 }
 
-/* Reads the next bytes of the text. Errors: TRACE at a line that is faulty however the text goes on, MEMORY, ENDED. What
- * the lines before a faulty line found can still be read. */
+/* Reads the next bytes of the text. In a scan of rows the objects of the packets whose lines have ended wait for
+ * x25scan_read then, after what waits. Errors: TRACE at a line that is faulty however the text goes on, MEMORY, ENDED.
+ * What the lines before a faulty line found can still be read, and their objects, unless memory was refused to these. */
 static inline int x25scan_feed(x25scan *scan, const void *text, size_t length) {
     return scan && (text || !length) ? (int)x25scan_feed_text(scan, x25scan_bytes(text), length) : X25SCAN_NULL;
 }
@@ -129,22 +130,23 @@ static inline int x25scan_found(x25scan *scan, x25scan_finding *finding) {
     return (int)x25scan_take_finding(scan, finding);
 }
 
-/* Makes the report of the lines that have ended, as X25SCAN_LINES or X25SCAN_JSON, or their objects, as
- * X25SCAN_ROW_OBJECTS where the scan was opened for these, in the place of text that was not read. The trace goes on.
- * Objects cost as much as all lines so far. Errors: TRACE (kind 21 before the header has ended), ARGUMENT, ENDED, ROWS,
- * MEMORY. */
+/* Makes the report of the lines that have ended, as X25SCAN_LINES or X25SCAN_JSON, in the place of text that was not read.
+ * In a scan of rows, as X25SCAN_ROW_OBJECTS: the objects of that report, which are those of X25SCAN_JSON, wait after the
+ * objects that were not read. The trace goes on. Errors: TRACE (kind 21 before the header has ended), ARGUMENT, ENDED,
+ * ROWS, MEMORY. */
 static inline int x25scan_report(x25scan *scan, unsigned form) {
     return scan ? (int)x25scan_make_report(scan, form) : X25SCAN_NULL;
 }
 
-/* The text has ended, and its last line may lack its line feed: makes the report, as X25SCAN_LINES or X25SCAN_JSON, or
- * the objects, as X25SCAN_ROW_OBJECTS where the scan was opened for these. Errors: TRACE and MEMORY, and the trace has
- * ended then too; ARGUMENT, ENDED. */
+/* The text has ended, and its last line may lack its line feed: makes the report, as X25SCAN_LINES or X25SCAN_JSON. In a
+ * scan of rows, as X25SCAN_ROW_OBJECTS: the object of a last line without its line feed, and those that x25scan(1) prints
+ * after the rows, wait after the objects that were not read. Errors: TRACE and MEMORY, and the trace has ended then too;
+ * ARGUMENT, ENDED. */
 static inline int x25scan_end(x25scan *scan, unsigned form) {
     return scan ? (int)x25scan_end_trace(scan, form) : X25SCAN_NULL;
 }
 
-/* Copies the next bytes of what was made: `length` of them, 0 at its end; `left` are left. */
+/* Copies the next bytes of a report or of objects: `length` of them, 0 where none wait; `left` are left. */
 static inline int x25scan_read(x25scan *scan, void *buffer, size_t room, size_t *length, size_t *left) {
     if (!scan || (!buffer && room) || !length || !left) return X25SCAN_NULL;
     *length = *left = 0;

@@ -25,7 +25,7 @@ from x25trace_lib import words as trace_words  # noqa: E402
 
 WORDS = ROOT / "crates" / "command_line" / "src" / "options.rt"
 VERSION = WORDS.with_name("help.rt")
-NAME = re.compile(r'(?:flag\(alloc, |\.long\()"([\w-]+)"')
+NAME = re.compile(r'(?:(?:flag|number|text)\(alloc, |\.long\()"([\w-]+)"')
 LOGIC = re.compile(r"proved with Rattle, logic (\w+)")
 STATUS = re.compile(r"^  (\d+) +(.*)$", re.MULTILINE)
 DOCUMENTS = "/usr/share/doc/x25scan/"

@@ -19,10 +19,19 @@ ROOT = pathlib.Path(__file__).resolve().parent.parent
 NAMES = ("x25scan", "x25trace", "x25page")
 OPTION = re.compile(r"^ +(?:(-\w), )?(--[\w-]+)(?: (\[?)<(\w+)>\]?)? {2,}(.+)$", re.MULTILINE)
 OPERAND = re.compile(r"^  \[(\w+)\] {2,}(.+)$", re.MULTILINE)
+CAPTURES = "Options of captures"
 FILES = ("FILE", "CAPTURE", "OUT", "PROGRAM")
 # What completes a value of which other values are allowed too.
 SUGGESTED = {"kinds": KINDS}
 TITLES_OF_ARGPARSE = ("positional arguments", "options")
+# The values that options of x25scan may have, where its help names them; it reads no capture of IP.
+CHOICES = {
+    "--mod": ("8", "128"),
+    "--lapb-modulo": ("8", "128"),
+    "--size": tuple(str(1 << power) for power in range(4, 13)),
+    "--as": tuple(it for it in KINDS if it != "ip"),
+    "--only": ("lapb", "x25"),
+}
 
 
 @dataclass
@@ -60,11 +69,14 @@ def section(text: str, title: str) -> str:
 
 
 def options_of_help(helped: str) -> list[Option]:
-    """The options of x25scan in the order of its help, and the name of the trace before those that have a letter."""
+    """The options of x25scan in the order of its help: the name of the trace before those that have a letter, those of captures last."""
     found = OPTION.findall(section(helped, "Options"))
     named = [Option((name,), text, value, is_value_free=bool(free)) for letter, name, free, value, text in found if not letter]
+    of_captures = OPTION.findall(section(helped, CAPTURES))
     operands = [Option((), text, value) for value, text in OPERAND.findall(section(helped, "Arguments"))]
-    return named + operands + [Option((letter, name), text) for letter, name, _, _, text in found if letter]
+    lettered = [Option((letter, name), text) for letter, name, _, _, text in found if letter]
+    captures = [Option((name,), text, value, choices=CHOICES.get(name, ()), group=CAPTURES) for _, name, _, value, text in of_captures]
+    return named + operands + lettered + captures
 
 
 def option_of_action(action: argparse.Action, group: str) -> Option:

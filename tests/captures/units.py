@@ -193,6 +193,13 @@ class Copies(unittest.TestCase):
         self.assertEqual(self.ledger.counts[Reason.REPEATED_OCTETS], 1)
         self.assertEqual(self.given_out(segment(1, b"b", 8)), [(8, b"b"), (5, b"cd"), (7, b"e")])
 
+    def test_octets_that_were_given_out(self):
+        """Frame 6 has one again, and those of frame 5, which waits for what it acknowledges: the gap is that of frame 5."""
+        self.assertEqual(len(self.connection.feed(1, segment(500, b"x", 3, 1))), 1)
+        self.assertEqual(self.given_out(segment(1, b"bc", 5, 504), segment(0, b"abc", 6, 504)), [])
+        self.assertEqual(self.ledger.counts[Reason.REPEATED_OCTETS], 1)
+        self.assertEqual(self.connection.flush(), [Gap(1, 5, 3, "before it were not recorded"), Chunk(0, 5, b"bc", None)])
+
     def test_end_of_a_direction(self):
         """The FIN of a segment goes with its last part, once."""
         end = segment(2, b"cd", 6)

@@ -29,12 +29,18 @@ static int feed_row(x25scan *scan, char *row) {
     return x25scan_packet(scan, number, side[1], octets, length);
 }
 
+static int print_waiting(x25scan *scan) {
+    char buffer[4096];
+    size_t length, left;
+    int error;
+    while (!(error = x25scan_read(scan, buffer, sizeof buffer, &length, &left)) && length) fwrite(buffer, 1, length, stdout);
+    return error;
+}
+
 int main(int count, char **words) {
     static char line[8502];
     x25scan scan = X25SCAN_INIT;
     unsigned form = X25SCAN_LINES;
-    char buffer[4096];
-    size_t length, left;
     FILE *file;
     int error = 0, is_open = 0;
     if (count > 2) form = strcmp(words[1], "--json") ? X25SCAN_ROW_OBJECTS : X25SCAN_JSON;
@@ -43,10 +49,11 @@ int main(int count, char **words) {
         line[strcspn(line, "\n")] = 0;
         if (*line == '#') continue;
         error = is_open ? feed_row(&scan, line) : feed_header(&scan, form, line);
+        if (!error) error = print_waiting(&scan);
         is_open = 1;
     }
     if (!error) error = x25scan_end(&scan, form);
-    while (!error && !x25scan_read(&scan, buffer, sizeof buffer, &length, &left) && length) fwrite(buffer, 1, length, stdout);
+    if (!error) error = print_waiting(&scan);
     x25scan_close(&scan);
     fclose(file);
     return error;

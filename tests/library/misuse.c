@@ -14,6 +14,8 @@ static void expect(int line, int got, int expected) {
 
 #define HEADER "X25 1 MOD 8 WIN 2 SIZE 128 PVC 0 SVC 4"
 #define TEXT HEADER "\n1 T -\n"
+#define OBJECT(line, packet) "{\"line\":\"" line "\",\"packet\":" packet ","
+#define BEGINS(line, packet) !strncmp(buffer, OBJECT(line, packet), sizeof OBJECT(line, packet) - 1)
 #define NUMBER "The row's number is 8, and that of the row before is 8: numbers rise."
 
 int main(void) {
@@ -89,11 +91,39 @@ int main(void) {
     EXPECT(needed == sizeof NUMBER - 1 && !memcmp(buffer, NUMBER, needed), 1);
     EXPECT(x25scan_packet(&early, 9, 'T', octets, 3), X25SCAN_TRACE);
     EXPECT(x25scan_close(&early), X25SCAN_OK);
+    EXPECT(x25scan_open(&early, X25SCAN_REPORTS), X25SCAN_OK);
+    EXPECT(x25scan_feed(&early, TEXT "1 T -\n", sizeof TEXT + 5), X25SCAN_TRACE);
+    EXPECT(x25scan_found(&early, &finding), X25SCAN_OK);
+    EXPECT((int)finding.packet, 1);
+    EXPECT(x25scan_found(&early, &finding), X25SCAN_NONE_LEFT);
+    EXPECT(x25scan_feed(&early, "2 T -\n", 6), X25SCAN_TRACE);
+    EXPECT(x25scan_found(&early, &finding), X25SCAN_NONE_LEFT);
+    EXPECT(x25scan_close(&early), X25SCAN_OK);
     EXPECT(x25scan_open(&rows, X25SCAN_ROW_OBJECTS), X25SCAN_OK);
     EXPECT(x25scan_feed(&rows, TEXT "2", sizeof TEXT), X25SCAN_OK);
-    EXPECT(x25scan_report(&rows, X25SCAN_ROW_OBJECTS), X25SCAN_OK);
     EXPECT(x25scan_read(&rows, buffer, sizeof buffer, &length, &left), X25SCAN_OK);
-    EXPECT(length > 0 && !memcmp(buffer, "{\"line\":\"row\"", 13), 1);
+    EXPECT(left == 0 && BEGINS("row", "1"), 1);
+    EXPECT(x25scan_read(&rows, buffer, sizeof buffer, &length, &left), X25SCAN_OK);
+    EXPECT((int)length, 0);
+    EXPECT(x25scan_report(&rows, X25SCAN_ROW_OBJECTS), X25SCAN_OK);
+    EXPECT(x25scan_feed(&rows, " T -\n3 T -", 10), X25SCAN_OK);
+    EXPECT(x25scan_read(&rows, buffer, sizeof buffer - 1, &length, &left), X25SCAN_OK);
+    buffer[length] = 0;
+    EXPECT(BEGINS("finding", "1") && strstr(buffer, "\n" OBJECT("row", "2")), 1);
+    EXPECT(x25scan_end(&rows, X25SCAN_ROW_OBJECTS), X25SCAN_OK);
+    EXPECT(x25scan_read(&rows, buffer, sizeof buffer, &length, &left), X25SCAN_OK);
+    EXPECT(BEGINS("row", "3"), 1);
+    EXPECT(x25scan_close(&rows), X25SCAN_OK);
+    EXPECT(x25scan_open(&rows, X25SCAN_ROW_OBJECTS), X25SCAN_OK);
+    EXPECT(x25scan_feed(&rows, TEXT "1 T -\n", sizeof TEXT + 5), X25SCAN_TRACE);
+    EXPECT(x25scan_read(&rows, buffer, sizeof buffer - 1, &length, &left), X25SCAN_OK);
+    buffer[length] = 0;
+    EXPECT(BEGINS("row", "1") && strchr(buffer, '\n') == buffer + length - 1, 1);
+    EXPECT(x25scan_feed(&rows, "2 T -\n", 6), X25SCAN_TRACE);
+    EXPECT(x25scan_report(&rows, X25SCAN_ROW_OBJECTS), X25SCAN_TRACE);
+    EXPECT(x25scan_found(&rows, &finding), X25SCAN_ROWS);
+    EXPECT(x25scan_end(&rows, X25SCAN_ROW_OBJECTS), X25SCAN_TRACE);
+    EXPECT(x25scan_end(&rows, X25SCAN_ROW_OBJECTS), X25SCAN_ENDED);
     EXPECT(x25scan_close(&rows), X25SCAN_OK);
     EXPECT(x25scan_open(&rows, X25SCAN_ROW_OBJECTS), X25SCAN_OK);
     EXPECT(x25scan_found(&rows, &finding), X25SCAN_ROWS);

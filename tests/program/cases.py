@@ -58,7 +58,7 @@ def file_cases():
 
 def word_cases():
     """Words that ask for no scan, and wrong words."""
-    helped = pattern(rb"Reports what .*Usage: x25scan \[OPTIONS\] \[FILE\].*--workers.*--alone.*--follow.*--json.*--annotate.*--rows.*--channel.*--call.*--progress.*--notes.*--explain.*Examples:\n.*Exit status:\n  0 .*\n  64 .*TRACE.md.*\n")
+    helped = pattern(rb"Reports what .*Usage: x25scan \[OPTIONS\] \[FILE\].*--workers.*--alone.*--follow.*--json.*--annotate.*--rows.*--channel.*--call.*--progress.*--notes.*--explain.*Options of captures:\n.*--mod.*--svc.*--join.*--as.*--swap.*Examples:\n.*Exit status:\n  0 .*\n  64 .*TRACE.md.*\n")
     yield RunCase("help", ("--help",), output=helped)
     yield RunCase("help by its letter", ("-h",), output=helped)
     yield RunCase("an explanation reads no file", ("--explain", "22", "day.trace"), output=pattern(rb"22 \(.*"))

@@ -94,9 +94,9 @@ class Stream:
         bisect.insort(self.held, segment, key=self.place)
 
     def parts(self, segment: Segment) -> list[Segment]:
-        """The parts of a segment that no held one has, in their order; a FIN goes with the last part."""
-        begin, first, parts = self.place(segment), self.place(segment), list[Segment]()
-        end = begin + len(segment.payload) + segment.missing
+        """The parts of a segment that were not delivered and that no held one has, in order; a FIN goes with the last part."""
+        first, parts = self.place(segment), list[Segment]()
+        begin, end = max(first, 0), first + len(segment.payload) + segment.missing
         at = bisect.bisect_right(self.held, begin, key=self.place)
         for held in self.held[max(at - 1, 0):]:
             held_begin = self.place(held)

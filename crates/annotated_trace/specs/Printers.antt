@@ -37,9 +37,9 @@ OfFed reader printing t Fact = (choice : Rows) (text : List ℕ) → WasFed (Has
 abbrev pub IsFedOn : {A O P T E : Type 0} → TraceObserver O A → Printing P A O → (before : TracePrinter A O P) → (chunk : List ℕ) → (after : TracePrinter A O P) → Result T E → Type 0
 IsFedOn reader printing before chunk after result = OfFed reader printing before (λ choice text. OnOk result (WasFed (HasFollowed reader printing choice) after (text ++ chunk)))
 
--- the bytes are the print of some lines, of these rows
-abbrev pub PrintOf : {A O P : Type 0} → Printing P A O → Rows → List Line → List ℕ → Type 0
-PrintOf printing choice = IsPrintOf (printing.form choice) []
+-- the bytes, after those that are gone, are the print of some lines, of these rows
+abbrev pub PrintOf : {A O P : Type 0} → Printing P A O → Rows → (gone : List ℕ) → List Line → List ℕ → Type 0
+PrintOf printing choice gone ls bytes = IsPrintOf (printing.form choice) [] ls (gone ++ bytes)
 
 -- of any text whose lines it has printed, and whose report this is: the bytes after them are of this form
 abbrev pub OfClosing : {A O P : Type 0} → Printing P A O → P → Report → ((List ℕ → Type 0) → Type 0) → Type 0
@@ -51,9 +51,9 @@ pub record HasPrinted (is_print : List Line → List ℕ → Type 0) (before tak
   pub taken_is : taken ≡ with_more before sent
   pub lines : is_print ls (sent ++ held)
 
--- of any text so, and any sink that accepted, with what is held, the print of the lines that ended
-abbrev pub OfPrinted : {A O P : Type 0} → TraceObserver O A → Printing P A O → TracePrinter A O P → (taken : Option (List ℕ)) → (Rows → List ℕ → Option (List ℕ) → Type 0) → Type 0
-OfPrinted reader printing t taken Fact = (choice : Rows) (text : List ℕ) (before : Option (List ℕ)) → WasFed (HasFollowed reader printing choice) t text → HasPrinted (PrintOf printing choice) before taken t.held.items (ended_lines text) → Fact choice text before
+-- of any text so, and any sink that accepted, after what is gone and with what is held, the print of the lines that ended
+abbrev pub OfPrinted : {A O P : Type 0} → TraceObserver O A → Printing P A O → TracePrinter A O P → (taken : Option (List ℕ)) → (Rows → (gone text : List ℕ) → Option (List ℕ) → Type 0) → Type 0
+OfPrinted reader printing t taken Fact = (choice : Rows) (gone text : List ℕ) (before : Option (List ℕ)) → WasFed (HasFollowed reader printing choice) t text → HasPrinted (PrintOf printing choice gone) before taken t.held.items (ended_lines text) → Fact choice gone text before
 
 -- it accepted a first part of the print of the first ones of some lines
 pub record HasFirstPrint (is_print : List Line → List ℕ → Type 0) (before taken : Option (List ℕ)) (ls : List Line) : Type 0 where

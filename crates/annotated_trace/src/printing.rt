@@ -68,6 +68,13 @@ impl<A: Allocator + Copy, O: TraceObserver<A>, P: Printer<A, O>> TracePrinter<A,
         }
     }
 
+    /// Returns the trace.
+    pub fn trace(&self) -> &O
+        ensures { result.now ≡ self.now.trace }
+    {
+        &self.trace
+    }
+
     /// Holds what the last line of the trace becomes, by its end with the LF.
     #[inline(always)]
     fn print_line(&mut self, end: &[u8]) -> Result<(), AllocError>
@@ -107,10 +114,10 @@ impl<A: Allocator + Copy, O: TraceObserver<A>, P: Printer<A, O>> TracePrinter<A,
             → end.now ≡ front ++ 10 ∷ [] → IsOneLine front
             → OnOk result (WasFed (HasFollowed O.TraceObserver P.Printer choice) self.new
             (text ++ end.now)) }
-        ensures held { (choice : AnyRows) (text front sent : List ℕ) → WasFed
+        ensures held { (choice : AnyRows) (gone text front sent : List ℕ) → WasFed
             (HasFollowed O.TraceObserver P.Printer choice) self.old text → end.now ≡ front ++ 10 ∷ []
-            → IsOneLine front → PrintOf P.Printer choice (ended_lines text)
-            (sent ++ self.old.held.items) → OnOk result (PrintOf P.Printer choice
+            → IsOneLine front → PrintOf P.Printer choice gone (ended_lines text)
+            (sent ++ self.old.held.items) → OnOk result (PrintOf P.Printer choice gone
             (ended_lines (text ++ end.now)) (sent ++ self.new.held.items)) }
         ensures refused { OfFed O.TraceObserver P.Printer self.old (λ choice text.
             IfErr result (IsFaultOf (early (text ++ end.now)))) }
@@ -148,14 +155,14 @@ impl<A: Allocator + Copy, O: TraceObserver<A>, P: Printer<A, O>> TracePrinter<A,
         requires { IsFed O.TraceObserver P.Printer self.old }
         ensures fed { IsFedOn O.TraceObserver P.Printer self.old chunk.now self.new result }
         ensures printed { OfPrinted O.TraceObserver P.Printer self.old (K.taken sink.old)
-            (λ choice text before.
-            OnOk result (HasPrinted (PrintOf P.Printer choice) before (K.taken sink.new)
+            (λ choice gone text before.
+            OnOk result (HasPrinted (PrintOf P.Printer choice gone) before (K.taken sink.new)
             self.new.held.items (ended_lines (text ++ chunk.now)))) }
         ensures refused { OfFed O.TraceObserver P.Printer self.old (λ choice text.
             IfErr result (IsRefusalOf (early (text ++ chunk.now)))) }
         ensures stopped { OfPrinted O.TraceObserver P.Printer self.old (K.taken sink.old)
-            (λ choice text before.
-            IfErr result (IsStoppedAt (PrintOf P.Printer choice) before (K.taken sink.new)
+            (λ choice gone text before.
+            IfErr result (IsStoppedAt (PrintOf P.Printer choice gone) before (K.taken sink.new)
             self.new.held.items (ended_lines (text ++ chunk.now)))) }
         ensures kinds { IfErr result IsPrinterFault }
         ensures rising { K.failures sink.old ≤ K.failures sink.new }
@@ -180,21 +187,21 @@ impl<A: Allocator + Copy, O: TraceObserver<A>, P: Printer<A, O>> TracePrinter<A,
         ensures fed { IsFedOn O.TraceObserver P.Printer self.old chunk.now self.new result }
         // A sink that has the print of the lines that ended has that of the text with the chunk, and nothing is held.
         ensures printed { OfPrinted O.TraceObserver P.Printer self.old (K.taken sink.old)
-            (λ choice text before.
-            OnOk result (HasPrinted (PrintOf P.Printer choice) before (K.taken sink.new) []
+            (λ choice gone text before.
+            OnOk result (HasPrinted (PrintOf P.Printer choice gone) before (K.taken sink.new) []
             (ended_lines (text ++ chunk.now)))) }
         ensures none_held { OnOk result (self.new.held.items ≡ []) }
         ensures refused { OfFed O.TraceObserver P.Printer self.old (λ choice text.
             IfErr result (IsRefusalOf (early (text ++ chunk.now)))) }
         // At a refusal it has a first part, at a faulty line the print of all lines before it, if it did not fail.
         ensures taken { OfPrinted O.TraceObserver P.Printer self.old (K.taken sink.old)
-            (λ choice text before.
-            IfErr result (λ fault. HasFirstPrint (PrintOf P.Printer choice) before
+            (λ choice gone text before.
+            IfErr result (λ fault. HasFirstPrint (PrintOf P.Printer choice gone) before
             (K.taken sink.new) (ended_lines (text ++ chunk.now)))) }
         ensures at_line { OfPrinted O.TraceObserver P.Printer self.old (K.taken sink.old)
-            (λ choice text before.
+            (λ choice gone text before.
             K.failures sink.new ≡ K.failures sink.old → IfErr result (HasPrintBefore
-            (PrintOf P.Printer choice) before (K.taken sink.new)
+            (PrintOf P.Printer choice gone) before (K.taken sink.new)
             (ended_lines (text ++ chunk.now)))) }
         ensures kinds { IfErr result IsPrinterFault }
         ensures rising { K.failures sink.old ≤ K.failures sink.new }
@@ -219,17 +226,17 @@ impl<A: Allocator + Copy, O: TraceObserver<A>, P: Printer<A, O>> TracePrinter<A,
     fn close<K: Sink>(self, sink: &mut K) -> Result<Summary, Fault>
         requires { (choice : AnyRows) × (text : List ℕ)
             × WasFed (HasFollowed O.TraceObserver P.Printer choice) self text × (begun_line text ≡ []) }
-        ensures printed { (choice : AnyRows) (text : List ℕ) (before : Option (List ℕ)) → WasFed
+        ensures printed { (choice : AnyRows) (gone text : List ℕ) (before : Option (List ℕ)) → WasFed
             (HasFollowed O.TraceObserver P.Printer choice) self text → begun_line text ≡ [] → HasPrinted
-            (PrintOf P.Printer choice) before (K.taken sink.old) self.held.items (ended_lines text)
-            → IfOk result (IsPrinted (PrintOf P.Printer choice) (P.closing choice) text before
+            (PrintOf P.Printer choice gone) before (K.taken sink.old) self.held.items (ended_lines text)
+            → IfOk result (IsPrinted (PrintOf P.Printer choice gone) (P.closing choice) text before
             (K.taken sink.new)) }
         ensures refused { OfFed O.TraceObserver P.Printer self (λ choice text.
             IfErr result (IsCloseRefusal text)) }
-        ensures taken { (choice : AnyRows) (text : List ℕ) (before : Option (List ℕ)) → WasFed
+        ensures taken { (choice : AnyRows) (gone text : List ℕ) (before : Option (List ℕ)) → WasFed
             (HasFollowed O.TraceObserver P.Printer choice) self text → begun_line text ≡ [] → HasPrinted
-            (PrintOf P.Printer choice) before (K.taken sink.old) self.held.items (ended_lines text)
-            → result ≡ Err Fault.Write → HasFirstPrintOf (PrintOf P.Printer choice)
+            (PrintOf P.Printer choice gone) before (K.taken sink.old) self.held.items (ended_lines text)
+            → result ≡ Err Fault.Write → HasFirstPrintOf (PrintOf P.Printer choice gone)
             (P.closing choice) text before (K.taken sink.new) }
         ensures not_written { IfErr result (λ fault. fault ≢ Fault.Write → sink.new ≡ sink.old) }
         ensures kinds { IfErr result IsPrinterFault }
@@ -253,13 +260,13 @@ impl<A: Allocator + Copy, O: TraceObserver<A>, P: Printer<A, O>> TracePrinter<A,
         requires fed { IsFed O.TraceObserver P.Printer self }
         // A sink that has the print of the lines that ended has that of the text, and what comes after it.
         ensures printed { OfPrinted O.TraceObserver P.Printer self (K.taken sink.old)
-            (λ choice text before.
-            IfOk result (IsPrinted (PrintOf P.Printer choice) (P.closing choice) text before
+            (λ choice gone text before.
+            IfOk result (IsPrinted (PrintOf P.Printer choice gone) (P.closing choice) text before
             (K.taken sink.new))) }
         ensures refused { OfFed O.TraceObserver P.Printer self (λ choice text.
             IfErr result (IsEndRefusal text)) }
-        ensures taken { OfPrinted O.TraceObserver P.Printer self (K.taken sink.old) (λ choice text before.
-            result ≡ Err Fault.Write → HasFirstPrintOf (PrintOf P.Printer choice) (P.closing choice)
+        ensures taken { OfPrinted O.TraceObserver P.Printer self (K.taken sink.old) (λ choice gone text before.
+            result ≡ Err Fault.Write → HasFirstPrintOf (PrintOf P.Printer choice gone) (P.closing choice)
             text before (K.taken sink.new)) }
         ensures not_written { IfErr result (λ fault. fault ≢ Fault.Write → sink.new ≡ sink.old) }
         ensures kinds { IfErr result IsPrinterFault }

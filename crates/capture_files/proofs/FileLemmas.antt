@@ -1,14 +1,17 @@
 -- The records that a pcap file has, read one by one.
-use Rattle.std.proofs.Common.{◌≡◌, ◌∙◌, sym, ap, Bool, true, false, ℕ, zero, suc, ◌+◌, ◌-◌, ◌<◌, ◌≤◌, ◌⊎◌, inl, inr, List, [], ◌∷◌, ◌++◌, Option, None, Some, IfSome, IsSome, is_some, arith, drop, length, length-append, length-drop, min, nat_lt, refl, subst, take}
-use Rattle.std.specs.Option.{option_and_then, option_map}
+use Rattle.std.proofs.Common.{◌≡◌, ◌∙◌, sym, ap, Bool, true, false, ℕ, zero, suc, ◌+◌, ◌-◌, ◌<◌, ◌≤◌, ◌⊎◌, inl, inr, List, [], ◌∷◌, ◌++◌, Option, None, Some, IfSome, IsSome, is_some, arith, drop, length, length-append, length-drop, min, nat_eq, nat_lt, refl, subst, take}
+use Rattle.std.specs.Prelude.{if◌then◌else◌}
+use Rattle.std.specs.Option.{option_map}
 use Rattle.std.proofs.Math.Seq.{drop-append_seam, take-append_seam}
 use Rattle.std.proofs.lemmas.Bool.{cases_lt, le-ltb, lt-ltb}
 use Rattle.std.proofs.lemmas.List.{append-nil, take-append-le, take_min}
-use Rattle.capture_files.specs.CaptureFiles.{records_of}
+use Rattle.capture_files.specs.CaptureFiles.{records_by, records_of}
 use Rattle.capture_model.specs.declared.reason.FileDamage.{FileDamage}
 use Rattle.capture_files.specs.Entries.{frame_at}
 use Rattle.capture_files.specs.Numbers.{next_number, number}
 use Rattle.capture_files.specs.PcapFiles.{first_record, is_damaged, pcap_ahead, pcap_left, pcap_records, record_size, records_within}
+use Rattle.capture_files.specs.PcapngFiles.{block_records}
+use Rattle.capture_files.specs.PcapngRecords.{no_section}
 use Rattle.capture_files.specs.PcapHeaders.{first_fitting, fitted, form_in, form_of, headers_of}
 use Rattle.capture_files.specs.PcapRecords.{IsRecord, header_size, is_impossible, kept, pcap_frame}
 use Rattle.capture_files.specs.Records.{Follows, Record, frame_record, record_of}
@@ -186,7 +189,7 @@ opened may_wait n p f header rest file is size header_is form number free =
     ∙ ap (λ f. pcap_records f p.number rest) form
     ∙ ap (λ n. pcap_records (fitted may_wait f rest) n rest) number
     ∙ ap (pcap_records (fitted may_wait f rest) n) (sym back)
-    ∙ ap (option_and_then (λ f. pcap_records f n (drop 24 file))) (sym its_form)
+    ∙ ap (λ o. records_by o n file) (sym its_form)
 
 -- the octets in which an old form is sought are the first ones of the file, and the last ones where it has no more
 looked_at : (n : ℕ) (ahead left : List ℕ) → (n ≤ length ahead) ⊎ (left ≡ []) → (take (min (length ahead) n) ahead ≡ take n (ahead ++ left)) × (nat_lt (min (length ahead) n) n ≡ nat_lt (length (ahead ++ left)) n)
@@ -222,16 +225,19 @@ fitted_front may_wait f hs ahead left octets file is_end waits is there is_heade
     ∙ ap (λ xs. first_fitting f own (take 1048576 xs) (nat_lt (length xs) 1048576)) (sym is)
     ∙ ap (λ b. fitted b f file) (sym waits)
 
--- a file with another magic number
-pub not_pcap : (may_wait : Bool) (n : ℕ) (ahead left file : List ℕ) → file ≡ ahead ++ left → 4 ≤ length ahead → number true ahead ≡ 168627466 → records_of may_wait n file ≡ None
-not_pcap may_wait n ahead left file is there magic = by_size (cases_lt (length file) 24)
+-- a file that begins a section has no header of a pcap file
+no_header : (may_wait : Bool) (file : List ℕ) → number true file ≡ 168627466 → form_of may_wait file ≡ None
+no_header may_wait file magic = by_size (cases_lt (length file) 24)
   where
-    all : length file ≡ length ahead + length left
-    all = ap length is ∙ length-append ahead left
-
     front : 24 ≤ length file → number true (take 24 file) ≡ 168627466
-    front le = number_cut true file 0 24 (omega arith) ∙ ap (number true) is ∙ number_more true ahead left 0 (omega (arith, there)) ∙ magic
+    front le = number_cut true file 0 24 (omega arith) ∙ magic
 
-    by_size : (length file < 24) ⊎ (24 ≤ length file) → records_of may_wait n file ≡ None
+    by_size : (length file < 24) ⊎ (24 ≤ length file) → form_of may_wait file ≡ None
     by_size (inl less) = rw (lt-ltb (length file) 24 less) refl
     by_size (inr le) = rw (le-ltb (length file) 24 le, front le) refl
+
+-- its records are those of its blocks
+pub begun_section : (may_wait : Bool) (n : ℕ) (ahead left file : List ℕ) → file ≡ ahead ++ left → 4 ≤ length ahead → number true ahead ≡ 168627466 → records_of may_wait n file ≡ block_records (no_section n) file
+begun_section may_wait n ahead left file is there magic =
+    let same : number true file ≡ 168627466 = ap (number true) is ∙ number_more true ahead left 0 (omega (arith, there)) ∙ magic in
+    ap (λ o. records_by o n file) (no_header may_wait file same) ∙ ap (λ k. if nat_eq k 168627466 then block_records (no_section n) file else None) same

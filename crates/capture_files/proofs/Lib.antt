@@ -1,6 +1,9 @@
 pub mod WindowLemmas
 pub mod RecordLemmas
 pub mod BlockLemmas
+pub mod OptionLemmas
+pub mod PcapngLemmas
 pub mod FileLemmas
 pub mod PcapLaw
+pub mod PcapngLaw
 pub mod Worked

@@ -8,6 +8,7 @@ use Rattle.capture_files.specs.declared.interface.Interface.{Interface}
 use Rattle.capture_files.specs.declared.packet_block.Placed.{Placed}
 use Rattle.capture_files.specs.Blocks.{block_length}
 use Rattle.capture_files.specs.Numbers.{number, short_number}
+use Rattle.capture_files.specs.Options.{BlockOption, direction_by, flags_in, options_in, padded}
 
 -- the time that a timestamp says: the seconds of the offset, and a number of units
 abbrev pub time_of : Interface → ℕ → Nanos
@@ -39,6 +40,14 @@ packet_in big kind block = if nat_lt (length block) 28 then None else Some (reco
 
 abbrev pub placed_in : Bool → (kind snap : ℕ) → List ℕ → Option Placed
 placed_in big kind snap block = if nat_eq kind 3 then simple_in big snap block else packet_in big kind block
+
+-- the options of a block, behind its frame
+abbrev pub options_behind : Bool → Placed → List ℕ → List BlockOption
+options_behind big p block = options_in big (drop (p.from + padded p.kept) block)
+
+-- the direction that its flags say
+abbrev pub frame_direction : Bool → Placed → List ℕ → Direction
+frame_direction big p block = direction_by (flags_in big (options_behind big p block))
 
 -- how many octets the frame had on the line, without its check sequence
 abbrev pub frame_length : Placed → Interface → ℕ

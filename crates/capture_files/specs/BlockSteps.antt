@@ -1,14 +1,15 @@
 -- What a reader of a pcapng file does next.
-use Rattle.std.specs.Prelude.{◌≡◌, ◌≢◌, ◌⊎◌, ◌+◌, ◌^◌, ◌<◌, ◌≤◌, ℕ, Bool, List, [], ◌∷◌, ◌++◌, Option, None, Some, IfSome, drop, length, slice_get}
+use Rattle.std.specs.Prelude.{◌≡◌, ◌≢◌, ◌⊎◌, ◌+◌, ◌^◌, ◌<◌, ◌≤◌, ℕ, Bool, List, [], ◌∷◌, ◌++◌, Option, None, Some, IfSome, length, slice_get}
 use Rattle.capture_model.specs.Frames.{Frame}
 use Rattle.capture_files.specs.declared.entry.Entry.{Entry}
 use Rattle.capture_files.specs.declared.interface.Interface.{Interface}
 use Rattle.capture_files.specs.declared.packet_block.Placed.{Placed}
 use Rattle.capture_files.specs.declared.pcapng.Pcapng.{Pcapng}
-use Rattle.capture_files.specs.BlockFrames.{block_frame, body_of, placed_in}
+use Rattle.capture_files.specs.BlockFrames.{block_frame, body_of, frame_direction, placed_in}
 use Rattle.capture_files.specs.Blocks.{BeginsBlock, IsBlock, IsCutBlock, order_at}
 use Rattle.capture_files.specs.Entries.{frame_at}
-use Rattle.capture_files.specs.Numbers.{next_number, number, short_number}
+use Rattle.capture_files.specs.Interfaces.{interface_in}
+use Rattle.capture_files.specs.Numbers.{next_number, number}
 use Rattle.capture_files.specs.Windows.{WindowView}
 
 -- the most octets that a simple block keeps of a frame: that of the first interface, 0 for all
@@ -19,20 +20,19 @@ snap_of (Some i) = i.snap
 abbrev pub first_snap : List Interface → ℕ
 first_snap interfaces = snap_of (slice_get interfaces 0)
 
--- a frame is that of the body of a block of this type: of an interface that was described, and with the next number. What
--- the options say of its direction is left open
+-- a frame is that of the body of a block of this type: of an interface that was described, and with the next number
 pub record IsFrameOf (big : Bool) (kind : ℕ) (interfaces : List Interface) (first n : ℕ) (body : List ℕ) (frame : Frame) : Type 0 where
   pub placed : Placed
   pub interface : Interface
   pub place : placed_in big kind (first_snap interfaces) body ≡ Some placed
   pub described : slice_get interfaces placed.which ≡ Some interface
-  pub same : frame ≡ block_frame placed interface first n frame.direction body
+  pub same : frame ≡ block_frame placed interface first n (frame_direction big placed body) body
 
--- after the description of an interface: there is one more with its link type and the most octets of its frames, or none
--- where the description is too short, or the section has 65,536
+-- after the description of an interface: there is one more, or none where the description is too short, or the section has
+-- 65,536
 abbrev pub IsOneMore : Bool → (body : List ℕ) → (before after : List Interface) → Type 0
 IsOneMore big body before after = ((length body < 16) × (after ≡ before)) ⊎ ((length before ≡ 2 ^ 16) × (after ≡ before))
-    ⊎ ((i : Interface) × (after ≡ before ++ i ∷ []) × (i.link ≡ short_number big (drop 8 body)) × (i.snap ≡ number big (drop 12 body)))
+    ⊎ (after ≡ before ++ interface_in big body ∷ [])
 
 -- what a block of this type does to the interfaces of its section: it begins another one, describes one, or leaves them
 abbrev pub IsDescribed : Bool → (kind : ℕ) (body : List ℕ) → (before after : List Interface) → Type 0

@@ -1,5 +1,5 @@
 -- The blocks of a pcapng file.
-use Rattle.std.specs.Prelude.{◌≡◌, ℕ, ◌%◌, ◌^◌, ◌<◌, ◌≤◌, Bool, true, false, List, drop, length, nat_eq, nat_lt, if◌then◌else◌}
+use Rattle.std.specs.Prelude.{◌≡◌, ℕ, ◌-◌, ◌%◌, ◌^◌, ◌<◌, ◌≤◌, ◌&&◌, ◌||◌, Bool, true, false, List, drop, length, nat_eq, nat_le, nat_lt, if◌then◌else◌}
 use Rattle.capture_files.specs.declared.block.BlockStart.{BlockStart}
 use Rattle.capture_files.specs.declared.block.BlockStart.TheVariants.{End, HeadCut, Unusable, Block}
 use Rattle.capture_files.specs.Numbers.{number}
@@ -28,6 +28,20 @@ pub record IsBlock (big : Bool) (octets : List ℕ) : Type 0 where
   pub begins : BeginsBlock big octets
   pub whole : length octets ≡ block_length big octets
 
+-- the same, with its length again at its end
+pub record IsWholeBlock (big : Bool) (octets : List ℕ) : Type 0 where
+  pub one : IsBlock big octets
+  pub again : number big (drop (length octets - 4) octets) ≡ length octets
+
+-- whether octets are such a block
+abbrev pub is_whole : Bool → List ℕ → Bool
+is_whole big octets = nat_le 12 (length octets) && nat_eq (block_length big octets) (length octets) && nat_eq (length octets % 4) 0
+    && nat_le (length octets) 16777216 && nat_eq (number big (drop (length octets - 4) octets)) (length octets)
+
+-- types of blocks without a frame that are numbered as if they had one, as Wireshark does: journal entries and custom blocks
+abbrev pub is_numbered : (kind : ℕ) → Bool
+is_numbered kind = nat_eq kind 9 || nat_eq kind 0xBAD || nat_eq kind 0x40000BAD
+
 -- octets that are the beginning of a block
 pub record IsCutBlock (big : Bool) (octets : List ℕ) : Type 0 where
   pub begins : BeginsBlock big octets
@@ -36,6 +50,6 @@ pub record IsCutBlock (big : Bool) (octets : List ℕ) : Type 0 where
 -- what begins at the front of a file
 abbrev pub IsBlockStart : Bool → List ℕ → BlockStart → Type 0
 IsBlockStart big file End = length file ≡ 0
-IsBlockStart big file (HeadCut n) = length file < 12
+IsBlockStart big file (HeadCut n) = (0 < length file) × (length file < 12)
 IsBlockStart big file (Unusable n) = (12 ≤ length file) × (BeginsBlock big file → ⊥)
 IsBlockStart big file (Block n) = BeginsBlock big file × (n ≡ block_length big file)

@@ -8,8 +8,13 @@ pub mod PcapHeaders
 pub mod PcapFiles
 pub mod PcapSteps
 pub mod Blocks
+pub mod Options
+pub mod Interfaces
 pub mod BlockFrames
 pub mod BlockSteps
+pub mod PcapngRecords
+pub mod PcapngFiles
 pub mod CaptureSteps
 pub mod CaptureFiles
 pub mod WorkedFile
+pub mod WorkedBlocks

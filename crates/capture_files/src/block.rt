@@ -1,7 +1,7 @@
 //! The blocks of a pcapng file.
 
 ghost use Rattle.std.specs.Prelude.{◌≡◌, ◌<◌, IfSome, length};
-ghost use Rattle.capture_files.specs.Blocks.{IsBlockStart, order_at};
+ghost use Rattle.capture_files.specs.Blocks.{IsBlockStart, is_numbered, order_at};
 
 use crate::numbers::read_four;
 
@@ -17,8 +17,6 @@ pub(crate) const SIMPLE: u32 = 3;
 pub(crate) const STATISTICS: u32 = 5;
 /// The type of an enhanced block with a frame.
 pub(crate) const ENHANCED: u32 = 6;
-/// Types of blocks that Wireshark numbers as if they were frames: journal entries and custom blocks.
-pub(crate) const NUMBERED: [u32; 3] = [9, 0xBAD, 0x4000_0BAD];
 /// The other types that a search knows: names and secrets.
 const NAMES: u32 = 4;
 
@@ -76,12 +74,19 @@ pub(crate) fn block_start(is_big: bool, octets: &[u8]) -> BlockStart
     BlockStart::Unusable(length)
 }
 
+/// Returns whether Wireshark numbers blocks of this type as if they were frames: journal entries and custom blocks.
+pub(crate) fn is_numbered(kind: u32) -> bool
+    ensures { result ≡ is_numbered kind }
+{
+    matches!(kind, 9 | 0xBAD | 0x4000_0BAD)
+}
+
 /// Returns whether a search for the next block knows this type.
 fn is_known(kind: u32) -> bool {
     matches!(
         kind,
         SECTION | INTERFACE | PACKET | SIMPLE | NAMES | STATISTICS | ENHANCED | SECRETS
-    ) || NUMBERED.contains(&kind)
+    ) || is_numbered(kind)
 }
 
 /// Returns whether a whole block of a known type is at a place, with two equal lengths.

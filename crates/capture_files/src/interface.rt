@@ -1,8 +1,8 @@
 //! The interfaces of a pcapng file.
 
-ghost use Rattle.std.specs.Prelude.{◌≡◌, ◌≤◌, drop, length};
-ghost use Rattle.capture_files.specs.Numbers.{number, short_number};
+ghost use Rattle.std.specs.Prelude.{◌≡◌, ◌≤◌, length};
 ghost use Rattle.capture_files.specs.BlockFrames.{time_of};
+ghost use Rattle.capture_files.specs.Interfaces.{interface_in, units_of};
 
 use crate::numbers::{read_four, read_two};
 use crate::options::{count_of, last_option};
@@ -31,7 +31,9 @@ pub struct Interface {
 }
 
 /// Returns how many units are a second, by the value of the option: a power of ten, or of two.
-fn units_of(value: &[u8]) -> u128 {
+fn units_of(value: &[u8]) -> u128
+    ensures { result ≡ units_of value.now }
+{
     let [first, ..] = value else {
         return 1_000_000;
     };
@@ -44,8 +46,7 @@ impl Interface {
     /// Returns the interface that a block describes.
     pub(crate) fn described(is_big: bool, block: &[u8]) -> Interface
         requires { 16 ≤ length block.now }
-        ensures link { result.link ≡ short_number is_big (drop 8 block.now) }
-        ensures snap { result.snap ≡ number is_big (drop 12 block.now) }
+        ensures { result ≡ interface_in is_big block.now }
     {
         let check = last_option(is_big, block, 16, CHECK_LENGTH);
         let offset = last_option(is_big, block, 16, OFFSET);

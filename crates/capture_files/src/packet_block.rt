@@ -4,6 +4,7 @@ ghost use Rattle.std.specs.Prelude.{◌≡◌, ◌+◌, ◌-◌, ◌≤◌, IfSo
 ghost use Rattle.std.specs.Option.{option_map};
 ghost use Rattle.capture_files.specs.BlockFrames.{block_frame, placed_in, simple_in, time_of};
 ghost use Rattle.capture_files.specs.Entries.{frame_at};
+ghost use Rattle.capture_files.specs.Options.{padded};
 
 use crate::block::{PACKET, SIMPLE};
 use crate::entry::FrameHead;
@@ -31,7 +32,7 @@ pub struct Placed {
 /// where it is too short for that.
 pub(crate) fn placed_in(is_big: bool, kind: u32, snap: u32, block: &[u8]) -> Option<Placed>
     ensures place { result ≡ placed_in is_big kind snap block.now }
-    ensures within { IfSome result (λ p. (p.from ≤ length block.now) × (p.from ≤ 28)) }
+    ensures within { IfSome result (λ p. (12 ≤ p.from) × (p.from ≤ length block.now) × (p.from ≤ 28)) }
 {
     if kind == SIMPLE {
         return simple(is_big, snap, block);
@@ -58,7 +59,7 @@ pub(crate) fn placed_in(is_big: bool, kind: u32, snap: u32, block: &[u8]) -> Opt
 /// Returns where a simple block has its frame.
 fn simple(is_big: bool, snap: u32, block: &[u8]) -> Option<Placed>
     ensures place { result ≡ simple_in is_big snap block.now }
-    ensures within { IfSome result (λ p. (p.from ≤ length block.now) × (p.from ≤ 28)) }
+    ensures within { IfSome result (λ p. (12 ≤ p.from) × (p.from ≤ length block.now) × (p.from ≤ 28)) }
 {
     if block.len() < 12 {
         return None;
@@ -78,6 +79,7 @@ impl Placed {
     /// Returns where the options of the block begin.
     pub(crate) fn options(&self) -> usize
         requires { self.now.from ≤ 28 }
+        ensures { result ≡ self.now.from + padded self.now.kept }
     {
         self.from + (self.kept as usize + 3) / 4 * 4
     }

@@ -1,17 +1,20 @@
 //! The reader of a pcapng file.
 
-ghost use Rattle.std.specs.Prelude.{◌≡◌, ◌+◌, ◌≤◌, [], ◌++◌, ℕ, List, IfNone, IfOk, IfSome, IsSome, None, OnErr, OnOk, false, length, slice_get, true};
+ghost use Rattle.std.specs.Prelude.{◌≡◌, ◌+◌, ◌-◌, ◌<◌, ◌≤◌, [], ◌++◌, ℕ, List, IfNone, IfOk, IfSome, IsSome, None, OnErr, OnOk, Some, drop, false, length, slice_get, true};
 ghost use Rattle.capture_files.specs.BlockFrames.{body_of};
-ghost use Rattle.capture_files.specs.Blocks.{BeginsBlock, block_length};
+ghost use Rattle.capture_files.specs.Blocks.{BeginsBlock, IsWholeBlock, block_length};
 ghost use Rattle.capture_files.specs.BlockSteps.{IsBlockEntry, IsBlockStep, IsDescribed, IsFrameOf, IsOneMore, first_snap};
 ghost use Rattle.capture_files.specs.Entries.{frame_at};
 ghost use Rattle.capture_files.specs.Numbers as numbers;
 ghost use Rattle.capture_files.specs.Numbers.{number};
+ghost use Rattle.capture_files.specs.PcapngFiles.{IsUnchanged, Reads, pcapng_left, section_of};
+ghost use Rattle.capture_files.specs.PcapngRecords.{begun, content_read, frame_read, interface_read, missing, no_section, other_read, placed_drops, statistics_read, whole_read};
+ghost use Rattle.capture_files.specs.Records.{Follows, record_in};
 ghost use Rattle.capture_files.specs.Windows.{Advances, IsAtEnd, still};
 
 use crate::block::{
-    BlockStart, ENHANCED, HEAD, INTERFACE, NUMBERED, PACKET, SECTION, SIMPLE, STATISTICS,
-    block_start, next_block, order_at,
+    BlockStart, ENHANCED, HEAD, INTERFACE, PACKET, SECTION, SIMPLE, STATISTICS, block_start,
+    is_numbered, next_block, order_at,
 };
 use crate::entry::{Dropped, Entry, FrameHead};
 use crate::interface::Interface;
@@ -67,6 +70,9 @@ impl Pcapng {
     pub fn new(alloc: Global, number: u64) -> Self
         ensures none { result.interfaces.items ≡ [] }
         ensures number { result.number ≡ number }
+        ensures section { section_of result ≡ no_section number }
+        ensures sound { result.is_damaged ≡ false }
+        ensures free { result.search ≡ None }
     {
         Pcapng {
             is_big: false,
@@ -92,6 +98,7 @@ impl Pcapng {
     /// Returns what is wrong with a block by its octets, which may be cut by the end of the file.
     fn block_damage(&self, octets: &[u8], said: u32) -> Option<FileDamage>
         requires { 12 ≤ said }
+        ensures { length octets.now ≡ said → number self.now.is_big (drop (said - 4) octets.now) ≡ said → result ≡ None }
     {
         let size = said as usize;
         let fault = if octets.len() < size {
@@ -100,16 +107,15 @@ impl Pcapng {
                 length: said,
             }
         } else {
+            let second = read_four(self.is_big, octets, size - 4);
+            if second == said {
+                return None;
+            }
             FileFault::LengthsDiffer {
                 first: said,
-                second: read_four(self.is_big, octets, size - 4),
+                second,
             }
         };
-        let is_whole =
-            matches!(fault, FileFault::LengthsDiffer { first, second } if first == second);
-        if is_whole {
-            return None;
-        }
         Some(FileDamage {
             offset: self.offset,
             fault,
@@ -121,6 +127,8 @@ impl Pcapng {
     fn describe(&mut self, body: &[u8]) -> Result<Entry, Fault>
         ensures frame { IfOk result (λ entry. entry.frame ≡ None) }
         ensures described { OnOk result (IsOneMore self.old.is_big body.now self.old.interfaces.items self.new.interfaces.items) }
+        ensures reads { IfOk result (Reads (interface_read (section_of self.old) body.now) self.old self.new body.now) }
+        ensures kept { OnErr result (IsUnchanged self.old self.new) }
     {
         if body.len() < 16 {
             return Ok(Entry {
@@ -145,7 +153,11 @@ impl Pcapng {
     /// Begins a section, which has no interfaces yet.
     fn begin_section(&mut self) -> Entry
         ensures frame { result.frame ≡ None }
+        ensures dropped { result.dropped ≡ None }
         ensures none { self.new.interfaces.items ≡ [] }
+        ensures section { section_of self.new ≡ begun (section_of self.old) }
+        ensures damaged { self.new.is_damaged ≡ self.old.is_damaged }
+        ensures search { self.new.search ≡ self.old.search }
     {
         let count = u32::try_from(self.interfaces.len()).unwrap_or(u32::MAX);
         self.first_interface = self.first_interface.saturating_add(count);
@@ -156,7 +168,11 @@ impl Pcapng {
 
     /// Returns the frames that were dropped since the last statistics of an interface, by it or by the system.
     fn statistics(&mut self, body: &[u8]) -> Option<Dropped>
-        ensures { self.new.interfaces.items ≡ self.old.interfaces.items }
+        ensures after { section_of self.new ≡ (statistics_read (section_of self.old) body.now).after }
+        ensures dropped { result ≡ (statistics_read (section_of self.old) body.now).gives.dropped }
+        ensures interfaces { self.new.interfaces.items ≡ self.old.interfaces.items }
+        ensures damaged { self.new.is_damaged ≡ self.old.is_damaged }
+        ensures search { self.new.search ≡ self.old.search }
     {
         if body.len() < 20 {
             return None;
@@ -172,10 +188,7 @@ impl Pcapng {
         let before = self.dropped.get_mut(which as usize)?;
         let count = all.saturating_sub(*before);
         *before = all;
-        if count == 0 {
-            return None;
-        }
-        Some(Dropped {
+        missing(Dropped {
             count,
             number: self.number,
             time: Some(time),
@@ -187,9 +200,10 @@ impl Pcapng {
     fn other_block(&mut self, kind: u32, body: &[u8]) -> Entry
         ensures frame { result.frame ≡ None }
         ensures interfaces { self.new.interfaces.items ≡ self.old.interfaces.items }
+        ensures reads { Reads (Some (other_read (section_of self.old) kind body.now)) self.old self.new body.now result }
     {
-        if NUMBERED.contains(&kind) {
-            self.number = self.number.saturating_add(1);
+        if is_numbered(kind) {
+            self.number = next_number(self.number);
         }
         let dropped = if kind == STATISTICS {
             self.statistics(body)
@@ -217,7 +231,8 @@ impl Pcapng {
     /// Notes that a block has fewer octets of its frame than it says.
     fn frame_damage(&mut self, placed: &Placed, body: &[u8]) -> Option<FileDamage>
         requires { placed.now.from ≤ length body.now }
-        ensures { self.new ≡ record self.old { is_damaged = self.new.is_damaged } }
+        ensures same { self.new ≡ record self.old { is_damaged = self.new.is_damaged } }
+        ensures sound { placed.now.kept ≤ length body.now - placed.now.from → self.new.is_damaged ≡ self.old.is_damaged }
     {
         let there = placed.there(body);
         if there == placed.kept {
@@ -251,7 +266,9 @@ impl Pcapng {
     /// Returns the frames that were dropped before a frame: this number, or an unknown one where the file is damaged
     /// before it.
     fn dropped_before(&mut self, count: u64, head: &FrameHead) -> Option<Dropped>
-        ensures { self.new ≡ record self.old { is_damaged = false } }
+        ensures same { self.new ≡ record self.old { is_damaged = false } }
+        ensures dropped { self.old.is_damaged ≡ false → result ≡ missing
+            (record { count = count; number = head.now.number; time = head.now.time; interface = head.now.interface }) }
     {
         let is_damaged = self.is_damaged;
         self.is_damaged = false;
@@ -273,6 +290,7 @@ impl Pcapng {
             × IsFrameOf self.old.is_big kind self.old.interfaces.items self.old.first_interface
             (numbers.next_number self.old.number) body.now (frame_at head body.now)) }
         ensures interfaces { self.new.interfaces.items ≡ self.old.interfaces.items }
+        ensures reads { Reads (frame_read (section_of self.old) kind body.now) self.old self.new body.now result }
     {
         self.number = next_number(self.number);
         let frame = self.number;
@@ -309,6 +327,8 @@ impl Pcapng {
             (numbers.next_number self.old.number) body.now (frame_at head body.now))) }
         ensures described { OnOk result (IsDescribed self.old.is_big kind body.now self.old.interfaces.items
             self.new.interfaces.items) }
+        ensures reads { IfOk result (Reads (content_read (section_of self.old) kind body.now) self.old self.new body.now) }
+        ensures kept { OnErr result (IsUnchanged self.old self.new) }
     {
         match kind {
             SECTION => Ok(self.begin_section()),
@@ -318,20 +338,26 @@ impl Pcapng {
         }
     }
 
-    /// Returns the entry of a block by its octets, which may be cut by the end of the file, and the length that it
-    /// says. Fails when memory is refused; nothing has changed then.
-    fn block(&mut self, octets: &[u8], said: u32) -> Result<Entry, Fault>
+    /// Returns the entry of a block by its octets, which may be cut by the end of the file, its byte order and the
+    /// length that it says. Fails when memory is refused; nothing has changed then.
+    fn block(&mut self, octets: &[u8], is_big: bool, said: u32) -> Result<Entry, Fault>
         requires head { 12 ≤ length octets.now }
         requires least { 12 ≤ said }
-        requires said { said ≡ block_length self.old.is_big octets.now }
+        requires said { said ≡ block_length is_big octets.now }
         ensures frame { IfOk result (λ entry. IfSome entry.frame (λ head. (head.from + head.kept ≤ length octets.now)
-            × IsFrameOf self.old.is_big (number self.old.is_big octets.now) self.old.interfaces.items
-            self.old.first_interface (numbers.next_number self.old.number) (body_of self.old.is_big octets.now)
+            × IsFrameOf is_big (number is_big octets.now) self.old.interfaces.items
+            self.old.first_interface (numbers.next_number self.old.number) (body_of is_big octets.now)
             (frame_at head octets.now))) }
-        ensures described { OnOk result (IsDescribed self.old.is_big (number self.old.is_big octets.now)
-            (body_of self.old.is_big octets.now) self.old.interfaces.items self.new.interfaces.items) }
+        ensures described { OnOk result (IsDescribed is_big (number is_big octets.now)
+            (body_of is_big octets.now) self.old.interfaces.items self.new.interfaces.items) }
+        ensures reads { IfOk result (λ entry. IsWholeBlock is_big octets.now
+            → Reads (whole_read (record (section_of self.old) { is_big = is_big }) octets.now) self.old self.new octets.now
+            entry) }
+        ensures kept { OnErr result (IsUnchanged self.old self.new) }
     {
+        let was_big = self.is_big;
         let was_damaged = self.is_damaged;
+        self.is_big = is_big;
         let damage = self.block_damage(octets, said);
         self.is_damaged = was_damaged | damage.is_some();
         let kind = read_four(self.is_big, octets, 0);
@@ -342,39 +368,48 @@ impl Pcapng {
                 Ok(Entry { damage, ..entry })
             }
             Err(fault) => {
+                self.is_big = was_big;
                 self.is_damaged = was_damaged;
                 Err(fault)
             }
         }
     }
 
-    /// Consumes the block at the front, which says this length, or what there is of it.
+    /// Consumes the block at the front, which has this byte order and says this length, or what there is of it.
     fn take_block<S: RoomSource>(
         &mut self,
         window: &mut Window,
         source: &mut S,
+        is_big: bool,
         said: u32,
     ) -> Result<Entry, Fault>
-        requires begins { BeginsBlock self.old.is_big window.old.ahead }
-        requires said { said ≡ block_length self.old.is_big window.old.ahead }
+        requires begins { BeginsBlock is_big window.old.ahead }
+        requires said { said ≡ block_length is_big window.old.ahead }
         ensures passes { OnOk result (Advances window.old (S.left source.old) window.new (S.left source.new) window.new.last) }
         ensures refused { OnErr result (Advances window.old (S.left source.old) window.new (S.left source.new) []) }
-        ensures entry { IfOk result (λ entry. IsBlockEntry self.old.is_big self.old.interfaces.items self.new.interfaces.items
+        ensures entry { IfOk result (λ entry. IsBlockEntry is_big self.old.interfaces.items self.new.interfaces.items
             self.old.first_interface self.old.number window.new.last window.new.ahead entry) }
         ensures front { OnOk result ((more : List ℕ) × (window.new.last ++ window.new.ahead ≡ window.old.ahead ++ more)) }
+        ensures reads { IfOk result (λ entry. IsWholeBlock is_big window.new.last
+            → Reads (whole_read (record (section_of self.old) { is_big = is_big }) window.new.last) self.old self.new
+            window.new.last entry) }
+        ensures cut { OnOk result (length window.new.last < block_length is_big window.new.last
+            → IsAtEnd (still window.old.ahead (S.left source.old)) (S.left source.new)) }
+        ensures kept { OnErr result (IsUnchanged self.old self.new) }
     {
         window.fill(source, said as usize)?;
         let taken = window.len().min(said as usize);
-        let entry = self.block(&window.ahead()[..taken], said)?;
+        let entry = self.block(&window.ahead()[..taken], is_big, said)?;
         window.take(taken);
         Ok(entry)
     }
 
-    /// Consumes the next octets of a search, and ends it where a block is, or where the file ends.
+    /// Consumes the next octets of a search, after this byte order, and ends it where a block is, or where the file ends.
     fn search_on<S: RoomSource>(
         &mut self,
         window: &mut Window,
         source: &mut S,
+        is_big: bool,
         mut search: BlockSearch,
     ) -> Result<Entry, Fault>
         ensures passes { OnOk result (Advances window.old (S.left source.old) window.new (S.left source.new) window.new.last) }
@@ -382,12 +417,14 @@ impl Pcapng {
         ensures frame { IfOk result (λ entry. entry.frame ≡ None) }
         ensures interfaces { self.new.interfaces.items ≡ self.old.interfaces.items }
         ensures front { OnOk result ((more : List ℕ) × (window.new.last ++ window.new.ahead ≡ window.old.ahead ++ more)) }
+        ensures kept { OnErr result (IsUnchanged self.old self.new) }
     {
         window.fill(source, SEARCHED)?;
+        self.is_big = is_big;
         let there = window.len().min(SEARCHED);
         let is_end = there < SEARCHED;
         let from = if search.passed == 0 { 4 } else { 0 };
-        let found = next_block(self.is_big, &window.ahead()[..there], from);
+        let found = next_block(is_big, &window.ahead()[..there], from);
         let passed = match found {
             Some(at) => at,
             None if is_end => there,
@@ -446,13 +483,16 @@ impl Pcapng {
         ensures end { IfOk result (λ entry. IfNone entry
             (IsAtEnd (still window.old.ahead (S.left source.old)) (S.left source.new))) }
         ensures step { IfOk result (λ entry. IsBlockStep self.old self.new window.new entry) }
+        ensures follows { IfOk result (λ entry. Follows (pcapng_left self.old (still window.old.ahead (S.left source.old)))
+            (pcapng_left self.new (still window.new.ahead (S.left source.new))) (record_in window.new.last entry)) }
+        ensures kept { OnErr result (IsUnchanged self.old self.new) }
     {
         if let Some(search) = self.search {
-            return Ok(Some(self.search_on(window, source, search)?));
+            return Ok(Some(self.search_on(window, source, self.is_big, search)?));
         }
         window.fill(source, HEAD)?;
-        self.is_big = order_at(window.ahead(), self.is_big);
-        match block_start(self.is_big, window.ahead()) {
+        let is_big = order_at(window.ahead(), self.is_big);
+        match block_start(is_big, window.ahead()) {
             BlockStart::End => {
                 window.take(0);
                 Ok(None)
@@ -463,23 +503,38 @@ impl Pcapng {
             }
             BlockStart::Unusable(length) => {
                 let search = BlockSearch {
-                    kind: read_four(self.is_big, window.ahead(), 0),
+                    kind: read_four(is_big, window.ahead(), 0),
                     length,
                     start: self.offset,
                     passed: 0,
                 };
-                Ok(Some(self.search_on(window, source, search)?))
+                Ok(Some(self.search_on(window, source, is_big, search)?))
             }
-            BlockStart::Block(length) => Ok(Some(self.take_block(window, source, length)?)),
+            BlockStart::Block(length) => {
+                Ok(Some(self.take_block(window, source, is_big, length)?))
+            }
         }
     }
 }
 
+/// Returns frames that are missing, if there are some.
+fn missing(dropped: Dropped) -> Option<Dropped>
+    ensures { result ≡ missing dropped }
+{
+    if dropped.count == 0 {
+        return None;
+    }
+    Some(dropped)
+}
+
 /// Returns how many frames a block says were dropped before its frame: an obsolete one in a field, in which 65,535 means
 /// an unknown number, and an enhanced one in its options.
-fn placed_drops(is_big: bool, kind: u32, body: &[u8], by_options: u64) -> u64 {
+fn placed_drops(is_big: bool, kind: u32, body: &[u8], by_options: u64) -> u64
+    requires { 12 ≤ length body.now }
+    ensures { result ≡ placed_drops is_big kind body.now by_options }
+{
     match kind {
-        PACKET if 12 <= body.len() => match read_two(is_big, body, 10) {
+        PACKET => match read_two(is_big, body, 10) {
             0xFFFF => 0,
             count => u64::from(count),
         },

@@ -1,39 +1,36 @@
--- The trace of a pcap file has the rows of its records, where it has no fault.
+-- The trace of a capture file has the rows of its records, where it has no fault.
 use Rattle.std.proofs.Common.{◌≡◌, ◌∙◌, sym, ap, subst, refl, ℕ, ◌+◌, ◌*◌, ◌^◌, ◌<◌, Bool, true, false, List, [], ◌∷◌, ◌++◌, length, Option, None, Some, arith, drop}
-use Rattle.std.specs.Prelude.{if◌then◌else◌}
+use Rattle.std.specs.Prelude.{if◌then◌else◌, option_map}
 use Rattle.std.specs.List.{AllByRecursion}
-use Rattle.std.specs.Option.{option_and_then}
 use Rattle.std.proofs.Math.Seq.{drop-append_seam, take-append_seam}
 use Rattle.hex.specs.Hex.{IsBytes}
+use Rattle.line_model.specs.declared.interface.Interface.{Interface}
 use Rattle.line_model.specs.text.Text.{fault}
-use Rattle.capture_files.specs.CaptureFiles.{records_of}
+use Rattle.capture_files.specs.CaptureFiles.{records_by, records_of}
 use Rattle.capture_files.specs.Numbers.{next_number, number}
-use Rattle.capture_files.specs.PcapFiles.{AreRecords, pcap_records}
+use Rattle.capture_files.specs.PcapFiles.{AreRecords}
 use Rattle.capture_files.specs.PcapHeaders.{form_of}
 use Rattle.capture_files.specs.PcapRecords.{header_size, line_length, pcap_frame}
 use Rattle.capture_files.specs.declared.pcap.PcapForm.{PcapForm}
 use Rattle.capture_files.proofs.PcapLaw.{records_law}
 use Rattle.lapb_link.specs.Ends.{by_address}
-use Rattle.capture_report.specs.CaptureTexts.{capture_rows, capture_text, has_frame_numbers, head_lines, line_by, numbered_rows, sight_in, unknown_of}
+use Rattle.capture_report.specs.CaptureTexts.{capture_rows, has_frame_numbers, interface_seen, line_by, numbered_rows, options_of, printer_by, sight_in}
+use Rattle.capture_report.specs.Given.{has_ranges}
 use Rattle.capture_report.specs.HeaderTexts.{head_text, header_line}
 use Rattle.capture_report.specs.Laws.{FileLaw, HasRows, IsFrame, IsRecord}
 use Rattle.capture_report.specs.Plans.{plan_of}
 use Rattle.capture_report.specs.Records.{Record}
 use Rattle.capture_report.specs.Rows.{shown_from}
-use Rattle.capture_report.specs.Texts.{first_printer, rows_printed}
+use Rattle.capture_report.specs.Texts.{rows_printed}
+use Rattle.capture_report.specs.declared.options.CaptureOptions.{CaptureOptions}
 use Rattle.capture_report.specs.declared.reader.Order.TheVariants.{Placed}
 use Rattle.capture_report.proofs.CaptureRowLemmas.{rows_law}
-use Rattle.capture_report.proofs.HeaderLemmas.{header_there}
 use Rattle.capture_report.proofs.HeaderTextLemmas.{head_content, head_is_read, header_read}
 use Rattle.capture_report.proofs.LinkLemmas.{bytes_drop, bytes_take}
+use Rattle.capture_report.proofs.PcapngRecordLemmas.{number_small, pcapng_are}
 use Rattle.capture_report.proofs.TraceTextLemmas.{sound_law}
 
 -- ---- the records of octets
-
-number_small : (is_big : Bool) (xs : List ℕ) → IsBytes xs → number is_big xs < 2 ^ 32
-unfolding number
-number_small true xs h = let t = bytes_take 4 xs h in omega (arith, t 0, t 1, t 2, t 3)
-number_small false xs h = let t = bytes_take 4 xs h in omega (arith, t 0, t 1, t 2, t 3)
 
 time_small : (a b : ℕ) (is_nano : Bool) → a < 2 ^ 32 → b < 2 ^ 32 → a * 1000000000 + b * (if is_nano then 1 else 1000) < 2 ^ 128
 time_small a b true h k = omega (arith, h, k)
@@ -56,21 +53,27 @@ are_records f last octets (r ∷ rs) h a =
 file_records : (octets : List ℕ) (records : List Record) → IsBytes octets → records_of true 0 octets ≡ Some records → AllByRecursion IsRecord records
 file_records octets records h = at (form_of true octets)
   where
-    at : (form : Option PcapForm) → option_and_then (λ f. pcap_records f 0 (drop 24 octets)) form ≡ Some records → AllByRecursion IsRecord records
-    at None e = cc e
+    at : (form : Option PcapForm) → records_by form 0 octets ≡ Some records → AllByRecursion IsRecord records
+    at None e = pcapng_are octets records h e
     at (Some f) e = are_records f 0 (drop 24 octets) records (bytes_drop 24 octets h) ((records_law f 0 (drop 24 octets) records).0 e)
 
 -- ---- the trace
 
+-- a text with the header of an interface
+text_read : (o : CaptureOptions) (octets : List ℕ) (records : List Record) (i : Interface) (text : List ℕ) → IsBytes octets → records_of true 0 octets ≡ Some records
+    → head_text i (sight_in o records).seen o.header ++ rows_printed (printer_by o (sight_in o records)) (capture_rows o records) ≡ text → fault text ≡ None → HasRows text i (numbered_rows o records)
+text_read o octets records i text h is same sound =
+    let v = (sight_in o records).seen in
+    let line = line_by (options_of o records) in
+    let are = rows_law (Placed (plan_of (shown_from line records))) line records (record { modulus = (options_of o records).modulus; ends = by_address; new = refl }) (file_records octets records h is) in
+    subst (λ text. HasRows text i (numbered_rows o records)) same
+    (sound_law i (head_text i v o.header) (header_line (has_ranges o.header) i) (has_frame_numbers (sight_in o records).last) o.is_swapped (capture_rows o records) (head_content i v o.header) (header_read (has_ranges o.header) i) (head_is_read i v o.header).whole are (ap fault same ∙ sound))
+
+text_with : (o : CaptureOptions) (octets : List ℕ) (records : List Record) (text : List ℕ) → IsBytes octets → records_of true 0 octets ≡ Some records → (found : Option Interface)
+    → option_map (λ head. head ++ rows_printed (printer_by o (sight_in o records)) (capture_rows o records)) (option_map (λ i. head_text i (sight_in o records).seen o.header) found) ≡ Some text → fault text ≡ None
+    → (i : Interface) × (found ≡ Some i) × HasRows text i (numbered_rows o records)
+text_with o octets records text h is None same sound = cc same
+text_with o octets records text h is (Some i) same sound = (i, refl, text_read o octets records i text h is (cc same) sound)
+
 pub file_law : FileLaw
-file_law octets records h is sound =
-    let s = sight_in records in
-    let there = header_there s.seen in
-    let i = there.0 in
-    let rs = capture_rows records in
-    let line = line_by (unknown_of records) in
-    let by_frames = has_frame_numbers s.last in
-    let same : capture_text records ≡ head_text i s.seen ++ rows_printed (first_printer by_frames) rs = ap (λ o. head_lines s.seen o ++ rows_printed (first_printer by_frames) rs) there.1 in
-    let whole = head_is_read i s.seen in
-    let are = rows_law (Placed (plan_of (shown_from line records))) line records (record { modulus = None; ends = by_address; new = refl }) (file_records octets records h is) in
-    (i, there.1, subst (λ text. HasRows text i (numbered_rows records)) (sym same) (sound_law i (head_text i s.seen) (header_line i) by_frames rs (head_content i s.seen) (header_read i) whole.whole are (ap fault (sym same) ∙ sound)))
+file_law o octets records text h is = text_with o octets records text h is (interface_seen o records)

@@ -1,18 +1,22 @@
--- The channels of a line as they are kept, and the ranges of a header.
-use Rattle.std.proofs.Common.{◌≡◌, ◌∙◌, ap, refl, ℕ, zero, suc, ◌+◌, ◌-◌, ◌<◌, ◌≤◌, Bool, true, false, List, [], ◌∷◌, ◌++◌, length, length-append, append-nil, append_assoc, replicate, Option, None, Some, arith, find, sym, unwrap_or}
-use Rattle.std.specs.Prelude.{◌==◌, ◌||◌, min, nat_le, nat_lt, if◌then◌else◌}
+-- The channels of a line as they are kept, and the header of a capture of which nothing is given.
+use Rattle.std.proofs.Common.{◌≡◌, ◌∙◌, ap, refl, ℕ, zero, suc, ◌+◌, ◌-◌, ◌<◌, ◌≤◌, Bool, true, false, List, [], ◌∷◌, ◌++◌, length, length-append, append-nil, append_assoc, replicate, Option, None, Some, arith, find, unwrap_or}
+use Rattle.std.specs.Prelude.{◌==◌, ◌||◌, is_some, min, nat_le, nat_lt, if◌then◌else◌}
 use Rattle.std.specs.List.{list_any}
 use Rattle.std.proofs.lemmas.Bool.{le-leb, lt-ltb}
 use Rattle.std.proofs.Math.Bool.{or-true}
 use Rattle.std.proofs.lemmas.Bool.Decides.{nat_tests}
 use Rattle.line_model.specs.basics.Limits.{IsInterface, is_numbering, packet_sizes}
 use Rattle.line_model.specs.declared.interface.Interface.{Interface}
-use Rattle.line_model.specs.text.Header.{HeaderNumbers, interface_with}
-use Rattle.trace_text.proofs.HeaderLemmas.{numbers_of, own_numbers}
+use Rattle.trace_text.proofs.HeaderLemmas.{own_numbers}
 use Rattle.packet_decode.specs.Shown.{IsPacketSize}
+use Rattle.lapb_link.specs.declared.modulus.Modulus.{Modulus}
+use Rattle.line_model.specs.text.Header.{interface_with}
+use Rattle.capture_report.specs.Given.{is_unnamed, none_given}
 use Rattle.capture_report.specs.HeaderChannels.{ChannelList, channel_at, last_below, widened}
-use Rattle.capture_report.specs.Headers.{last_channel, modulus_seen, numbers_seen, permanent_seen, size_seen, smallest_size, window_seen}
+use Rattle.capture_report.specs.Headers.{last_channel, modulus_by, numbers_with, permanent_seen, size_seen, smallest_size, window_below}
+use Rattle.capture_report.specs.Laws.{PlainLaw}
 use Rattle.capture_report.specs.declared.header.Seen.{Seen}
+use Rattle.capture_report.specs.declared.options.GivenHeader.{GivenHeader}
 use Rattle.capture_report.specs.declared.header_channels.SeenChannel.{SeenChannel}
 
 -- a channel more is one of those that the list lacks
@@ -40,7 +44,7 @@ last_used c n some h = let more : n ≡ suc (n - 1) = omega (arith, some) in ap 
 pub last_unused : (c : ChannelList) (n : ℕ) → 0 < n → (channel_at c (n - 1)).is_used ≡ false → last_below c n ≡ last_below c (n - 1)
 last_unused c n some h = let more : n ≡ suc (n - 1) = omega (arith, some) in ap (last_below c) more ∙ rw h refl
 
-pub last_few : (c : ChannelList) (n : ℕ) → last_below c n ≤ n - 1
+last_few : (c : ChannelList) (n : ℕ) → last_below c n ≤ n - 1
 last_few c zero = omega arith
 last_few c (suc n) = below (channel_at c n).is_used (last_few c n)
   where
@@ -48,37 +52,19 @@ last_few c (suc n) = below (channel_at c n).is_used (last_few c n)
     below true few = omega arith
     below false few = omega (arith, few)
 
--- ---- the ranges of a header
+-- ---- where nothing is given there is a header
 
 numbered : (m w : ℕ) → ((m == 8) || (m == 128)) ≡ true → 1 ≤ w → w < m → is_numbering m w ≡ true
 numbered m w h some few = rw (h, le-leb 1 w some, lt-ltb w m few) refl
 
-pub default_window : (v : Seen) → is_numbering (modulus_seen v) 2 ≡ true
-default_window v = by (nat_lt v.of_8 v.of_128)
+window_there : (v : Seen) → is_numbering (modulus_by None v) (window_below (modulus_by None v) v) ≡ true
+window_there v = at (nat_lt v.of_8 v.of_128) (v.most == 0) refl
   where
-    by : (b : Bool) → is_numbering (if b then 128 else 8) 2 ≡ true
-    by true = refl
-    by false = refl
-
-pub window_in_range : (v : Seen) (n : ℕ) → 0 < n → is_numbering (modulus_seen v) (min n (modulus_seen v - 1)) ≡ true
-window_in_range v n some = by (nat_lt v.of_8 v.of_128)
-  where
-    by : (b : Bool) → is_numbering (if b then 128 else 8) (min n ((if b then 128 else 8) - 1)) ≡ true
-    by true = numbered 128 (min n (128 - 1)) refl (omega (arith, some)) (omega arith)
-    by false = numbered 8 (min n (8 - 1)) refl (omega (arith, some)) (omega arith)
-
-pub in_range : (m w s p l : ℕ) → is_numbering m w ≡ true → IsPacketSize s → p ≤ l → 1 ≤ l → l ≤ 4095 → IsInterface m w s p p l l
-in_range m w s p l numbering size few some most =
-    rw (numbering, size, le-leb 1 l some, le-leb l 4095 most, le-leb p p (omega arith), le-leb p l few, le-leb l l (omega arith)) refl
-
--- the header of these numbers
-pub header_is : (i : Interface) (n : HeaderNumbers) → i.modulus ≡ n.modulus → i.window ≡ n.window → i.size ≡ n.size → i.pvc ≡ n.pvc → i.incoming ≡ n.incoming → i.two_way ≡ n.two_way → i.svc ≡ n.svc → i.join ≡ n.join → i.gaps ≡ n.gaps
-    → interface_with n ≡ Some i
-header_is i n m w s p a t v j g =
-    let same : numbers_of i ≡ n = λ k. record { modulus = m k; window = w k; size = s k; pvc = p k; incoming = a k; two_way = t k; svc = v k; join = j k; gaps = g k } in
-    sym (ap interface_with same) ∙ own_numbers i
-
--- ---- what was seen has a header
+    at : (b none : Bool) → (v.most == 0) ≡ none → is_numbering (if b then 128 else 8) (if none then 2 else min v.most ((if b then 128 else 8) - 1)) ≡ true
+    at true true e = refl
+    at false true e = refl
+    at true false e = numbered 128 (min v.most (128 - 1)) refl (grind (arith, nat_tests, e)) (omega arith)
+    at false false e = numbered 8 (min v.most (8 - 1)) refl (grind (arith, nat_tests, e)) (omega arith)
 
 found_in : (n a : ℕ) (xs : List ℕ) → find (λ size. nat_le n size) xs ≡ Some a → list_any (λ m. a == m) xs ≡ true
 found_in n a [] e = cc e
@@ -99,18 +85,33 @@ size_listed v = at (v.largest == 0)
     at true = refl
     at false = of (find (λ size. nat_le v.largest size) packet_sizes) (λ a. found_in v.largest a packet_sizes)
 
-window_there : (v : Seen) → is_numbering (modulus_seen v) (window_seen v) ≡ true
-window_there v = at (v.most == 0) refl
-  where
-    at : (b : Bool) → (v.most == 0) ≡ b → is_numbering (modulus_seen v) (if b then 2 else min v.most (modulus_seen v - 1)) ≡ true
-    at true e = default_window v
-    at false e = window_in_range v v.most (grind (arith, nat_tests, e))
+in_range : (m w s p a l : ℕ) → is_numbering m w ≡ true → IsPacketSize s → p ≤ a → a ≤ l → 1 ≤ l → l ≤ 4095 → IsInterface m w s p a l l
+in_range m w s p a l numbering size few same some most =
+    rw (numbering, size, le-leb 1 l some, le-leb l 4095 most, le-leb p a few, le-leb a l same, le-leb l l (omega arith)) refl
 
-pub header_there : (v : Seen) → (i : Interface) × (interface_with (numbers_seen v) ≡ Some i)
-header_there v =
-    let n = numbers_seen v in
+plain_header : (v : Seen) → is_some (interface_with (numbers_with none_given v)) ≡ true
+plain_header v =
+    let n = numbers_with none_given v in
     let last = last_channel v in
     let few : permanent_seen v ≤ last = omega (arith, last_few v.channels (min v.first_call (last + 1))) in
-    let lawful = in_range (modulus_seen v) (window_seen v) (size_seen v) (permanent_seen v) last (window_there v) (size_listed v) few (omega arith) (omega arith) in
+    let lawful = in_range n.modulus n.window n.size n.pvc n.incoming n.svc (window_there v) (size_listed v) (omega (arith, few)) (omega (arith, few)) (omega (arith, few)) (omega (arith, few)) in
     let i : Interface = record { modulus = n.modulus; window = n.window; size = n.size; pvc = n.pvc; incoming = n.incoming; two_way = n.two_way; svc = n.svc; join = n.join; gaps = n.gaps; lawful = lawful } in
-    (i, header_is i n refl refl refl refl refl refl refl refl refl)
+    ap (λ o. is_some o) (own_numbers i)
+
+unnamed : (g : GivenHeader) → is_unnamed g ≡ true → g ≡ none_given
+unnamed g h = at g.modulus g.window g.size g.pvc g.incoming g.two_way g.svc g.outgoing g.join h
+  where
+    at : (m : Option Modulus) (w s p i t l o : Option ℕ) (j : Option Bool) → let given : GivenHeader = record { modulus = m; window = w; size = s; pvc = p; incoming = i; two_way = t; svc = l; outgoing = o; join = j } in is_unnamed given ≡ true → given ≡ none_given
+    at None None None None None None None None None h = refl
+    at (Some m) w s p i t l o j h = cc h
+    at None (Some w) s p i t l o j h = cc h
+    at None None (Some s) p i t l o j h = cc h
+    at None None None (Some p) i t l o j h = cc h
+    at None None None None (Some i) t l o j h = cc h
+    at None None None None None (Some t) l o j h = cc h
+    at None None None None None None (Some l) o j h = cc h
+    at None None None None None None None (Some o) j h = cc h
+    at None None None None None None None None (Some j) h = cc h
+
+pub header_there : PlainLaw
+header_there g v h = ap (λ (given : GivenHeader). is_some (interface_with (numbers_with given v))) (unnamed g h) ∙ plain_header v

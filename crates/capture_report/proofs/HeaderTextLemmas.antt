@@ -1,6 +1,6 @@
 -- The header line of an interface is read as the interface.
 use Rattle.std.proofs.Common.{rules, ◌≡◌, ◌∙◌, sym, ap, refl, ℕ, suc, zero, ◌+◌, ◌*◌, ◌<◌, ◌≤◌, Bool, true, false, List, [], ◌∷◌, ◌++◌, length, Some, arith, length-append, append-nil, append_assoc, get_or, ◌&&◌, ◌||◌}
-use Rattle.std.specs.Prelude.{codes, nat_le, nat_lt, ◌==◌, not, slice_index, if◌then◌else◌}
+use Rattle.std.specs.Prelude.{codes, nat_le, nat_lt, ◌==◌, not, is_none, is_some, slice_index, if◌then◌else◌}
 use Rattle.std.specs.Char.{is_ascii_digit}
 use Rattle.std.specs.Fmt.{decimal}
 use Rattle.std.specs.List.{list_all, list_any}
@@ -12,7 +12,7 @@ use Rattle.std.proofs.lemmas.Str.Parse.{IsDigitsTest, numerals_by_value}
 use Rattle.line_model.specs.basics.Limits.{is_channels, is_numbering, packet_sizes}
 use Rattle.line_model.specs.declared.interface.Interface.{Interface}
 use Rattle.line_model.specs.text.Header.{HeaderNumbers, header_numbers, interface_of, interface_with, number_of, numbers_in, words_of}
-use Rattle.line_model.specs.text.Text.{Line, begun_line, content_of, ended_lines}
+use Rattle.line_model.specs.text.Text.{Line, begun_line, content_of, ended_lines, is_comment}
 use Rattle.line_model.proofs.TextLemmas.{HasNoLf, begun-lf, begun-more, ended-lf, ended-more}
 use Rattle.trace_text.specs.Cuts.{Lacks}
 use Rattle.trace_text.proofs.BlockLemmas.{seam}
@@ -20,8 +20,10 @@ use Rattle.trace_text.proofs.CutLemmas.{words-found, words-none}
 use Rattle.trace_text.proofs.HeaderLemmas.{numbers_of, own_numbers}
 use Rattle.trace_text.proofs.NumberLemmas.{both}
 use Rattle.trace_text.proofs.RowFront.{lacks-append, number_lacks}
-use Rattle.capture_report.specs.HeaderTexts.{IsHead, channel_numbers, comment_text, estimate, first_estimates, first_numbers, form_digit, form_word, head_text, header_line, is_first_form, joining, last_name, named, size_source, window_source}
+use Rattle.capture_report.specs.HeaderTexts.{IsHead, all_estimates, channel_numbers, comment_text, estimate_text, first_numbers, form_digit, form_word, has_estimates, has_first_form, head_text, header_line, is_first_form, joining, last_name, lead, named, numbering_estimates, size_estimates, size_source, window_source}
+use Rattle.capture_report.specs.Given.{has_ranges, is_whole, last_given}
 use Rattle.capture_report.specs.declared.header.Seen.{Seen}
+use Rattle.capture_report.specs.declared.options.GivenHeader.{GivenHeader}
 
 -- ---- text that is appended part by part
 
@@ -225,32 +227,32 @@ numbers_left_out i h =
     let c = both (not i.join) (not i.gaps) b.1 in
     rw (eqb-true i.incoming i.pvc a.0, eqb-true i.two_way i.svc b.0, is_false i.join c.0, is_false i.gaps c.1) refl
 
-words_say : (b : Bool) (i : Interface) → IsSmall i → is_first_form i ≡ b → numbers_in (codes "X25" ∷ later_words b i) ≡ Some (numbers_of i)
-words_say true i s h =
+words_say : (r b : Bool) (i : Interface) → IsSmall i → has_first_form r i ≡ b → numbers_in (codes "X25" ∷ later_words b i) ≡ Some (numbers_of i)
+words_say r true i s h =
     first_says (decimal i.modulus) (decimal i.window) (decimal i.size) (decimal i.pvc) (decimal i.svc) i.modulus i.window i.size i.pvc i.svc
     (decimal_number i.modulus s.modulus) (decimal_number i.window s.window) (decimal_number i.size s.size) (decimal_number i.pvc s.pvc) (decimal_number i.svc s.svc)
-    ∙ ap Some (numbers_left_out i h)
-words_say false i s h =
+    ∙ ap Some (numbers_left_out i (both (not r) (is_first_form i) h).1)
+words_say r false i s h =
     ranges_say (decimal i.modulus) (decimal i.window) (decimal i.size) (decimal i.pvc) (decimal i.incoming) (decimal i.two_way) (decimal i.svc) i.modulus i.window i.size i.pvc i.incoming i.two_way i.svc i.join i.gaps
     (decimal_number i.modulus s.modulus) (decimal_number i.window s.window) (decimal_number i.size s.size) (decimal_number i.pvc s.pvc) (decimal_number i.incoming s.incoming) (decimal_number i.two_way s.two_way) (decimal_number i.svc s.svc)
 
-line_says : (i : Interface) → IsSmall i → header_numbers (header_line i) ≡ Some (numbers_of i)
+line_says : (r : Bool) (i : Interface) → IsSmall i → header_numbers (header_line r i) ≡ Some (numbers_of i)
 unfolding header_numbers
-line_says i s =
-    let b = is_first_form i in
-    ap (λ line. numbers_in (words_of line)) (line_is b i) ∙ ap numbers_in (line_words (codes "X25") (later_words b i) (are_words b i s)) ∙ words_say b i s refl
+line_says r i s =
+    let b = has_first_form r i in
+    ap (λ line. numbers_in (words_of line)) (line_is b i) ∙ ap numbers_in (line_words (codes "X25") (later_words b i) (are_words b i s)) ∙ words_say r b i s refl
 
-line_interface : (i : Interface) → IsSmall i → interface_of (header_line i) ≡ Some i
+line_interface : (r : Bool) (i : Interface) → IsSmall i → interface_of (header_line r i) ≡ Some i
 unfolding interface_of
-line_interface i s = ap (λ n. option_and_then interface_with n) (line_says i s) ∙ own_numbers i
+line_interface r i s = ap (λ n. option_and_then interface_with n) (line_says r i s) ∙ own_numbers i
 
-line_has_no_lf : (i : Interface) → IsSmall i → Lacks 10 (header_line i)
-line_has_no_lf i s = let b = is_first_form i in ap (list_any (λ c. c == 10)) (line_is b i) ∙ line_lacks (codes "X25" ∷ later_words b i) (are_words b i s)
+line_has_no_lf : (r : Bool) (i : Interface) → IsSmall i → Lacks 10 (header_line r i)
+line_has_no_lf r i s = let b = has_first_form r i in ap (list_any (λ c. c == 10)) (line_is b i) ∙ line_lacks (codes "X25" ∷ later_words b i) (are_words b i s)
 
-line_length : (i : Interface) → IsSmall i → length (header_line i) ≤ 180
-line_length i s =
-    let b = is_first_form i in
-    let same : length (header_line i) ≡ length (line_of (codes "X25" ∷ later_words b i)) = ap (λ (l : Line). length l) (line_is b i) in
+line_length : (r : Bool) (i : Interface) → IsSmall i → length (header_line r i) ≤ 180
+line_length r i s =
+    let b = has_first_form r i in
+    let same : length (header_line r i) ≡ length (line_of (codes "X25" ∷ later_words b i)) = ap (λ (l : Line). length l) (line_is b i) in
     omega (arith, same, line_short (codes "X25" ∷ later_words b i) (are_words b i s), few b)
   where
     at_most_one : (join : Bool) → length (joined join) ≤ 1
@@ -296,60 +298,84 @@ size_part largest = by (largest == 0)
     by true = words_part (codes " (the default: no data was seen)") refl refl
     by false = words_part (codes " (the largest user data)") refl refl
 
-estimate_part : (xs : List ℕ) → Lacks 10 xs → nat_le (length xs) 40 ≡ true → (n : ℕ) → n < 65536 → (source : List ℕ) → IsPart source 40 → IsPart (estimate xs n source) 89
-estimate_part xs none few n small source p = joined_parts (named xs n) source 49 40 (named_part xs none few n small) p
+no_part : (most : ℕ) → IsPart [] most
+no_part most = record { no_lf = refl; few = omega arith }
 
-last_part : (b : Bool) (n : ℕ) → n < 65536 → IsPart (estimate (last_name b) n (codes " (the channels used)")) 89
-last_part true n small = estimate_part (codes ", SVC ") refl refl n small (codes " (the channels used)") (words_part (codes " (the channels used)") refl refl)
-last_part false n small = estimate_part (codes ", OUT ") refl refl n small (codes " (the channels used)") (words_part (codes " (the channels used)") refl refl)
+lead_part : (after : Bool) → IsPart (lead after) 2
+lead_part true = record { no_lf = refl; few = omega arith }
+lead_part false = record { no_lf = refl; few = omega arith }
 
-first_part : (i : Interface) (v : Seen) → IsSmall i → IsPart (first_estimates i v) 356
-first_part i v s =
-    joined_parts _ _ 89 267 (estimate_part (codes " MOD ") refl refl i.modulus s.modulus (codes " (the general format identifiers),") (words_part (codes " (the general format identifiers),") refl refl))
-    (joined_parts _ _ 89 178 (estimate_part (codes " WIN ") refl refl i.window s.window (window_source v.most) (source_part v.most))
-    (joined_parts _ _ 89 89 (estimate_part (codes ", SIZE ") refl refl i.size s.size (size_source v.largest) (size_part v.largest))
-    (estimate_part (codes ", PVC ") refl refl i.pvc s.pvc (codes " (channels with data and no call)") (words_part (codes " (channels with data and no call)") refl refl))))
+estimate_part : (given after : Bool) (xs : List ℕ) → Lacks 10 xs → nat_le (length xs) 40 ≡ true → (n : ℕ) → n < 65536 → (source : List ℕ) → IsPart source 40 → IsPart (estimate_text given after xs n source) 91
+estimate_part true after xs none few n small source p = no_part 91
+estimate_part false after xs none few n small source p = joined_parts (lead after) (named xs n ++ source) 2 89 (lead_part after) (joined_parts (named xs n) source 49 40 (named_part xs none few n small) p)
 
-comment_part : (i : Interface) (v : Seen) → IsSmall i → IsPart (comment_text i v) 485
-comment_part i v s =
-    joined_parts _ _ 40 445 (words_part (codes "# estimated from what was seen:") refl refl)
-    (joined_parts _ _ 356 89 (first_part i v s) (last_part (is_first_form i) i.svc s.svc))
+last_part : (given after b : Bool) (n : ℕ) → n < 65536 → IsPart (estimate_text given after (last_name b) n (codes " (the channels used)")) 91
+last_part given after true n small = estimate_part given after (codes "SVC ") refl refl n small (codes " (the channels used)") (words_part (codes " (the channels used)") refl refl)
+last_part given after false n small = estimate_part given after (codes "OUT ") refl refl n small (codes " (the channels used)") (words_part (codes " (the channels used)") refl refl)
+
+numbering_part : (i : Interface) (v : Seen) (g : GivenHeader) → IsSmall i → IsPart (numbering_estimates i v g) 182
+numbering_part i v g s =
+    joined_parts _ _ 91 91 (estimate_part (is_some g.modulus) false (codes "MOD ") refl refl i.modulus s.modulus (codes " (the general format identifiers)") (words_part (codes " (the general format identifiers)") refl refl))
+    (estimate_part (is_some g.window) (not (is_some g.modulus)) (codes "WIN ") refl refl i.window s.window (window_source v.most) (source_part v.most))
+
+sizes_part : (i : Interface) (v : Seen) (g : GivenHeader) → IsSmall i → IsPart (size_estimates i v g) 182
+sizes_part i v g s =
+    joined_parts _ _ 91 91 (estimate_part (is_some g.size) (is_none g.modulus || is_none g.window) (codes "SIZE ") refl refl i.size s.size (size_source v.largest) (size_part v.largest))
+    (estimate_part (is_some g.pvc) ((is_none g.modulus || is_none g.window) || is_none g.size) (codes "PVC ") refl refl i.pvc s.pvc (codes " (channels with data and no call)") (words_part (codes " (channels with data and no call)") refl refl))
+
+-- the comment, whether the header is given whole or not
+record IsComment (xs : List ℕ) : Type 0 where
+  part : IsPart xs 495
+  is_comment : is_comment xs ≡ true
+
+comment_is : (i : Interface) (v : Seen) (g : GivenHeader) → IsSmall i → IsComment (comment_text i v g)
+comment_is i v g s = by (is_whole g)
+  where
+    by : (b : Bool) → IsComment (if b then codes "# the header is given" else codes "# estimated from what was seen:" ++ all_estimates i v g)
+    by true = record { part = record { no_lf = refl; few = omega arith }; is_comment = refl }
+    by false = record {
+      part = joined_parts _ _ 40 455 (words_part (codes "# estimated from what was seen:") refl refl)
+          (joined_parts _ _ 182 273 (numbering_part i v g s) (joined_parts _ _ 182 91 (sizes_part i v g s) (last_part (is_some (last_given g)) (has_estimates g) (has_first_form (has_ranges g) i) i.svc s.svc)));
+      is_comment = refl;
+    }
 
 -- ---- both lines
 
 one_line : (l : Line) → HasNoLf l → ended_lines (l ++ 10 ∷ []) ≡ l ∷ []
 one_line l h = ended-lf l ∙ ap (λ ls. ls ++ begun_line l ∷ []) (ended-more [] l h) ∙ ap (λ (x : Line). x ∷ []) (begun-more [] l h)
 
-head_lines : (i : Interface) (v : Seen) → IsSmall i → ended_lines (head_text i v) ≡ comment_text i v ∷ header_line i ∷ []
-head_lines i v s =
-    let c = comment_part i v s in
-    let same : head_text i v ≡ (comment_text i v ++ 10 ∷ []) ++ (header_line i ++ 10 ∷ []) = sym (append_assoc (comment_text i v) (10 ∷ []) (header_line i ++ 10 ∷ [])) in
-    let two = seam (comment_text i v ++ 10 ∷ []) (header_line i ++ 10 ∷ []) (begun-lf (comment_text i v)) in
-    ap ended_lines same ∙ two.lines ∙ ap (λ ls. ls ++ ended_lines (header_line i ++ 10 ∷ [])) (one_line (comment_text i v) c.no_lf)
-    ∙ ap (λ ls. comment_text i v ∷ ls) (one_line (header_line i) (line_has_no_lf i s))
+head_lines : (i : Interface) (v : Seen) (g : GivenHeader) → IsSmall i → ended_lines (head_text i v g) ≡ comment_text i v g ∷ header_line (has_ranges g) i ∷ []
+head_lines i v g s =
+    let c = (comment_is i v g s).part in
+    let same : head_text i v g ≡ (comment_text i v g ++ 10 ∷ []) ++ (header_line (has_ranges g) i ++ 10 ∷ []) = sym (append_assoc (comment_text i v g) (10 ∷ []) (header_line (has_ranges g) i ++ 10 ∷ [])) in
+    let two = seam (comment_text i v g ++ 10 ∷ []) (header_line (has_ranges g) i ++ 10 ∷ []) (begun-lf (comment_text i v g)) in
+    ap ended_lines same ∙ two.lines ∙ ap (λ ls. ls ++ ended_lines (header_line (has_ranges g) i ++ 10 ∷ [])) (one_line (comment_text i v g) c.no_lf)
+    ∙ ap (λ ls. comment_text i v g ∷ ls) (one_line (header_line (has_ranges g) i) (line_has_no_lf (has_ranges g) i s))
 
 -- one of its lines is no comment: that of the header
-pub head_content : (i : Interface) (v : Seen) → content_of (ended_lines (head_text i v)) ≡ header_line i ∷ []
-head_content i v = ap content_of (head_lines i v (is_small i))
+pub head_content : (i : Interface) (v : Seen) (g : GivenHeader) → content_of (ended_lines (head_text i v g)) ≡ header_line (has_ranges g) i ∷ []
+head_content i v g =
+    ap content_of (head_lines i v g (is_small i)) ∙ ap (λ (b : Bool). let ls : List Line = if not b then comment_text i v g ∷ header_line (has_ranges g) i ∷ [] else header_line (has_ranges g) i ∷ [] in ls) (comment_is i v g (is_small i)).is_comment
 
-pub header_read : (i : Interface) → interface_of (header_line i) ≡ Some i
-header_read i = line_interface i (is_small i)
+pub header_read : (r : Bool) (i : Interface) → interface_of (header_line r i) ≡ Some i
+header_read r i = line_interface r i (is_small i)
 
-head_is : (i : Interface) (v : Seen) → IsSmall i → IsHead i (head_text i v)
-head_is i v s =
-    let c = comment_part i v s in
-    let same : head_text i v ≡ (comment_text i v ++ 10 ∷ []) ++ (header_line i ++ 10 ∷ []) = sym (append_assoc (comment_text i v) (10 ∷ []) (header_line i ++ 10 ∷ [])) in
-    let two = seam (comment_text i v ++ 10 ∷ []) (header_line i ++ 10 ∷ []) (begun-lf (comment_text i v)) in
+head_is : (i : Interface) (v : Seen) (g : GivenHeader) → IsSmall i → IsHead i (head_text i v g)
+head_is i v g s =
+    let commented = comment_is i v g s in
+    let c = commented.part in
+    let same : head_text i v g ≡ (comment_text i v g ++ 10 ∷ []) ++ (header_line (has_ranges g) i ++ 10 ∷ []) = sym (append_assoc (comment_text i v g) (10 ∷ []) (header_line (has_ranges g) i ++ 10 ∷ [])) in
+    let two = seam (comment_text i v g ++ 10 ∷ []) (header_line (has_ranges g) i ++ 10 ∷ []) (begun-lf (comment_text i v g)) in
     let few = c.few in
     record {
-      comment = comment_text i v;
-      header = header_line i;
-      lines = head_lines i v s;
-      whole = ap begun_line same ∙ two.begun ∙ begun-lf (header_line i);
-      is_comment = refl;
-      interface = line_interface i s;
-      few = omega (arith, few, line_length i s, length-append (comment_text i v) (10 ∷ (header_line i ++ 10 ∷ [])), length-append (header_line i) (10 ∷ []));
+      comment = comment_text i v g;
+      header = header_line (has_ranges g) i;
+      lines = head_lines i v g s;
+      whole = ap begun_line same ∙ two.begun ∙ begun-lf (header_line (has_ranges g) i);
+      is_comment = commented.is_comment;
+      interface = line_interface (has_ranges g) i s;
+      few = omega (arith, few, line_length (has_ranges g) i s, length-append (comment_text i v g) (10 ∷ (header_line (has_ranges g) i ++ 10 ∷ [])), length-append (header_line (has_ranges g) i) (10 ∷ []));
     }
 
-pub head_is_read : (i : Interface) (v : Seen) → IsHead i (head_text i v)
-head_is_read i v = head_is i v (is_small i)
+pub head_is_read : (i : Interface) (v : Seen) (g : GivenHeader) → IsHead i (head_text i v g)
+head_is_read i v g = head_is i v g (is_small i)

@@ -3,12 +3,13 @@ mod CaptureRowLemmas
 mod FileLemmas
 mod FrameLemmas
 mod GapLemmas
-mod HeaderLemmas
+pub mod HeaderLemmas
 mod HeaderTextLemmas
 mod GivingLemmas
 mod HeldLemmas
 mod HexDigitLemmas
 mod LinkLemmas
+mod PcapngRecordLemmas
 mod PlaceLemmas
 mod ReadingLemmas
 mod RowWordLemmas

@@ -6,19 +6,22 @@ use Rattle.std.specs.Io.Cursor.{cursor_remaining}
 use Rattle.std.specs.Io.KnownBytes.{Consumes, IsAtEnd}
 use Rattle.std.specs.Fmt.{option_append}
 use Rattle.streams.specs.Shown.{shown}
+use Rattle.capture_files.specs.CaptureFiles.{records_of}
 use Rattle.capture_files.specs.Numbers.{number}
 use Rattle.capture_files.proofs.RecordLemmas.{number_more}
-use Rattle.std.specs.Prelude.{option_map}
-use Rattle.line_model.specs.text.Header.{interface_with}
+use Rattle.std.specs.Prelude.{IfOk, Result, option_map}
+use Rattle.std.proofs.lemmas.Result.{IfOk-weaker}
+use Rattle.std.specs.Option.{option_and_then}
 use Rattle.capture_model.specs.declared.kind.LinkKind.{LinkKind}
-use Rattle.capture_report.specs.CaptureTexts.{IsFirstReading, IsLastReading, capture_text, captured, has_frame_numbers, head_lines, line_by, sight_by, trace_by}
-use Rattle.capture_report.specs.Headers.{numbers_seen}
+use Rattle.capture_report.specs.CaptureTexts.{IsFirstReading, IsLastReading, capture_text, captured, head_lines, likely_in, line_by, options_of, options_with, printer_by, sight_by, trace_by}
+use Rattle.capture_report.specs.Contents.{Row}
 use Rattle.capture_report.specs.Recordings.{IsOpened, begins_as_capture, is_magic, recorded}
 use Rattle.capture_report.specs.Records.{Record}
 use Rattle.capture_report.specs.Rows.{placed, rows_from}
-use Rattle.capture_report.specs.Sights.{likely, sight_of}
-use Rattle.capture_report.specs.Texts.{first_printer, rows_printed}
+use Rattle.capture_report.specs.Sights.{Sight, sight_of}
+use Rattle.capture_report.specs.Texts.{rows_printed}
 use Rattle.capture_report.specs.declared.first_reading.FirstReading.{FirstReading}
+use Rattle.capture_report.specs.declared.options.CaptureOptions.{CaptureOptions}
 use Rattle.capture_report.specs.declared.reader.Order.TheVariants.{Placed}
 use Rattle.capture_report.specs.declared.begun_file.BegunFile.{BegunFile}
 
@@ -56,25 +59,46 @@ opened left file now front b first parts end chain is = record {
 
 -- ---- the trace of a capture
 
-pub opened_trace : (bytes left : Option (List ℕ)) (is : Bool) → is ≡ false → ((octets : List ℕ) → bytes ≡ Some octets → is ≡ begins_as_capture octets) → left ≡ bytes → left ≡ recorded bytes
-opened_trace None left is other kind same = same
-opened_trace (Some octets) left is other kind same = same ∙ sym (ap (λ b. if b then captured (Some octets) else Some octets) (sym (kind octets refl) ∙ other))
+pub opened_trace : (o : CaptureOptions) (bytes left : Option (List ℕ)) (is : Bool) → is ≡ false → ((octets : List ℕ) → bytes ≡ Some octets → is ≡ begins_as_capture octets) → left ≡ bytes → left ≡ recorded o bytes
+opened_trace o None left is other kind same = same
+opened_trace o (Some octets) left is other kind same = same ∙ sym (ap (λ b. if b then captured o (Some octets) else Some octets) (sym (kind octets refl) ∙ other))
 
-pub opened_capture : (bytes left : Option (List ℕ)) (is : Bool) → is ≡ true → ((octets : List ℕ) → bytes ≡ Some octets → is ≡ begins_as_capture octets) → left ≡ captured bytes → left ≡ recorded bytes
-opened_capture None left is begun kind same = same
-opened_capture (Some octets) left is begun kind same = same ∙ sym (ap (λ b. if b then captured (Some octets) else Some octets) (sym (kind octets refl) ∙ begun))
+pub opened_capture : (o : CaptureOptions) (bytes left : Option (List ℕ)) (is : Bool) → is ≡ true → ((octets : List ℕ) → bytes ≡ Some octets → is ≡ begins_as_capture octets) → left ≡ captured o bytes → left ≡ recorded o bytes
+opened_capture o None left is begun kind same = same
+opened_capture o (Some octets) left is begun kind same = same ∙ sym (ap (λ b. if b then captured o (Some octets) else Some octets) (sym (kind octets refl) ∙ begun))
 
-pub last_reading : (left : Option (List Record)) (first last : FirstReading) (look : Option LinkKind) → IsFirstReading left first → first.unknown ≡ None → look ≡ likely (sight_of first.survey) → IsFirstReading left last → last.unknown ≡ look → IsLastReading left last
-last_reading left first last look shown none is again same = λ records e.
-    (again records e, same ∙ is ∙ ap likely ((shown records e).sight ∙ ap (λ u. sight_by u records) none))
+pub last_reading : (o : CaptureOptions) (left : Option (List Record)) (first last : FirstReading) (look : Option LinkKind) → IsFirstReading left first → first.options ≡ o
+    → look ≡ likely_in first.options.choices.unknown (sight_of first.survey) → IsFirstReading left last → last.options ≡ options_with look o → IsLastReading o left last
+last_reading o left first last look shown given is again same = λ records e. (
+  again records e,
+  same
+      ∙ ap (λ l. options_with l o)
+      (is ∙ ap (λ (s : Sight). likely_in first.options.choices.unknown s) ((shown records e).sight) ∙ ap (λ (p : CaptureOptions). likely_in p.choices.unknown (sight_by p records)) given),
+)
 
-pub same_text : (left : Option (List Record)) (first : FirstReading) (head : List ℕ) → head ≡ head_lines first.survey.seen (interface_with (numbers_seen first.survey.seen)) → IsLastReading left first
-    → option_map (λ records. head ++ rows_printed (first_printer (has_frame_numbers first.survey.last)) (rows_from (Placed first.plan) (line_by first.unknown) records)) left ≡ option_map capture_text left
-same_text None first head is last = refl
-same_text (Some records) first head is last =
+-- the rows behind a header, by a first reading
+abbrev text_by : FirstReading → (head : List ℕ) → List Record → List ℕ
+text_by first head records = head ++ rows_printed (printer_by first.options (sight_of first.survey)) (rows_from (Placed first.plan) (line_by first.options) records)
+
+same_text : (o : CaptureOptions) (now left : Option (List Record)) (first : FirstReading) (head : List ℕ) → now ≡ left → Some head ≡ head_lines first.options.header first.survey.seen → IsLastReading o left first
+    → option_map (text_by first head) now ≡ option_and_then (capture_text o) left
+same_text o now None first head same is last = ap (λ records. option_map (text_by first head) records) same
+same_text o now (Some records) first head same is last =
     let shown = (last records refl).0 in
-    let printed = rows_printed (first_printer (has_frame_numbers first.survey.last)) (rows_from (Placed first.plan) (line_by first.unknown) records) in
-    ap Some (ap (λ h. h ++ printed) is
-    ∙ ap (trace_by (sight_of first.survey)) shown.rows
-    ∙ ap (λ s. trace_by s (placed (line_by first.unknown) records)) shown.sight
-    ∙ ap (λ u. trace_by (sight_by u records) (placed (line_by u) records)) (last records refl).1)
+    let printed = rows_printed (printer_by first.options (sight_of first.survey)) (rows_from (Placed first.plan) (line_by first.options) records) in
+    ap (λ records. option_map (text_by first head) records) same
+    ∙ ap (λ h. option_map (λ (xs : List ℕ). xs ++ printed) h) is
+    ∙ ap (trace_by first.options (sight_of first.survey)) shown.rows
+    ∙ ap (λ s. trace_by first.options s (placed (line_by first.options) records)) shown.sight
+    ∙ ap (λ (p : CaptureOptions). trace_by p (sight_by p records) (placed (line_by p) records)) (last records refl).1
+    ∙ same_trace (likely_in o.choices.unknown (sight_by o records)) (sight_by (options_of o records) records) (placed (line_by (options_of o records)) records)
+  where
+    same_trace : (look : Option LinkKind) (s : Sight) (rows : List Row) → trace_by (options_with look o) s rows ≡ trace_by o s rows
+    same_trace None s rows = refl
+    same_trace (Some kind) s rows = refl
+
+pub opened_text : {T E : Type 0} (left : T → Option (List ℕ)) (r : Result T E) (o : CaptureOptions) (file named : Option (List ℕ)) (first : FirstReading) (head : List ℕ) → file ≡ named → Some head ≡ head_lines first.options.header first.survey.seen
+    → IsLastReading o (option_and_then (records_of true 0) named) first → IfOk r (λ text. left text ≡ option_map (text_by first head) (option_and_then (records_of true 0) file)) → IfOk r (λ text. left text ≡ captured o named)
+opened_text left r o file named first head same is last h =
+    IfOk-weaker r (λ text. left text ≡ option_map (text_by first head) (option_and_then (records_of true 0) file)) (λ text. left text ≡ captured o named)
+    (λ text e. e ∙ same_text o (option_and_then (records_of true 0) file) (option_and_then (records_of true 0) named) first head (ap (option_and_then (records_of true 0)) same) is last) h

@@ -25,7 +25,7 @@ use Rattle.lapb_link.specs.declared.frames.Place.{Place}
 use Rattle.capture_report.specs.Contents.{Content, Gap, Packet, Row}
 use Rattle.capture_report.specs.Laws.{CaptureLaw, HasRows, IsHeader, NumberLaw, TextLaw}
 use Rattle.capture_report.specs.Rows.{rows_from}
-use Rattle.capture_report.specs.Texts.{Page, after_row, channel_text, content_text, first_printer, least_number, number_if, number_of, numbered, numbered_text, place_text, rows_printed}
+use Rattle.capture_report.specs.Texts.{Page, after_row, channel_text, content_text, first_printer, least_number, number_if, number_of, numbered, numbered_text, place_text, rows_printed, sided}
 use Rattle.capture_report.specs.TraceRows.{AreRows as AreCaptureRows, AreWithin, IsContent, IsRow, IsWithin, row_numbered, trace_row, trace_rows}
 use Rattle.capture_report.specs.declared.print.Printer.{Printer}
 use Rattle.capture_report.proofs.CaptureRowLemmas.{rows_law}
@@ -124,14 +124,29 @@ one_more i last r n rest rs h within more small later =
       );
     }
 
+-- a row with the sides of a printer is one, where its interface has gaps
+sided_row : (swapped : Bool) (r : Row) → IsRow r → IsRow (record { place = r.place; content = sided swapped r.content })
+sided_row swapped r h = record { place = h.place; content = at swapped r.content h.content }
+  where
+    at : (swapped : Bool) (c : Content) → IsContent c → IsContent (sided swapped c)
+    at swapped (Packet s octets) h = h
+    at swapped (Gap c) h = h
+
+sided_within : (i : Interface) (swapped : Bool) (c : Content) → IsWithin i c → IsWithin i (sided swapped c)
+sided_within i swapped (Packet s octets) h = h
+sided_within i swapped (Gap c) h = h
+
 are_lines : (i : Interface) (p : Printer) (rs : List Row) → AreCaptureRows rs → AreWithin i rs → AreLines i p.last (rows_printed p rs) (trace_rows p rs)
 are_lines i p [] h k = record { whole = refl; lines = refl }
 are_lines i p (r ∷ rs) h k = at (number_if p r) refl (are_lines i (after_row p r) rs h.1 k.1)
   where
     at : (o : Option ℕ) → number_if p r ≡ o → AreLines i (numbered o r p).last (rows_printed (numbered o r p) rs) (trace_rows (numbered o r p) rs)
-        → AreLines i p.last (numbered_text o r ++ rows_printed (numbered o r p) rs) (row_numbered o r ++ trace_rows (numbered o r p) rs)
+        → AreLines i p.last (numbered_text p.is_swapped o r ++ rows_printed (numbered o r p) rs) (row_numbered p.is_swapped o r ++ trace_rows (numbered o r p) rs)
     at None e later = later
-    at (Some n) e later = let rises = numbers_rise p r n e in one_more i p.last r n (rows_printed (numbered (Some n) r p) rs) (trace_rows (numbered (Some n) r p) rs) h.0 k.0 rises.0 rises.1 later
+    at (Some n) e later =
+        let rises = numbers_rise p r n e in
+        one_more i p.last (record { place = r.place; content = sided p.is_swapped r.content }) n (rows_printed (numbered (Some n) r p) rs) (trace_rows (numbered (Some n) r p) rs) (sided_row p.is_swapped r h.0)
+        (sided_within i p.is_swapped r.content k.0) rises.0 rises.1 later
 
 -- ---- the whole text
 
@@ -227,19 +242,19 @@ sound_read i wide header text line rs one interface whole lines sound =
       report = ap (λ o. elim o as (λ _. List ℕ) [ None ↦ [] | Some i ↦ report i (items_of i (rows (header ++ text))) ]) first ∙ ap (λ xs. report i (items_of i xs)) same;
     }
 
-pub sound_law : (i : Interface) (header : List ℕ) (line : Line) (by_frames : Bool) (rs : List Row) → content_of (ended_lines header) ≡ line ∷ [] → interface_of line ≡ Some i → begun_line header ≡ [] → AreCaptureRows rs
-    → fault (header ++ rows_printed (first_printer by_frames) rs) ≡ None → HasRows (header ++ rows_printed (first_printer by_frames) rs) i (trace_rows (first_printer by_frames) rs)
-sound_law i header line by_frames rs one interface whole are sound =
-    sound_read i all_gaps header (rows_printed (first_printer by_frames) rs) line (trace_rows (first_printer by_frames) rs) one interface whole (are_lines all_gaps (first_printer by_frames) rs are (have_all_gaps rs are)) sound
+pub sound_law : (i : Interface) (header : List ℕ) (line : Line) (by_frames swapped : Bool) (rs : List Row) → content_of (ended_lines header) ≡ line ∷ [] → interface_of line ≡ Some i → begun_line header ≡ [] → AreCaptureRows rs
+    → fault (header ++ rows_printed (first_printer by_frames swapped) rs) ≡ None → HasRows (header ++ rows_printed (first_printer by_frames swapped) rs) i (trace_rows (first_printer by_frames swapped) rs)
+sound_law i header line by_frames swapped rs one interface whole are sound =
+    sound_read i all_gaps header (rows_printed (first_printer by_frames swapped) rs) line (trace_rows (first_printer by_frames swapped) rs) one interface whole (are_lines all_gaps (first_printer by_frames swapped) rs are (have_all_gaps rs are)) sound
 
 pub text_law : TextLaw
-text_law i header by_frames rs h are within room = text_read i header (rows_printed (first_printer by_frames) rs) (trace_rows (first_printer by_frames) rs) h (are_lines i (first_printer by_frames) rs are within) room
+text_law i header by_frames swapped rs h are within room = text_read i header (rows_printed (first_printer by_frames swapped) rs) (trace_rows (first_printer by_frames swapped) rs) h (are_lines i (first_printer by_frames swapped) rs are within) room
 
 pub capture_law : CaptureLaw
-capture_law i header by_frames r records text h page fresh recorded within given room =
+capture_law i header by_frames swapped r records text h page fresh recorded within given room =
     let rs = rows_from r.order r.line records in
-    let is : header ++ rows_printed (first_printer by_frames) rs ≡ text = ap (λ (p : Page). p.text ++ rows_printed p.printer rs) (sym page) ∙ some_text given in
-    subst (λ xs. HasRows xs i (trace_rows (first_printer by_frames) rs)) is (text_law i header by_frames rs h (rows_law r.order r.line records fresh recorded) within (subst (λ (xs : List ℕ). length xs ≤ 1073741824) (sym is) room))
+    let is : header ++ rows_printed (first_printer by_frames swapped) rs ≡ text = ap (λ (p : Page). p.text ++ rows_printed p.printer rs) (sym page) ∙ some_text given in
+    subst (λ xs. HasRows xs i (trace_rows (first_printer by_frames swapped) rs)) is (text_law i header by_frames swapped rs h (rows_law r.order r.line records fresh recorded) within (subst (λ (xs : List ℕ). length xs ≤ 1073741824) (sym is) room))
   where
     some_text : {xs ys : List ℕ} → Some xs ≡ Some ys → xs ≡ ys
     some_text e = cc

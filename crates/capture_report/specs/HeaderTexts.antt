@@ -1,9 +1,11 @@
 -- The lines of a trace that come before its rows.
-use Rattle.std.specs.Prelude.{◌≡◌, ℕ, ◌≤◌, ◌==◌, ◌&&◌, Bool, true, false, not, List, [], ◌∷◌, ◌++◌, length, Some, codes, decimal, if◌then◌else◌}
+use Rattle.std.specs.Prelude.{◌≡◌, ℕ, ◌≤◌, ◌==◌, ◌&&◌, ◌||◌, Bool, true, false, not, List, [], ◌∷◌, ◌++◌, length, Some, is_none, is_some, codes, decimal, if◌then◌else◌}
 use Rattle.line_model.specs.declared.interface.Interface.{Interface}
 use Rattle.line_model.specs.text.Header.{interface_of}
 use Rattle.line_model.specs.text.Text.{Line, begun_line, ended_lines, is_comment}
+use Rattle.capture_report.specs.Given.{has_ranges, is_whole, last_given}
 use Rattle.capture_report.specs.declared.header.Seen.{Seen}
+use Rattle.capture_report.specs.declared.options.GivenHeader.{GivenHeader}
 
 -- ---- the header line
 
@@ -33,8 +35,12 @@ abbrev pub channel_numbers : (is_first : Bool) → Interface → List ℕ
 channel_numbers true i = named (codes " SVC ") i.svc
 channel_numbers false i = named (codes " IN ") i.incoming ++ (named (codes " TWO ") i.two_way ++ (named (codes " OUT ") i.svc ++ joining i.join))
 
-abbrev pub header_line : Interface → Line
-header_line i = form_word (is_first_form i) i.gaps ++ (first_numbers i ++ channel_numbers (is_first_form i) i)
+-- one whose ranges are given names them
+abbrev pub has_first_form : (ranged : Bool) → Interface → Bool
+has_first_form ranged i = not ranged && is_first_form i
+
+abbrev pub header_line : (ranged : Bool) → Interface → Line
+header_line ranged i = form_word (has_first_form ranged i) i.gaps ++ (first_numbers i ++ channel_numbers (has_first_form ranged i) i)
 
 -- ---- the comment before it
 
@@ -45,25 +51,41 @@ abbrev pub size_source : (largest : ℕ) → List ℕ
 size_source largest = if largest == 0 then codes " (the default: no data was seen)" else codes " (the largest user data)"
 
 abbrev pub last_name : (is_first : Bool) → List ℕ
-last_name is_first = if is_first then codes ", SVC " else codes ", OUT "
+last_name is_first = if is_first then codes "SVC " else codes "OUT "
 
-abbrev pub estimate : (name : List ℕ) → ℕ → (source : List ℕ) → List ℕ
-estimate name n source = named name n ++ source
+-- a number that is not given: a comma comes after another one
+abbrev pub lead : (after : Bool) → List ℕ
+lead after = if after then codes ", " else codes " "
 
-abbrev pub first_estimates : Interface → Seen → List ℕ
-first_estimates i v =
-    estimate (codes " MOD ") i.modulus (codes " (the general format identifiers),")
-    ++ (estimate (codes " WIN ") i.window (window_source v.most)
-    ++ (estimate (codes ", SIZE ") i.size (size_source v.largest)
-    ++ estimate (codes ", PVC ") i.pvc (codes " (channels with data and no call)")))
+abbrev pub estimate_text : (given after : Bool) → (name : List ℕ) → ℕ → (source : List ℕ) → List ℕ
+estimate_text given after name n source = if given then [] else lead after ++ (named name n ++ source)
 
--- what the numbers were estimated from
-abbrev pub comment_text : Interface → Seen → Line
-comment_text i v =
-    codes "# estimated from what was seen:" ++ (first_estimates i v ++ estimate (last_name (is_first_form i)) i.svc (codes " (the channels used)"))
+abbrev pub numbering_estimates : Interface → Seen → GivenHeader → List ℕ
+numbering_estimates i v g =
+    estimate_text (is_some g.modulus) false (codes "MOD ") i.modulus (codes " (the general format identifiers)")
+    ++ estimate_text (is_some g.window) (not (is_some g.modulus)) (codes "WIN ") i.window (window_source v.most)
 
-abbrev pub head_text : Interface → Seen → List ℕ
-head_text i v = comment_text i v ++ 10 ∷ (header_line i ++ 10 ∷ [])
+abbrev pub size_estimates : Interface → Seen → GivenHeader → List ℕ
+size_estimates i v g =
+    estimate_text (is_some g.size) (is_none g.modulus || is_none g.window) (codes "SIZE ") i.size (size_source v.largest)
+    ++ estimate_text (is_some g.pvc) ((is_none g.modulus || is_none g.window) || is_none g.size) (codes "PVC ") i.pvc (codes " (channels with data and no call)")
+
+-- whether a number before the last channel is estimated
+abbrev pub has_estimates : GivenHeader → Bool
+has_estimates g = is_none g.modulus || (is_none g.window || (is_none g.size || is_none g.pvc))
+
+abbrev pub last_estimate : Interface → GivenHeader → List ℕ
+last_estimate i g = estimate_text (is_some (last_given g)) (has_estimates g) (last_name (has_first_form (has_ranges g) i)) i.svc (codes " (the channels used)")
+
+abbrev pub all_estimates : Interface → Seen → GivenHeader → List ℕ
+all_estimates i v g = numbering_estimates i v g ++ (size_estimates i v g ++ last_estimate i g)
+
+-- what the numbers were estimated from that are not given
+abbrev pub comment_text : Interface → Seen → GivenHeader → Line
+comment_text i v g = if is_whole g then codes "# the header is given" else codes "# estimated from what was seen:" ++ all_estimates i v g
+
+abbrev pub head_text : Interface → Seen → GivenHeader → List ℕ
+head_text i v g = comment_text i v g ++ 10 ∷ (header_line (has_ranges g) i ++ 10 ∷ [])
 
 -- a comment, and a line that is read as the header of an interface
 pub record IsHead (i : Interface) (text : List ℕ) : Type 0 where

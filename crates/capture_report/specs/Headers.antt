@@ -13,6 +13,10 @@ use Rattle.line_model.specs.text.Header.{HeaderNumbers, interface_with}
 use Rattle.capture_report.specs.Contents as content
 use Rattle.capture_report.specs.Contents.{Content, Row}
 use Rattle.capture_report.specs.HeaderChannels.{all_swept, channel_at, channel_seen, is_set_up, last_below, missed, none_seen, outstanding, user_data, with_channel}
+use Rattle.lapb_link.specs.Numbers.{size}
+use Rattle.lapb_link.specs.declared.modulus.Modulus.{Modulus}
+use Rattle.capture_report.specs.Given.{last_given}
+use Rattle.capture_report.specs.declared.options.GivenHeader.{GivenHeader}
 use Rattle.capture_report.specs.declared.header.Beginning.{Beginning}
 use Rattle.capture_report.specs.declared.header.Beginning.TheVariants.{Empty, Joined, Restarting, Whole}
 use Rattle.capture_report.specs.declared.header.Seen.{Seen}
@@ -124,13 +128,17 @@ abbrev pub is_joined : Beginning → Bool
 is_joined Joined = true
 is_joined b = false
 
--- the modulus of most packets
-abbrev pub modulus_seen : Seen → ℕ
-modulus_seen v = if nat_lt v.of_8 v.of_128 then 128 else 8
+-- the modulus that is given, or that of most packets
+abbrev pub modulus_by : Option Modulus → Seen → ℕ
+modulus_by None v = if nat_lt v.of_8 v.of_128 then 128 else 8
+modulus_by (Some m) v = size m
 
--- the most data that was not acknowledged, below the modulus; 2 where no data shows a window
-abbrev pub window_seen : Seen → ℕ
-window_seen v = if v.most == 0 then 2 else min v.most (modulus_seen v - 1)
+abbrev pub modulus_with : GivenHeader → Seen → ℕ
+modulus_with g v = modulus_by g.modulus v
+
+-- the most data that was not acknowledged, below a modulus; 2 where no data shows a window
+abbrev pub window_below : (modulus : ℕ) → Seen → ℕ
+window_below m v = if v.most == 0 then 2 else min v.most (m - 1)
 
 -- the smallest packet size for user data
 abbrev pub smallest_size : ℕ → ℕ
@@ -148,19 +156,29 @@ last_channel v = max (min v.highest 4095) 1
 abbrev pub permanent_seen : Seen → ℕ
 permanent_seen v = last_below v.channels (min v.first_call (last_channel v + 1))
 
--- a trace that begins in the middle, or has gaps, has the third form
-abbrev pub has_third_form : Seen → Bool
-has_third_form v = is_joined v.beginning || v.has_gaps
+-- the last channel that is given, or the last one that is used or given for other channels
+abbrev pub last_by : Option ℕ → GivenHeader → (pvc : ℕ) → Seen → ℕ
+last_by None g pvc v = max (max (max (last_channel v) pvc) (unwrap_or g.two_way 0)) (unwrap_or g.incoming 0)
+last_by (Some last) g pvc v = last
 
-abbrev pub numbers_seen : Seen → HeaderNumbers
-numbers_seen v = record {
-  modulus = modulus_seen v;
-  window = window_seen v;
-  size = size_seen v;
-  pvc = permanent_seen v;
-  incoming = permanent_seen v;
-  two_way = last_channel v;
-  svc = last_channel v;
-  join = is_joined v.beginning;
-  gaps = has_third_form v;
-}
+abbrev pub last_with : GivenHeader → (pvc : ℕ) → Seen → ℕ
+last_with g pvc v = last_by (last_given g) g pvc v
+
+-- the numbers that are given, and for the others what was seen; a trace that begins in the middle, or has gaps, has the third form
+abbrev pub numbers_with : GivenHeader → Seen → HeaderNumbers
+numbers_with g v =
+    let pvc = unwrap_or g.pvc (permanent_seen v) in
+    let svc = last_with g pvc v in
+    let two_way = unwrap_or g.two_way svc in
+    let join = unwrap_or g.join (is_joined v.beginning) in
+    record {
+      modulus = modulus_with g v;
+      window = unwrap_or g.window (window_below (modulus_with g v) v);
+      size = unwrap_or g.size (size_seen v);
+      pvc = pvc;
+      incoming = unwrap_or g.incoming (min pvc two_way);
+      two_way = two_way;
+      svc = svc;
+      join = join;
+      gaps = join || v.has_gaps;
+    }

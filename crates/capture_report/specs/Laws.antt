@@ -1,5 +1,5 @@
 -- What the observer reads from the trace of a capture.
-use Rattle.std.specs.Prelude.{◌≡◌, ℕ, ◌<◌, ◌≤◌, Bool, true, List, [], ◌∷◌, ◌++◌, Option, None, Some, IfSome, length}
+use Rattle.std.specs.Prelude.{◌≡◌, ℕ, ◌<◌, ◌≤◌, Bool, true, List, [], ◌∷◌, ◌++◌, Option, None, Some, IfSome, is_some, length}
 use Rattle.std.specs.List.{AllByRecursion}
 use Rattle.hex.specs.Hex.{IsBytes}
 use Rattle.line_model.specs.basics.Records as trace
@@ -7,7 +7,7 @@ use Rattle.line_model.specs.declared.interface.Interface.{Interface}
 use Rattle.line_model.specs.declared.state.Side.{Side}
 use Rattle.line_model.specs.observer.Report.{report}
 use Rattle.line_model.specs.packets.Says.{items_of}
-use Rattle.line_model.specs.text.Header.{interface_of}
+use Rattle.line_model.specs.text.Header.{interface_of, interface_with}
 use Rattle.line_model.specs.text.Text.{begun_line, content_of, early, ended_lines, fault, head, rows, text_limit}
 use Rattle.line_model.specs.traces.Traces.{trace_report}
 use Rattle.capture_model.specs.Frames.{Frame}
@@ -19,11 +19,16 @@ use Rattle.capture_rows.specs.declared.line.Line.{Line}
 use Rattle.capture_files.specs.CaptureFiles.{records_of}
 use Rattle.capture_report.specs.CaptureTexts.{capture_text, interface_seen, numbered_rows}
 use Rattle.capture_report.specs.Contents.{Packet, Row}
+use Rattle.capture_report.specs.Given.{is_unnamed}
+use Rattle.capture_report.specs.Headers.{numbers_with}
 use Rattle.capture_report.specs.Records.{Record}
 use Rattle.capture_report.specs.Rows.{place_of, rows_from}
 use Rattle.capture_report.specs.Texts.{first_printer, number_if, rows_printed}
 use Rattle.capture_report.specs.TraceRows.{AreRows, AreWithin, IsPlace, trace_rows}
 use Rattle.capture_report.specs.Traces.{text_left}
+use Rattle.capture_report.specs.declared.header.Seen.{Seen}
+use Rattle.capture_report.specs.declared.options.CaptureOptions.{CaptureOptions}
+use Rattle.capture_report.specs.declared.options.GivenHeader.{GivenHeader}
 use Rattle.capture_report.specs.declared.print.Printer.{Printer}
 use Rattle.capture_report.specs.declared.reader.Order.{Order}
 use Rattle.capture_report.specs.declared.reader.Reader.{Reader}
@@ -45,9 +50,9 @@ pub record HasRows (text : List ℕ) (i : Interface) (those : List trace.Row) : 
 
 -- the observer reads the text of rows as these rows
 abbrev pub TextLaw : Type 0
-TextLaw = (i : Interface) (header : List ℕ) (by_frames : Bool) (rs : List Row) → IsHeader i header → AreRows rs → AreWithin i rs
-    → length (header ++ rows_printed (first_printer by_frames) rs) ≤ text_limit
-    → HasRows (header ++ rows_printed (first_printer by_frames) rs) i (trace_rows (first_printer by_frames) rs)
+TextLaw = (i : Interface) (header : List ℕ) (by_frames swapped : Bool) (rs : List Row) → IsHeader i header → AreRows rs → AreWithin i rs
+    → length (header ++ rows_printed (first_printer by_frames swapped) rs) ≤ text_limit
+    → HasRows (header ++ rows_printed (first_printer by_frames swapped) rs) i (trace_rows (first_printer by_frames swapped) rs)
 
 -- where numbers rise, a packet has the number of its frame
 abbrev pub NumberLaw : Type 0
@@ -74,15 +79,19 @@ RowsLaw = (order : Order) (l : Line) (records : List Record) → IsFresh l → A
 
 -- the observer reads the trace that a source makes of a capture as the rows of the capture
 abbrev pub CaptureLaw : Type 0
-CaptureLaw = (i : Interface) (header : List ℕ) (by_frames : Bool) (r : Reader) (records : List Record) (text : List ℕ) → IsHeader i header
-    → r.page ≡ record { printer = first_printer by_frames; text = header } → IsFresh r.line → AllByRecursion IsRecord records → AreWithin i (rows_from r.order r.line records)
+CaptureLaw = (i : Interface) (header : List ℕ) (by_frames swapped : Bool) (r : Reader) (records : List Record) (text : List ℕ) → IsHeader i header
+    → r.page ≡ record { printer = first_printer by_frames swapped; text = header } → IsFresh r.line → AllByRecursion IsRecord records → AreWithin i (rows_from r.order r.line records)
     → text_left (Some records) r 0 ≡ Some text → length text ≤ text_limit
-    → HasRows text i (trace_rows (first_printer by_frames) (rows_from r.order r.line records))
+    → HasRows text i (trace_rows (first_printer by_frames swapped) (rows_from r.order r.line records))
 
 -- ---- a file
 
--- where the trace of an undamaged pcap file has no fault, the observer reads it as the rows of the capture, under the interface that was
--- seen
+-- where no number is given, each capture has a header
+abbrev pub PlainLaw : Type 0
+PlainLaw = (g : GivenHeader) (v : Seen) → is_unnamed g ≡ true → is_some (interface_with (numbers_with g v)) ≡ true
+
+-- where the trace of an undamaged pcap or pcapng file has no fault, the observer reads it as the rows of the capture, under the interface of
+-- what is given and what was seen
 abbrev pub FileLaw : Type 0
-FileLaw = (octets : List ℕ) (records : List Record) → IsBytes octets → records_of true 0 octets ≡ Some records → fault (capture_text records) ≡ None
-    → (i : Interface) × (interface_seen records ≡ Some i) × HasRows (capture_text records) i (numbered_rows records)
+FileLaw = (o : CaptureOptions) (octets : List ℕ) (records : List Record) (text : List ℕ) → IsBytes octets → records_of true 0 octets ≡ Some records → capture_text o records ≡ Some text → fault text ≡ None
+    → (i : Interface) × (interface_seen o records ≡ Some i) × HasRows text i (numbered_rows o records)

@@ -1,3 +1,4 @@
+pub mod Given
 pub mod Records
 pub mod Entries
 pub mod Gaps

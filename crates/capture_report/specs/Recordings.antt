@@ -10,6 +10,7 @@ use Rattle.capture_report.specs.CaptureTexts.{captured}
 use Rattle.capture_report.specs.Traces.{bytes_left}
 use Rattle.capture_report.specs.declared.begun_file.BegunFile.{BegunFile}
 use Rattle.capture_report.specs.declared.capture_text.CaptureText.{CaptureText}
+use Rattle.capture_report.specs.declared.options.CaptureOptions.{CaptureOptions}
 use Rattle.capture_report.specs.declared.recordings.Recording.{Recording}
 use Rattle.capture_report.specs.declared.recordings.Recording.TheVariants.{Trace, Capture}
 
@@ -25,9 +26,9 @@ abbrev pub begins_as_capture : List ℕ → Bool
 begins_as_capture octets = if nat_lt (length octets) 4 then false else is_magic (number true octets)
 
 -- what a file shows that is opened as a recording: the trace of a capture, and otherwise its bytes
-abbrev pub recorded : Option (List ℕ) → Option (List ℕ)
-recorded None = None
-recorded (Some bytes) = if begins_as_capture bytes then captured (Some bytes) else Some bytes
+abbrev pub recorded : CaptureOptions → Option (List ℕ) → Option (List ℕ)
+recorded o None = None
+recorded o (Some bytes) = if begins_as_capture bytes then captured o (Some bytes) else Some bytes
 
 -- what is left of a file that was begun, where it showed its bytes as it was opened
 abbrev pub begun_left : {F : Type 0} → (F → Option (List ℕ)) → BegunFile F → Option (List ℕ)

@@ -2,6 +2,8 @@
 use Rattle.std.specs.Prelude.{ℕ, ℤ, ◌+◌, ◌-◌, ◌/◌, ◌%◌, ◌&&◌, ◌||◌, max, nat_eq, nat_le, Bool, false, List, [], ◌∷◌, ◌++◌, Option, Some, None, codes, decimal, if◌then◌else◌}
 use Rattle.std.specs.Int.{is_negative}
 use Rattle.std.specs.Int.RustNames.{unsigned_abs}
+use Rattle.line_model.specs.channels.Channels.{other}
+use Rattle.line_model.specs.declared.state.Side.{Side}
 use Rattle.trace_text.specs.RowTexts.{row_text}
 use Rattle.capture_model.specs.declared.time.Nanos.{Nanos}
 use Rattle.lapb_link.specs.declared.frames.Place.{Place}
@@ -50,6 +52,14 @@ abbrev pub content_text : (number : ℕ) → Content → List ℕ
 content_text n (Packet s octets) = row_text (record { number = n; side = s; octets = octets; gap = None })
 content_text n (Gap c) = decimal n ++ codes " ? " ++ channel_text c ++ codes "\n"
 
+-- what a row says where the sides may be exchanged
+abbrev pub side_if : (swapped : Bool) → Side → Side
+side_if swapped s = if swapped then other s else s
+
+abbrev pub sided : (swapped : Bool) → Content → Content
+sided swapped (Packet s octets) = Packet (side_if swapped s) octets
+sided swapped (Gap c) = Gap c
+
 -- a row has the number of its frame, and a gap the one before, or the next one that is free; or rows count from 1
 abbrev pub least_number : (by_frames : Bool) → (frame : ℕ) → Content → ℕ
 least_number by_frames frame (Packet s octets) = if by_frames then frame else 0
@@ -63,16 +73,16 @@ abbrev pub number_if : Printer → Row → Option ℕ
 number_if p r = if p.is_in_gap && is_of_all r.content then None
     else if nat_le (number_of p r) 999999999 then Some (number_of p r) else None
 
-abbrev pub numbered_text : Option ℕ → Row → List ℕ
-numbered_text None r = []
-numbered_text (Some n) r = place_text r.place ++ content_text n r.content
+abbrev pub numbered_text : (swapped : Bool) → Option ℕ → Row → List ℕ
+numbered_text swapped None r = []
+numbered_text swapped (Some n) r = place_text r.place ++ content_text n (sided swapped r.content)
 
 abbrev pub numbered : Option ℕ → Row → Printer → Printer
 numbered None r p = p
 numbered (Some n) r p = record p { last = n; is_in_gap = is_of_all r.content }
 
 abbrev pub row_printed : Printer → Row → List ℕ
-row_printed p r = numbered_text (number_if p r) r
+row_printed p r = numbered_text p.is_swapped (number_if p r) r
 
 abbrev pub after_row : Printer → Row → Printer
 after_row p r = numbered (number_if p r) r p
@@ -82,8 +92,8 @@ abbrev pub rows_printed : Printer → List Row → List ℕ
 rows_printed p [] = []
 rows_printed p (r ∷ rs) = row_printed p r ++ rows_printed (after_row p r) rs
 
-abbrev pub first_printer : (by_frames : Bool) → Printer
-first_printer by_frames = record { last = 0; is_in_gap = false; by_frames = by_frames }
+abbrev pub first_printer : (by_frames swapped : Bool) → Printer
+first_printer by_frames swapped = record { last = 0; is_in_gap = false; by_frames = by_frames; is_swapped = swapped }
 
 -- text, and the printer behind it
 pub record Page : Type 0 where

@@ -1,5 +1,5 @@
 -- The rows of a capture as a trace has them.
-use Rattle.std.specs.Prelude.{◌≡◌, ℕ, ◌^◌, ◌<◌, ◌≤◌, true, List, [], ◌∷◌, ◌++◌, length, Option, None, Some, IfSome}
+use Rattle.std.specs.Prelude.{◌≡◌, ℕ, ◌^◌, ◌<◌, ◌≤◌, Bool, true, List, [], ◌∷◌, ◌++◌, length, Option, None, Some, IfSome}
 use Rattle.std.specs.Int.RustNames.{unsigned_abs}
 use Rattle.std.specs.List.{AllByRecursion}
 use Rattle.hex.specs.Hex.{IsBytes}
@@ -8,7 +8,7 @@ use Rattle.line_model.specs.declared.interface.Interface.{Interface}
 use Rattle.line_model.specs.declared.state.Side.TheVariants.{T}
 use Rattle.lapb_link.specs.declared.frames.Place.{Place}
 use Rattle.capture_report.specs.Contents.{Content, Gap, Packet, Row}
-use Rattle.capture_report.specs.Texts.{after_row, number_if}
+use Rattle.capture_report.specs.Texts.{after_row, number_if, sided}
 use Rattle.capture_report.specs.declared.print.Printer.{Printer}
 
 -- the frame number and the time are in the ranges of their types
@@ -41,11 +41,11 @@ trace_row n (Packet s octets) = record { number = n; side = s; octets = octets; 
 trace_row n (Gap c) = record { number = n; side = T; octets = []; gap = Some c }
 
 -- a row without a number is left out
-abbrev pub row_numbered : Option ℕ → Row → List trace.Row
-row_numbered None r = []
-row_numbered (Some n) r = trace_row n r.content ∷ []
+abbrev pub row_numbered : (swapped : Bool) → Option ℕ → Row → List trace.Row
+row_numbered swapped None r = []
+row_numbered swapped (Some n) r = trace_row n (sided swapped r.content) ∷ []
 
--- the rows with the numbers of a printer
+-- the rows with the numbers and the sides of a printer
 abbrev pub trace_rows : Printer → List Row → List trace.Row
 trace_rows p [] = []
-trace_rows p (r ∷ rs) = row_numbered (number_if p r) r ++ trace_rows (after_row p r) rs
+trace_rows p (r ∷ rs) = row_numbered p.is_swapped (number_if p r) r ++ trace_rows (after_row p r) rs

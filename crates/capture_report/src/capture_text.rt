@@ -4,14 +4,15 @@ ghost use Rattle.std.specs.Prelude.{◌≡◌, ◌<◌, ◌≤◌, ℕ, List, []
 ghost use Rattle.std.specs.Io.KnownBytes.{Consumes};
 ghost use Rattle.std.specs.Option.{option_and_then};
 ghost use Rattle.capture_files.specs.CaptureFiles.{records_of};
-ghost use Rattle.capture_report.specs.CaptureTexts.{has_frame_numbers, line_by};
+ghost use Rattle.capture_report.specs.CaptureTexts.{line_by, printer_by};
 ghost use Rattle.capture_report.specs.Rows.{rows_from};
-ghost use Rattle.capture_report.specs.Texts.{first_printer, rows_printed};
+ghost use Rattle.capture_report.specs.Sights.{sight_of};
+ghost use Rattle.capture_report.specs.Texts.{rows_printed};
 ghost use Rattle.streams.specs.OpenFaults.{IsByItsReason};
 
 use crate::file_frames::FileFrames;
 use crate::first_reading::{FirstReading, line, open_frames};
-use crate::print::Page;
+use crate::print::{Page, Printer};
 use crate::reader::{Order, Reader};
 use crate::reader_source::ReaderSource;
 use crate::trace::CaptureTrace;
@@ -47,20 +48,20 @@ impl<F: Read + Drop> CaptureText<F> {
         head: Vec<u8>,
     ) -> Result<CaptureText<F>, OpenRefusal>
         ensures left { IfOk result (λ text. capture_left F.Read text
-            ≡ option_map (λ records. head.items ++ rows_printed (first_printer (has_frame_numbers first.survey.last)) (rows_from (Order.Placed first.plan) (line_by first.unknown) records))
+            ≡ option_map (λ records. head.items ++ rows_printed (printer_by first.options (sight_of first.survey)) (rows_from (Order.Placed first.plan) (line_by first.options) records))
             (option_and_then (records_of true 0) (F.remaining file))) }
         ensures reason { IfErr result IsByItsReason }
     {
         let by_frames = first.survey.last() <= MOST_NUMBERED;
         let FirstReading {
             plan,
-            unknown,
+            options,
             last,
             ..
         } = first;
         let frames = open_frames(alloc, file)?;
-        let line = line(alloc, unknown)?;
-        let page = Page::new(head, by_frames);
+        let line = line(alloc, &options)?;
+        let page = Page::new(head, Printer::new(by_frames, options.is_swapped));
         let reader = Reader::new(line, Order::Placed(plan), page);
         Ok(CaptureText {
             trace: CaptureTrace::new(alloc, frames, reader),

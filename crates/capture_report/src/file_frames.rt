@@ -84,7 +84,7 @@ impl<S: RoomSource + Drop> FileFrames<S> {
     }
 }
 
-/// What it will give is shown of a pcap file that is not damaged, in a source that shows its octets.
+/// What it will give is shown of a file that is not damaged, in a source that shows its octets.
 impl<S: RoomSource + Drop> Frames for FileFrames<S> {
     ghost left = { λ s. s.left };
 

@@ -1,26 +1,22 @@
 //! The first reading of a capture that a file system has.
 
-ghost use Rattle.std.specs.Prelude.{◌≡◌, IfErr, IfOk, None, true};
+ghost use Rattle.std.specs.Prelude.{◌≡◌, IfErr, IfOk, None, Some, true};
 ghost use Rattle.std.specs.Option.{option_and_then};
-ghost use Rattle.line_model.specs.text.Header.{interface_with};
 ghost use Rattle.capture_files.specs.CaptureFiles.{records_of};
-ghost use Rattle.capture_report.specs.CaptureTexts.{head_lines, line_by};
-ghost use Rattle.capture_report.specs.Headers.{numbers_seen};
+ghost use Rattle.capture_report.specs.CaptureTexts.{head_lines, likely_in, line_by};
+ghost use Rattle.capture_report.specs.Sights.{sight_of};
 ghost use Rattle.streams.specs.OpenFaults.{IsByItsReason};
 
 use crate::file_frames::FileFrames;
-use crate::header::Seen;
 use crate::header_text::print_head;
+use crate::options::CaptureOptions;
 use crate::plan::Plan;
 use crate::reader_source::ReaderSource;
 use crate::survey::Survey;
 use capture_files::refusal::Refusal;
 use capture_model::kind::LinkKind;
-use capture_rows::choices::Choices;
 use capture_rows::line::Line;
-use capture_rows::station::StationBy;
 use lapb_link::ends::Ends;
-use line_model::state::Side;
 use std::alloc::Global;
 use std::io;
 use std::io::{ErrorKind, Read};
@@ -31,8 +27,8 @@ use streams::input::{CaptureFault, OpenRefusal};
 pub(crate) struct FirstReading {
     pub plan: Plan,
     pub survey: Survey,
-    /// The link header of unknown link types.
-    pub unknown: Option<LinkKind>,
+    /// How the capture was read.
+    pub options: CaptureOptions,
     /// The number of the last frame.
     pub last: u64,
 }
@@ -44,23 +40,33 @@ impl FirstReading {
     pub fn read<F: Read + Drop>(
         alloc: Global,
         file: F,
-        unknown: Option<LinkKind>,
+        options: CaptureOptions,
     ) -> Result<FirstReading, OpenRefusal>
         ensures read { IfOk result (IsFirstReading (option_and_then (records_of true 0) (F.remaining file))) }
-        ensures unknown { IfOk result (λ first. first.unknown ≡ unknown) }
+        ensures options { IfOk result (λ first. first.options ≡ options) }
         ensures reason { IfErr result IsByItsReason }
     {
         let mut frames = open_frames(alloc, file)?;
-        let line = line(alloc, unknown)?;
-        let mut survey = Survey::new(alloc, unknown);
+        let line = line(alloc, &options)?;
+        let mut survey = Survey::new(alloc, options.choices.unknown);
         match Plan::read(alloc, line, &mut frames, &mut survey) {
             Ok(plan) => Ok(FirstReading {
                 plan,
                 survey,
-                unknown,
+                options,
                 last: frames.number(),
             }),
             Err(_) => Err(OpenRefusal::by_system(frames.source().reason())),
+        }
+    }
+
+    /// Returns the link header that unknown link types likely have, where none is given.
+    pub fn likely(&self) -> Option<LinkKind>
+        ensures { result ≡ likely_in self.now.options.choices.unknown (sight_of self.now.survey) }
+    {
+        match self.options.choices.unknown {
+            Some(_) => None,
+            None => self.survey.likely(),
         }
     }
 }
@@ -81,31 +87,28 @@ pub(crate) fn open_frames<F: Read + Drop>(
     }
 }
 
-/// Returns the line of a capture, of which nothing was read. By default the addresses show its ends.
-pub(crate) fn line(alloc: Global, unknown: Option<LinkKind>) -> Result<Line, OpenRefusal>
-    ensures line { IfOk result (λ line. line ≡ line_by unknown) }
+/// Returns the line of a capture, of which nothing was read. The addresses show its ends.
+pub(crate) fn line(alloc: Global, options: &CaptureOptions) -> Result<Line, OpenRefusal>
+    ensures line { IfOk result (λ line. line ≡ line_by options.now) }
     ensures reason { IfErr result IsByItsReason }
 {
-    let choices = Choices {
-        unknown,
-        carrier: None,
-        interface: None,
-        station_by: StationBy::Either,
-        host: Side::T,
-    };
-    match Line::new(alloc, choices, None, Ends::by_address()) {
+    match Line::new(alloc, options.choices, options.modulus, Ends::by_address()) {
         Ok(line) => Ok(line),
         Err(_) => Err(of_memory()),
     }
 }
 
-/// Returns the lines of a trace that come before its rows.
-pub(crate) fn head(alloc: Global, seen: &Seen) -> Result<Vec<u8>, OpenRefusal>
-    ensures text { IfOk result (λ head. head.items ≡ head_lines seen.now (interface_with (numbers_seen seen.now))) }
+/// Returns the lines of a trace that come before its rows. Fails where numbers that are given are not those of an interface.
+pub(crate) fn head(alloc: Global, first: &FirstReading) -> Result<Vec<u8>, OpenRefusal>
+    ensures text { IfOk result (λ head. Some head.items ≡ head_lines first.now.options.header first.now.survey.seen) }
     ensures reason { IfErr result IsByItsReason }
 {
+    let (seen, given) = (first.survey.seen(), &first.options.header);
+    let Some(header) = seen.header(given) else {
+        return Err(OpenRefusal::by_system(seen.refusal(alloc, given)));
+    };
     let mut head = Vec::new(alloc);
-    match print_head(&seen.header(), seen, &mut head) {
+    match print_head(&header, seen, given, &mut head) {
         Ok(()) => Ok(head),
         Err(_) => Err(of_memory()),
     }

@@ -1,21 +1,25 @@
-//! The header of a trace, from what the packets of a capture show. Its numbers are the largest that were seen, so that no
-//! data that is right under some header breaks it.
+//! The header of a trace, from what is given and what the packets of a capture show. Its estimates are the largest numbers
+//! that were seen, so that no data that is right under some header breaks them.
 
-ghost use Rattle.std.specs.Prelude.{◌≡◌, ◌≤◌, ◌⊎◌, Some, OnOk, true};
+ghost use Rattle.std.specs.Prelude.{◌≡◌, ◌==◌, ◌≤◌, ◌⊎◌, Some, OnOk};
 ghost use Rattle.line_model.specs.packets.Classes.{class_of, kind_class, packet_class};
 ghost use Rattle.line_model.specs.text.Header.{interface_with};
-ghost use Rattle.line_model.specs.basics.Limits.{is_numbering};
-ghost use Rattle.packet_decode.specs.Shown.{IsPacketSize};
+ghost use Rattle.line_model.specs.basics.Limits.{is_channels, is_numbering, packet_sizes};
+ghost use Rattle.std.specs.List.{list_any};
 ghost use Rattle.capture_report.specs.Contents.{row_view};
-ghost use Rattle.capture_report.specs.Headers.{all_channels, beginning_after, beginning_missed, counted, format_interface, gap_seen, has_packets, has_third_form, is_joined, is_same, kind_seen, last_channel, more, modulus_seen, nothing_seen, numbers_seen, on_channel, packet_seen, permanent_seen, seen_with, sending, size_seen, smallest_size, window_seen};
+ghost use Rattle.capture_report.specs.Headers.{all_channels, beginning_after, beginning_missed, counted, format_interface, gap_seen, has_packets, is_joined, is_same, kind_seen, last_channel, last_with, modulus_with, more, nothing_seen, numbers_with, on_channel, packet_seen, permanent_seen, seen_with, sending, size_seen, smallest_size, window_below};
 
 use crate::header_channels::{Channels, Sweep, is_set_up};
+use crate::options::GivenHeader;
 use crate::row::{Content, Row};
 use line_model::interface::Interface;
 use line_model::packet::{Packet, PacketKind};
 use line_model::state::Side;
 use packet_decode::decode::decode;
 use std::alloc::{AllocError, Global};
+use std::io;
+use std::io::ErrorKind;
+use std::marker::Model;
 
 /// How a recording begins.
 #[derive(Clone, Copy)]
@@ -28,6 +32,83 @@ pub enum Beginning {
     Whole,
     /// In the middle.
     Joined,
+}
+
+/// The numbers of a header, which may be those of no interface.
+#[derive(Drop)]
+struct Numbers {
+    modulus: u8,
+    window: u8,
+    size: u16,
+    pvc: u16,
+    incoming: u16,
+    two_way: u16,
+    svc: u16,
+    join: bool,
+    gaps: bool,
+}
+
+impl Model for Numbers {
+    ghost use Rattle.line_model.specs.text.Header.{HeaderNumbers};
+
+    ghost Value = { HeaderNumbers };
+
+    ghost view = { λ n. record { modulus = n.modulus; window = n.window; size = n.size; pvc = n.pvc; incoming = n.incoming; two_way = n.two_way; svc = n.svc; join = n.join; gaps = n.gaps } };
+}
+
+/// Returns whether a window is below a modulus.
+fn is_numbered(modulus: u8, window: u8) -> bool
+    ensures { result ≡ is_numbering modulus window }
+{
+    (modulus == 8 || modulus == 128) && 1 <= window && window < modulus
+}
+
+/// Returns whether this is a packet size (X.25 clause 6.9).
+pub fn is_packet_size(size: u16) -> bool
+    ensures { result ≡ list_any (λ n. size == n) packet_sizes }
+{
+    matches!(size, 16 | 32 | 64 | 128 | 256 | 512 | 1024 | 2048 | 4096)
+}
+
+/// Returns whether the last channels of each kind don't fall.
+fn has_channels(pvc: u16, incoming: u16, two_way: u16, svc: u16) -> bool
+    ensures { result ≡ is_channels pvc incoming two_way svc }
+{
+    1 <= svc && svc <= 4095 && pvc <= incoming && incoming <= two_way && two_way <= svc
+}
+
+/// Returns the interface of these numbers, if they keep the rules.
+fn interface_of(numbers: Numbers) -> Option<Interface>
+    ensures { result ≡ interface_with numbers }
+{
+    let Numbers {
+        modulus,
+        window,
+        size,
+        pvc,
+        incoming,
+        two_way,
+        svc,
+        join,
+        gaps,
+    } = numbers;
+    if !is_numbered(modulus, window)
+        || !is_packet_size(size)
+        || !has_channels(pvc, incoming, two_way, svc)
+    {
+        return None;
+    }
+    Some(Interface {
+        modulus,
+        window,
+        size,
+        pvc,
+        incoming,
+        two_way,
+        svc,
+        join,
+        gaps,
+    })
 }
 
 /// What the packets of a capture show of the header of its trace.
@@ -148,8 +229,7 @@ fn more(count: u64) -> u64
 
 /// Returns the smallest packet size for user data, up to 4,096 octets (X.25 clause 4.3.2).
 fn smallest_size(length: usize) -> u16
-    ensures value { result ≡ smallest_size length }
-    ensures listed { IsPacketSize result }
+    ensures { result ≡ smallest_size length }
 {
     match length {
         0..=16 => 16,
@@ -304,29 +384,29 @@ impl Seen {
         self.largest
     }
 
-    /// Returns the modulus of most packets.
-    fn modulus(&self) -> u8
-        ensures { result ≡ modulus_seen self.now }
+    /// Returns the modulus that is given, or that of most packets.
+    fn modulus(&self, given: &GivenHeader) -> u8
+        ensures { result ≡ modulus_with given.now self.now }
     {
+        if let Some(modulus) = given.modulus {
+            return modulus.size();
+        }
         if self.of_8 < self.of_128 { 128 } else { 8 }
     }
 
-    /// Returns the most data that was not acknowledged, below the modulus; 2 where no data shows a window.
-    #[tactic(auto, using(crate::proofs::HeaderLemmas::default_window, crate::proofs::HeaderLemmas::window_in_range))]
-    fn window(&self) -> u8
-        ensures value { result ≡ window_seen self.now }
-        ensures in_range { is_numbering (modulus_seen self.now) result ≡ true }
+    /// Returns the most data that was not acknowledged, below a modulus; 2 where no data shows a window.
+    fn window_below(&self, modulus: u8) -> u8
+        ensures { result ≡ window_below modulus self.now }
     {
         if self.most == 0 {
             return 2;
         }
-        self.most.min(u16::from(self.modulus()) - 1) as u8
+        self.most.min(u16::from(modulus).saturating_sub(1)) as u8
     }
 
     /// Returns the smallest packet size for all user data; 128 where there is none.
     fn size(&self) -> u16
-        ensures value { result ≡ size_seen self.now }
-        ensures listed { IsPacketSize result }
+        ensures { result ≡ size_seen self.now }
     {
         if self.largest == 0 {
             return 128;
@@ -337,46 +417,86 @@ impl Seen {
     /// Returns the last channel that is used, at least 1.
     fn last_channel(&self) -> u16
         ensures value { result ≡ last_channel self.now }
-        ensures some { 1 ≤ result }
         ensures few { result ≤ 4095 }
     {
         self.highest.min(4095).max(1)
     }
 
     /// Returns the last channel that is used without a call, below all channels with calls.
-    #[tactic(auto, using(crate::proofs::HeaderLemmas::last_few))]
     fn permanent(&self) -> u16
-        ensures value { result ≡ permanent_seen self.now }
-        ensures few { result ≤ last_channel self.now }
+        ensures { result ≡ permanent_seen self.now }
     {
         let bound = self.first_call.min(self.last_channel() + 1);
         self.channels.last_below(bound)
     }
 
-    /// Returns whether the header has the third form: a trace that begins in the middle, or has gaps.
-    fn has_third_form(&self) -> bool
-        ensures { result ≡ has_third_form self.now }
+    /// Returns the last channel: that which is given, or the last one that is used or given for other channels.
+    fn last_with(&self, given: &GivenHeader, pvc: u16) -> u16
+        ensures { result ≡ last_with given.now pvc self.now }
     {
-        self.beginning.is_joined() || self.has_gaps
+        match given.last() {
+            Some(last) => last,
+            None => self
+                .last_channel()
+                .max(pvc)
+                .max(given.two_way.unwrap_or(0))
+                .max(given.incoming.unwrap_or(0)),
+        }
     }
 
-    /// Returns the header. Where no packet was seen it is that of an interface with one channel.
-    #[tactic(auto, using(crate::proofs::HeaderLemmas::in_range))]
-    pub fn header(&self) -> Interface
-        ensures { interface_with (numbers_seen self.now) ≡ Some result }
+    /// Returns the numbers that are given, and for the others what was seen.
+    fn numbers(&self, given: &GivenHeader) -> Numbers
+        ensures { result ≡ numbers_with given.now self.now }
     {
-        let pvc = self.permanent();
-        let svc = self.last_channel();
-        Interface {
-            modulus: self.modulus(),
-            window: self.window(),
-            size: self.size(),
+        let modulus = self.modulus(given);
+        let pvc = given.pvc.unwrap_or(self.permanent());
+        let svc = self.last_with(given, pvc);
+        let two_way = given.two_way.unwrap_or(svc);
+        let join = given.join.unwrap_or(self.beginning.is_joined());
+        Numbers {
+            modulus,
+            window: given.window.unwrap_or(self.window_below(modulus)),
+            size: given.size.unwrap_or(self.size()),
             pvc,
-            incoming: pvc,
-            two_way: svc,
+            incoming: given.incoming.unwrap_or(pvc.min(two_way)),
+            two_way,
             svc,
-            join: self.beginning.is_joined(),
-            gaps: self.has_third_form(),
+            join,
+            gaps: join || self.has_gaps,
+        }
+    }
+
+    /// Returns the header, where its numbers are those of an interface. Where no packet was seen, what is not given is
+    /// that of an interface with one channel.
+    pub fn header(&self, given: &GivenHeader) -> Option<Interface>
+        ensures { result ≡ interface_with (numbers_with given.now self.now) }
+    {
+        interface_of(self.numbers(given))
+    }
+
+    /// Returns why there is no header with the numbers that are given and, for the others, those that were seen.
+    pub(crate) fn refusal(&self, alloc: Global, given: &GivenHeader) -> io::Error {
+        let Numbers {
+            modulus,
+            window,
+            pvc,
+            incoming,
+            two_way,
+            svc,
+            ..
+        } = self.numbers(given);
+        let words = if !is_numbered(modulus, window) {
+            format!(in alloc; "WIN {window} is not below MOD {modulus}")
+        } else if given.has_ranges() {
+            format!(in alloc;
+                "PVC {pvc}, IN {incoming}, TWO {two_way}, OUT {svc}: none may be below the one before it"
+            )
+        } else {
+            format!(in alloc; "PVC {pvc} is above SVC {svc}")
+        };
+        match words {
+            Ok(words) => io::Error::other(&words),
+            Err(_) => io::Error::from(ErrorKind::OutOfMemory),
         }
     }
 }

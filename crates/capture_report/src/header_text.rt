@@ -1,11 +1,13 @@
 //! The lines of a trace that come before its rows.
 
 ghost use Rattle.std.specs.Prelude.{◌≡◌, ◌++◌, OnOk, codes};
-ghost use Rattle.capture_report.specs.HeaderTexts.{IsHead, channel_numbers, comment_text, estimate, first_estimates, first_numbers, form_word, head_text, header_line, is_first_form, joining, last_name, named, size_source, window_source};
+ghost use Rattle.capture_report.specs.HeaderTexts.{IsHead, all_estimates, channel_numbers, comment_text, estimate_text, first_numbers, form_word, has_estimates, has_first_form, head_text, header_line, is_first_form, joining, last_estimate, last_name, lead, named, numbering_estimates, size_estimates, size_source, window_source};
 ghost use Rattle.capture_report.specs.declared.header.Seen.{Seen as AnySeen};
+ghost use Rattle.capture_report.specs.declared.options.GivenHeader.{GivenHeader as AnyGiven};
 ghost use Rattle.line_model.specs.declared.interface.Interface.{Interface as AnyInterface};
 
 use crate::header::Seen;
+use crate::options::GivenHeader;
 use itoa::Buffer;
 use line_model::interface::Interface;
 use std::alloc::AllocError;
@@ -24,6 +26,13 @@ fn is_first_form(header: &Interface) -> bool
     ensures { result ≡ is_first_form header.now }
 {
     header.incoming == header.pvc && header.two_way == header.svc && !header.join && !header.gaps
+}
+
+/// Returns whether a header is written in the first form: one whose ranges are given names them.
+fn has_first_form(is_ranged: bool, header: &Interface) -> bool
+    ensures { result ≡ has_first_form is_ranged header.now }
+{
+    !is_ranged && is_first_form(header)
 }
 
 /// Returns how a header begins.
@@ -68,10 +77,10 @@ fn append_channels(is_first: bool, header: &Interface, out: &mut Vec<u8>) -> Res
 }
 
 /// Appends the header line.
-fn append_header(header: &Interface, out: &mut Vec<u8>) -> Result<(), AllocError>
-    ensures { OnOk result (out.new.items ≡ out.old.items ++ header_line header.now) }
+fn append_header(is_ranged: bool, header: &Interface, out: &mut Vec<u8>) -> Result<(), AllocError>
+    ensures { OnOk result (out.new.items ≡ out.old.items ++ header_line is_ranged header.now) }
 {
-    let is_first = is_first_form(header);
+    let is_first = has_first_form(is_ranged, header);
     out.extend_from_slice(form_word(is_first, header.gaps))?;
     append_first(header, out)?;
     append_channels(is_first, header, out)
@@ -103,64 +112,154 @@ fn size_source(largest: usize) -> &'static [u8]
 fn last_name(is_first: bool) -> &'static [u8]
     ensures { result.now ≡ last_name is_first }
 {
-    if is_first { b", SVC " } else { b", OUT " }
+    if is_first { b"SVC " } else { b"OUT " }
 }
 
-/// Appends a name, its number, and what that was estimated from.
-fn append_estimate(
-    name: &[u8],
+/// Returns what comes before an estimate: a comma after another one.
+fn lead(is_after: bool) -> &'static [u8]
+    ensures { result.now ≡ lead is_after }
+{
+    if is_after { b", " } else { b" " }
+}
+
+/// A number that was estimated.
+#[derive(Clone, Copy)]
+struct Estimate<'a> {
+    name: &'a [u8],
     number: u16,
-    source: &[u8],
+    /// What it was estimated from.
+    source: &'a [u8],
+}
+
+/// Appends an estimate, where its number is not given; a comma comes after another one.
+fn append_estimate(
+    is_given: bool,
+    is_after: bool,
+    estimate: &Estimate<'_>,
     out: &mut Vec<u8>,
 ) -> Result<(), AllocError>
-    ensures { OnOk result (out.new.items ≡ out.old.items ++ estimate name.now number source.now) }
+    ensures { OnOk result (out.new.items ≡ out.old.items
+        ++ estimate_text is_given is_after estimate.now.name.now estimate.now.number estimate.now.source.now) }
 {
-    append_named(name, number, out)?;
-    out.extend_from_slice(source)
+    if is_given {
+        return Ok(());
+    }
+    out.extend_from_slice(lead(is_after))?;
+    append_named(estimate.name, estimate.number, out)?;
+    out.extend_from_slice(estimate.source)
 }
 
-/// Appends the estimates of the numbers that all forms begin with.
-fn append_first_estimates(
+/// Returns a number with more bits.
+fn wide(number: u8) -> u16
+    ensures { result ≡ number }
+{
+    number.into()
+}
+
+/// Appends the estimates of the modulus and the window.
+fn append_numbering(
     header: &Interface,
     seen: &Seen,
+    given: &GivenHeader,
     out: &mut Vec<u8>,
 ) -> Result<(), AllocError>
-    ensures { OnOk result (out.new.items ≡ out.old.items ++ first_estimates header.now seen.now) }
+    ensures { OnOk result (out.new.items ≡ out.old.items ++ numbering_estimates header.now seen.now given.now) }
 {
-    let modulus = u16::from(header.modulus);
+    let modulus = Estimate {
+        name: b"MOD ",
+        number: wide(header.modulus),
+        source: b" (the general format identifiers)",
+    };
+    append_estimate(given.modulus.is_some(), false, &modulus, out)?;
+    let window = Estimate {
+        name: b"WIN ",
+        number: wide(header.window),
+        source: window_source(seen.most()),
+    };
     append_estimate(
-        b" MOD ",
-        modulus,
-        b" (the general format identifiers),",
-        out,
-    )?;
-    append_estimate(
-        b" WIN ",
-        u16::from(header.window),
-        window_source(seen.most()),
-        out,
-    )?;
-    append_estimate(b", SIZE ", header.size, size_source(seen.largest()), out)?;
-    append_estimate(
-        b", PVC ",
-        header.pvc,
-        b" (channels with data and no call)",
+        given.window.is_some(),
+        !given.modulus.is_some(),
+        &window,
         out,
     )
 }
 
-/// Appends the comment that says what the numbers were estimated from.
-fn append_comment(header: &Interface, seen: &Seen, out: &mut Vec<u8>) -> Result<(), AllocError>
-    ensures { OnOk result (out.new.items ≡ out.old.items ++ comment_text header.now seen.now) }
+/// Appends the estimates of the packet size and the permanent channels.
+fn append_sizes(
+    header: &Interface,
+    seen: &Seen,
+    given: &GivenHeader,
+    out: &mut Vec<u8>,
+) -> Result<(), AllocError>
+    ensures { OnOk result (out.new.items ≡ out.old.items ++ size_estimates header.now seen.now given.now) }
 {
-    out.extend_from_slice(b"# estimated from what was seen:")?;
-    append_first_estimates(header, seen, out)?;
+    let size = Estimate {
+        name: b"SIZE ",
+        number: header.size,
+        source: size_source(seen.largest()),
+    };
+    let is_after = given.modulus.is_none() || given.window.is_none();
+    append_estimate(given.size.is_some(), is_after, &size, out)?;
+    let pvc = Estimate {
+        name: b"PVC ",
+        number: header.pvc,
+        source: b" (channels with data and no call)",
+    };
     append_estimate(
-        last_name(is_first_form(header)),
-        header.svc,
-        b" (the channels used)",
+        given.pvc.is_some(),
+        is_after || given.size.is_none(),
+        &pvc,
         out,
     )
+}
+
+/// Appends what the numbers were estimated from that are not given.
+fn append_estimates(
+    header: &Interface,
+    seen: &Seen,
+    given: &GivenHeader,
+    out: &mut Vec<u8>,
+) -> Result<(), AllocError>
+    ensures { OnOk result (out.new.items ≡ out.old.items ++ all_estimates header.now seen.now given.now) }
+{
+    append_numbering(header, seen, given, out)?;
+    append_sizes(header, seen, given, out)?;
+    append_last(header, given, out)
+}
+
+/// Appends the estimate of the last channel.
+fn append_last(header: &Interface, given: &GivenHeader, out: &mut Vec<u8>) -> Result<(), AllocError>
+    ensures { OnOk result (out.new.items ≡ out.old.items ++ last_estimate header.now given.now) }
+{
+    let last = Estimate {
+        name: last_name(has_first_form(given.has_ranges(), header)),
+        number: header.svc,
+        source: b" (the channels used)",
+    };
+    append_estimate(given.last().is_some(), has_estimates(given), &last, out)
+}
+
+/// Appends the comment that says what the numbers were estimated from that are not given.
+fn append_comment(
+    header: &Interface,
+    seen: &Seen,
+    given: &GivenHeader,
+    out: &mut Vec<u8>,
+) -> Result<(), AllocError>
+    ensures { OnOk result (out.new.items ≡ out.old.items ++ comment_text header.now seen.now given.now) }
+{
+    if given.is_whole() {
+        return out.extend_from_slice(b"# the header is given");
+    }
+    out.extend_from_slice(b"# estimated from what was seen:")?;
+    append_estimates(header, seen, given, out)
+}
+
+/// Returns whether a number before the last channel is estimated.
+fn has_estimates(given: &GivenHeader) -> bool
+    ensures { result ≡ has_estimates given.now }
+{
+    given.modulus.is_none() || given.window.is_none() || given.size.is_none() || given.pvc.is_none()
 }
 
 /// Ends a line.
@@ -170,18 +269,23 @@ fn end_line(out: &mut Vec<u8>) -> Result<(), AllocError>
     out.extend_from_slice(b"\n")
 }
 
-/// Appends the lines that come before the rows: a comment that says what the numbers were estimated from, and the header.
-/// Fails only when memory is refused.
-pub fn print_head(header: &Interface, seen: &Seen, out: &mut Vec<u8>) -> Result<(), AllocError>
-    ensures { OnOk result (out.new.items ≡ out.old.items ++ head_text header.now seen.now) }
+/// Appends the lines that come before the rows: a comment that says what the numbers were estimated from that are not given,
+/// and the header. Fails only when memory is refused.
+pub fn print_head(
+    header: &Interface,
+    seen: &Seen,
+    given: &GivenHeader,
+    out: &mut Vec<u8>,
+) -> Result<(), AllocError>
+    ensures { OnOk result (out.new.items ≡ out.old.items ++ head_text header.now seen.now given.now) }
 {
-    append_comment(header, seen, out)?;
+    append_comment(header, seen, given, out)?;
     end_line(out)?;
-    append_header(header, out)?;
+    append_header(given.has_ranges(), header, out)?;
     end_line(out)
 }
 
 /// These lines are a comment, and a line that is read as the header.
 pub fn head_is_read()
-    ensures { (i : AnyInterface) (v : AnySeen) → IsHead i (head_text i v) }
+    ensures { (i : AnyInterface) (v : AnySeen) (g : AnyGiven) → IsHead i (head_text i v g) }
 {}

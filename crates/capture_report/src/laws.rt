@@ -1,6 +1,6 @@
 //! Theorems about the definitions alone.
 
-ghost use Rattle.capture_report.specs.Laws.{CaptureLaw, FileLaw, NumberLaw, RowsLaw, TextLaw};
+ghost use Rattle.capture_report.specs.Laws.{CaptureLaw, FileLaw, NumberLaw, PlainLaw, RowsLaw, TextLaw};
 
 /// The observer reads the text of rows, after that of a header, as these rows: with the numbers of the page, each packet
 /// with its side and its octets, each gap with its channel. Its report is that of one observer over them.
@@ -15,8 +15,9 @@ pub fn rows_have_packets()
     ensures { RowsLaw }
 {}
 
-/// Where the trace of an undamaged pcap file has no fault, the observer reads it as the rows of the capture, under the
-/// interface that was seen.
+/// Where the trace of an undamaged pcap or pcapng file has no fault, the observer reads it as the rows of the capture,
+/// under the interface of what is given and what was seen. Where no number of it is given there is always one.
 pub fn file_is_read()
-    ensures { FileLaw }
+    ensures read { FileLaw }
+    ensures header { PlainLaw }
 {}

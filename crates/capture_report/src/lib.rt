@@ -13,6 +13,7 @@ pub mod header_text;
 mod hex_digits;
 pub mod laws;
 mod line_reading;
+pub mod options;
 pub mod plan;
 pub mod print;
 pub mod reader;

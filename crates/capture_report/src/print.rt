@@ -39,17 +39,20 @@ pub struct Printer {
     pub is_in_gap: bool,
     /// Whether rows have the numbers of their frames; otherwise they count from 1.
     pub by_frames: bool,
+    /// Whether rows have the other side than their packets.
+    pub is_swapped: bool,
 }
 
 impl Printer {
     /// Returns a printer before the first row.
-    pub fn new(by_frames: bool) -> Printer
-        ensures { result ≡ first_printer by_frames }
+    pub fn new(by_frames: bool, is_swapped: bool) -> Printer
+        ensures { result ≡ first_printer by_frames is_swapped }
     {
         Printer {
             last: 0,
             is_in_gap: false,
             by_frames,
+            is_swapped,
         }
     }
 
@@ -101,14 +104,11 @@ impl Model for Page {
 }
 
 impl Page {
-    /// Returns a page with this text, before the first row.
-    pub fn new(text: Vec<u8>, by_frames: bool) -> Page
-        ensures { result ≡ record { printer = first_printer by_frames; text = text.items } }
+    /// Returns a page with this text, and what prints the rows after it.
+    pub fn new(text: Vec<u8>, printer: Printer) -> Page
+        ensures { result ≡ record { printer = printer; text = text.items } }
     {
-        Page {
-            printer: Printer::new(by_frames),
-            text,
-        }
+        Page { printer, text }
     }
 
     /// Returns its text.
@@ -133,7 +133,8 @@ impl Page {
             return Ok(());
         };
         append_place(row.place, &mut self.text)?;
-        append_content(number, &row.content, &mut self.text)?;
+        let content = row.content.sided(self.printer.is_swapped);
+        append_content(number, &content, &mut self.text)?;
         self.printer.last = number.into();
         self.printer.is_in_gap = row.is_gap_of_all();
         Ok(())

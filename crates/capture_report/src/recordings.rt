@@ -8,6 +8,7 @@ ghost use Rattle.streams.specs.OpenFaults.{IsByItsReason};
 use crate::begun_file::BegunFile;
 use crate::capture_text::CaptureText;
 use crate::first_reading::{FirstReading, head};
+use crate::options::CaptureOptions;
 use memchr::memchr;
 use std::alloc::Global;
 use std::io;
@@ -22,21 +23,24 @@ pub struct Recordings<R: Opener + Drop, E: Eprint + Drop> {
     alloc: Global,
     system: R,
     errors: E,
+    options: CaptureOptions,
 }
 
 impl<R: Opener + Drop, E: Eprint + Drop> Recordings<R, E> {
     ghost use Rattle.capture_report.specs.CaptureTexts.{IsLastReading, captured};
     ghost use Rattle.capture_report.specs.Recordings.{IsOpened, begun_left, capture_left};
 
-    /// Returns the recordings among the files of a system. What the header of a capture was estimated from is printed to
-    /// the errors.
-    pub fn new(alloc: Global, system: R, errors: E) -> Self
-        ensures { result.system ≡ system }
+    /// Returns the recordings among the files of a system, with what is given of captures. What the header of a capture was
+    /// estimated from is printed to the errors.
+    pub fn new(alloc: Global, system: R, errors: E, options: CaptureOptions) -> Self
+        ensures system { result.system ≡ system }
+        ensures options { result.options ≡ options }
     {
         Recordings {
             alloc,
             system,
             errors,
+            options,
         }
     }
 
@@ -57,26 +61,28 @@ impl<R: Opener + Drop, E: Eprint + Drop> Recordings<R, E> {
     #[tactic(auto, using(crate::proofs::RecordingLemmas::last_reading))]
     fn read_first(&self, name: &str, begun: BegunFile<R::File>) -> Result<FirstReading, OpenRefusal>
         requires { begun_left R.File.remaining begun ≡ R.named self.now.system name.now }
-        ensures read { IfOk result (IsLastReading (option_and_then (records_of true 0) (R.named self.now.system name.now))) }
+        ensures read { IfOk result (IsLastReading self.now.options (option_and_then (records_of true 0) (R.named self.now.system name.now))) }
         ensures reason { IfErr result IsByItsReason }
     {
-        let first = FirstReading::read(self.alloc, begun, None)?;
-        match first.survey.likely() {
-            Some(kind) => FirstReading::read(self.alloc, self.system.open(name)?, Some(kind)),
+        let first = FirstReading::read(self.alloc, begun, self.options)?;
+        match first.likely() {
+            Some(kind) => {
+                let options = self.options.with_unknown(kind);
+                FirstReading::read(self.alloc, self.system.open(name)?, options)
+            }
             None => Ok(first),
         }
     }
 
     /// Opens a capture that was begun. It is not inlined: its room on the stack would be that of each scan.
     #[inline(never)]
-    #[tactic(auto, using(crate::proofs::RecordingLemmas::same_text))]
     fn open_capture(
         &self,
         name: &str,
         begun: BegunFile<R::File>,
     ) -> Result<CaptureText<R::File>, OpenRefusal>
         requires { begun_left R.File.remaining begun ≡ R.named self.now.system name.now }
-        ensures left { IfOk result (λ text. capture_left R.File.Read text ≡ captured (R.named self.now.system name.now)) }
+        ensures left { IfOk result (λ text. capture_left R.File.Read text ≡ captured self.now.options (R.named self.now.system name.now)) }
         ensures reason { IfErr result IsByItsReason }
     {
         if !self.system.lasts(name) {
@@ -84,41 +90,71 @@ impl<R: Opener + Drop, E: Eprint + Drop> Recordings<R, E> {
         }
         let first = self.read_first(name, begun)?;
         if let Some(fault) = first.survey.fault() {
-            return Err(OpenRefusal::of_capture(fault));
+            return Err(self.refusal(fault));
         }
-        let head = head(self.alloc, first.survey.seen())?;
+        let head = head(self.alloc, &first)?;
         self.print_estimate(name, head.as_slice());
         CaptureText::new(self.alloc, self.system.open(name)?, first, head)
     }
 
-    /// Prints the comment of the lines before the rows, as far as the errors accept it.
+    /// Returns why a capture has no trace. Where options choose packets, the capture may have others.
+    fn refusal(&self, fault: CaptureFault) -> OpenRefusal
+        ensures { IsByItsReason result }
+    {
+        let choices = &self.options.choices;
+        match fault {
+            CaptureFault::NoPacket if choices.carrier.is_some() || choices.interface.is_some() => {
+                OpenRefusal::by_system(io::Error::other(NO_CHOICE))
+            }
+            _ => OpenRefusal::of_capture(fault),
+        }
+    }
+
+    /// Prints the comment of the lines before the rows where numbers were estimated, as far as the errors accept it.
     fn print_estimate(&self, name: &str, head: &[u8]) {
+        let given = &self.options.header;
+        if given.is_whole() {
+            return;
+        }
+        let advice = if given.window.is_none() || given.size.is_none() {
+            ADVICE
+        } else {
+            ""
+        };
         let Some(end) = memchr(b'\n', head) else {
             return;
         };
         if let Some(Ok(words)) = head.get(2..end).map(str::from_utf8) {
-            let _ = eprintln!(self.errors; "x25scan: {name}: {words}\n  {ADVICE}");
+            let _ = eprintln!(self.errors; "x25scan: {name}: {words}{advice}");
         }
     }
 }
 
+/// Why a capture is refused of which options leave no packet.
+const NO_CHOICE: &str = "no packet of X.25 is left by --only or --interface: leave them out";
+
+/// Why a trace is refused where options of captures are given.
+const NO_CAPTURE: &str = "a trace has its own header and sides: leave out the options of captures";
+
 /// What is advised on an estimated header.
 const ADVICE: &str =
-    "Data that broke smaller numbers is no finding: where you know WIN and SIZE, x25trace --win N --size N FILE | x25scan";
+    "\n  Data that broke smaller numbers is no finding: where you know WIN and SIZE, x25scan --win N --size N FILE";
 
 impl<R: Opener + Drop, E: Eprint + Drop> Opener for Recordings<R, E> {
     ghost use Rattle.capture_report.specs.Recordings.{recorded};
 
     type File = Recording<R::File>;
 
-    ghost named = { λ s name. recorded (R.named s.system name) };
+    ghost named = { λ s name. recorded s.options (R.named s.system name) };
 
     fn open(&self, name: &str) -> Result<Recording<R::File>, OpenRefusal> {
         let begun = self.begin(name)?;
         if begun.is_capture() {
             Ok(Recording::Capture(self.open_capture(name, begun)?))
-        } else {
+        } else if self.options.is_plain() {
             Ok(Recording::Trace(begun))
+        } else {
+            Err(OpenRefusal::by_system(io::Error::other(NO_CAPTURE)))
         }
     }
 

@@ -12,6 +12,22 @@ pub enum Content<'a> {
     Gap(Option<u16>),
 }
 
+impl<'a> Content<'a> {
+    ghost use Rattle.std.specs.Prelude.{◌≡◌};
+    ghost use Rattle.capture_report.specs.Contents.{content_view};
+    ghost use Rattle.capture_report.specs.Texts.{sided};
+
+    /// Returns what the row says where the sides are exchanged, or as it is.
+    pub(crate) fn sided(self, is_swapped: bool) -> Content<'a>
+        ensures { content_view result ≡ sided is_swapped (content_view self.entry) }
+    {
+        match self {
+            Content::Packet(side, octets) if is_swapped => Content::Packet(side.other(), octets),
+            content => content,
+        }
+    }
+}
+
 /// A row of a capture, without its number.
 #[derive(Clone, Copy)]
 pub struct Row<'a> {

@@ -7,7 +7,7 @@ ghost use Rattle.line_model.specs.channels.Channels.{Channel};
 ghost use Rattle.line_model.specs.packets.Classes.{packet_class};
 ghost use Rattle.line_model.specs.packets.Facilities.{fields_of};
 ghost use Rattle.line_model.specs.packets.Formats.{direction_fault, format_fault, packet_fault};
-ghost use Rattle.line_model.specs.packets.Says.{header_in, receive_in};
+ghost use Rattle.line_model.specs.packets.Says.{receive_in};
 ghost use Rattle.packet_decode.specs.Shown.{shown, IsUsable};
 ghost use Rattle.channel_machine.specs.Channels.{StatusRepresents};
 ghost use Rattle.channel_machine.specs.Contents.{AreOf, AreUsable, is_call};
@@ -19,7 +19,7 @@ use crate::status::StatusStore;
 use crate::terms::was_fast;
 use line_model::diagnostic::{CALL_ON_ONE_WAY_LOGICAL_CHANNEL, PACKET_TOO_LONG, PACKET_TOO_SHORT};
 use line_model::items::ItemRef;
-use line_model::packet::{Class, DataHeader, Packet, PacketKind};
+use line_model::packet::{Class, Packet, PacketKind};
 use line_model::state::Side;
 use packet_decode::decode::header_length;
 use packet_decode::fields::{CallFields, call_fields};
@@ -34,19 +34,6 @@ pub(crate) enum Contents<'a> {
     Accepted(CallFields<'a>),
     /// A packet of which no more is read.
     Other,
-}
-
-/// Returns the header of a data packet, `None` where it is cut and for every other packet.
-pub(crate) fn header_of(packet: &Packet) -> Option<DataHeader>
-    ensures { result ≡ header_in packet.now }
-{
-    match packet {
-        Packet::Channel {
-            kind: PacketKind::Data(header),
-            ..
-        } => *header,
-        _ => None,
-    }
 }
 
 /// P(R) of RR and RNR, 0 where it is cut and for every other packet.

@@ -18,7 +18,7 @@ ghost use Rattle.channel_machine.specs.Sizes.{largest_length};
 
 use crate::channel::StatusChannel;
 use crate::events::Judgement;
-use crate::format::{Contents, header_of};
+use crate::format::Contents;
 use crate::judging::{is_transfer, judged};
 use crate::moves::{Change, change_of};
 use crate::status::StatusStore;
@@ -50,7 +50,7 @@ impl<A: Allocator + Clone, S: StatusStore> StatusChannel<A, S> {
         ensures unchanged { IsUnchanged result self.old self.new events.old.items events.new.items }
         ensures memory { IsMemory result }
     {
-        let Some(header) = header_of(&item.packet) else {
+        let Some(header) = item.packet.data_header() else {
             return Ok(());
         };
         let user_data = self.user_data(&header, item);

@@ -10,7 +10,7 @@ use Rattle.line_model.specs.declared.fault.Fault.{Fault}
 use Rattle.line_model.specs.declared.fault.Fault.TheVariants.{Trace}
 use Rattle.command_line.specs.Faults.{IsFaultSaid, SaysFault}
 use Rattle.command_line.specs.Answer.{IsAnswerTo}
-use Rattle.command_line.specs.Asked.{AskedWords, unless_wrong}
+use Rattle.command_line.specs.Asked.{AskedWords, has_options, unless_wrong}
 use Rattle.command_line.specs.Program.{IsAskedTextTaken, IsUnread, RefusesLine, asked_text, fault_status, words_status}
 use Rattle.command_line.proofs.StatusLemmas.{small}
 
@@ -36,9 +36,9 @@ says_none findings status A s two = let few = small findings status s in absurd 
 -- words that were refused, of which nothing was read
 pub wrong_words : {S K E : Type 0} (read : Source S) (write : Sink K) (print : Sink E) (named : List ℕ → Option (List ℕ)) (kinds : Kinds) (asked : AskedWords) (source : S) (sink sink′ : K) (errors errors′ : E) (e : Error) (status : ℕ) → HasKind kinds e → status ≡ words_status (kind_of e)
     → IsAskedTextTaken (asked_text (kind_of e)) (write.taken sink) (write.taken sink′) (write.failures sink′ ≡ write.failures sink) → (words_status (kind_of e) ≢ 0 → sink′ ≡ sink)
-    → IsUnread source source sink sink′ status ⊎ IsAnswerTo read write print named (unless_wrong kinds asked) source source sink sink′ errors errors′ status
+    → IsUnread (has_options (unless_wrong kinds asked)) source source sink sink′ status ⊎ IsAnswerTo read write print named (unless_wrong kinds asked) source source sink sink′ errors errors′ status
 wrong_words read write print named kinds asked source sink sink′ errors errors′ e status (inl memory) is taken unwritten =
     let three : words_status (kind_of e) ≡ 3 = ap words_status memory in
-    inl (record { unasked = refl; unwritten = unwritten (λ none. omega (arith, three, none)); other = is ∙ three })
+    inl (record { unasked = refl; unwritten = unwritten (λ none. omega (arith, three, none)); other = inl (is ∙ three) })
 wrong_words read write print named [] asked source sink sink′ errors errors′ e status (inr among) is taken unwritten = absurd among
 wrong_words read write print named (kind ∷ kinds) asked source sink sink′ errors errors′ e status (inr among) is taken unwritten = inr (refl, (kind_of e, among, is, taken))

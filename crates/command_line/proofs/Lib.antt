@@ -1,4 +1,5 @@
 mod WorkedWords
+pub mod CopyLemmas
 pub mod FaultLemmas
 pub mod JsonLemmas
 pub mod NumberLemmas

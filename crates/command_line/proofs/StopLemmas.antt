@@ -1,6 +1,7 @@
 -- What ended a run whose status is 3.
-use Rattle.std.proofs.Common.{◌≡◌, ◌≢◌, ◌∙◌, sym, ℕ, Bool, List, Option, Result, Ok, Err, refl, subst, arith, cond, ◌==◌}
+use Rattle.std.proofs.Common.{◌≡◌, ◌≢◌, ◌∙◌, ◌⊎◌, inl, inr, sym, ℕ, Bool, true, false, List, Option, Result, Ok, Err, refl, subst, arith, cond, ◌==◌}
 use Rattle.std.specs.Prelude.{IfErr}
+use Rattle.std.specs.declared.io.Error.{Error}
 use Rattle.line_model.specs.declared.device.Sink.{Ghosts as Sink}
 use Rattle.line_model.specs.declared.device.Source.{Ghosts as Source}
 use Rattle.line_model.specs.declared.fault.Fault.{Fault}
@@ -8,7 +9,7 @@ use Rattle.line_model.specs.declared.fault.Fault.TheVariants.{Memory, Trace, Rea
 use Rattle.live_report.specs.Reports.{IsScanFault}
 use Rattle.annotated_trace.specs.Printing.{IsPrintingFault}
 use Rattle.trace_scan.specs.Threaded.{IsWorkedFault}
-use Rattle.command_line.specs.Faults.{IsFaultSaid, IsSaid, fault_line}
+use Rattle.command_line.specs.Faults.{IsFaultSaid, IsSaid, fault_line, is_by_options, open_status}
 use Rattle.command_line.specs.Program.{fault_status}
 use Rattle.command_line.specs.Stopped.{HaltsRun, IsCause, IsHalted}
 use Rattle.command_line.proofs.StatusLemmas.{small}
@@ -74,3 +75,12 @@ pub opened_halt : {S K E : Type 0} (read : Source S) (write : Sink K) (print : S
     → HaltsRun read write print workers opened source′ sink sink′ silent errors′ → HaltsRun read write print workers source source′ sink sink′ errors errors′
 opened_halt read write print workers source opened source′ sink sink′ errors silent errors′ failures calls same halt =
     halts_more (λ failed. omega (arith, failed, failures)) (λ failed. failed) (λ none. (none.0, none.1 ∙ calls)) (subst (λ e. HaltsRun read write print workers opened source′ sink sink′ e errors′) same halt)
+
+-- the status where a trace could not be opened
+pub open_statuses : (has_options : Bool) (reason : Option Error) (status : ℕ) → status ≡ open_status has_options reason → (status ≡ 3) ⊎ ((has_options ≡ true) × (status ≡ 64))
+open_statuses false reason status is = inl is
+open_statuses true reason status is = at (is_by_options reason) is
+  where
+    at : (b : Bool) → status ≡ cond {A = ℕ} b 64 3 → (status ≡ 3) ⊎ ((true ≡ true) × (status ≡ 64))
+    at true is = inr (refl, is)
+    at false is = inl is

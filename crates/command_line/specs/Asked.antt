@@ -1,42 +1,35 @@
 -- What the words ask for (profile).
-use Rattle.std.specs.Prelude.{◌-◌, ◌^◌, ℕ, Bool, false, true, not, ◌&&◌, ◌||◌, List, [], ◌∷◌, Option, None, Some, codes, is_some, option_map, if◌then◌else◌}
-use Rattle.std.specs.Str.Parse.{digits_value, without_leading_plus}
+use Rattle.std.specs.Prelude.{Bool, false, true, not, ◌&&◌, ◌||◌, List, [], ◌∷◌, Option, None, Some, codes, is_some, option_map, if◌then◌else◌}
 use Rattle.annotated_trace.specs.declared.rows.Rows.{Rows}
 use Rattle.annotated_trace.specs.declared.rows.Rows.TheVariants.{All, Chosen}
-use Rattle.clap.specs.ValueTests.{accepts}
 use Rattle.clap.specs.Words.{Kinds, Text, first_of, first_value, found_of, matches_of}
-use Rattle.clap.specs.declared.builder.value_parser.ValueParser.TheVariants.{Unsigned}
 use Rattle.clap.specs.declared.parser.matches.ArgMatches.{ArgMatches}
 use Rattle.streams.specs.declared.progress.ShowProgress.{ShowProgress}
 use Rattle.streams.specs.declared.progress.ShowProgress.TheVariants.{Always, Never, OnTerminal}
-use Rattle.command_line.specs.Options.{command, is_given, named_by, words_fault}
+use Rattle.capture_report.specs.Given.{is_plain}
+use Rattle.command_line.specs.Captures.{capture_of, excludes_captures}
+use Rattle.command_line.specs.Numbers.{Values, has, number_of}
+use Rattle.command_line.specs.Options.{command, named_by, words_fault}
+use Rattle.capture_report.specs.declared.options.CaptureOptions.{CaptureOptions}
 use Rattle.command_line.specs.declared.asked.Asked as declared
 use Rattle.command_line.specs.declared.asked.OutputForm.{OutputForm}
 use Rattle.command_line.specs.declared.asked.OutputForm.TheVariants.{Comments, Objects, Table, TableObjects}
 use Rattle.command_line.specs.declared.asked.ScanMode.{ScanMode}
 use Rattle.command_line.specs.declared.asked.ScanMode.TheVariants.{Alone, Follow, Workers}
 use Rattle.command_line.specs.declared.asked.TraceOutput.{TraceOutput}
-use Rattle.command_line.specs.declared.asked.TraceOutput.TheVariants.{Headers, Printing, Report}
+use Rattle.command_line.specs.declared.asked.TraceOutput.TheVariants.{Headers, Printing, Report, Text as Copy}
 
 -- what words ask for; the faults of words by the rules of `clap`, with `--help` and `--version` among them, come first
 pub data AskedWords : Type 0 where
   Wrong : Kinds → AskedWords
   Conflict : AskedWords
   Explanation : Text → AskedWords
-  Trace : (name : Option Text) → ShowProgress → TraceOutput → AskedWords
+  Trace : (name : Option Text) → ShowProgress → TraceOutput → CaptureOptions → AskedWords
 
--- the first value of each argument, by its name
-abbrev pub Values : Type 0
-Values = Text → Option Text
-
--- whether a flag is set
-abbrev pub has : Values → Text → Bool
-has values name = is_given (values name)
-
--- the number of so many bits that a text writes; a plus may come first
-abbrev pub number_of : (bits : ℕ) → Option Text → Option ℕ
-number_of bits None = None
-number_of bits (Some text) = if accepts false (Unsigned 0 (2 ^ bits - 1)) text then Some (digits_value 10 (without_leading_plus text)) else None
+-- whether they ask for a trace and give options of captures
+abbrev pub has_options : AskedWords → Bool
+has_options (Trace name progress output capture) = not (is_plain capture)
+has_options asked = false
 
 -- the rows of the channel and of the call that are named, and all where neither is
 abbrev pub rows_by : (channel call : Option Text) → Rows
@@ -68,7 +61,8 @@ report_of values = Report (record { mode = mode_of values; json = has values (co
 -- what is printed of the trace: the first of these that is asked for, and otherwise the report
 abbrev pub output_of : Values → TraceOutput
 output_of values =
-    if has values (codes "try-headers") then Headers
+    if has values (codes "trace") then Copy
+    else if has values (codes "try-headers") then Headers
     else if has values (codes "calls") then Printing (record { form = table_of values; rows = All })
     else if has values (codes "rows") then Printing (record { form = Objects; rows = rows_of values })
     else if annotates values then Printing (record { form = Comments; rows = rows_of values })
@@ -77,6 +71,7 @@ output_of values =
 -- when progress is printed: of a trace that is followed only where it is asked for, since its reader waits for more
 abbrev pub progress_by : (asked followed : Bool) → TraceOutput → ShowProgress
 progress_by asked followed (Printing printing) = Never
+progress_by asked followed Copy = Never
 progress_by asked followed output = if asked then Always else if followed then Never else OnTerminal
 
 -- whether a form can't be printed with what else is asked for: comments with JSON, objects with comments, and the table of calls with following, rows or comments
@@ -85,11 +80,17 @@ excludes_form Comments values = has values (codes "json")
 excludes_form Objects values = has values (codes "annotate")
 excludes_form form values = has values (codes "follow") || has values (codes "rows") || annotates values
 
--- whether an output can't be printed with what else is asked for; headers are tried with none of the others
+-- whether a report, rows or the table of calls are asked for in some form
+abbrev pub has_form : Values → Bool
+has_form values = has values (codes "json") || has values (codes "follow") || has values (codes "rows") || annotates values || has values (codes "calls")
+
+-- whether an output can't be printed with what else is asked for; the text of the trace and headers that are tried are printed with none of the
+-- others
 abbrev pub excludes : TraceOutput → Values → Bool
 excludes (Report report) values = false
 excludes (Printing printing) values = excludes_form printing.form values
-excludes Headers values = has values (codes "json") || has values (codes "follow") || has values (codes "rows") || annotates values || has values (codes "calls")
+excludes Headers values = has_form values
+excludes Copy values = has_form values || has values (codes "try-headers")
 
 -- whether a note of the data that was not counted can't be printed with an output: it is for a report that one thread makes
 abbrev pub excludes_notes : TraceOutput → Values → Bool
@@ -97,14 +98,17 @@ excludes_notes (Report report) values = is_some (values (codes "workers")) && no
 excludes_notes output values = true
 
 -- whether words ask for what can't be asked for together
+abbrev pub output_conflicts : TraceOutput → Values → Bool
+output_conflicts output values = (has values (codes "notes") && excludes_notes output values) || excludes output values
+
 abbrev pub conflicts : TraceOutput → Values → Bool
-conflicts output values = (has values (codes "notes") && excludes_notes output values) || excludes output values
+conflicts output values = output_conflicts output values || excludes_captures values
 
 -- what is printed of a trace, or a conflict
 abbrev pub trace_by : Values → TraceOutput → AskedWords
 trace_by values output =
     if conflicts output values then Conflict
-    else Trace (named_by (values (codes "trace"))) (progress_by (has values (codes "progress")) (has values (codes "follow")) output) output
+    else Trace (named_by (values (codes "file"))) (progress_by (has values (codes "progress")) (has values (codes "follow")) output) output (capture_of values)
 
 -- an explanation in place of all else
 abbrev pub explained_by : (word : Option Text) → AskedWords → AskedWords
@@ -130,4 +134,4 @@ values_in found name = first_value (found_of found) name
 abbrev pub asked_words : declared.Asked → AskedWords
 asked_words (declared.TheVariants.Conflict text) = Conflict
 asked_words (declared.TheVariants.Explanation word) = Explanation word.now
-asked_words (declared.TheVariants.Trace trace) = Trace (option_map (λ name. name.now) trace.name) trace.progress trace.output
+asked_words (declared.TheVariants.Trace trace) = Trace (option_map (λ name. name.now) trace.name) trace.progress trace.output trace.capture

@@ -1,9 +1,9 @@
 -- What is printed of a fault.
-use Rattle.std.specs.Prelude.{◌≡◌, ◌⊎◌, ℕ, Bool, true, false, List, [], ◌∷◌, ◌++◌, Option, None, Some, codes, decimal}
+use Rattle.std.specs.Prelude.{◌≡◌, ◌⊎◌, ℕ, Bool, true, false, List, [], ◌∷◌, ◌++◌, ◌&&◌, Option, None, Some, codes, decimal, if◌then◌else◌}
 use Rattle.std.specs.IoError.{error_kind}
 use Rattle.std.specs.declared.io.Error.{Error}
 use Rattle.std.specs.declared.io.ErrorKind.{ErrorKind}
-use Rattle.std.specs.declared.io.ErrorKind.TheVariants.{BrokenPipe}
+use Rattle.std.specs.declared.io.ErrorKind.TheVariants.{BrokenPipe, Other}
 use Rattle.line_model.specs.basics.Device.{with_more}
 use Rattle.line_model.specs.basics.Faults.{kind_number}
 use Rattle.line_model.specs.basics.Written.{HasFront}
@@ -14,6 +14,7 @@ use Rattle.streams.specs.declared.input.CaptureFault.{CaptureFault}
 use Rattle.streams.specs.declared.input.CaptureFault.TheVariants.{Damaged, Internet, NoPacket, Piped, SeveralInterfaces, TwoCarriers, UnknownLink}
 use Rattle.streams.specs.declared.input.OpenFault.{OpenFault}
 use Rattle.streams.specs.declared.input.OpenFault.TheVariants.{Missing as NoFile, Capture, Denied, Directory, Refused}
+use Rattle.streams.specs.declared.input.OpenRefusal.{OpenRefusal}
 use Rattle.trace_text.specs.Sources.{IsRefusedBy}
 use Rattle.trace_text.specs.Refusals.{IsRefusal}
 
@@ -42,17 +43,35 @@ capture_words TwoCarriers = codes "the capture has LAPB and packets without it: 
 capture_words SeveralInterfaces = codes "the capture has packets of several interfaces: x25trace --interface N reads one of them"
 capture_words Piped = codes "a capture is read twice, and a pipe only once: x25trace FILE | x25scan reads it"
 
+-- whether an error of this kind is no error of the system: it says why options of captures don't fit a file
+abbrev pub is_of_options : ErrorKind → Bool
+is_of_options Other = true
+is_of_options _ = false
+
+-- whether a file is refused because the options of captures don't fit it
+abbrev pub is_by_options : (reason : Option Error) → Bool
+is_by_options None = false
+is_by_options (Some reason) = is_of_options (error_kind reason)
+
+-- why a file is refused, in words (profile)
+abbrev pub refused_words : (reason : Option Error) → List ℕ
+refused_words reason = if is_by_options reason then codes "the options don't fit it" else codes "the system refuses it"
+
 -- why a trace could not be opened, in words (profile)
-abbrev pub open_words : OpenFault → List ℕ
-open_words NoFile = codes "no such file"
-open_words Denied = codes "permission denied"
-open_words Directory = codes "it is a directory"
-open_words Refused = codes "the system refuses it"
-open_words (Capture fault) = capture_words fault
+abbrev pub open_words : OpenFault → (reason : Option Error) → List ℕ
+open_words NoFile reason = codes "no such file"
+open_words Denied reason = codes "permission denied"
+open_words Directory reason = codes "it is a directory"
+open_words Refused reason = refused_words reason
+open_words (Capture fault) reason = capture_words fault
 
 -- the line that says so
-abbrev pub open_line : (name : List ℕ) → OpenFault → List ℕ
-open_line name fault = (((codes "x25scan: cannot open " ++ name) ++ codes ": ") ++ open_words fault) ++ 10 ∷ []
+abbrev pub open_line : (name : List ℕ) → OpenRefusal → List ℕ
+open_line name refusal = (((codes "x25scan: cannot open " ++ name) ++ codes ": ") ++ open_words refusal.fault refusal.reason) ++ 10 ∷ []
+
+-- the status: where options of captures are given, and they don't fit the file, the words are wrong
+abbrev pub open_status : (has_options : Bool) → (reason : Option Error) → ℕ
+open_status has_options reason = if has_options && is_by_options reason then 64 else 3
 
 -- a sink accepted more bytes
 abbrev pub Grows : (before after : Option (List ℕ)) → Type 0
@@ -86,8 +105,8 @@ IsFaultSaid fault before after well = IsSaid (fault_line fault) before after wel
 pub record IsUnopened (name : Option (List ℕ)) (before after : Option (List ℕ)) (heard : Type 0) : Type 0 where
   pub named : List ℕ
   pub is : name ≡ Some named
-  pub fault : OpenFault
-  pub said : IsSaid (open_line named fault) before after heard
+  pub refusal : OpenRefusal
+  pub said : IsSaid (open_line named refusal) before after heard
 
 -- the line of the fault by which a trace was refused was printed first; where the source shows its bytes, it is that of their first faulty
 -- line

@@ -1,4 +1,7 @@
 pub mod Options
+pub mod Numbers
+pub mod Captures
+pub mod Copies
 pub mod Asked
 pub mod Pasted
 pub mod Explaining

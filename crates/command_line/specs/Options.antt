@@ -1,19 +1,10 @@
--- The command line: `x25scan [--workers N] [--alone] [--follow] [--json] [--annotate | --rows | --calls] [--channel N] [--call N] [--try-headers] [--progress] [--notes] [--explain [WORD]] [FILE]` (profile).
+-- The command line: `x25scan [--workers N] [--alone] [--follow] [--json] [--annotate | --rows | --calls | --trace] [--channel N] [--call N] [--try-headers] [--progress] [--notes] [--explain [WORD]] [OPTIONS OF CAPTURES] [FILE]` (profile).
 use Rattle.std.specs.Prelude.{ℕ, Bool, false, true, List, [], ◌∷◌, Option, None, Some, codes, pos, if◌then◌else◌}
 use Rattle.std.specs.Str.{bytes_eq}
 use Rattle.clap.specs.Words.{App, Kinds, Rule, Text, fault_of, new_app, new_rule, with_rule}
 use Rattle.clap.specs.Simple.{on_top}
 use Rattle.clap.specs.declared.builder.action.ArgAction.TheVariants.{Set, SetTrue}
 use Rattle.clap.specs.declared.builder.value_parser.ValueParser.TheVariants.{Signed}
-
--- `--workers`, a number from 1 to 64
-abbrev pub workers_rule : Rule
-workers_rule = record (new_rule (codes "workers")) {
-  long = Some (codes "workers");
-  value_names = 1;
-  action = Some Set;
-  parser = Some (Signed (pos 1) (pos 64));
-}
 
 -- a flag of this name
 abbrev pub flag_rule : Text → Rule
@@ -29,26 +20,22 @@ explain_rule = record (new_rule (codes "explain")) {
   missing = [] ∷ [];
 }
 
--- an option whose value is a number from 1 on
-abbrev pub number_rule : (name : Text) → (last : ℕ) → Rule
-number_rule name last = record (new_rule name) {
+-- an option whose value is a number
+abbrev pub number_rule : (name : Text) → (first last : ℕ) → Rule
+number_rule name first last = record (new_rule name) {
   long = Some name;
   value_names = 1;
   action = Some Set;
-  parser = Some (Signed (pos 1) (pos last));
+  parser = Some (Signed (pos first) (pos last));
 }
 
--- `--channel`, a logical channel
-abbrev pub channel_rule : Rule
-channel_rule = number_rule (codes "channel") 4095
-
--- `--call`, the number of a call in the report
-abbrev pub call_rule : Rule
-call_rule = number_rule (codes "call") 999999999
+-- an option whose value is a text
+abbrev pub text_rule : (name : Text) → Rule
+text_rule name = record (new_rule name) { long = Some name; value_names = 1; action = Some Set }
 
 -- the name of the trace, which follows no option
-abbrev pub trace_rule : Rule
-trace_rule = record (new_rule (codes "trace")) { value_names = 1; action = Some Set }
+abbrev pub file_rule : Rule
+file_rule = record (new_rule (codes "file")) { value_names = 1; action = Some Set }
 
 -- the program's name, with a version
 abbrev pub versioned : App
@@ -56,20 +43,35 @@ versioned = on_top (λ s. record s { has_version = true }) (new_app (codes "x25s
 
 -- with the options that say how the trace is scanned
 abbrev pub with_scanning : App → App
-with_scanning app = with_rule (with_rule (with_rule app workers_rule) (flag_rule (codes "alone"))) (flag_rule (codes "follow"))
+with_scanning app = with_rule (with_rule (with_rule app (number_rule (codes "workers") 1 64)) (flag_rule (codes "alone"))) (flag_rule (codes "follow"))
 
 -- with those that say what is written, and of which rows
 abbrev pub with_writing : App → App
 with_writing app =
-    with_rule (with_rule (with_rule (with_rule (with_rule (with_rule (with_rule app (flag_rule (codes "json"))) (flag_rule (codes "annotate"))) (flag_rule (codes "rows"))) (flag_rule (codes "calls"))) channel_rule) call_rule)
-    (flag_rule (codes "try-headers"))
+    with_rule (with_rule (with_rule (with_rule (with_rule (with_rule (with_rule (with_rule app (flag_rule (codes "json"))) (flag_rule (codes "annotate"))) (flag_rule (codes "rows"))) (flag_rule (codes "calls"))) (number_rule (codes "channel") 1 4095))
+    (number_rule (codes "call") 1 999999999)) (flag_rule (codes "try-headers"))) (flag_rule (codes "trace"))
+
+-- with those of the numbers in the header of a capture
+abbrev pub with_header : App → App
+with_header app =
+    with_rule (with_rule (with_rule (with_rule (with_rule (with_rule (with_rule (with_rule (with_rule (with_rule app
+    (text_rule (codes "mod"))) (number_rule (codes "win") 1 127)) (text_rule (codes "size")))
+    (number_rule (codes "pvc") 0 4095)) (number_rule (codes "svc") 1 4095)) (number_rule (codes "in") 0 4095))
+    (number_rule (codes "two") 0 4095)) (number_rule (codes "out") 1 4095)) (flag_rule (codes "join"))) (flag_rule (codes "no-join"))
+
+-- with those of how the frames of a capture are read
+abbrev pub with_capture : App → App
+with_capture app =
+    with_rule (with_rule (with_rule (with_rule (with_rule app
+    (text_rule (codes "as"))) (text_rule (codes "only"))) (number_rule (codes "interface") 0 4294967295))
+    (text_rule (codes "lapb-modulo"))) (flag_rule (codes "swap"))
 
 -- with those that ask for more, and the name of the trace
 abbrev pub with_asking : App → App
-with_asking app = with_rule (with_rule (with_rule (with_rule app (flag_rule (codes "progress"))) (flag_rule (codes "notes"))) explain_rule) trace_rule
+with_asking app = with_rule (with_rule (with_rule (with_rule app (flag_rule (codes "progress"))) (flag_rule (codes "notes"))) explain_rule) file_rule
 
 abbrev pub command : App
-command = with_asking (with_writing (with_scanning versioned))
+command = with_asking (with_capture (with_header (with_writing (with_scanning versioned))))
 
 -- the kinds of error by the rules of `clap`, `--help` and `--version` among them
 abbrev pub words_fault : List Text → Kinds

@@ -187,8 +187,9 @@ abbrev pub trace_of : (name : Option (List ℕ)) → (standard : Option (List �
 trace_of None standard named = standard
 trace_of (Some name) standard named = named name
 
--- memory ran out before the trace was read, or it could not be opened: source and sink were not asked
-pub record IsUnread {S K : Type 0} (source source' : S) (sink sink' : K) (status : ℕ) : Type 0 where
+-- memory ran out before the trace was read, or it could not be opened: source and sink were not asked. The status is 64 where options of captures
+-- don't fit the file
+pub record IsUnread (has_options : Bool) {S K : Type 0} (source source' : S) (sink sink' : K) (status : ℕ) : Type 0 where
   pub unasked : source' ≡ source
   pub unwritten : sink' ≡ sink
-  pub other : status ≡ 3
+  pub other : (status ≡ 3) ⊎ ((has_options ≡ true) × (status ≡ 64))

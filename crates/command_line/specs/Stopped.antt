@@ -23,7 +23,7 @@ output_workers (Report report) = has_workers report.mode
 output_workers _ = false
 
 abbrev pub asked_workers : AskedWords → Bool
-asked_workers (OfTrace name progress output) = output_workers output
+asked_workers (OfTrace name progress output capture) = output_workers output
 asked_workers _ = false
 
 -- what shows that a run met a fault: the source failed, the sink failed, or no thread was made; of refused memory and of a faulty line nothing
@@ -56,5 +56,5 @@ IsStopped read write print workers name source source' sink sink' errors errors'
 
 -- the name of the trace that is opened, if one is
 abbrev pub opened_by : AskedWords → Option Text
-opened_by (OfTrace name progress output) = name
+opened_by (OfTrace name progress output capture) = name
 opened_by _ = None

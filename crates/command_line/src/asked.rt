@@ -1,6 +1,7 @@
 //! What the words ask for.
 
 use annotated_trace::rows::Rows;
+use capture_report::options::CaptureOptions;
 use streams::progress::ShowProgress;
 
 /// What is printed in place of the report.
@@ -57,6 +58,8 @@ pub enum TraceOutput {
     Printing(Printing),
     /// How each header explains the rows, best first.
     Headers,
+    /// The text of the trace: of a capture, the trace that is made of it.
+    Text,
 }
 
 /// A trace, and what is printed of it.
@@ -68,12 +71,14 @@ pub struct AskedTrace<'a> {
     pub progress: ShowProgress,
     /// What is printed.
     pub output: TraceOutput,
+    /// How it is read, if it is a capture.
+    pub capture: CaptureOptions,
 }
 
 /// What the words ask for.
 #[derive(Clone, Copy)]
 pub enum Asked<'a> {
-    /// What can't be asked for together; the text says so.
+    /// What can't be asked for, or not together; the text says so.
     Conflict(&'static str),
     /// The meaning of a word or of a line; the list of all words where it is empty.
     Explanation(&'a str),

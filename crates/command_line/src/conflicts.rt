@@ -1,10 +1,12 @@
 //! What can't be asked for together, and what is printed of it.
 
 ghost use Rattle.std.specs.Prelude.{◌≡◌, ◌&&◌, is_some};
-ghost use Rattle.command_line.specs.Asked.{conflicts, excludes, excludes_form, excludes_notes, values_in};
+ghost use Rattle.command_line.specs.Asked.{conflicts, excludes, excludes_form, excludes_notes, has_form, output_conflicts, values_in};
+ghost use Rattle.command_line.specs.Captures.{excludes_captures, excludes_numbers, excludes_standard, has_unknown, has_unknown_number, is_unknown};
 
 use crate::asked::{OutputForm, TraceOutput};
-use crate::matches::{annotates, is_given};
+use crate::capture_words::{capture_in, carrier_in, kind_in, modulus_in, size_in};
+use crate::matches::{annotates, is_given, trace_in};
 use clap::ArgMatches;
 
 /// What is printed where a note of the data that was not counted is asked for with a form.
@@ -24,6 +26,9 @@ fn note_conflict(matches: &ArgMatches<'_>, output: TraceOutput) -> Option<&'stat
     match output {
         TraceOutput::Headers => Some(
             "error: --notes is for a report, and --try-headers prints what each header leaves out: leave it out\n",
+        ),
+        TraceOutput::Text => Some(
+            "error: --notes is for a report, and --trace prints the trace alone: leave it out\n",
         ),
         TraceOutput::Printing(printing) => Some(note_text(printing.form)),
         TraceOutput::Report(_) => {
@@ -58,16 +63,31 @@ fn form_conflict(matches: &ArgMatches<'_>, form: OutputForm) -> Option<&'static 
     }
 }
 
+/// Whether a report, rows or the table of calls are asked for in some form.
+fn has_form(matches: &ArgMatches<'_>) -> bool
+    ensures { result ≡ has_form (values_in matches.now) }
+{
+    is_given(matches, "json")
+        || is_given(matches, "follow")
+        || is_given(matches, "rows")
+        || annotates(matches)
+        || is_given(matches, "calls")
+}
+
+/// Why the text of the trace can't be printed with what else is asked for, if it can't.
+fn text_conflict(matches: &ArgMatches<'_>) -> Option<&'static str>
+    ensures { is_some result ≡ excludes TraceOutput.Text (values_in matches.now) }
+{
+    (has_form(matches) || is_given(matches, "try-headers")).then_some(
+        "error: --trace prints the trace alone: leave out --json, --follow, --rows, --annotate, --calls, --channel, --call and --try-headers\n",
+    )
+}
+
 /// Why headers can't be tried with what else is asked for, if they can't.
 fn headers_conflict(matches: &ArgMatches<'_>) -> Option<&'static str>
     ensures { is_some result ≡ excludes TraceOutput.Headers (values_in matches.now) }
 {
-    let is_refused = is_given(matches, "json")
-        || is_given(matches, "follow")
-        || is_given(matches, "rows")
-        || annotates(matches)
-        || is_given(matches, "calls");
-    is_refused.then_some(
+    has_form(matches).then_some(
         "error: --try-headers prints a line for each header: leave out --json, --follow, --rows, --annotate, --calls, --channel and --call\n",
     )
 }
@@ -80,12 +100,107 @@ fn output_conflict(matches: &ArgMatches<'_>, output: TraceOutput) -> Option<&'st
         TraceOutput::Report(_) => None,
         TraceOutput::Printing(printing) => form_conflict(matches, printing.form),
         TraceOutput::Headers => headers_conflict(matches),
+        TraceOutput::Text => text_conflict(matches),
+    }
+}
+
+/// Whether an option has a value that names nothing.
+fn is_unknown(matches: &ArgMatches<'_>, id: &str, is_named: bool) -> bool
+    ensures { result ≡ is_unknown (values_in matches.now id.now) is_named }
+{
+    matches.get_str(id).is_some() && !is_named
+}
+
+/// Why the text of a number names none, if one does.
+fn number_conflict(matches: &ArgMatches<'_>) -> Option<&'static str>
+    ensures { is_some result ≡ has_unknown_number (values_in matches.now) }
+{
+    if is_unknown(matches, "mod", modulus_in(matches, "mod").is_some()) {
+        return Some("error: --mod is the modulus of packets, 8 or 128\n");
+    }
+    if is_unknown(matches, "size", size_in(matches).is_some()) {
+        return Some(
+            "error: --size is a packet size: 16, 32, 64, 128, 256, 512, 1024, 2048 or 4096\n",
+        );
+    }
+    is_unknown(
+        matches,
+        "lapb-modulo",
+        modulus_in(matches, "lapb-modulo").is_some(),
+    )
+    .then_some("error: --lapb-modulo is how LAPB counts its frames, 8 or 128\n")
+}
+
+/// Why the value of an option names nothing, if one does.
+fn value_conflict(matches: &ArgMatches<'_>) -> Option<&'static str>
+    ensures { is_some result ≡ has_unknown (values_in matches.now) }
+{
+    if let Some(text) = number_conflict(matches) {
+        return Some(text);
+    }
+    if is_unknown(matches, "as", kind_in(matches).is_some()) {
+        return Some(
+            "error: --as is what frames of all unknown link types hold: ethernet, sll, sll2, lapb, lapb-dir, hdlc, x25 or x25-dir\n",
+        );
+    }
+    is_unknown(matches, "only", carrier_in(matches).is_some()).then_some(
+        "error: --only is lapb or x25; of XOT x25trace makes a trace: x25trace --only xot FILE | x25scan\n",
+    )
+}
+
+/// Why numbers of a header can't be given together, if they can't.
+fn header_conflict(matches: &ArgMatches<'_>) -> Option<&'static str>
+    ensures { is_some result ≡ excludes_numbers (values_in matches.now) }
+{
+    let is_refused = matches.get_str("svc").is_some()
+        && (matches.get_str("in").is_some()
+            || matches.get_str("two").is_some()
+            || matches.get_str("out").is_some());
+    is_refused.then_some(
+        "error: --svc is the last of all channels, and --in, --two and --out name the last ones of their kinds: leave out --svc\n",
+    )
+}
+
+/// Why options of captures can't be given for standard input, if they can't.
+fn standard_conflict(matches: &ArgMatches<'_>) -> Option<&'static str>
+    ensures { is_some result ≡ excludes_standard (values_in matches.now) }
+{
+    (trace_in(matches).is_none() && !capture_in(matches).is_plain()).then_some(
+        "error: standard input is read as a trace, which has its header and its sides: name the capture, or leave out the options of captures\n",
+    )
+}
+
+/// Why what is said of a capture can't be given, or not together, if it can't.
+fn capture_conflict(matches: &ArgMatches<'_>) -> Option<&'static str>
+    ensures { is_some result ≡ excludes_captures (values_in matches.now) }
+{
+    if let Some(text) = value_conflict(matches) {
+        return Some(text);
+    }
+    if is_given(matches, "join") && is_given(matches, "no-join") {
+        return Some(
+            "error: the recording began in the middle, or it did not: leave out --join or --no-join\n",
+        );
+    }
+    match header_conflict(matches) {
+        Some(text) => Some(text),
+        None => standard_conflict(matches),
+    }
+}
+
+/// Why what is asked for can't be given together, if it can't.
+pub(crate) fn conflict(matches: &ArgMatches<'_>, output: TraceOutput) -> Option<&'static str>
+    ensures { is_some result ≡ conflicts output (values_in matches.now) }
+{
+    match printed_conflict(matches, output) {
+        Some(text) => Some(text),
+        None => capture_conflict(matches),
     }
 }
 
 /// Why what is asked for can't be printed together, if it can't. A conflict with a note comes first.
-pub(crate) fn conflict(matches: &ArgMatches<'_>, output: TraceOutput) -> Option<&'static str>
-    ensures { is_some result ≡ conflicts output (values_in matches.now) }
+fn printed_conflict(matches: &ArgMatches<'_>, output: TraceOutput) -> Option<&'static str>
+    ensures { is_some result ≡ output_conflicts output (values_in matches.now) }
 {
     if !is_given(matches, "notes") {
         return output_conflict(matches, output);

@@ -2,13 +2,15 @@
 
 ghost use Rattle.std.specs.Prelude.{◌≡◌, ◌<◌, ◌≤◌, ◌++◌, OnErr, OnOk, codes, decimal};
 ghost use Rattle.line_model.specs.basics.Written.{PutsTo, TakesAll, TakesFront};
-ghost use Rattle.command_line.specs.Faults.{capture_words, fault_line, fault_words, open_line, open_words};
+ghost use Rattle.command_line.specs.Faults.{capture_words, fault_line, fault_words, is_by_options, open_line, open_words, refused_words};
 
 use itoa::Buffer;
 use line_model::device::Sink;
 use line_model::fault::Fault;
 use line_model::write_buffer::WriteBuffer;
-use streams::input::{CaptureFault, OpenFault};
+use std::io;
+use std::io::ErrorKind;
+use streams::input::{CaptureFault, OpenFault, OpenRefusal};
 
 /// Puts a number.
 fn put_number<E: Sink>(out: &mut WriteBuffer, errors: &mut E, number: u32)
@@ -92,15 +94,41 @@ fn put_capture_words<E: Sink>(out: &mut WriteBuffer, errors: &mut E, fault: Capt
     }
 }
 
+/// Whether a file is refused because the options of captures don't fit it. No error of the system is of this kind.
+pub(crate) fn is_by_options(reason: Option<io::Error>) -> bool
+    ensures { result ≡ is_by_options reason }
+{
+    match reason {
+        Some(reason) => reason.kind() == ErrorKind::Other,
+        None => false,
+    }
+}
+
+/// Puts the words of why a file is refused.
+fn put_refused_words<E: Sink>(out: &mut WriteBuffer, errors: &mut E, reason: Option<io::Error>)
+    ensures { PutsTo E.Sink errors.old errors.new out.old out.new (refused_words reason) }
+{
+    if is_by_options(reason) {
+        out.put(errors, b"the options don't fit it");
+    } else {
+        out.put(errors, b"the system refuses it");
+    }
+}
+
 /// Puts the words of why a trace could not be opened.
-fn put_open_words<E: Sink>(out: &mut WriteBuffer, errors: &mut E, fault: OpenFault)
-    ensures { PutsTo E.Sink errors.old errors.new out.old out.new (open_words fault) }
+fn put_open_words<E: Sink>(
+    out: &mut WriteBuffer,
+    errors: &mut E,
+    fault: OpenFault,
+    reason: Option<io::Error>,
+)
+    ensures { PutsTo E.Sink errors.old errors.new out.old out.new (open_words fault reason) }
 {
     match fault {
         OpenFault::Missing => out.put(errors, b"no such file"),
         OpenFault::Denied => out.put(errors, b"permission denied"),
         OpenFault::Directory => out.put(errors, b"it is a directory"),
-        OpenFault::Refused => out.put(errors, b"the system refuses it"),
+        OpenFault::Refused => put_refused_words(out, errors, reason),
         OpenFault::Capture(fault) => put_capture_words(out, errors, fault),
     }
 }
@@ -109,10 +137,10 @@ fn put_open_words<E: Sink>(out: &mut WriteBuffer, errors: &mut E, fault: OpenFau
 pub(crate) fn print_unopened<E: Sink>(
     errors: &mut E,
     name: &str,
-    fault: OpenFault,
+    refusal: OpenRefusal,
 ) -> Result<(), Fault>
-    ensures ok { OnOk result (TakesAll E.Sink errors.old errors.new (open_line name.now fault)) }
-    ensures part { OnErr result (TakesFront E.Sink errors.old errors.new (open_line name.now fault)) }
+    ensures ok { OnOk result (TakesAll E.Sink errors.old errors.new (open_line name.now refusal)) }
+    ensures part { OnErr result (TakesFront E.Sink errors.old errors.new (open_line name.now refusal)) }
     ensures rising { E.failures errors.old ≤ E.failures errors.new }
     ensures cause { OnErr result (E.failures errors.old < E.failures errors.new) }
 {
@@ -120,7 +148,7 @@ pub(crate) fn print_unopened<E: Sink>(
     out.put(errors, b"x25scan: cannot open ");
     put_name(&mut out, errors, name);
     out.put(errors, b": ");
-    put_open_words(&mut out, errors, fault);
+    put_open_words(&mut out, errors, refusal.fault, refusal.reason);
     out.put(errors, b"\n");
     out.end(errors)
 }

@@ -20,6 +20,7 @@ Options:
       --annotate          Print the trace again, with comments that say what its rows are and did
       --rows              Print a JSON object for each row, and then those of the report
       --calls             Print a table of the report's calls as CSV, or with --json an object for each
+      --trace             Print the text of the trace alone: of a capture, with the times and frames of its packets
       --channel <N>       Annotate only the rows of this logical channel; with --rows, print only those
       --call <N>          Annotate only the rows of this call of the report; with --rows, print only those
       --try-headers       Print how each window and packet size explains the rows, best first
@@ -28,6 +29,23 @@ Options:
       --explain [<WORD>]  Explain a word or a line that is printed, or list all words, and scan nothing
   -h, --help              Print help
   -V, --version           Print the version, and the kit that proved the program
+
+Options of captures:
+      --mod <N>           The modulus of packets, 8 or 128; numbers that are not given are estimated
+      --win <N>           The default window, 1 to 127
+      --size <N>          The default packet size, a power of two from 16 to 4096
+      --pvc <N>           The last permanent logical channel
+      --svc <N>           The last logical channel
+      --in <N>            The last logical channel for incoming calls
+      --two <N>           The last two-way logical channel
+      --out <N>           The last logical channel for outgoing calls
+      --join              The recording began in the middle, so no logical channel is known
+      --no-join           All logical channels were fresh when it began
+      --as <KIND>         What frames of unknown link types hold: ethernet, sll, sll2, lapb, lapb-dir, hdlc, x25 or x25-dir
+      --only <CARRIER>    Read only what LAPB carries, lapb, or packets without it, x25
+      --interface <N>     Read only this interface of a pcapng file, or this device of cooked frames of version 2
+      --lapb-modulo <N>   How LAPB counts its frames, 8 or 128, where SABM and SABME don't say it
+      --swap              Exchange the sides: the recording host, or the end with the commands of the DTE, is the DCE
 
 Examples:
   x25scan day.trace                     print the report of a trace
@@ -39,7 +57,9 @@ Examples:
   x25scan --calls day.trace > calls.csv write a table of the calls for a spreadsheet
   x25scan --annotate --call 7 day.trace print the trace, with comments on the rows of call 7
   x25scan --try-headers day.trace       print which window and packet size explain the rows best
-  x25trace day.pcap | x25scan           read a capture
+  x25scan --win 2 --size 128 day.pcap   read a capture, under a header with these numbers
+  x25scan --trace day.pcap > day.trace  write the trace of a capture
+  x25trace day.pcap | x25scan           read a capture of XOT
   x25scan --explain 22                  explain a word of the report or of a refusal
   x25scan --explain 'P(S)'              explain a term, such as window, gap or T21
   x25scan --explain 'F 5 T d1 1'        explain each word of a line of the report

@@ -4,7 +4,9 @@
 
 pub mod annotated_scan;
 pub mod asked;
+mod capture_words;
 mod conflicts;
+mod copying;
 mod explaining;
 mod faults;
 mod help;

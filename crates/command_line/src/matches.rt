@@ -1,10 +1,12 @@
 //! What the matches of the command ask for.
 
 ghost use Rattle.std.specs.Prelude.{◌≡◌, codes, option_map};
+ghost use Rattle.command_line.specs.Numbers.{has, number_of};
 ghost use Rattle.command_line.specs.Options.{named_by};
-ghost use Rattle.command_line.specs.Asked.{annotates, asked_by, asked_words, has, mode_of, number_of, output_of, progress_by, report_of, rows_of, table_of, trace_by, values_in};
+ghost use Rattle.command_line.specs.Asked.{annotates, asked_by, asked_words, mode_of, output_of, progress_by, report_of, rows_of, table_of, trace_by, values_in};
 
 use crate::asked::{Asked, AskedReport, AskedTrace, OutputForm, Printing, ScanMode, TraceOutput};
+use crate::capture_words::capture_in;
 use crate::conflicts::conflict;
 use annotated_trace::rows::Rows;
 use clap::ArgMatches;
@@ -21,41 +23,41 @@ pub(crate) fn is_given(matches: &ArgMatches<'_>, id: &str) -> bool
 }
 
 /// The name of the trace; none for `-`, which means standard input.
-fn trace_in<'a>(matches: &ArgMatches<'a>) -> Option<&'a str>
+pub(crate) fn trace_in<'a>(matches: &ArgMatches<'a>) -> Option<&'a str>
     ensures { option_map (λ name. name.now) result
-        ≡ named_by (values_in matches.now (codes "trace")) }
+        ≡ named_by (values_in matches.now (codes "file")) }
 {
-    match matches.get_str("trace") {
+    match matches.get_str("file") {
         Some(name) if name != "-" => Some(name),
         _ => None,
     }
 }
 
-/// The logical channel that is named.
-fn channel_in(matches: &ArgMatches<'_>) -> Option<u16>
-    ensures { result ≡ number_of 16 (values_in matches.now (codes "channel")) }
+/// The number that an option has.
+pub(crate) fn number_in(matches: &ArgMatches<'_>, id: &str) -> Option<u16>
+    ensures { result ≡ number_of 16 (values_in matches.now id.now) }
 {
-    match matches.get_str("channel") {
+    match matches.get_str(id) {
         Some(text) => text.parse::<u16>().ok(),
         None => None,
     }
 }
 
-/// The call that is named.
-fn call_in(matches: &ArgMatches<'_>) -> Option<u32>
-    ensures { result ≡ number_of 32 (values_in matches.now (codes "call")) }
+/// The number that an option has, of any call or interface.
+pub(crate) fn long_number_in(matches: &ArgMatches<'_>, id: &str) -> Option<u32>
+    ensures { result ≡ number_of 32 (values_in matches.now id.now) }
 {
-    match matches.get_str("call") {
+    match matches.get_str(id) {
         Some(text) => text.parse::<u32>().ok(),
         None => None,
     }
 }
 
-/// How many workers are asked for.
-fn workers_in(matches: &ArgMatches<'_>) -> Option<u8>
-    ensures { result ≡ number_of 8 (values_in matches.now (codes "workers")) }
+/// The number that an option has, below 256.
+pub(crate) fn short_number_in(matches: &ArgMatches<'_>, id: &str) -> Option<u8>
+    ensures { result ≡ number_of 8 (values_in matches.now id.now) }
 {
-    match matches.get_str("workers") {
+    match matches.get_str(id) {
         Some(text) => text.parse::<u8>().ok(),
         None => None,
     }
@@ -68,8 +70,8 @@ fn rows_in(matches: &ArgMatches<'_>) -> Rows
     match (matches.get_str("channel"), matches.get_str("call")) {
         (None, None) => Rows::All,
         _ => Rows::Chosen {
-            channel: channel_in(matches),
-            call: call_in(matches),
+            channel: number_in(matches, "channel"),
+            call: long_number_in(matches, "call"),
         },
     }
 }
@@ -92,7 +94,7 @@ fn mode_in(matches: &ArgMatches<'_>) -> ScanMode
     } else if is_given(matches, "alone") || is_given(matches, "notes") {
         ScanMode::Alone
     } else {
-        ScanMode::Workers(workers_in(matches))
+        ScanMode::Workers(short_number_in(matches, "workers"))
     }
 }
 
@@ -131,7 +133,9 @@ fn rows_as(form: OutputForm, rows: Rows) -> TraceOutput
 fn output_in(matches: &ArgMatches<'_>) -> TraceOutput
     ensures { result ≡ output_of (values_in matches.now) }
 {
-    if is_given(matches, "try-headers") {
+    if is_given(matches, "trace") {
+        TraceOutput::Text
+    } else if is_given(matches, "try-headers") {
         TraceOutput::Headers
     } else if is_given(matches, "calls") {
         rows_as(table_in(matches), Rows::All)
@@ -150,7 +154,7 @@ fn progress_in(matches: &ArgMatches<'_>, output: TraceOutput) -> ShowProgress
         (has (values_in matches.now) (codes "follow")) output }
 {
     match output {
-        TraceOutput::Printing(_) => ShowProgress::Never,
+        TraceOutput::Printing(_) | TraceOutput::Text => ShowProgress::Never,
         _ => {
             if is_given(matches, "progress") {
                 ShowProgress::Always
@@ -174,6 +178,7 @@ fn trace_asked<'a>(matches: &ArgMatches<'a>) -> Asked<'a>
             name: trace_in(matches),
             progress: progress_in(matches, output),
             output,
+            capture: capture_in(matches),
         }),
     }
 }

@@ -1,27 +1,15 @@
 //! The command line.
 
-ghost use Rattle.std.specs.Prelude.{◌≡◌, IfOk, false, map};
+ghost use Rattle.std.specs.Prelude.{◌≡◌, ◌≤◌, IfOk, false, map};
 ghost use Rattle.clap.specs.Words.{FailsBy, app_of, rule_of};
 ghost use Rattle.command_line.specs.Asked.{asked_of, asked_words};
-ghost use Rattle.command_line.specs.Options.{call_rule, channel_rule, command, explain_rule, flag_rule, trace_rule, versioned, with_asking, with_scanning, with_writing, words_fault, workers_rule};
+ghost use Rattle.command_line.specs.Options.{command, explain_rule, file_rule, flag_rule, number_rule, text_rule, versioned, with_asking, with_capture, with_header, with_scanning, with_writing, words_fault};
 
 use crate::asked::Asked;
 use crate::help::VERSION;
 use crate::matches::asked_in;
 use clap::{Arg, ArgAction, Command, Error, value_parser};
 use std::alloc::{AllocError, Global};
-
-/// The option that says how many workers there are.
-fn workers<'a>(alloc: Global) -> Arg<'a>
-    ensures rule { rule_of result ≡ workers_rule }
-    ensures local { result.global ≡ false }
-{
-    Arg::new(alloc, "workers")
-        .long("workers")
-        .value_name("N")
-        .action(ArgAction::Set)
-        .value_parser(value_parser!(u8).range(1..=64))
-}
 
 /// A flag of this name.
 fn flag<'a>(alloc: Global, name: &'a str) -> Arg<'a>
@@ -44,36 +32,36 @@ fn explain<'a>(alloc: Global) -> Arg<'a>
         .default_missing_value("")
 }
 
-/// The option that says of which logical channel rows are written.
-fn channel<'a>(alloc: Global) -> Arg<'a>
-    ensures rule { rule_of result ≡ channel_rule }
+/// An option of this name whose value is a number.
+#[tactic(auto, using(crate::proofs::NumberLemmas::narrowed))]
+fn number<'a>(alloc: Global, name: &'a str, first: u32, last: u32) -> Arg<'a>
+    ensures rule { rule_of result ≡ number_rule name.entry.now first last }
     ensures local { result.global ≡ false }
 {
-    Arg::new(alloc, "channel")
-        .long("channel")
+    Arg::new(alloc, name)
+        .long(name)
         .value_name("N")
         .action(ArgAction::Set)
-        .value_parser(value_parser!(u16).range(1..=4095))
+        .value_parser(value_parser!(u32).range(i64::from(first)..=i64::from(last)))
 }
 
-/// The option that says of which call rows are written.
-fn call<'a>(alloc: Global) -> Arg<'a>
-    ensures rule { rule_of result ≡ call_rule }
+/// An option of this name whose value is a text. What the text may be is no rule of the words: see `crate::conflicts`.
+fn text<'a>(alloc: Global, name: &'a str, value: &'a str) -> Arg<'a>
+    ensures rule { rule_of result ≡ text_rule name.entry.now }
     ensures local { result.global ≡ false }
 {
-    Arg::new(alloc, "call")
-        .long("call")
-        .value_name("N")
+    Arg::new(alloc, name)
+        .long(name)
+        .value_name(value)
         .action(ArgAction::Set)
-        .value_parser(value_parser!(u32).range(1..=999_999_999))
 }
 
 /// The name of the trace.
-fn trace<'a>(alloc: Global) -> Arg<'a>
-    ensures rule { rule_of result ≡ trace_rule }
+fn file<'a>(alloc: Global) -> Arg<'a>
+    ensures rule { rule_of result ≡ file_rule }
     ensures local { result.global ≡ false }
 {
-    Arg::new(alloc, "trace")
+    Arg::new(alloc, "file")
         .value_name("FILE")
         .action(ArgAction::Set)
 }
@@ -83,7 +71,7 @@ fn with_scanning<'a>(alloc: Global, command: Command<'a>) -> Result<Command<'a>,
     ensures { IfOk result (λ after. app_of after ≡ with_scanning (app_of command.entry)) }
 {
     command
-        .arg(workers(alloc))?
+        .arg(number(alloc, "workers", 1, 64))?
         .arg(flag(alloc, "alone"))?
         .arg(flag(alloc, "follow"))
 }
@@ -97,9 +85,39 @@ fn with_writing<'a>(alloc: Global, command: Command<'a>) -> Result<Command<'a>, 
         .arg(flag(alloc, "annotate"))?
         .arg(flag(alloc, "rows"))?
         .arg(flag(alloc, "calls"))?
-        .arg(channel(alloc))?
-        .arg(call(alloc))?
-        .arg(flag(alloc, "try-headers"))
+        .arg(number(alloc, "channel", 1, 4095))?
+        .arg(number(alloc, "call", 1, 999_999_999))?
+        .arg(flag(alloc, "try-headers"))?
+        .arg(flag(alloc, "trace"))
+}
+
+/// Adds the options of the numbers in the header of a capture.
+fn with_header<'a>(alloc: Global, command: Command<'a>) -> Result<Command<'a>, AllocError>
+    ensures { IfOk result (λ after. app_of after ≡ with_header (app_of command.entry)) }
+{
+    command
+        .arg(text(alloc, "mod", "N"))?
+        .arg(number(alloc, "win", 1, 127))?
+        .arg(text(alloc, "size", "N"))?
+        .arg(number(alloc, "pvc", 0, 4095))?
+        .arg(number(alloc, "svc", 1, 4095))?
+        .arg(number(alloc, "in", 0, 4095))?
+        .arg(number(alloc, "two", 0, 4095))?
+        .arg(number(alloc, "out", 1, 4095))?
+        .arg(flag(alloc, "join"))?
+        .arg(flag(alloc, "no-join"))
+}
+
+/// Adds the options of how the frames of a capture are read.
+fn with_capture<'a>(alloc: Global, command: Command<'a>) -> Result<Command<'a>, AllocError>
+    ensures { IfOk result (λ after. app_of after ≡ with_capture (app_of command.entry)) }
+{
+    command
+        .arg(text(alloc, "as", "KIND"))?
+        .arg(text(alloc, "only", "CARRIER"))?
+        .arg(number(alloc, "interface", 0, u32::MAX))?
+        .arg(text(alloc, "lapb-modulo", "N"))?
+        .arg(flag(alloc, "swap"))
 }
 
 /// Adds the options that ask for more, and the name of the trace.
@@ -110,7 +128,7 @@ fn with_asking<'a>(alloc: Global, command: Command<'a>) -> Result<Command<'a>, A
         .arg(flag(alloc, "progress"))?
         .arg(flag(alloc, "notes"))?
         .arg(explain(alloc))?
-        .arg(trace(alloc))
+        .arg(file(alloc))
 }
 
 /// The program with a version, without options. `clap` reads the words; what help and the version print is in
@@ -127,7 +145,9 @@ fn command<'a>(alloc: Global) -> Result<Command<'a>, AllocError>
 {
     let scanning = with_scanning(alloc, plain(alloc))?;
     let writing = with_writing(alloc, scanning)?;
-    with_asking(alloc, writing)
+    let headed = with_header(alloc, writing)?;
+    let reading = with_capture(alloc, headed)?;
+    with_asking(alloc, reading)
 }
 
 /// Reads the program's name and its arguments. Fails with an error of a kind that the words have, or when memory is

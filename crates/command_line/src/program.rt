@@ -1,15 +1,17 @@
 //! The program: its words and its exit status.
 
-ghost use Rattle.std.specs.Prelude.{◌≡◌, ◌≢◌, ℕ, ◌<◌, ◌≤◌, ◌+◌, ◌^◌, ◌⊎◌, Err, IfErr, IfOk, List, None, Some, map, option_map, true};
+ghost use Rattle.std.specs.Prelude.{◌≡◌, ◌≢◌, ℕ, ◌<◌, ◌≤◌, ◌+◌, ◌^◌, ◌⊎◌, Err, IfErr, IfOk, List, None, Some, map, not, option_map, true};
 ghost use Rattle.clap.specs.Words.{kind_of};
 ghost use Rattle.live_report.specs.Reports.{IsReported};
 ghost use Rattle.command_line.specs.Answer.{IsAnswerTo, IsOutput, IsReportOutput};
-ghost use Rattle.command_line.specs.Asked.{asked_of, asked_words};
+ghost use Rattle.capture_report.specs.Given.{is_plain};
+ghost use Rattle.command_line.specs.Asked.{asked_of, asked_words, has_options};
 ghost use Rattle.command_line.specs.Faults.{IsSaid, fault_line};
 ghost use Rattle.command_line.specs.Stopped.{HaltsRun, IsCause, IsStopped, asked_workers, has_workers, opened_by, output_workers};
 ghost use Rattle.command_line.specs.Program.{IsAskedTextTaken, IsReportStatus, IsScanRefusal, IsStatusOfShown, IsUnread, RefusesLine, asked_text, fault_status, is_followed, lag_of, status_of, summary_status, trace_of, words_status};
 
 use crate::asked::{Asked, AskedReport, AskedTrace, ScanMode, TraceOutput};
+use crate::copying::run_copy;
 use crate::explaining::explain_word;
 use crate::help::{HELP, VERSION};
 use crate::json::scan_json;
@@ -223,6 +225,7 @@ fn print_output<S: Input, K: Output, E: Sink, R: Threads + Wait + Clock + Sync>(
         TraceOutput::Report(report) => scan(host, report, source, sink, errors),
         TraceOutput::Printing(printing) => run_print(host.alloc, printing, source, sink, errors),
         TraceOutput::Headers => run_try(host.alloc, source, sink, errors),
+        TraceOutput::Text => run_copy(host.alloc, source, sink, errors),
     }
 }
 
@@ -235,15 +238,15 @@ fn print_trace<S: Input, K: Output, E: Sink, R: Threads + Wait + Clock + Sync>(
     errors: &mut E,
 ) -> u8
     ensures output { let name = option_map (λ name. name.now) asked.entry.name in
-        IsUnread source.old source.new sink.old sink.new result
+        IsUnread (not (is_plain asked.entry.capture)) source.old source.new sink.old sink.new result
         ⊎ IsOutput S.Source K.Sink E.Sink asked.entry.output (trace_of name (S.left source.old) (S.named source.old))
         source.new sink.old sink.new errors.old errors.new result }
     ensures stopped { result ≡ 3 → IsStopped S.Source K.Sink E.Sink (output_workers asked.entry.output)
         (option_map (λ name. name.now) asked.entry.name) source.old source.new sink.old sink.new errors.old errors.new }
-    ensures range { result < 4 }
+    ensures unwritten { result ≡ 64 → sink.new ≡ sink.old }
     ensures asked { S.calls source.new ≤ S.calls source.old + (2 ^ 30 + 1) }
 {
-    match open_trace(host.alloc, asked.name, source, errors) {
+    match open_trace(host.alloc, asked, source, errors) {
         Ok(()) => {
             source.show_progress(asked.progress);
             print_output(host, asked.output, source, sink, errors)
@@ -260,7 +263,7 @@ fn run<S: Input, K: Output, E: Sink, R: Threads + Wait + Clock + Sync>(
     sink: &mut K,
     errors: &mut E,
 ) -> u8
-    ensures answered { IsUnread source.old source.new sink.old sink.new result
+    ensures answered { IsUnread (has_options (asked_words asked.entry)) source.old source.new sink.old sink.new result
         ⊎ IsAnswerTo S.Source K.Sink E.Sink (S.named source.old) (asked_words asked.entry)
         source.old source.new sink.old sink.new errors.old errors.new result }
     ensures stopped { result ≡ 3 → IsStopped S.Source K.Sink E.Sink (asked_workers (asked_words asked.entry))
@@ -323,7 +326,8 @@ fn refuse_words<K: Output, E: Sink>(alloc: Global, error: Error, sink: &mut K, e
 
 /// Runs the program over its words, of which the first is its name. Returns the exit status (profile): 0 without
 /// findings, or where an explanation was printed, or help or the version was asked for, 1 with findings, 2 where the
-/// trace was refused, 3 at another fault, 64 for wrong words and for a word that no explanation has.
+/// trace was refused, 3 at another fault, 64 for wrong words, for options that don't fit the file, and for a word that no
+/// explanation has.
 pub fn program<S: Input, K: Output, E: Sink, R: Threads + Wait + Clock + Sync>(
     rt: &R,
     alloc: Global,
@@ -333,9 +337,9 @@ pub fn program<S: Input, K: Output, E: Sink, R: Threads + Wait + Clock + Sync>(
     errors: &mut E,
 ) -> u8
     // The status, the bytes and the errors are those of what the words ask for. Or the trace could not be opened, or memory
-    // ran out, and nothing was read.
+    // ran out, and nothing was read: with status 3, or 64 where options of captures are given that don't fit the file.
     ensures answered { let asked = asked_of (map (λ word. word.now) words.now) in
-        IsUnread source.old source.new sink.old sink.new result
+        IsUnread (has_options asked) source.old source.new sink.old sink.new result
         ⊎ IsAnswerTo S.Source K.Sink E.Sink (S.named source.old) asked
         source.old source.new sink.old sink.new errors.old errors.new result }
     // Status 3 says that the trace could not be opened, that memory or a thread was refused, or that a read or a write

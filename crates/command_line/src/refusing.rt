@@ -3,10 +3,10 @@
 //! error does not accept is lost.
 
 ghost use Rattle.std.specs.Prelude.{◌≡◌, ◌≤◌, false, true};
-ghost use Rattle.command_line.specs.Faults.{Grows, IsFaultSaid, IsSaid, fault_line, lost_its_reader, open_line};
+ghost use Rattle.command_line.specs.Faults.{Grows, IsFaultSaid, IsSaid, fault_line, lost_its_reader, open_line, open_status};
 ghost use Rattle.command_line.specs.Program.{fault_status};
 
-use crate::faults::{print_fault, print_unopened};
+use crate::faults::{is_by_options, print_fault, print_unopened};
 use crate::program::{OTHER_FAULT, USAGE, fault_status};
 use explanations::advice::advice;
 use line_model::device::Sink;
@@ -180,17 +180,34 @@ pub fn refuse_scan<S: Input, K: Output, E: Sink>(
     }
 }
 
+/// Returns the exit status where a trace could not be opened: that of wrong words where options of captures are given and
+/// don't fit the file.
+fn open_status(has_options: bool, reason: Option<io::Error>) -> u8
+    ensures { result ≡ open_status has_options reason }
+{
+    match has_options && is_by_options(reason) {
+        true => USAGE,
+        false => OTHER_FAULT,
+    }
+}
+
 /// Prints why a trace could not be opened, and returns the exit status.
-pub fn refuse_trace<E: Sink>(alloc: Global, errors: &mut E, name: &str, refusal: OpenRefusal) -> u8
-    ensures status { result ≡ 3 }
-    ensures said { IsSaid (open_line name.now refusal.fault) (E.taken errors.old) (E.taken errors.new)
+pub fn refuse_trace<E: Sink>(
+    alloc: Global,
+    errors: &mut E,
+    name: &str,
+    refusal: OpenRefusal,
+    has_options: bool,
+) -> u8
+    ensures status { result ≡ open_status has_options refusal.reason }
+    ensures said { IsSaid (open_line name.now refusal) (E.taken errors.old) (E.taken errors.new)
         (E.failures errors.new ≡ E.failures errors.old) }
 {
-    match print_unopened(errors, name, refusal.fault) {
+    match print_unopened(errors, name, refusal) {
         Ok(()) => print_reason(alloc, errors, None, refusal.reason),
         Err(_) => {}
     }
-    OTHER_FAULT
+    open_status(has_options, refusal.reason)
 }
 
 /// Prints what can't be asked for together, and returns the exit status.

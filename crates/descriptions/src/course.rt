@@ -11,7 +11,7 @@ ghost use Rattle.descriptions.specs.Facts.{AreFactsOf, IsFateOf, reason_in};
 ghost use Rattle.descriptions.specs.Follows.{follows_at};
 ghost use Rattle.descriptions.specs.RowCalls.{call_of, row_call};
 
-use crate::facts::{Fate, RowFacts, counted_in, data_header, is_adrift, user_data};
+use crate::facts::{Fate, RowFacts, counted_in, is_adrift, user_data};
 use crate::open_calls::leaves_ready;
 use crate::origins::Earlier;
 use channel_run::run::Channel;
@@ -263,7 +263,7 @@ fn pad_data<'a>(
     if !view_in(before).pad_call || counted_in(events).is_none() {
         return None;
     }
-    let header = data_header(&last.packet)?;
+    let header = last.packet.data_header()?;
     if !header.qualified {
         return None;
     }

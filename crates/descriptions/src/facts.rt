@@ -16,7 +16,7 @@ use channel_run::status_word::{bit, view_in};
 use data_transfer::packed::FlowWord;
 use line_model::event::{Event, What};
 use line_model::interface::Interface;
-use line_model::packet::{Class, DataHeader, Packet, PacketKind};
+use line_model::packet::{Class, Packet, PacketKind};
 use live_report::judged_row::{Judge, JudgedRow};
 use live_report::uncounted::Reason;
 use packet_decode::decode::{class_of, header_length};
@@ -134,17 +134,6 @@ pub fn user_data<'a>(interface: &Interface, octets: &'a [u8]) -> &'a [u8] {
 /// Returns how many octets of user data a data packet of `length` octets has.
 pub fn user_octets(interface: &Interface, length: usize) -> u64 {
     length.saturating_sub(header_length(interface)) as u64
-}
-
-/// Returns the header of a data packet.
-pub fn data_header(packet: &Packet) -> Option<DataHeader> {
-    match packet {
-        Packet::Channel {
-            kind: PacketKind::Data(header),
-            ..
-        } => *header,
-        _ => None,
-    }
 }
 
 /// Returns what became of the data of a packet with these events, where it was counted.

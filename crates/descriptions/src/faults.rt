@@ -1,7 +1,7 @@
 //! What is wrong with a row, in words.
 
 use crate::facility_faults::{facility_length, facility_value};
-use crate::facts::{RowFacts, data_header, user_octets};
+use crate::facts::{RowFacts, user_octets};
 use crate::message_faults::{MessageFacts, message_fault};
 use crate::names;
 use crate::packet_names::packet_name;
@@ -249,7 +249,7 @@ fn place_of_dce(code: u8) -> Option<&'static str> {
 
 /// Writes what is wrong with a P(S) that is not the next one, or lies outside the window.
 fn send_number<P: Prose>(out: &mut P, before: &Before, side: Side) -> bool {
-    let Some(header) = data_header(&before.packet) else {
+    let Some(header) = before.packet.data_header() else {
         return false;
     };
     let window = send_window(before, side);
@@ -284,7 +284,7 @@ fn receive_number<P: Prose>(out: &mut P, before: &Before, side: Side) -> bool {
 
 /// Writes the P(S) or P(R) of a packet after a gap in its call, which no packet missing there explains.
 fn number_after_gap<P: Prose>(out: &mut P, before: &Before, code: u8) -> bool {
-    let (name, number) = match (code, data_header(&before.packet)) {
+    let (name, number) = match (code, before.packet.data_header()) {
         (INVALID_P_S, Some(header)) => ("P(S) ", Some(header.send)),
         _ => ("P(R) ", acknowledged(&before.packet)),
     };
@@ -376,7 +376,7 @@ fn channel<P: Prose>(out: &mut P, before: &Before, octets: &[u8], side: Side) ->
 
 /// Writes how long a packet is whose length is wrong, and which lengths are allowed.
 fn length<P: Prose>(out: &mut P, before: &Before, finding: &Finding) -> bool {
-    if data_header(&before.packet).is_some() {
+    if before.packet.data_header().is_some() {
         return data_length(out, before, finding.side);
     }
     count(out, "", before.length as u64, " octet");
@@ -475,7 +475,7 @@ fn packet_type<P: Prose>(out: &mut P, octets: &[u8], words: &str) -> bool {
 
 /// Writes that a packet has another Q bit than its sequence.
 fn qualifier<P: Prose>(out: &mut P, before: &Before) -> bool {
-    let Some(header) = data_header(&before.packet) else {
+    let Some(header) = before.packet.data_header() else {
         return false;
     };
     out.say(if header.qualified {

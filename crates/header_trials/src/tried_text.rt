@@ -20,7 +20,6 @@ use line_model::device::LastLine;
 use line_model::fault::Fault;
 use line_model::interface::Interface;
 use line_model::row::ReadRow;
-use line_model::state::Side;
 use std::alloc::Allocator;
 use std::mem;
 use trace_text::consumer::Consumer;
@@ -81,13 +80,7 @@ impl<A: Allocator + Copy, C: Channel<A>> TriedText<A, C> {
     {
         TriedText {
             lines: Lines::new(alloc),
-            row: ReadRow {
-                number: 0,
-                side: Side::T,
-                length: 0,
-                octets: Vec::new(alloc),
-                gap: None,
-            },
+            row: ReadRow::blank(alloc),
             trials: None,
         }
     }

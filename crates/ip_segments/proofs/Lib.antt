@@ -1,1 +1,8 @@
 pub mod Extensions
+mod Passing
+mod Copies
+mod Made
+mod Limit
+mod Labels
+mod Opening
+mod Parts

@@ -2,3 +2,10 @@ pub mod Numbers
 pub mod Datagrams
 pub mod Segments
 pub mod Views
+pub mod Pieces
+pub mod Gathering
+pub mod Fragments
+pub mod FirstCopies
+pub mod Carriers
+pub mod CarrierViews
+pub mod Parts

@@ -146,6 +146,7 @@ impl Class {
 
 impl Packet {
     ghost use Rattle.line_model.specs.packets.Classes.{packet_class};
+    ghost use Rattle.line_model.specs.packets.Says.{header_in};
 
     /// Returns the class of a packet.
     pub fn class(&self) -> Class
@@ -161,6 +162,19 @@ impl Packet {
             Packet::RestartConfirm => Class::RestartConfirm,
             Packet::Channel { kind, .. } => kind.class(),
             Packet::GapOfAll => Class::Unassigned,
+        }
+    }
+
+    /// Returns the header of a data packet, `None` where it is cut and for every other packet.
+    pub fn data_header(&self) -> Option<DataHeader>
+        ensures { result ≡ header_in self.now }
+    {
+        match self {
+            Packet::Channel {
+                kind: PacketKind::Data(header),
+                ..
+            } => *header,
+            _ => None,
         }
     }
 }

@@ -8,17 +8,6 @@ use line_model::state::Side;
 use std::alloc::{AllocError, Allocator};
 use std::mem::swap;
 
-/// A row without octets, for others to be read into. Allocates nothing.
-fn blank_row<A: Allocator>(alloc: A) -> ReadRow<A> {
-    ReadRow {
-        number: 0,
-        side: Side::T,
-        length: 0,
-        octets: Vec::new(alloc),
-        gap: None,
-    }
-}
-
 /// The octets of a row that are read.
 fn read_octets(octets: &[u8]) -> &[u8]
     ensures { result.now ≡ read_octets octets.now }
@@ -42,8 +31,8 @@ impl<A: Allocator + Copy> ReadRows<A> {
     /// Returns a value in which no row was read. Allocates nothing.
     pub(crate) fn new(alloc: A) -> Self {
         ReadRows {
-            last: blank_row(alloc),
-            next: blank_row(alloc),
+            last: ReadRow::blank(alloc),
+            next: ReadRow::blank(alloc),
         }
     }
 }

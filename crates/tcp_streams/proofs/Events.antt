@@ -1,5 +1,5 @@
 -- What comes next in a connection is the next tile of its direction.
-use Rattle.std.proofs.Common.{◌≡◌, ◌∙◌, inl, inr, refl, sym, ap, subst, ℕ, ◌+◌, ◌-◌, ◌==◌, ◌<◌, ◌≤◌, nat_lt, nat_le, Bool, true, false, List, [], ◌∷◌, ◌++◌, Option, Some, None, IfSome, unwrap_or, arith}
+use Rattle.std.proofs.Common.{◌≡◌, ◌∙◌, inl, inr, refl, sym, ap, subst, ℕ, ◌+◌, ◌-◌, ◌==◌, ◌<◌, ◌≤◌, nat_lt, nat_le, Bool, true, List, [], ◌∷◌, ◌++◌, Option, Some, None, IfSome, unwrap_or, arith}
 use Rattle.std.proofs.lemmas.Bool.{and_parts, cases_Bool, eqb-true, leb-true, ltb-false, ltb-true}
 use Rattle.std.proofs.lemmas.List.{append-nil}
 use Rattle.std.proofs.lemmas.Option.{cond_some}
@@ -73,10 +73,10 @@ ordered_from n k g (p ∷ ps) place o = let begins = o.0.begins in
     (record { begins = omega (arith, place, begins); some = o.0.some; octets = o.0.octets }, o.1)
 
 -- the gap before a piece of its own direction, and that before its answer
-abbrev own_gap : End → Piece → Flow → found.Missing
+abbrev pub own_gap : End → Piece → Flow → found.Missing
 own_gap d p f = record { gap = record { end = d; octets = p.at - place_of f; recorded = p.recorded }; until = p.at }
 
-abbrev other_gap : End → Piece → Flow → found.Missing
+abbrev pub other_gap : End → Piece → Flow → found.Missing
 other_gap d p g = record { gap = record { end = other_end d; octets = lacking p g; recorded = p.recorded }; until = place_of g + lacking p g }
 
 -- a piece that has the next octets is at its next place
@@ -157,8 +157,7 @@ last_tiled e c segments first ts x = at (turn c) refl where
 
 -- the piece whose turn it is answers nothing that is missing, and has the lowest frame
 awaits_none : (f g : Option ℕ) (p : Piece) → may_go f g p ≡ true → awaited g p.acknowledged ≡ 0
-awaits_none None g p h = absurd (let bad : false ≡ true = h in cc)
-awaits_none (Some n) g p h = eqb-true (awaited g p.acknowledged) 0 (and_parts (nat_le p.at n) (awaited g p.acknowledged == 0) h).1
+awaits_none f g p h = eqb-true (awaited g p.acknowledged) 0 (and_parts (nat_le p.at (unwrap_or f 0)) (awaited g p.acknowledged == 0) h).1
 
 lower_opener : (f g : ℕ) → lower (Some f) (Some g) ≡ Some Opener → f ≤ g
 lower_opener f g h = elim (cases_Bool (nat_lt g f)) [
@@ -176,7 +175,7 @@ ready_go : (f g : Flow) (p : Piece) (ps : List Piece) (k : ℕ) → f.waiting �
 ready_go f g p ps k waits h = let P : List Piece → Type 0 = λ l. ready_of f.next g.next l ≡ Some k in
     cond_some (may_go f.next g.next p) p.recorded.frame k (subst P waits h)
 
-ready_frame_is : (f g : Flow) (q : Piece) (qs : List Piece) → f.waiting ≡ q ∷ qs → may_go f.next g.next q ≡ true → ready_frame f g ≡ Some q.recorded.frame
+pub ready_frame_is : (f g : Flow) (q : Piece) (qs : List Piece) → f.waiting ≡ q ∷ qs → may_go f.next g.next q ≡ true → ready_frame f g ≡ Some q.recorded.frame
 ready_frame_is f g q qs waits go = ap (ready_of f.next g.next) waits ∙ rw go refl
 
 pub first_goes : (c : Connection) (d : End) (p : Piece) (ps : List Piece) → turn c ≡ Some d → (own d c).waiting ≡ p ∷ ps → IsFirst c d p

@@ -6,3 +6,4 @@ mod Events
 mod Lending
 mod Runs
 mod Agreement
+pub mod Progress

@@ -122,8 +122,7 @@ lent_if e s c = with_flows e (lent_own s (own e c) (other e c)) (lent_other s (o
 
 -- a piece may go: its places are the next ones, and what it acknowledges was given out
 abbrev pub may_go : (own other : Option ℕ) → Piece → Bool
-may_go None g p = false
-may_go (Some next) g p = nat_le p.at next && awaited g p.acknowledged == 0
+may_go f g p = nat_le p.at (unwrap_or f 0) && awaited g p.acknowledged == 0
 
 -- the frame of the first piece of a direction, and of the one that may go: the others come after it
 abbrev pub frame_of : List Piece → Option ℕ

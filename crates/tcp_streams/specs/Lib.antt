@@ -6,3 +6,4 @@ pub mod Tiles
 pub mod Runs
 pub mod Ends
 pub mod Tables
+pub mod Progress

@@ -4,7 +4,7 @@ use Rattle.std.specs.BTreeMap.{insert_entry, is_at}
 use Rattle.std.specs.Option.{option_map}
 use Rattle.std.specs.Map.{lookup, remove_entry, set_value}
 use Rattle.ip_segments.specs.Segments.{Segment}
-use Rattle.tcp_streams.specs.Connections.{cost, fed_after, fed_of, goes_on, is_next, last_event, lent_if, new_connection, next_event, Next}
+use Rattle.tcp_streams.specs.Connections.{cost, fed_after, fed_of, given_up, goes_on, is_next, is_over, last_event, lent_if, new_connection, next_event, Next}
 use Rattle.tcp_streams.specs.Ends.{turned}
 use Rattle.tcp_streams.specs.contracts.ends.EndsOrd.TheImpl.{ghosts}
 use Rattle.tcp_streams.specs.declared.connection.Connection.{Connection}
@@ -164,6 +164,17 @@ last_at p t = event_at last_event (opened_by p.ends t)
 
 abbrev pub last_in : Place → Table → Table
 last_in p t = charged (opened_by p.ends t) p (λ c. after_or (last_event c) c) t
+
+-- what waits in the connection at a place is given up
+abbrev pub given_up_in : Place → Table → Table
+given_up_in p t = charged (opened_by p.ends t) p given_up t
+
+abbrev pub is_over_in : Option Tracked → Bool
+is_over_in None = false
+is_over_in (Some c) = is_over c.connection
+
+abbrev pub is_over_at : Place → Table → Bool
+is_over_at p t = is_over_in (opened_by p.ends t)
 
 -- of the connections that are over 1,000 stay, and a place that has another one keeps it
 abbrev pub has_number : Option Tracked → ℕ → Bool

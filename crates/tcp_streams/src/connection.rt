@@ -1,6 +1,6 @@
 //! A connection: two directions and an order.
 
-ghost use Rattle.std.specs.Prelude.{◌≡◌, IfOk, OnOk};
+ghost use Rattle.std.specs.Prelude.{◌≡◌, ◌<◌, IfOk, IfSome, OnOk};
 ghost use Rattle.ip_segments.specs.Views.{segment_view};
 ghost use Rattle.tcp_streams.specs.Connections.{answered, answered_other, begins_with, fed_by, fed_other, fed_own, first_frame, follows, is_acknowledged, is_at_next, is_next_number, is_plain, lacking, lent_other, lent_own, lower, may_go, missing_for, missing_of, opened_other, opened_own, other_end, patience_is_over, ready_frame, unsaid_of};
 
@@ -225,10 +225,7 @@ fn lend(own: &mut Flow, other: &mut Flow, segment: &Segment<'_>) -> bool
 fn may_go(piece: &Piece, own: Option<u64>, other: Option<u64>) -> bool
     ensures { result ≡ may_go own other piece.now }
 {
-    match own {
-        Some(next) => piece.at <= next && awaited(other, piece.acknowledged) == 0,
-        None => false,
-    }
+    piece.at <= own.unwrap_or(0) && awaited(other, piece.acknowledged) == 0
 }
 
 /// Returns the frame of the piece of a direction that may go.
@@ -347,6 +344,7 @@ fn is_acknowledged(flow: &Flow) -> bool
 
 impl Connection {
     ghost use Rattle.tcp_streams.specs.Connections.{IsEvent, cost, fed_after, fed_of, given, given_up, goes_on, has_ended, has_next, is_next, is_over, is_overdue, lent_if, last_event, lost, missing, new_connection, next_event, turn, was_seen};
+    ghost use Rattle.tcp_streams.specs.Progress.{steps};
 
     /// Returns a connection of which nothing was read.
     pub fn new(alloc: Global) -> Self
@@ -527,7 +525,8 @@ impl Connection {
     /// Returns what comes next, where it need not wait: the piece of the lowest frame that may go; where none may, octets
     /// that will not come. `is_memory_full`: more waits in all connections than memory is for.
     pub fn next(&mut self, is_memory_full: bool) -> Option<Event>
-        ensures { IsEvent (next_event is_memory_full self.old) self.old result self.new }
+        ensures event { IsEvent (next_event is_memory_full self.old) self.old result self.new }
+        ensures ends { IfSome result (λ event. steps self.new < steps self.old) }
     {
         if let Some(end) = self.turn() {
             return self.give(end);
@@ -542,13 +541,14 @@ impl Connection {
 
     /// Returns what comes next after the last segment. What is missing doesn't come then.
     pub fn finish(&mut self) -> Option<Event>
-        ensures { IsEvent (last_event self.old) self.old result self.new }
+        ensures event { IsEvent (last_event self.old) self.old result self.new }
+        ensures ends { IfSome result (λ event. steps self.new < steps self.old) }
     {
         if let Some(end) = self.turn() {
             return self.give(end);
         }
-        let missing = self.missing()?;
-        self.lose(&missing)
+        let octets = self.missing()?;
+        self.lose(&octets)
     }
 
     /// Returns whether the FINs of both ends were given out.

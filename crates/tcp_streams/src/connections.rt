@@ -1,6 +1,6 @@
 //! The connections of a recording, by their ends.
 
-ghost use Rattle.std.specs.Prelude.{◌≡◌, IfOk, OnOk};
+ghost use Rattle.std.specs.Prelude.{◌≡◌, ◌<◌, IfOk, IfSome, OnOk};
 ghost use Rattle.ip_segments.specs.Views.{segment_view};
 ghost use Rattle.tcp_streams.specs.Tables.{opener_first, opens, opens_as, recharged};
 
@@ -102,7 +102,8 @@ fn recharged(waiting: u64, before: u64, after: u64) -> u64
 }
 
 impl Connections {
-    ghost use Rattle.tcp_streams.specs.Tables.{begun_after, begun_place, ended_after, fed_at, fed_in, forgotten, found, goes_on_at, is_lent_at, last_at, last_in, lent_in, next_at, next_in, no_connections, opened_by, placed, placed_after, table_of, without};
+    ghost use Rattle.tcp_streams.specs.Tables.{begun_after, begun_place, ended_after, fed_at, fed_in, forgotten, found, given_up_in, goes_on_at, is_lent_at, is_over_at, last_at, last_in, lent_in, next_at, next_in, no_connections, opened_by, placed, placed_after, table_of, without};
+    ghost use Rattle.tcp_streams.specs.Progress.{steps_at};
 
     /// Returns a table without a connection.
     pub fn new(alloc: Global) -> Self
@@ -238,9 +239,11 @@ impl Connections {
 
     /// Returns what comes next in the connection at a place, as `Connection::next` does. Memory is full where more than
     /// 64 MiB wait in all connections.
+    #[tactic(auto, using(crate::proofs::Progress::next_at_ends))]
     pub fn next(&mut self, place: &Place) -> Option<Event>
         ensures event { result ≡ next_at place.now (table_of self.old) }
         ensures after { table_of self.new ≡ next_in place.now (table_of self.old) }
+        ensures ends { IfSome result (λ event. steps_at place.now (table_of self.new) < steps_at place.now (table_of self.old)) }
     {
         let is_memory_full = MOST_WAITING < self.waiting;
         match self.latest.get_mut(&place.ends) {
@@ -255,9 +258,11 @@ impl Connections {
     }
 
     /// Returns what comes next in the connection at a place after its last segment, as `Connection::finish` does.
+    #[tactic(auto, using(crate::proofs::Progress::last_at_ends))]
     pub fn finish(&mut self, place: &Place) -> Option<Event>
         ensures event { result ≡ last_at place.now (table_of self.old) }
         ensures after { table_of self.new ≡ last_in place.now (table_of self.old) }
+        ensures ends { IfSome result (λ event. steps_at place.now (table_of self.new) < steps_at place.now (table_of self.old)) }
     {
         match self.latest.get_mut(&place.ends) {
             Some(tracked) => {
@@ -267,6 +272,27 @@ impl Connections {
                 event
             }
             None => None,
+        }
+    }
+
+    /// Gives up what waits in the connection at a place, where the caller reads it no more.
+    pub fn give_up(&mut self, place: &Place)
+        ensures { table_of self.new ≡ given_up_in place.now (table_of self.old) }
+    {
+        if let Some(tracked) = self.latest.get_mut(&place.ends) {
+            let before = tracked.connection.cost();
+            tracked.connection.give_up();
+            self.waiting = recharged(self.waiting, before, tracked.connection.cost());
+        }
+    }
+
+    /// Returns whether the connection at a place is over: the FINs of both ends were given out.
+    pub fn is_over(&self, place: &Place) -> bool
+        ensures { result ≡ is_over_at place.now (table_of self.now) }
+    {
+        match self.latest.get(&place.ends) {
+            Some(tracked) => tracked.connection.is_over(),
+            None => false,
         }
     }
 

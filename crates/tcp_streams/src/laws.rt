@@ -1,9 +1,10 @@
 //! What a connection gives out, against the segments that were recorded.
 
-ghost use Rattle.std.specs.Prelude.{◌≡◌, ℕ, List, ◌∷◌, Some};
+ghost use Rattle.std.specs.Prelude.{◌≡◌, ◌≤◌, ◌+◌, ◌*◌, ℕ, List, ◌∷◌, length, Some};
 ghost use Rattle.std.specs.List.{Contains};
 ghost use Rattle.tcp_streams.specs.Connections.{own, turn};
 ghost use Rattle.tcp_streams.specs.Pieces.{Mark};
+ghost use Rattle.tcp_streams.specs.Progress.{GiveOut, how_many_wait};
 ghost use Rattle.tcp_streams.specs.Runs.{Call, IsFirst, IsGiven, IsLogged, Log, run};
 ghost use Rattle.tcp_streams.specs.Tiles.{AreConsistent, AreTiles, Tile};
 ghost use Rattle.tcp_streams.specs.declared.connection.Connection.{Connection as AnyConnection};
@@ -35,4 +36,10 @@ pub fn order_makes_no_difference()
         → AreConsistent segments → ((p : AnyPiece) → Contains others p → Contains segments p)
         → AreTiles segments first ts to → AreTiles others first' us to'
         → IsGiven ts place m → IsGiven us place n → m ≡ n }
+{}
+
+/// What comes next comes to an end: `next` and `finish` give something out at most five times for each piece that waits, and six
+/// times more, until another segment is read.
+pub fn next_comes_to_an_end()
+    ensures { (calls : List Call) (c : AnyConnection) → GiveOut calls c → length calls ≤ 5 * how_many_wait c + 6 }
 {}

@@ -2,6 +2,7 @@
 
 use std::alloc::{AllocError, Allocator};
 use std::sync::atomic::{AtomicU64, Ordering};
+use std::test::Fail;
 
 /// Which growths are refused, and how many blocks are held. Threads may share it.
 #[derive(Drop)]
@@ -76,6 +77,13 @@ impl<B: Allocator> Scarce<B> {
         self.refuse(good, u64::MAX);
     }
 
+    /// Returns whether a growth was refused, and refuses nothing from now on.
+    pub fn was_refused(&self) -> bool {
+        let refused = self.supply.first.load(Ordering::SeqCst) < self.asked();
+        self.grant_all();
+        refused
+    }
+
     /// Returns how many growths were asked for since the last call that set which ones are refused.
     pub fn asked(&self) -> u64 {
         self.supply.asked.load(Ordering::SeqCst)
@@ -104,18 +112,29 @@ unsafe impl<B: Allocator> Allocator for Scarce<B> {
 }
 
 /// The most growths that a test looks for.
-const GROWTHS: u64 = 1000;
+const GROWTHS: u64 = 10_000;
 
 /// Calls a test with 0, 1, 2 and so on, until it returns false. The test refuses the growth after that many others,
-/// and returns whether there was one. Returns whether there was a growth, and fewer than 1,000 of them. Fails with the
-/// test.
-pub fn refuse_each<E, F: Fn(u64) -> Result<bool, E>>(refuse: F) -> Result<bool, E>
-    requires { F.IsAlwaysCallable refuse }
+/// and returns whether there was one. Fails with the test, where a block is kept after it, and where there is no
+/// growth or no end of them.
+pub fn refuse_each<B: Allocator, F: Fn(u64) -> Result<bool, Fail>>(
+    heap: &Scarce<B>,
+    test: F,
+) -> Result<(), Fail>
+    requires { F.IsAlwaysCallable test }
 {
+    let held = heap.held();
     for good in 0..GROWTHS {
-        if !refuse(good)? {
-            return Ok(0 < good);
+        let refused = test(good)?;
+        if heap.held() != held {
+            return Err("a block is kept")?;
+        }
+        if !refused && good == 0 {
+            return Err("there is no growth")?;
+        }
+        if !refused {
+            return Ok(());
         }
     }
-    Ok(false)
+    Err("there is no end of growths")?
 }

@@ -1,11 +1,15 @@
-//! The tests of link headers, of LAPB links and of lines and of their traces.
+//! The tests of link headers, of TCP connections, of circuits of XOT, of LAPB links and of lines and of their traces.
 #![tactic(auto)]
 
+#[cfg(test)]
+mod circuits;
 #[cfg(test)]
 mod headers;
 #[cfg(test)]
 mod lines;
 #[cfg(test)]
 mod links;
+#[cfg(test)]
+mod streams;
 #[cfg(test)]
 mod traces;

@@ -3,16 +3,16 @@
 use capture_report::file_frames::{FileFrames, file_trace};
 use capture_report::header::Seen;
 use capture_report::header_text::print_head;
+use capture_report::options::{CaptureOptions, GivenHeader};
 use capture_report::plan::Plan;
-use capture_report::print::Page;
+use capture_report::print::{Page, Printer};
 use capture_report::reader::{Order, Reader};
 use capture_report::row::{Content, Row};
 use capture_report::survey::Survey;
-use capture_rows::choices::Choices;
 use capture_rows::line::Line;
-use capture_rows::station::StationBy;
 use lapb_link::ends::Ends;
 use lapb_link::frames::Place;
+use lapb_link::modulus::Modulus;
 use line_model::device::{SliceSource, Source};
 use line_model::state::Side;
 use std::alloc::Global;
@@ -35,13 +35,7 @@ const NOTICED: &[u8] =
 
 /// A line of which nothing was read.
 fn line(alloc: Global) -> Result<Line, Fail> {
-    let choices = Choices {
-        unknown: None,
-        carrier: None,
-        interface: None,
-        station_by: StationBy::Either,
-        host: Side::T,
-    };
+    let choices = CaptureOptions::plain().choices;
     Ok(Line::new(alloc, choices, None, Ends::by_address())?)
 }
 
@@ -55,7 +49,11 @@ fn frames(alloc: Global) -> Result<FileFrames<SliceSource<'static>>, Fail> {
 
 /// Returns the text of the trace.
 fn text(alloc: Global, order: Order) -> Result<Vec<u8>, Fail> {
-    let reader = Reader::new(line(alloc)?, order, Page::new(Vec::new(alloc), true));
+    let reader = Reader::new(
+        line(alloc)?,
+        order,
+        Page::new(Vec::new(alloc), Printer::new(true, false)),
+    );
     let Ok(mut trace) = file_trace(alloc, SliceSource::new(FILE), true, 0, reader) else {
         return Err(Fail::from("no capture"));
     };
@@ -98,6 +96,21 @@ const HEAD: &[u8] = b"# estimated from what was seen: MOD 8 (the general format 
     PVC 1 (channels with data and no call), SVC 2 (the channels used)\n\
     X25 1 MOD 8 WIN 2 SIZE 32 PVC 1 SVC 2\n";
 
+/// The same where the modulus, the window and the last channel for incoming calls are given.
+const GIVEN: &[u8] = b"# estimated from what was seen: SIZE 32 (the largest user data), \
+    PVC 1 (channels with data and no call), OUT 2 (the channels used)\n\
+    X25 2 MOD 8 WIN 3 SIZE 32 PVC 1 IN 2 TWO 2 OUT 2\n";
+
+/// Returns the lines before the rows.
+fn head(alloc: Global, seen: &Seen, given: &GivenHeader) -> Result<Vec<u8>, Fail> {
+    let Some(header) = seen.header(given) else {
+        return Err(Fail::from("no header"));
+    };
+    let mut head = Vec::new(alloc);
+    print_head(&header, seen, given, &mut head)?;
+    Ok(head)
+}
+
 /// Sees a row.
 fn see(seen: &mut Seen, content: Content<'_>) -> Result<(), Fail> {
     let place = Place {
@@ -114,10 +127,20 @@ fn header_has_the_largest_numbers_that_were_seen(rt: HostRuntime) -> Result<(), 
     for (side, octets) in &PACKETS {
         see(&mut seen, Content::Packet(*side, octets))?;
     }
-    let mut head = Vec::new(rt.alloc());
-    print_head(&seen.header(), &seen, &mut head)?;
-    assert!(rt; head.as_slice() == HEAD);
+    assert!(rt; head(rt.alloc(), &seen, &GivenHeader::none())?.as_slice() == HEAD);
+    let given = GivenHeader {
+        modulus: Some(Modulus::Basic),
+        window: Some(3),
+        incoming: Some(2),
+        ..GivenHeader::none()
+    };
+    assert!(rt; head(rt.alloc(), &seen, &given)?.as_slice() == GIVEN);
+    let too_wide = GivenHeader {
+        window: Some(8),
+        ..given
+    };
+    assert!(rt; seen.header(&too_wide).is_none());
     see(&mut seen, Content::Gap(None))?;
-    assert!(rt; seen.header().gaps);
+    assert!(rt; seen.header(&given).is_some_and(|header| header.gaps));
     Ok(())
 }

@@ -11,20 +11,11 @@ use std::marker::Brand;
 use std::process::Abort;
 use tests_devices::{CutSink, Cuts};
 
-/// What was returned, how many calls succeeded, and the bytes that were accepted.
-#[derive(Drop)]
-struct Conversion {
-    answer: Result<(), Fault>,
-    calls: usize,
-    bytes: Vec<u8, Global>,
-}
-
 /// Gives a sink all of a text in parts of some size, until it refuses one.
 fn write_parts<K: Sink>(sink: &mut K, text: &[u8], size: usize) -> Result<(), Fault> {
     for part in text.chunks(size.max(1)) {
-        match sink.write(part) {
-            Ok(_) => {}
-            Err(()) => return Err(Fault::Write),
+        if sink.write(part).is_err() {
+            return Err(Fault::Write);
         }
     }
     Ok(())
@@ -45,17 +36,12 @@ fn convert<'a, K: Sink, B: Origin>(
     (lent.give_back(), written.and(answer))
 }
 
-/// Converts a text that comes in parts of some size.
-fn converted(alloc: Global, text: &[u8], size: usize, cuts: Cuts) -> Conversion {
+/// Converts a text that comes in parts of some size. Returns the sink.
+fn converted(alloc: Global, text: &[u8], size: usize, cuts: Cuts) -> (Result<(), Fault>, CutSink) {
     let mut sink = CutSink::new(alloc, cuts);
     let (lent, answer) = convert::<CutSink, Brand>(text, size, &mut sink);
     take_back(lent);
-    let calls = cuts.good_writes.saturating_sub(sink.good_calls);
-    Conversion {
-        answer,
-        calls,
-        bytes: sink.taken,
-    }
+    (answer, sink)
 }
 
 const REPORT: &[u8] = b"F 5 T d1 1\n\
@@ -83,49 +69,35 @@ const OBJECTS: &[u8] =
 {\"line\":\"peak\",\"count\":0,\"packet\":null}\n\
 {\"line\":\"sums\",\"packets\":5,\"findings\":1,\"calls\":1,\"octets\":2,\"segments\":2}\n";
 
-/// Checks that a text was accepted whole, and that these objects were written.
-fn agree(rt: &impl Abort, got: &Conversion, objects: &[u8]) {
-    assert!(rt; got.answer.is_ok());
-    assert!(rt; got.bytes.as_slice() == objects);
-}
-
 #[test]
 fn a_sink_that_takes_one_byte_a_call_takes_the_same(rt: HostRuntime) {
-    let got = converted(rt.alloc(), REPORT, 7, Cuts::of_steps(1, 1));
-    agree(&rt, &got, OBJECTS);
-    assert!(rt; got.calls == OBJECTS.len());
+    let (answer, sink) = converted(rt.alloc(), REPORT, 7, Cuts::of_steps(1, 1));
+    assert!(rt; answer.is_ok());
+    assert!(rt; sink.taken.as_slice() == OBJECTS);
+    assert!(rt; sink.asked == OBJECTS.len());
 }
 
 #[test]
 fn each_part_is_one_write(rt: HostRuntime) {
-    let by_byte = converted(rt.alloc(), REPORT, 1, Cuts::none());
-    assert!(rt; by_byte.calls == 11);
-    let at_once = converted(rt.alloc(), REPORT, 65536, Cuts::none());
-    assert!(rt; at_once.calls == 1);
+    for (size, calls) in [(1, 11), (65_536, 1)] {
+        let (_, sink) = converted(rt.alloc(), REPORT, size, Cuts::none());
+        assert!(rt; sink.asked == calls);
+    }
 }
 
-/// Checks that a sink failed after `good_calls` calls, and has a first part of the objects.
-fn agree_on_failure(rt: &impl Abort, got: &Conversion, good_calls: usize) {
-    assert!(rt; got.answer == Err(Fault::Write));
-    assert!(rt; got.calls == good_calls);
-    assert!(rt; OBJECTS.starts_with(got.bytes.as_slice()));
-}
-
-/// Writes the report in parts of some size to a sink that fails after `good_calls` good calls.
-fn check_failure(rt: &impl Abort, alloc: Global, size: usize, good_calls: usize) {
-    let cuts = Cuts {
-        write_step: 90,
-        good_writes: good_calls,
-        ..Cuts::none()
-    };
-    let got = converted(alloc, REPORT, size, cuts);
-    agree_on_failure(rt, &got, good_calls);
+/// Writes the report in parts of some size to a sink that fails after `good` good calls.
+fn check_failure(rt: &impl Abort, alloc: Global, size: usize, good: usize) {
+    let cuts = Cuts::of_steps(1, 90).with_writes(good);
+    let (answer, sink) = converted(alloc, REPORT, size, cuts);
+    assert!(rt; answer == Err(Fault::Write));
+    assert!(rt; sink.asked == good.saturating_add(1));
+    assert!(rt; OBJECTS.starts_with(sink.taken.as_slice()));
 }
 
 #[test]
 fn a_sink_that_fails_has_a_first_part_and_is_reported(rt: HostRuntime) {
-    for good_calls in 0..11 {
-        check_failure(&rt, rt.alloc(), 1, good_calls);
-        check_failure(&rt, rt.alloc(), 65536, good_calls);
+    for good in 0..11 {
+        check_failure(&rt, rt.alloc(), 1, good);
+        check_failure(&rt, rt.alloc(), 65_536, good);
     }
 }

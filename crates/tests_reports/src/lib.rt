@@ -1,6 +1,10 @@
-//! The tests of reports: their merging, their JSON lines, and the report of a trace that grows.
+//! The tests of reports: merging, JSON lines, the report of a trace that grows, annotations, and channels.
 #![tactic(auto)]
 
+#[cfg(test)]
+mod annotations;
+#[cfg(test)]
+mod channels;
 #[cfg(test)]
 mod json;
 #[cfg(test)]

@@ -16,11 +16,7 @@ use std::process::Abort;
 use tests_devices::{CutSink, Cuts};
 
 /// Why a report was refused, if it was, and what it wrote.
-#[derive(Drop)]
-struct Answer {
-    fault: Option<Fault>,
-    bytes: Vec<u8>,
-}
+type Answer = (Option<Fault>, Vec<u8>);
 
 /// The report that must be written, or why it must be refused, and nothing written.
 type Wanted = Result<&'static [u8], Fault>;
@@ -42,10 +38,7 @@ fn got<A: Allocator + Copy, C: Channel<A>>(alloc: Global, trace: &Live<A, C>) ->
 {
     let mut sink = CutSink::new(alloc, Cuts::none());
     let fault = trace.report(&mut sink).err();
-    Answer {
-        fault,
-        bytes: sink.taken,
-    }
+    (fault, sink.taken)
 }
 
 /// The report of a trace that has ended.
@@ -54,67 +47,13 @@ fn ended<A: Allocator + Copy, C: Channel<A>>(alloc: Global, trace: Live<A, C>) -
 {
     let mut sink = CutSink::new(alloc, Cuts::none());
     let fault = trace.end(&mut sink, &mut Uncounted::none()).err();
-    Answer {
-        fault,
-        bytes: sink.taken,
-    }
+    (fault, sink.taken)
 }
 
-/// Checks that a fault is the one that is expected, if any is.
-fn same_fault(rt: &impl Abort, fault: Option<Fault>, wanted: Option<Fault>) {
-    assert!(rt; fault == wanted);
-}
-
-/// Checks that these bytes were written.
-fn same_bytes(rt: &impl Abort, bytes: &[u8], wanted: &[u8]) {
-    assert!(rt; bytes == wanted);
-}
-
-/// Checks that a result is the one that is expected.
+/// Checks that an answer is the one that is expected.
 fn agree(rt: &impl Abort, answer: &Answer, wanted: Wanted) {
-    same_fault(rt, answer.fault, wanted.err());
-    same_bytes(rt, answer.bytes.as_slice(), wanted.unwrap_or(b""));
-}
-
-/// Checks that the report of a trace so far is the one that is expected.
-fn check<A: Allocator + Copy, C: Channel<A>>(
-    rt: &impl Abort,
-    alloc: Global,
-    trace: &Live<A, C>,
-    wanted: Wanted,
-)
-    requires fed { IsFed C.interface_of C.number_of C.represents trace.now }
-{
-    let answer = got(alloc, trace);
-    agree(rt, &answer, wanted);
-}
-
-/// Feeds a chunk, and checks why it is refused, if it is.
-fn check_fed<A: Allocator + Copy, C: Channel<A>>(
-    rt: &impl Abort,
-    trace: &mut Live<A, C>,
-    chunk: &[u8],
-    fault: Option<Fault>,
-)
-    requires fed { IsFed C.interface_of C.number_of C.represents trace.old }
-    ensures fed { IsFed C.interface_of C.number_of C.represents trace.new }
-{
-    let answer = trace.feed(chunk).err();
-    same_fault(rt, answer, fault);
-}
-
-/// Feeds a packet of the DTE, and checks that it is read.
-fn check_packet<A: Allocator + Copy, C: Channel<A>>(
-    rt: &impl Abort,
-    trace: &mut Live<A, C>,
-    number: u32,
-    octets: &[u8],
-)
-    requires fed { IsFed C.interface_of C.number_of C.represents trace.old }
-    ensures fed { IsFed C.interface_of C.number_of C.represents trace.new }
-{
-    let answer = trace.packet(number, Side::T, octets);
-    assert!(rt; matches!(answer, Ok(true)));
+    assert!(rt; answer.0 == wanted.err());
+    assert!(rt; answer.1.as_slice() == wanted.unwrap_or(b""));
 }
 
 /// Plays steps with a trace.
@@ -129,9 +68,15 @@ fn play_steps<A: Allocator + Copy, C: Channel<A>>(
 {
     for step in steps {
         match *step {
-            Step::Feed(chunk, fault) => check_fed(rt, trace, chunk, fault),
-            Step::Packet(number, octets) => check_packet(rt, trace, number, octets),
-            Step::Report(wanted) => check(rt, alloc, trace, wanted),
+            Step::Feed(chunk, fault) => {
+                let answer = trace.feed(chunk).err();
+                assert!(rt; answer == fault);
+            }
+            Step::Packet(number, octets) => {
+                let answer = trace.packet(number, Side::T, octets);
+                assert!(rt; matches!(answer, Ok(true)));
+            }
+            Step::Report(wanted) => agree(rt, &got(alloc, trace), wanted),
         }
     }
 }
@@ -140,8 +85,7 @@ fn play_steps<A: Allocator + Copy, C: Channel<A>>(
 fn play(rt: &impl Abort, alloc: Global, steps: &[Step], end: Wanted) {
     let mut trace = Live::<Global, PlainChannel<Global>>::new(alloc);
     play_steps(rt, alloc, &mut trace, steps);
-    let answer = ended(alloc, trace);
-    agree(rt, &answer, end);
+    agree(rt, &ended(alloc, trace), end);
 }
 
 /// The report of a call that a restart ended.
@@ -180,11 +124,6 @@ const UP_TO_A_FAULTY_LINE: [Step; 12] = [
 
 #[test]
 fn reports_go_up_to_the_last_line_that_ended(rt: HostRuntime) {
-    play(&rt, rt.alloc(), CALL_AND_ITS_END.as_slice(), Ok(ENDED_CALL));
-    play(
-        &rt,
-        rt.alloc(),
-        UP_TO_A_FAULTY_LINE.as_slice(),
-        Err(NO_SIDE),
-    );
+    play(&rt, rt.alloc(), &CALL_AND_ITS_END, Ok(ENDED_CALL));
+    play(&rt, rt.alloc(), &UP_TO_A_FAULTY_LINE, Err(NO_SIDE));
 }

@@ -1,17 +1,12 @@
 //! Reports of recorded interfaces, merged from the reports of their pieces, against reports that another program
 //! printed.
 
-ghost use Rattle.std.specs.Prelude.{◌≡◌, None};
-
-mod gaps;
-mod refused;
+ghost use Rattle.std.specs.Prelude.{◌≡◌};
 
 use line_model::address::Address;
 use line_model::call::CallRecord;
-use line_model::device::{Sink, VecSink};
 use line_model::fault::Fault;
 use line_model::finding::{Code, Finding};
-use line_model::history::Count;
 use line_model::piece::PieceReport;
 use line_model::report::Report;
 use line_model::state::{Side, StateName};
@@ -22,51 +17,15 @@ use report_merge::text::write_report;
 use std::alloc::{AllocError, Allocator, Global};
 use std::process::Abort;
 use std::test::Fail;
+use tests_devices::scarce::{Scarce, refuse_each};
+use tests_devices::{CutSink, Cuts};
 
-/// Whether these bytes are written of a report.
-fn writes(alloc: Global, report: &Report, expected: &[u8]) -> Result<bool, Fault> {
-    let mut sink = VecSink::new(Vec::new(alloc));
-    write_report(report, &mut sink)?;
-    Ok(sink.as_slice() == expected)
-}
-
-/// Checks that the text of a report is the expected one.
-fn check(rt: &impl Abort, alloc: Global, report: &Report, expected: &[u8]) -> Result<(), Fault> {
-    let same = writes(alloc, report, expected)?;
-    assert!(rt; same);
-    Ok(())
-}
-
-/// A sink with room for `room` bytes, which fails once it is full.
-#[derive(Drop)]
-struct Narrow {
-    room: usize,
-    failures: Count,
-}
-
-impl Sink for Narrow {
-    ghost taken = { λ s. None };
-
-    ghost failures = { λ s. s.failures };
-
-    fn write(&mut self, bytes: &[u8]) -> Result<usize, ()> {
-        if self.room == 0 {
-            self.failures.add_one();
-            return Err(());
-        }
-        let n = bytes.len().min(self.room);
-        self.room -= n;
-        Ok(n)
-    }
-}
-
-/// What is returned where a sink has room for `room` bytes.
-fn answered(room: usize, report: &Report) -> Result<(), Fault> {
-    let mut sink = Narrow {
-        room,
-        failures: Count::new(),
-    };
-    write_report(report, &mut sink)
+/// Writes a report to a sink that accepts one byte a call, and checks what that has then.
+fn check(rt: &impl Abort, alloc: Global, report: &Report, room: usize, wanted: Result<(), Fault>) {
+    let mut sink = CutSink::new(alloc, Cuts::of_steps(1, 1).with_writes(room));
+    let answer = write_report(report, &mut sink);
+    assert!(rt; answer == wanted);
+    assert!(rt; sink.taken.as_slice() == &THREE_EPOCHS[..room.min(THREE_EPOCHS.len())]);
 }
 
 /// A call of the DTE that is up and open, without data.
@@ -94,33 +53,33 @@ fn open_call<A: Allocator>(alloc: A, epoch: u32, channel: u16, packet: u32) -> C
     }
 }
 
+/// A piece: its id, its epoch, its channel and its packet.
+type Piece = (u32, u32, u16, u32);
+
 /// The report of a piece with one finding, that a data packet of the DTE came while the channel was ready, and one call.
-fn finding_report(
-    alloc: Global,
-    id: u32,
-    epoch: u32,
-    channel: u16,
-    packet: u32,
-) -> Result<PieceReport, AllocError> {
+fn report_of<A: Allocator + Copy>(alloc: A, piece: Piece) -> Result<PieceReport<A>, AllocError> {
+    let (id, epoch, channel, packet) = piece;
     let finding = Finding {
         packet,
         side: Side::T,
         state: StateName::P1,
         code: Code::Number(20),
     };
+    let mut calls = Vec::new(alloc);
+    calls.push(open_call(alloc, epoch, channel, packet))?;
     Ok(PieceReport {
         id,
         epoch,
         channel,
         findings: vec![in alloc; finding]?,
-        calls: vec![in alloc; open_call(alloc, epoch, channel, packet)]?,
+        calls,
         octets: 0,
         segments: 0,
     })
 }
 
-/// Twelve pieces, four in each of three epochs; their ids and packets.
-const PIECES: [(u32, u32, u16, u32); 12] = [
+/// Twelve pieces, four in each of three epochs.
+const PIECES: [Piece; 12] = [
     (0, 1, 1, 1),
     (1, 1, 2, 2),
     (2, 1, 3, 3),
@@ -142,55 +101,29 @@ const ROWS: RowCounts = RowCounts {
 };
 
 /// The report of three epochs, parted by restarts in rows 5, 6, 11 and 12.
-const THREE_EPOCHS: &[u8] = b"F 1 T p1 20
-F 2 T p1 20
-F 3 T p1 20
-F 4 T p1 20
-F 7 T p1 20
-F 8 T p1 20
-F 9 T p1 20
-F 10 T p1 20
-F 13 T p1 20
-F 14 T p1 20
-F 15 T p1 20
-F 16 T p1 20
-C 1 1 1 out - - 1 1 - open 0 0 0 0 0
-C 2 1 2 out - - 2 2 - open 0 0 0 0 0
-C 3 1 3 out - - 3 3 - open 0 0 0 0 0
-C 4 1 4 out - - 4 4 - open 0 0 0 0 0
-C 5 2 1 out - - 7 7 - open 0 0 0 0 0
-C 6 2 2 out - - 8 8 - open 0 0 0 0 0
-C 7 2 3 out - - 9 9 - open 0 0 0 0 0
-C 8 2 4 out - - 10 10 - open 0 0 0 0 0
-C 9 3 1 out - - 13 13 - open 0 0 0 0 0
-C 10 3 2 out - - 14 14 - open 0 0 0 0 0
-C 11 3 3 out - - 15 15 - open 0 0 0 0 0
-C 12 3 4 out - - 16 16 - open 0 0 0 0 0
-A - 12 0
-P 12 16
-Z 16 12 12 0 0
-";
-
-/// Posts the report of a piece, but with another id for the piece 3, or without it.
-fn post(
-    alloc: Global,
-    reports: &mut Vec<PieceReport>,
-    piece: (u32, u32, u16, u32),
-    third: Option<u32>,
-) -> Result<(), AllocError> {
-    let (id, epoch, channel, packet) = piece;
-    let posted = if id == 3 { third } else { Some(id) };
-    if let Some(id) = posted {
-        reports.push(finding_report(alloc, id, epoch, channel, packet)?)?;
-    }
-    Ok(())
-}
+const THREE_EPOCHS: &[u8] = b"F 1 T p1 20\nF 2 T p1 20\nF 3 T p1 20\nF 4 T p1 20\n\
+    F 7 T p1 20\nF 8 T p1 20\nF 9 T p1 20\nF 10 T p1 20\n\
+    F 13 T p1 20\nF 14 T p1 20\nF 15 T p1 20\nF 16 T p1 20\n\
+    C 1 1 1 out - - 1 1 - open 0 0 0 0 0\nC 2 1 2 out - - 2 2 - open 0 0 0 0 0\n\
+    C 3 1 3 out - - 3 3 - open 0 0 0 0 0\nC 4 1 4 out - - 4 4 - open 0 0 0 0 0\n\
+    C 5 2 1 out - - 7 7 - open 0 0 0 0 0\nC 6 2 2 out - - 8 8 - open 0 0 0 0 0\n\
+    C 7 2 3 out - - 9 9 - open 0 0 0 0 0\nC 8 2 4 out - - 10 10 - open 0 0 0 0 0\n\
+    C 9 3 1 out - - 13 13 - open 0 0 0 0 0\nC 10 3 2 out - - 14 14 - open 0 0 0 0 0\n\
+    C 11 3 3 out - - 15 15 - open 0 0 0 0 0\nC 12 3 4 out - - 16 16 - open 0 0 0 0 0\n\
+    A - 12 0\nP 12 16\nZ 16 12 12 0 0\n";
 
 /// The reports of the twelve pieces, the last first, but with another id for the piece 3, or without it.
-fn three_epochs(alloc: Global, third: Option<u32>) -> Result<Vec<PieceReport>, AllocError> {
+fn three_epochs<A: Allocator + Copy>(
+    alloc: A,
+    third: Option<u32>,
+) -> Result<Vec<PieceReport<A>, A>, AllocError> {
     let mut reports = Vec::new(alloc);
     for piece in PIECES.iter().rev() {
-        post(alloc, &mut reports, *piece, third)?;
+        let (id, epoch, channel, packet) = *piece;
+        let posted = if id == 3 { third } else { Some(id) };
+        if let Some(id) = posted {
+            reports.push(report_of(alloc, (id, epoch, channel, packet))?)?;
+        }
     }
     Ok(reports)
 }
@@ -233,33 +166,35 @@ fn check_merged<T: Reports<Global> + Drop>(
     reports: Vec<T>,
 ) -> Result<(), Fault> {
     let report = merge(alloc, reports, Vec::new(alloc), ROWS, 12)?;
-    check(rt, alloc, &report, THREE_EPOCHS)
-}
-
-#[test]
-fn pieces_and_bundles_in_any_order_give_the_report_of_the_trace(
-    rt: HostRuntime,
-) -> Result<(), Fail> {
-    let backwards = three_epochs(rt.alloc(), Some(3))?;
-    check_merged(&rt, rt.alloc(), backwards)?;
-    let mut forwards = three_epochs(rt.alloc(), Some(3))?;
-    forwards.reverse();
-    check_merged(&rt, rt.alloc(), forwards)?;
-    for pieces in [1, 2, 5, 12] {
-        check_merged(&rt, rt.alloc(), bundles(rt.alloc(), pieces)?)?;
-    }
-    for count in [2, 3, 5] {
-        check_merged(&rt, rt.alloc(), dealt(rt.alloc(), count)?)?;
-    }
-    gaps::check_counts(&rt, rt.alloc())?;
+    check(rt, alloc, &report, THREE_EPOCHS.len(), Ok(()));
     Ok(())
 }
 
-/// Why the reports of the twelve pieces are refused, if they are, with another id for the piece 3, or without it, where
-/// the plan has `pieces` pieces.
-fn refusal(alloc: Global, third: Option<u32>, pieces: u32) -> Result<Option<Fault>, AllocError> {
-    let reports = three_epochs(alloc, third)?;
-    Ok(merge(alloc, reports, Vec::new(alloc), ROWS, pieces).err())
+#[test]
+fn pieces_in_any_order_give_the_report_of_the_trace(rt: HostRuntime) -> Result<(), Fail> {
+    check_merged(&rt, rt.alloc(), three_epochs(rt.alloc(), Some(3))?)?;
+    let mut forwards = three_epochs(rt.alloc(), Some(3))?;
+    forwards.reverse();
+    check_merged(&rt, rt.alloc(), forwards)?;
+    Ok(())
+}
+
+#[test]
+fn bundles_give_the_report_of_the_trace(rt: HostRuntime) -> Result<(), Fail> {
+    for pieces in [1, 2, 5, 12] {
+        check_merged(&rt, rt.alloc(), bundles(rt.alloc(), pieces)?)?;
+    }
+    Ok(())
+}
+
+#[test]
+fn bundles_with_every_other_piece_give_the_report_of_the_trace(
+    rt: HostRuntime,
+) -> Result<(), Fail> {
+    for count in [2, 3, 5] {
+        check_merged(&rt, rt.alloc(), dealt(rt.alloc(), count)?)?;
+    }
+    Ok(())
 }
 
 /// The ids of the piece 3, how many pieces the plan has, and why the reports are refused.
@@ -272,23 +207,44 @@ const REFUSALS: [(Option<u32>, u32, Fault); 4] = [
 
 #[test]
 fn reports_that_are_not_the_plans_are_refused(rt: HostRuntime) -> Result<(), Fail> {
-    for (third, pieces, fault) in &REFUSALS {
-        let refusal = refusal(rt.alloc(), *third, *pieces)?;
-        assert!(rt; refusal == Some(*fault));
+    for (third, pieces, fault) in REFUSALS {
+        let reports = three_epochs(rt.alloc(), third)?;
+        let merged = merge(rt.alloc(), reports, Vec::new(rt.alloc()), ROWS, pieces);
+        assert!(rt; merged.err() == Some(fault));
     }
     Ok(())
-}
-
-/// Checks what is returned where a sink has room for `room` bytes.
-fn check_room(rt: &impl Abort, room: usize, report: &Report, wanted: Result<(), Fault>) {
-    assert!(rt; answered(room, report) == wanted);
 }
 
 #[test]
 fn a_sink_that_is_full_is_reported(rt: HostRuntime) -> Result<(), Fail> {
     let reports = three_epochs(rt.alloc(), Some(3))?;
     let report = merge(rt.alloc(), reports, Vec::new(rt.alloc()), ROWS, 12)?;
-    check_room(&rt, THREE_EPOCHS.len(), &report, Ok(()));
-    check_room(&rt, THREE_EPOCHS.len() - 1, &report, Err(Fault::Write));
+    check(
+        &rt,
+        rt.alloc(),
+        &report,
+        THREE_EPOCHS.len() - 1,
+        Err(Fault::Write),
+    );
     Ok(())
+}
+
+/// Refuses one growth of a merge, and sees that it is out of memory. Returns whether there was such a growth.
+fn check_growth(rt: &impl Abort, heap: &Scarce<Global>, good: u64) -> Result<bool, Fail> {
+    let reports = three_epochs(heap, Some(3))?;
+    heap.refuse_one(good);
+    let merged = merge(heap, reports, Vec::new(heap), ROWS, 12);
+    let refused = heap.was_refused();
+    let right = match merged {
+        Ok(report) => !refused && report.findings.len() == 12 && report.calls.len() == 12,
+        Err(fault) => refused && fault == Fault::Memory,
+    };
+    assert!(rt; right, "growth {good}");
+    Ok(refused)
+}
+
+#[test]
+fn each_growth_of_a_merge_may_be_refused(rt: HostRuntime) -> Result<(), Fail> {
+    let heap = Scarce::new(rt.alloc());
+    refuse_each(&heap, |good| check_growth(&rt, &heap, good))
 }

@@ -1,9 +1,7 @@
-//! The tests of the scans: each way of trace_scan over the worked traces, cut and refused; and the reading thread's task alone.
+//! The tests of the scans: each way of trace_scan over traces that are cut and refused.
 #![tactic(auto)]
 
 #[cfg(test)]
-mod feeding;
-#[cfg(test)]
-mod posting;
+mod host;
 #[cfg(test)]
 mod scans;

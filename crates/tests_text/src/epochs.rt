@@ -14,9 +14,8 @@ use line_model::piece::Piece;
 use line_model::row::Row;
 use line_model::state::Side;
 use packet_decode::decode::decode;
-use restart_epochs::cutter::{Cut, Cutter};
-use std::alloc::{Allocator, Global};
-use std::process::Abort;
+use restart_epochs::cutter::Cutter;
+use std::alloc::Allocator;
 use std::test::Fail;
 use tests_devices::interfaces::PLAIN;
 
@@ -52,26 +51,18 @@ fn shape(piece: &Piece) -> Shape {
 
 /// The pieces have these shapes, in this order.
 fn shapes_are(pieces: &[Piece], shapes: &[Shape]) -> bool {
-    let mut same = pieces.len() == shapes.len();
-    for (piece, wanted) in pieces.iter().zip(shapes) {
-        same = same && shape(piece) == *wanted;
-    }
-    same
-}
-
-/// Whether a finding has this row and this code.
-fn is_found(finding: &Finding, wanted: (u32, Code)) -> bool {
-    let (packet, code) = wanted;
-    finding.packet == packet && finding.code == code
+    pieces.len() == shapes.len()
+        && pieces
+            .iter()
+            .zip(shapes)
+            .all(|(piece, wanted)| shape(piece) == *wanted)
 }
 
 /// The findings of the restart machine have these rows and codes, in this order.
 fn line_is(line: &[Finding], wanted: &[(u32, Code)]) -> bool {
-    let mut same = line.len() == wanted.len();
-    for (finding, wanted) in line.iter().zip(wanted) {
-        same = same && is_found(finding, *wanted);
-    }
-    same
+    line.len() == wanted.len()
+        && line.iter().zip(wanted).all(|(finding, wanted)| (finding.packet, finding.code)
+            == *wanted)
 }
 
 /// Two channels with rows before a restart, and what comes after it; with each row, how many pieces are given out up to
@@ -87,47 +78,36 @@ const TWO_EPOCHS: [(Side, &[u8], usize); 8] = [
     (Side::N, b"\x10\x00\xff", 2),
 ];
 
-/// Pushes two epochs.
-fn push_two(rt: &impl Abort, cutter: &mut Cutter, out: &mut Vec<Piece>) -> Result<(), Fail> {
-    for (side, octets, given) in &TWO_EPOCHS {
-        push(cutter, *side, octets, out)?;
-        let right = out.len() == *given && cutter.given() == *given;
-        holds_for(rt, right, octets);
-    }
-    Ok(())
-}
-
-/// Whether there were `packets` rows, and these pieces and findings.
-fn is_cut(cut: Cut, packets: u32, pieces: &[Shape], line: &[(u32, Code)]) -> bool {
-    cut.packets == packets
-        && shapes_are(&cut.pieces, pieces)
-        && line_is(&cut.interface_findings, line)
-}
-
-/// At the end the second epoch has a piece, and the last of eight rows a finding.
-fn ends_with_second(cutter: Cutter) -> bool {
-    match cutter.end() {
-        Ok(cut) => is_cut(cut, 8, &[(2, 2, 2, 1, None)], &[(8, Code::Number(17))]),
-        Err(_) => false,
-    }
-}
-
 /// The pieces of the first epoch.
 const FIRST_EPOCH: [Shape; 2] = [(0, 1, 1, 1, Some(4)), (1, 1, 2, 2, Some(4))];
 
-/// Pushes two epochs, and checks that the first one was given out.
-fn gives_first(rt: &impl Abort, alloc: Global, cutter: &mut Cutter) -> Result<(), Fail> {
-    let mut out = Vec::new(alloc);
-    push_two(rt, cutter, &mut out)?;
-    assert!(rt; shapes_are(&out, &FIRST_EPOCH));
-    Ok(())
-}
-
+/// At the end the second epoch has a piece, and the last of eight rows a finding.
 #[test]
 fn row_that_leaves_r1_gives_out_its_epoch(rt: HostRuntime) -> Result<(), Fail> {
     let mut cutter = Cutter::new(rt.alloc(), &PLAIN);
-    gives_first(&rt, rt.alloc(), &mut cutter)?;
-    assert!(rt; ends_with_second(cutter));
+    let mut out = Vec::new(rt.alloc());
+    for (side, octets, given) in &TWO_EPOCHS {
+        push(&mut cutter, *side, octets, &mut out)?;
+        holds_for(&rt, out.len() == *given && cutter.given() == *given, octets);
+    }
+    assert!(rt; shapes_are(&out, &FIRST_EPOCH));
+    let cut = cutter.end()?;
+    assert!(rt; cut.packets == 8 && shapes_are(&cut.pieces, &[(2, 2, 2, 1, None)]));
+    assert!(rt; line_is(&cut.interface_findings, &[(8, Code::Number(17))]));
+    Ok(())
+}
+
+/// A row that goes to a channel, and one with a finding.
+#[test]
+fn pieces_of_the_open_epoch_are_shown_and_stay(rt: HostRuntime) -> Result<(), Fail> {
+    let mut cutter = Cutter::new(rt.alloc(), &PLAIN);
+    let mut pieces = Vec::new(rt.alloc());
+    push(&mut cutter, Side::T, b"\x10\x02\x00\xaa", &mut pieces)?;
+    push(&mut cutter, Side::N, b"\x10\x00\xff", &mut pieces)?;
+    for _ in 0..2 {
+        assert!(rt; shapes_are(&cutter.peek()?, &[(0, 1, 2, 1, None)]));
+        assert!(rt; line_is(cutter.interface_findings(), &[(2, Code::Number(17))]));
+    }
     Ok(())
 }
 
@@ -165,32 +145,3 @@ const EPOCH: [(Side, &[u8]); 6] = [
     (Side::T, b"\x10\x00\xfb\x00\x00"),
     (Side::N, b"\x10\x00\xff"),
 ];
-
-/// A cutter of a row that goes to a channel, and of one with a finding.
-fn open_cutter(alloc: Global) -> Result<Cutter, Fail> {
-    let mut cutter = Cutter::new(alloc, &PLAIN);
-    let mut pieces = Vec::new(alloc);
-    push(&mut cutter, Side::T, b"\x10\x02\x00\xaa", &mut pieces)?;
-    push(&mut cutter, Side::N, b"\x10\x00\xff", &mut pieces)?;
-    Ok(cutter)
-}
-
-/// Whether the piece of the open epoch is shown, and its row's finding.
-fn shows_the_open_epoch(cutter: &Cutter) -> bool {
-    match cutter.peek() {
-        Ok(pieces) => {
-            shapes_are(&pieces, &[(0, 1, 2, 1, None)])
-                && line_is(cutter.interface_findings(), &[(2, Code::Number(17))])
-        }
-        Err(_) => false,
-    }
-}
-
-#[test]
-fn pieces_of_the_open_epoch_are_shown_and_stay(rt: HostRuntime) -> Result<(), Fail> {
-    let cutter = open_cutter(rt.alloc())?;
-    let first = shows_the_open_epoch(&cutter);
-    let second = shows_the_open_epoch(&cutter);
-    assert!(rt; first && second);
-    Ok(())
-}

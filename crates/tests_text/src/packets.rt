@@ -1,7 +1,6 @@
 //! The packets of many rows.
 
 use crate::checks::holds_at;
-use line_model::packet::Packet;
 use line_model::row::Row;
 use line_model::state::Side;
 use packet_decode::decode::decode;
@@ -27,29 +26,23 @@ fn rows_of(alloc: Global, count: u32) -> Result<Vec<Row>, Fail> {
     Ok(rows)
 }
 
-/// Whether each row has the packet that it has alone.
-fn are_decoded(rows: &[Row], packets: &[Packet]) -> bool {
-    let mut same = packets.len() == rows.len();
-    for (row, packet) in rows.iter().zip(packets) {
-        same = same && *packet == decode(&PLAIN, row.octets.as_slice());
-    }
-    same
-}
-
+/// Each row has the packet that it has alone.
 fn check_rows(rt: &(impl Abort + Threads + Sync), alloc: Global, count: u32) -> Result<(), Fail> {
     let rows = rows_of(alloc, count)?;
     let packets = decode_all(rt, alloc, &PLAIN, rows.as_slice())?;
-    holds_at(rt, are_decoded(&rows, &packets), u64::from(count));
+    let mut same = packets.len() == rows.len();
+    for (row, packet) in rows.iter().zip(&packets) {
+        same = same && *packet == decode(&PLAIN, row.octets.as_slice());
+    }
+    holds_at(rt, same, u64::from(count));
     Ok(())
 }
 
 /// Of the last number of rows several threads have a part.
-const COUNTS: [u32; 5] = [0, 1, 7, 1000, 5000];
-
 #[test]
 fn many_rows_have_the_packets_of_each_of_them(rt: HostRuntime) -> Result<(), Fail> {
-    for count in &COUNTS {
-        check_rows(&rt, rt.alloc(), *count)?;
+    for count in [0, 1, 7, 1000, 5000] {
+        check_rows(&rt, rt.alloc(), count)?;
     }
     Ok(())
 }

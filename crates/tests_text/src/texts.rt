@@ -4,7 +4,7 @@ mod blocks;
 mod refused;
 mod rows;
 
-use crate::checks::{holds_at, holds_for};
+use crate::checks::holds_at;
 use line_model::fault::{Fault, Kind};
 use line_model::interface::Interface;
 use line_model::row::{ReadRow, Row};
@@ -21,14 +21,11 @@ fn read(
     alloc: Global,
     text: &[u8],
     size: usize,
-    rows: &mut Vec<Row<Global>, Global>,
+    rows: &mut Vec<Row<Global>>,
 ) -> Result<Interface, Fault> {
     let mut lines = Lines::new(alloc);
-    let mut rest = text;
-    for _ in 0..text.len() {
-        let (chunk, more) = rest.split_at(size.min(rest.len()));
+    for chunk in text.chunks(size.max(1)) {
         lines.feed(chunk, rows)?;
-        rest = more;
     }
     lines.end(rows)
 }
@@ -38,22 +35,6 @@ fn read_counted(alloc: Global, text: &[u8], size: usize) -> (Result<Interface, F
     let mut rows = Vec::new(alloc);
     let answer = read(alloc, text, size, &mut rows);
     (answer, rows.len())
-}
-
-/// Reads a trace text in chunks of 1, 7, 64 and 65,536 bytes, which all must have the same result.
-fn read_in_chunks(
-    rt: &impl Abort,
-    alloc: Global,
-    text: &[u8],
-    rows: usize,
-) -> Result<Interface, Fault> {
-    let (answer, shown) = read_counted(alloc, text, text.len());
-    assert!(rt; shown == rows);
-    for size in [1, 7, 64, 1 << 16] {
-        let (again, shown) = read_counted(alloc, text, size);
-        holds_at(rt, again == answer && shown == rows, size as u64);
-    }
-    answer
 }
 
 /// Rows after a header of one line, the line of the first that is faulty, its fault, and how many rows come before it.
@@ -74,9 +55,8 @@ const FAULTY_ROWS: [(&[u8], u32, Kind, usize); 13] = [
 ];
 
 /// A trace text of a header and these rows.
-fn with_header(alloc: Global, rows: &[u8]) -> Result<Vec<u8>, Fail> {
-    let mut text = Vec::new(alloc);
-    text.extend_from_slice(HEADER)?;
+fn with_header(alloc: Global, header: &[u8], rows: &[u8]) -> Result<Vec<u8>, Fail> {
+    let mut text = header.to_vec(alloc)?;
     text.extend_from_slice(rows)?;
     Ok(text)
 }
@@ -84,27 +64,25 @@ fn with_header(alloc: Global, rows: &[u8]) -> Result<Vec<u8>, Fail> {
 #[test]
 fn the_first_faulty_line_is_returned(rt: HostRuntime) -> Result<(), Fail> {
     for (faulty, line, kind, rows) in &FAULTY_ROWS {
-        let text = with_header(rt.alloc(), faulty)?;
-        let answer = read_in_chunks(&rt, rt.alloc(), text.as_slice(), *rows);
-        holds_for(&rt, answer == Err(Fault::Trace(*line, *kind)), faulty);
+        let text = with_header(rt.alloc(), HEADER, faulty)?;
+        for size in [1, 7, 64, 1 << 16] {
+            let (answer, shown) = read_counted(rt.alloc(), &text, size);
+            let right = answer == Err(Fault::Trace(*line, *kind)) && shown == *rows;
+            holds_at(&rt, right, u64::from(*line));
+        }
     }
     Ok(())
 }
 
-fn is_wanted(row: &ReadRow<Global>, number: u32, side: Side, octets: &[u8]) -> bool {
-    row.number == number && row.side == side && row.octets.as_slice() == octets
-}
-
 /// Appends a row of a number below 256: the number, the side, how many octets it has, and those that were read. Of a gap
 /// its channel, or 0 for all, has the place of the side.
-fn tell(row: &ReadRow<Global>, shown: &mut Vec<u8, Global>) -> Result<(), Fault> {
-    shown.push((row.number % 256) as u8)?;
-    shown.push(match row.gap {
+fn tell(row: &ReadRow<Global>, shown: &mut Vec<u8>) -> Result<(), Fault> {
+    let side = match row.gap {
         Some(gap) => (gap.unwrap_or(0) % 256) as u8,
         None if row.side == Side::T => b'T',
         None => b'N',
-    })?;
-    shown.push((row.length % 256) as u8)?;
+    };
+    shown.extend_from_slice(&[(row.number % 256) as u8, side, (row.length % 256) as u8])?;
     shown.extend_from_slice(row.octets.as_slice())?;
     Ok(())
 }
@@ -114,7 +92,7 @@ fn take_ended(
     lines: &mut Lines<Global>,
     row: &mut ReadRow<Global>,
     bytes: &[u8],
-    shown: &mut Vec<u8, Global>,
+    shown: &mut Vec<u8>,
 ) -> Result<(), Fault> {
     let mut rest = bytes;
     for _ in 0..bytes.len() {
@@ -129,46 +107,36 @@ fn take_ended(
     Ok(())
 }
 
-/// A row without octets, for those that are read.
-fn blank(alloc: Global) -> ReadRow<Global> {
+/// A row with these octets, for those that are read.
+fn row_with(octets: Vec<u8>) -> ReadRow<Global> {
     ReadRow {
         number: 0,
         side: Side::N,
         length: 0,
-        octets: Vec::new(alloc),
+        octets,
         gap: None,
     }
 }
 
-/// Shows the last row of a trace text.
-fn take_last(
-    lines: Lines<Global>,
-    row: &mut ReadRow<Global>,
-    shown: &mut Vec<u8, Global>,
-) -> Result<(), Fault> {
-    if lines.end_row(row)?.has_row {
-        tell(row, shown)?;
-    }
-    Ok(())
-}
-
-/// Shows the rows of a trace text, which are read one by one from chunks of `size` bytes into one row that is used
-/// again.
+/// Shows the rows of a trace text, which are read one by one into one row that is used again: those of its head, and
+/// those of the rest, which comes in chunks of `size` bytes.
 fn take_rows(
     alloc: Global,
-    text: &[u8],
+    head: &[u8],
+    rest: &[u8],
     size: usize,
-    shown: &mut Vec<u8, Global>,
+    shown: &mut Vec<u8>,
 ) -> Result<(), Fault> {
     let mut lines = Lines::new(alloc);
-    let mut row = blank(alloc);
-    let mut rest = text;
-    for _ in 0..text.len() {
-        let (chunk, more) = rest.split_at(size.min(rest.len()));
+    let mut row = row_with(Vec::new(alloc));
+    take_ended(&mut lines, &mut row, head, shown)?;
+    for chunk in rest.chunks(size.max(1)) {
         take_ended(&mut lines, &mut row, chunk, shown)?;
-        rest = more;
     }
-    take_last(lines, &mut row, shown)
+    if lines.end_row(&mut row)?.has_row {
+        tell(&row, shown)?;
+    }
+    Ok(())
 }
 
 /// The line that refuses a trace text, if one does, and why.
@@ -253,49 +221,36 @@ fn check_taken(rt: &impl Abort, alloc: Global, text: &[u8], wanted: &[u8], end: 
     let fault = end.map(|(line, kind)| Fault::Trace(line, kind));
     for size in [1, 7, 64, text.len()] {
         let mut shown = Vec::new(alloc);
-        let answer = take_rows(alloc, text, size, &mut shown);
+        let answer = take_rows(alloc, b"", text, size, &mut shown);
         let right = answer.err() == fault && shown.as_slice() == wanted;
         holds_at(rt, right, size as u64);
     }
 }
 
 #[test]
-fn rows_are_taken_one_by_one(rt: HostRuntime) -> Result<(), Fail> {
+fn rows_are_taken_one_by_one(rt: HostRuntime) {
     for (text, wanted, end) in &ONE_BY_ONE {
         check_taken(&rt, rt.alloc(), text, wanted, *end);
     }
+}
+
+#[test]
+fn gaps_are_taken_one_by_one(rt: HostRuntime) -> Result<(), Fail> {
     for (lines, wanted, end) in &GAPS {
-        let mut text = WITH_GAPS.to_vec(rt.alloc())?;
-        text.extend_from_slice(lines)?;
-        check_taken(&rt, rt.alloc(), text.as_slice(), wanted, *end);
+        let text = with_header(rt.alloc(), WITH_GAPS, lines)?;
+        check_taken(&rt, rt.alloc(), &text, wanted, *end);
     }
     Ok(())
 }
 
-/// Whether a row is read from these bytes.
-fn takes(
-    lines: &mut Lines<Global>,
-    row: &mut ReadRow<Global>,
-    bytes: &[u8],
-) -> Result<bool, Fault> {
-    Ok(lines.next_row(bytes, row)?.is_some())
-}
-
 #[test]
 fn room_of_the_octets_is_used_again(rt: HostRuntime) -> Result<(), Fail> {
-    let mut row = ReadRow {
-        number: 0,
-        side: Side::N,
-        length: 0,
-        octets: Vec::with_capacity(rt.alloc(), 16)?,
-        gap: None,
-    };
     let mut lines = Lines::new(rt.alloc());
-    assert!(rt; takes(&mut lines, &mut row, HEADER) == Ok(false));
-    assert!(rt; takes(&mut lines, &mut row, b"1 T 01020304\n") == Ok(true));
-    assert!(rt; is_wanted(&row, 1, Side::T, b"\x01\x02\x03\x04"));
-    assert!(rt; takes(&mut lines, &mut row, b"2 N 05\n") == Ok(true));
-    assert!(rt; is_wanted(&row, 2, Side::N, b"\x05"));
+    let mut row = row_with(Vec::with_capacity(rt.alloc(), 16)?);
+    let mut shown = Vec::new(rt.alloc());
+    take_ended(&mut lines, &mut row, HEADER, &mut shown)?;
+    take_ended(&mut lines, &mut row, b"1 T 01020304\n2 N 05\n", &mut shown)?;
+    assert!(rt; shown.as_slice() == b"\x01T\x04\x01\x02\x03\x04\x02N\x01\x05".as_slice());
     assert!(rt; row.octets.capacity() == 16);
     Ok(())
 }

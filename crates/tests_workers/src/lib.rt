@@ -1,11 +1,9 @@
-//! The tests of what the workers share: the queue of pieces, the book of findings, and the workers over both.
+//! The tests of what the workers share: the queue of pieces, and the book of findings.
 #![tactic(auto)]
 
 #[cfg(test)]
-mod pieces;
+mod host;
 #[cfg(test)]
 mod posting;
 #[cfg(test)]
 mod queue;
-#[cfg(test)]
-mod working;

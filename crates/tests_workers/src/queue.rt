@@ -4,16 +4,35 @@ ghost use Rattle.std.specs.Prelude.{◌≡◌, ℕ, ◌+◌, ◌<◌, ◌≤◌,
 ghost use Rattle.line_model.specs.work.Book.{once_below, times};
 ghost use Rattle.shared_work.specs.queue.Rule.{worker};
 
-use crate::pieces::{PIECES, piece};
+use crate::host::Host;
+use line_model::gap::EpochStart;
 use line_model::piece::Piece;
+use line_model::piece_items::PieceItems;
 use shared_work::queue::{Bundle, FeederPass, Taken, Work, WorkerPass};
 use std::alloc::Global;
 use std::marker::Brand;
-use std::process::Abort;
-use std::sync::{Mutex, Wait};
+use std::sync::Wait;
+use std::sync::atomic::{AtomicU64, Ordering};
 use std::test::Fail;
 use std::thread;
-use std::thread::{Scope, Threads};
+use std::thread::Scope;
+use tests_devices::interfaces::PLAIN;
+
+/// A piece without rows.
+fn piece(alloc: Global, id: u32) -> Piece
+    ensures { result.id ≡ id }
+{
+    Piece {
+        id,
+        interface: PLAIN,
+        epoch: 1,
+        start: EpochStart::Restarted,
+        channel: 1,
+        items: PieceItems::new(alloc),
+        last_gap: None,
+        end: None,
+    }
+}
 
 /// The id of the piece that a worker takes, if one waits. No end waits.
 fn take_one<R: Wait>(rt: &R, work: &Work<Brand>, pass: &mut WorkerPass) -> Result<Option<u32>, Fail>
@@ -32,31 +51,9 @@ fn take_one<R: Wait>(rt: &R, work: &Work<Brand>, pass: &mut WorkerPass) -> Resul
     }
 }
 
-/// Feeds a piece to a queue that has room.
-fn feed_now<R: Wait>(
+/// Feeds a piece and an end to a queue that is full, each again once the piece before it was taken.
+fn feed_when_taken<R: Host>(
     rt: &R,
-    work: &Work<Brand>,
-    next: Piece,
-    feeder: &mut FeederPass,
-) -> Result<(), Fail>
-    requires queue { feeder.old.queue ≡ work.now.queue }
-    requires next { feeder.old.record_of.fed ≡ next.id }
-    requires open { feeder.old.record_of.ends ≡ 0 }
-    ensures queue { feeder.new.queue ≡ work.now.queue }
-    ensures fed { OnOk result (feeder.new.record_of.fed ≡ next.id + 1) }
-    ensures open { OnOk result (feeder.new.record_of.ends ≡ 0) }
-    ensures pending { OnOk result (feeder.new.record_of.pending ≡ feeder.old.record_of.pending) }
-{
-    match work.feed(rt, next, feeder) {
-        Ok(()) => Ok(()),
-        Err(_) => Err("a piece came back")?,
-    }
-}
-
-/// Feeds a piece to a queue that is full, and again once the piece before it was taken.
-fn feed_when_taken<R: Wait + Abort>(
-    rt: &R,
-    alloc: Global,
     work: &Work<Brand>,
     feeder: &mut FeederPass,
     pass: &mut WorkerPass,
@@ -72,30 +69,14 @@ fn feed_when_taken<R: Wait + Abort>(
     ensures pass { pass.new.queue ≡ work.now.queue }
     ensures unfinished { OnOk result (pass.new.record_of.finished ≡ false) }
 {
-    let Err(back) = work.feed(rt, piece(alloc, 1), feeder) else {
+    let Err(back) = work.feed(rt, piece(rt.alloc(), 1), feeder) else {
         return Err("two entries in a queue of one")?;
     };
     assert!(rt; back.id == 1);
     assert!(rt; take_one(rt, work, pass)? == Some(0));
-    feed_now(rt, work, back, feeder)
-}
-
-/// Feeds an end to a queue that is full, and again once the piece before it was taken.
-fn end_when_taken<R: Wait + Abort>(
-    rt: &R,
-    work: &Work<Brand>,
-    feeder: &mut FeederPass,
-    pass: &mut WorkerPass,
-) -> Result<(), Fail>
-    requires queue { feeder.old.queue ≡ work.now.queue }
-    requires pass { pass.old.queue ≡ work.now.queue }
-    requires unfinished { pass.old.record_of.finished ≡ false }
-    ensures queue { feeder.new.queue ≡ work.now.queue }
-    ensures fed { feeder.new.record_of.fed ≡ feeder.old.record_of.fed }
-    ensures pending { feeder.new.record_of.pending ≡ feeder.old.record_of.pending }
-    ensures pass { pass.new.queue ≡ work.now.queue }
-    ensures unfinished { OnOk result (pass.new.record_of.finished ≡ false) }
-{
+    let Ok(()) = work.feed(rt, back, feeder) else {
+        return Err("a piece came back")?;
+    };
     assert!(rt; work.feed_end(rt, feeder).is_err());
     assert!(rt; take_one(rt, work, pass)? == Some(1));
     assert!(rt; work.feed_end(rt, feeder).is_ok());
@@ -128,9 +109,10 @@ fn a_queue_of_one_entry_step_by_step(rt: HostRuntime) -> Result<(), Fail> {
     let (work, mut feeder) = Work::<Brand>::new(rt.alloc(), 1)?;
     let mut pass = work.split(&mut feeder);
     assert!(rt; take_one(&rt, &work, &mut pass)? == None);
-    feed_now(&rt, &work, piece(rt.alloc(), 0), &mut feeder)?;
-    feed_when_taken(&rt, rt.alloc(), &work, &mut feeder, &mut pass)?;
-    end_when_taken(&rt, &work, &mut feeder, &mut pass)?;
+    let Ok(()) = work.feed(&rt, piece(rt.alloc(), 0), &mut feeder) else {
+        return Err("a piece came back")?;
+    };
+    feed_when_taken(&rt, &work, &mut feeder, &mut pass)?;
     assert!(rt; join_one(&rt, &work, feeder, pass).is_some());
     for id in 0..2 {
         work.give_back(&rt, Bundle::of(piece(rt.alloc(), id)));
@@ -140,91 +122,87 @@ fn a_queue_of_one_entry_step_by_step(rt: HostRuntime) -> Result<(), Fail> {
     Ok(())
 }
 
+/// Feeds a piece, again while the queue is full.
+fn feed<R: Wait>(
+    rt: &R,
+    work: &Work<Brand>,
+    mut next: Piece,
+    feeder: &mut FeederPass,
+) -> Result<(), &'static str>
+    requires queue { feeder.old.queue ≡ work.now.queue }
+    requires next { feeder.old.record_of.fed ≡ next.id }
+    requires open { feeder.old.record_of.ends ≡ 0 }
+    ensures queue { feeder.new.queue ≡ work.now.queue }
+    ensures fed { OnOk result (feeder.new.record_of.fed ≡ next.id + 1) }
+    ensures open { OnOk result (feeder.new.record_of.ends ≡ 0) }
+{
+    for _ in 0..100_000_000 {
+        match work.feed(rt, next, feeder) {
+            Ok(()) => return Ok(()),
+            Err(back) => next = back,
+        }
+        thread::yield_now();
+    }
+    Err("a piece comes back again and again")
+}
+
 #[test]
 fn a_witness_knows_what_each_worker_took(rt: HostRuntime) -> Result<(), Fail> {
     let (work, mut feeder) = Work::<Brand>::new(rt.alloc(), 4)?;
     let mut witness = work.witness(&mut feeder);
     let mut one = work.split(&mut feeder);
     let mut other = work.split(&mut feeder);
-    feed_one(&rt, rt.alloc(), &work, &mut feeder, 0);
+    feed(&rt, &work, piece(rt.alloc(), 0), &mut feeder)?;
     assert!(rt; matches!(work.take(&rt, &mut one), Taken::Got(_)));
     work.learn(&mut witness, work.witness_of(&mut one));
-    feed_one(&rt, rt.alloc(), &work, &mut feeder, 1);
+    feed(&rt, &work, piece(rt.alloc(), 1), &mut feeder)?;
     assert!(rt; matches!(work.take(&rt, &mut other), Taken::Got(_)));
     work.learn(&mut witness, work.witness_of(&mut other));
     work.confirm(feeder, witness);
     Ok(())
 }
 
-/// Counts a piece that was received.
-fn count(rt: &impl Wait, taken: &Mutex<[u32; 12]>, id: u32) {
-    let mut counts = taken.lock(rt);
-    if let Some(count) = counts.get_mut(id as usize) {
-        *count = count.wrapping_add(1);
-    }
-}
-
-/// Counts the pieces of a bundle that was received.
-fn count_all(rt: &impl Wait, taken: &Mutex<[u32; 12]>, bundle: &Bundle) {
-    let (front, last) = bundle.parts();
-    for piece in front {
-        count(rt, taken, piece.id);
-    }
-    count(rt, taken, last.id);
+/// Counts a piece that was taken, in its hex digit.
+fn count(taken: &AtomicU64, piece: &Piece) {
+    let one = 1u64.wrapping_shl(piece.id.wrapping_mul(4));
+    taken.fetch_add(one, Ordering::SeqCst);
 }
 
 /// Takes pieces until its end comes.
-fn drain<R: Wait>(rt: &R, work: &Work<Brand>, mut pass: WorkerPass, taken: &Mutex<[u32; 12]>)
+fn drain<R: Wait>(rt: &R, work: &Work<Brand>, mut pass: WorkerPass, taken: &AtomicU64)
     requires { (pass.queue ≡ work.now.queue) × (pass.record_of ≡ worker [] false 0) }
 {
     for _ in rt.forever() {
         match work.take(rt, &mut pass) {
-            Taken::Got(bundle) => count_all(rt, taken, &bundle),
+            Taken::Got(bundle) => {
+                let (front, last) = bundle.parts();
+                for piece in front {
+                    count(taken, piece);
+                }
+                count(taken, last);
+            }
             Taken::Finish => return,
             Taken::Empty => thread::yield_now(),
         }
     }
 }
 
-/// Feeds a piece, again while the queue is full.
-fn feed_one<R: Wait>(rt: &R, alloc: Global, work: &Work<Brand>, feeder: &mut FeederPass, id: u32)
+/// Feeds the pieces of three epochs on four channels, until one comes back again and again.
+fn feed_all<R: Host>(rt: &R, work: &Work<Brand>, feeder: &mut FeederPass)
     requires queue { feeder.old.queue ≡ work.now.queue }
-    requires next { feeder.old.record_of.fed ≡ id }
-    requires open { feeder.old.record_of.ends ≡ 0 }
-    ensures queue { feeder.new.queue ≡ work.now.queue }
-    ensures fed { feeder.new.record_of.fed ≡ id + 1 }
-    ensures open { feeder.new.record_of.ends ≡ 0 }
-    ensures pending { feeder.new.record_of.pending ≡ feeder.old.record_of.pending }
-{
-    let mut next = piece(alloc, id);
-    for _ in rt.forever() {
-        match work.feed(rt, next, feeder) {
-            Ok(()) => return,
-            Err(back) => next = back,
-        }
-        thread::yield_now();
-    }
-    unreachable!()
-}
-
-/// Feeds all pieces.
-fn feed_all<R: Wait>(rt: &R, alloc: Global, work: &Work<Brand>, feeder: &mut FeederPass)
-    requires queue { feeder.old.queue ≡ work.now.queue }
-    requires fresh { feeder.old.record_of.fed ≡ 0 }
-    requires open { feeder.old.record_of.ends ≡ 0 }
+    requires fresh { (feeder.old.record_of.fed ≡ 0) × (feeder.old.record_of.ends ≡ 0) }
     ensures { feeder.new.queue ≡ work.now.queue }
 {
-    for id in 0..PIECES {
-        feed_one(rt, alloc, work, feeder, id);
+    for id in 0..12 {
+        let Ok(()) = feed(rt, work, piece(rt.alloc(), id), feeder) else {
+            return;
+        };
     }
 }
 
 /// Feeds an end for each worker.
 fn feed_ends<R: Wait>(rt: &R, work: &Work<Brand>, feeder: &mut FeederPass, workers: u32)
     requires { feeder.old.queue ≡ work.now.queue }
-    ensures queue { feeder.new.queue ≡ work.now.queue }
-    ensures fed { feeder.new.record_of.fed ≡ feeder.old.record_of.fed }
-    ensures pending { feeder.new.record_of.pending ≡ feeder.old.record_of.pending }
 {
     let mut left = workers;
     for _ in rt.forever() {
@@ -236,7 +214,6 @@ fn feed_ends<R: Wait>(rt: &R, work: &Work<Brand>, feeder: &mut FeederPass, worke
             Err(()) => thread::yield_now(),
         }
     }
-    unreachable!()
 }
 
 /// Starts workers; says how many threads were made.
@@ -245,7 +222,7 @@ fn start<'s, 'e: 's, R: Wait + Sync>(
     rt: &'s R,
     work: &'s Work<Brand>,
     feeder: &mut FeederPass,
-    taken: &'s Mutex<[u32; 12]>,
+    taken: &'s AtomicU64,
     workers: u32,
 ) -> u32
     requires { feeder.old.queue ≡ work.now.queue }
@@ -253,7 +230,7 @@ fn start<'s, 'e: 's, R: Wait + Sync>(
     ensures fed { feeder.new.record_of.fed ≡ feeder.old.record_of.fed }
     ensures open { feeder.new.record_of.ends ≡ feeder.old.record_of.ends }
 {
-    let mut started: u32 = 0;
+    let mut started = 0u32;
     for _ in 0..workers {
         let pass = work.split(feeder);
         let worker = scope.spawn(
@@ -261,25 +238,18 @@ fn start<'s, 'e: 's, R: Wait + Sync>(
                 requires { (pass.queue ≡ work.now.queue) × (pass.record_of ≡ worker [] false 0) }
             { drain(rt, work, pass, taken) },
         );
-        if worker.is_ok() {
-            started = started.wrapping_add(1);
-        }
+        started = started.wrapping_add(u32::from(worker.is_ok()));
     }
     started
 }
 
-/// How often each piece was received by `workers` workers.
-fn run<R: Threads + Wait + Sync>(
-    rt: &R,
-    alloc: Global,
-    workers: u32,
-    capacity: usize,
-) -> Result<[u32; 12], Fail>
+/// How often workers took each piece, in hex digits.
+fn run<R: Host>(rt: &R, workers: u32, capacity: usize) -> Result<u64, Fail>
     requires some { 0 < capacity }
     requires few { capacity ≤ 4096 }
 {
-    let (work, mut feeder) = Work::<Brand>::new(alloc, capacity)?;
-    let taken = Mutex::new([0; 12]);
+    let (work, mut feeder) = Work::<Brand>::new(rt.alloc(), capacity)?;
+    let taken = AtomicU64::new(0);
     let (queue, counts) = (&work, &taken);
     thread::scope(
         thread::scope_env(),
@@ -288,59 +258,21 @@ fn run<R: Threads + Wait + Sync>(
             requires { (feeder.queue ≡ queue.now.queue) × (feeder.record_of.fed ≡ 0) × (feeder.record_of.ends ≡ 0) }
         {
             let started = start(scope, rt, queue, &mut feeder, counts, workers);
-            feed_all(rt, alloc, queue, &mut feeder);
+            feed_all(rt, queue, &mut feeder);
             feed_ends(rt, queue, &mut feeder, started);
         },
     );
-    Ok(taken.into_inner())
-}
-
-/// Takes the ends of both workers and joins them, if both ends come. The feeder's record has pieces 0 and 1 then, each
-/// once, and no other.
-fn join_both<R: Wait>(
-    rt: &R,
-    work: &Work<Brand>,
-    mut feeder: FeederPass,
-    mut one: WorkerPass,
-    mut other: WorkerPass,
-) -> Option<FeederPass>
-    requires feeder { (feeder.queue ≡ work.now.queue) × (feeder.record_of.fed ≡ 2)
-        × (feeder.record_of.pending ≡ 2) }
-    requires one { (one.queue ≡ work.now.queue) × (one.record_of.finished ≡ false) }
-    requires other { (other.queue ≡ work.now.queue) × (other.record_of.finished ≡ false) }
-    ensures each_once { IfSome result (λ joined. (x : ℕ)
-        → times x joined.record_of.taken ≡ once_below x 2) }
-{
-    let Taken::Finish = work.take(rt, &mut one) else {
-        return None;
-    };
-    let Taken::Finish = work.take(rt, &mut other) else {
-        return None;
-    };
-    work.join(&mut feeder, one);
-    work.join(&mut feeder, other);
-    Some(feeder)
-}
-
-#[test]
-fn the_end_of_each_worker_comes_after_the_pieces(rt: HostRuntime) -> Result<(), Fail> {
-    let (work, mut feeder) = Work::<Brand>::new(rt.alloc(), 4)?;
-    let mut one = work.split(&mut feeder);
-    let mut other = work.split(&mut feeder);
-    feed_one(&rt, rt.alloc(), &work, &mut feeder, 0);
-    feed_one(&rt, rt.alloc(), &work, &mut feeder, 1);
-    feed_ends(&rt, &work, &mut feeder, 2);
-    assert!(rt; matches!(work.take(&rt, &mut one), Taken::Got(_)));
-    assert!(rt; matches!(work.take(&rt, &mut other), Taken::Got(_)));
-    assert!(rt; join_both(&rt, &work, feeder, one, other).is_some());
-    Ok(())
+    Ok(taken.load(Ordering::SeqCst))
 }
 
 #[test]
 fn each_piece_is_taken_once_by_any_number_of_workers(rt: HostRuntime) -> Result<(), Fail> {
     for (workers, capacity) in [(1, 1), (1, 64), (2, 1), (2, 64), (64, 1), (64, 64)] {
-        let counts = run(&rt, rt.alloc(), workers, capacity)?;
-        assert!(rt; counts == [1; 12], "{workers} workers, capacity {capacity}");
+        let taken = run(&rt, workers, capacity)?;
+        assert!(rt;
+            taken == 0x1111_1111_1111,
+            "{workers} workers, capacity {capacity}"
+        );
     }
     Ok(())
 }

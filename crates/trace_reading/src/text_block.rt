@@ -9,7 +9,6 @@ ghost use Rattle.trace_reading.specs.TextBlocks.{AreRead, HasReadTo, IsReadAs};
 use line_model::fault::Fault;
 use line_model::interface::Interface;
 use line_model::row::ReadRow;
-use line_model::state::Side;
 use packet_decode::decode::item_of_row;
 use restart_epochs::block_cut::{BlockCut, BlockCutter};
 use restart_epochs::restart::Restart;
@@ -166,13 +165,7 @@ fn rows_of<A: Allocator + Copy>(
     let mut lines = Lines::at_rows(alloc, &start.interface);
     let used = mem::replace(lists, RowsByChannel::new(alloc));
     let mut rows = RowsSoFar::new(alloc, start, used);
-    let mut row = ReadRow {
-        number: 0,
-        side: Side::T,
-        length: 0,
-        octets: Vec::new(alloc),
-        gap: None,
-    };
+    let mut row = ReadRow::blank(alloc);
     rows.add_lines(bytes, &mut lines, &mut row).ok()?;
     let span = lines.end_block(rows.first)?;
     let (cut, left) = rows.cutter.end().ok()?;

@@ -16,7 +16,6 @@ use line_model::fault::Fault;
 use line_model::interface::Interface;
 use line_model::piece::Piece;
 use line_model::row::ReadRow;
-use line_model::state::Side;
 use packet_decode::decode::item_of_row;
 use restart_epochs::cutter::Cutter;
 use std::alloc::{Allocator, Global};
@@ -149,13 +148,7 @@ impl<A: Allocator + Copy> TextCutter<A> {
     {
         TextCutter {
             lines: Lines::new(alloc),
-            row: ReadRow {
-                number: 0,
-                side: Side::T,
-                length: 0,
-                octets: Vec::new(alloc),
-                gap: None,
-            },
+            row: ReadRow::blank(alloc),
             row_cutter: None,
         }
     }

@@ -15,7 +15,6 @@ use line_model::device::LastLine;
 use line_model::fault::{Fault, Kind};
 use line_model::interface::Interface;
 use line_model::row::{ReadRow, Row, is_unqualified};
-use line_model::state::Side;
 use std::alloc::{AllocError, Allocator};
 use std::marker::Model;
 
@@ -78,13 +77,7 @@ pub struct TextEnd {
 
 /// Returns a row for others to be read into. It needs no memory.
 fn blank_row<A: Allocator + Clone>(alloc: &A) -> Result<ReadRow<A>, AllocError> {
-    Ok(ReadRow {
-        number: 0,
-        side: Side::T,
-        length: 0,
-        octets: Vec::new(alloc.clone()?),
-        gap: None,
-    })
+    Ok(ReadRow::blank(alloc.clone()?))
 }
 
 /// The row that was read with all its octets.

@@ -1,6 +1,7 @@
 -- What the program answers of a capture is the report of its rows.
-use Rattle.std.proofs.Common.{◌≡◌, ◌∙◌, sym, ap, subst, refl, ℕ, zero, suc, ◌<◌, ◌⊎◌, inl, inr, Bool, true, false, List, [], Option, None, Some, arith}
-use Rattle.std.specs.Prelude.{option_map, if◌then◌else◌}
+use Rattle.std.proofs.Common.{◌≡◌, ◌∙◌, sym, ap, subst, refl, ℕ, zero, suc, ◌<◌, ◌⊎◌, inl, inr, Bool, true, false, List, [], ◌∷◌, ◌++◌, Option, Result, Ok, Err, None, Some, arith, map}
+use Rattle.std.specs.Prelude.{◌||◌, ◌≢◌, IfOk, is_some, option_map, if◌then◌else◌}
+use Rattle.std.specs.Option.{option_and_then}
 use Rattle.line_model.specs.basics.Device.{with_more}
 use Rattle.line_model.specs.basics.Records.{Row}
 use Rattle.line_model.specs.declared.device.Sink.{Ghosts as Sink}
@@ -10,21 +11,49 @@ use Rattle.line_model.specs.text.Text.{fault}
 use Rattle.line_model.specs.traces.Traces.{trace_report}
 use Rattle.json_lines.specs.Json.{json_text}
 use Rattle.streams.specs.declared.progress.ShowProgress.{ShowProgress}
-use Rattle.capture_report.specs.CaptureTexts.{capture_text, captured, numbered_rows}
+use Rattle.capture_report.specs.CaptureTexts.{capture_rows, capture_text, captured, interface_seen, numbered_rows, printer_by, sight_in}
+use Rattle.capture_report.specs.Given.{is_unnamed}
+use Rattle.capture_report.specs.HeaderTexts.{head_text}
 use Rattle.capture_report.specs.Laws.{HasRows}
 use Rattle.capture_report.specs.Recordings.{recorded}
 use Rattle.capture_report.specs.Records.{Record}
+use Rattle.capture_report.specs.Texts.{rows_printed}
+use Rattle.capture_report.specs.declared.options.CaptureOptions.{CaptureOptions}
 use Rattle.capture_report.proofs.CaptureFileLemmas.{file_law}
+use Rattle.capture_report.proofs.HeaderLemmas.{header_there}
+use Rattle.clap.specs.Words.{HasKind, IsAmong, Kinds, Text, first_of, kind_of, matches_of}
+use Rattle.clap.specs.declared.error.Error.{Error}
+use Rattle.clap.specs.declared.error.kind.ErrorKind.{ErrorKind}
+use Rattle.clap.specs.declared.error.kind.ErrorKind.TheVariants.{OutOfMemory}
 use Rattle.command_line.specs.Answer.{IsAnswerTo, IsReportOutput}
-use Rattle.command_line.specs.Asked.{AskedWords, Trace}
+use Rattle.command_line.specs.Asked.{AskedWords, Trace, asked_by, asked_of, has_options, unless_wrong}
+use Rattle.command_line.specs.Copies.{CopiesOf}
+use Rattle.command_line.specs.Options.{command, words_fault}
 use Rattle.command_line.specs.Program.{HasFirstObjects, IsScanned, IsStatusOf, IsUnread, is_followed, lag_of, report_in}
 use Rattle.command_line.specs.declared.asked.AskedReport.{AskedReport}
 use Rattle.command_line.specs.declared.asked.TraceOutput.TheVariants.{Report}
-use Rattle.x25scan.specs.Captures.{HasCaptureReport, IsCapture, ReportsCaptures, rows_report}
+use Rattle.x25scan.specs.Captures.{AsksOptions, HasCaptureReport, HasHeader, IsCapture, PrintsCaptures, ReportsCaptures, rows_report}
 
 -- what a capture shows
-shown_text : (octets : List ℕ) (records : List Record) (file : Option (List ℕ)) → file ≡ Some octets → IsCapture octets records → recorded file ≡ Some (capture_text records)
-shown_text octets records file is c = ap recorded is ∙ ap (λ b. if b then captured (Some octets) else Some octets) c.begins ∙ ap (λ (o : Option (List Record)). option_map capture_text o) c.whole
+shown_text : (o : CaptureOptions) (octets : List ℕ) (records : List Record) (file : Option (List ℕ)) → file ≡ Some octets → IsCapture octets records → recorded o file ≡ capture_text o records
+shown_text o octets records file is c =
+    ap (recorded o) is ∙ ap (λ b. if b then captured o (Some octets) else Some octets) c.begins ∙ ap (λ (found : Option (List Record)). option_and_then (capture_text o) found) c.whole
+
+-- there is a header
+found_header : (o : CaptureOptions) (records : List Record) → HasHeader o records → is_some (interface_seen o records) ≡ true
+found_header o records h = at (is_unnamed o.header) refl h
+  where
+    at : (b : Bool) → is_unnamed o.header ≡ b → (b || is_some (interface_seen o records)) ≡ true → is_some (interface_seen o records) ≡ true
+    at true e h = header_there o.header (sight_in o records).seen e
+    at false e h = h
+
+found_text : (o : CaptureOptions) (records : List Record) → HasHeader o records → (text : List ℕ) × (capture_text o records ≡ Some text)
+found_text o records h = at (interface_seen o records) (found_header o records h)
+  where
+    at : (found : Option Interface) → is_some found ≡ true
+        → (text : List ℕ) × (option_map (λ head. head ++ rows_printed (printer_by o (sight_in o records)) (capture_rows o records)) (option_map (λ i. head_text i (sight_in o records).seen o.header) found) ≡ Some text)
+    at None h = cc h
+    at (Some i) h = (head_text i (sight_in o records).seen o.header ++ rows_printed (printer_by o (sight_in o records)) (capture_rows o records), refl)
 
 -- a status below 2 is that of a report
 scanned : (lag : ℕ) (followed : Bool) (text : List ℕ) (left asked before after : Option (List ℕ)) (well : Type 0) (status : ℕ) → IsScanned lag followed text left asked before after well status → status < 2
@@ -58,17 +87,46 @@ report_same : (json : Bool) (text : List ℕ) (i : Interface) (rows : List Row) 
 report_same false text i rows h = h.report
 report_same true text i rows h = ap json_text h.report
 
-pub reports : {S K E : Type 0} (read : Source S) (write : Sink K) (print : Sink E) (named files : List ℕ → Option (List ℕ)) → ((name : List ℕ) → named name ≡ recorded (files name)) → (asked : AskedWords) (source source′ : S) (sink sink′ : K) (errors errors′ : E) (status : ℕ)
-    → IsUnread source source′ sink sink′ status ⊎ IsAnswerTo read write print named asked source source′ sink sink′ errors errors′ status → ReportsCaptures files asked (write.taken sink) (write.taken sink′) status
-reports read write print named files is asked source source′ sink sink′ errors errors′ status (inl unread) = λ name progress report octets records asks shows c few. let other = unread.other in absurd (omega (arith, few, other))
-reports read write print named files is asked source source′ sink sink′ errors errors′ status (inr answer) = λ name progress report octets records asks shows c few.
+-- nothing was read: the status is none of a report
+unread_high : {A : Type 0} (status : ℕ) → (status ≡ 3) ⊎ (A × (status ≡ 64)) → status < 2 → ⊥
+unread_high status (inl three) few = omega (arith, three, few)
+unread_high status (inr usage) few = let is = usage.1 in omega (arith, is, few)
+
+pub reports : {S K E : Type 0} (read : Source S) (write : Sink K) (print : Sink E) (o : CaptureOptions) (named files : List ℕ → Option (List ℕ)) → ((name : List ℕ) → named name ≡ recorded o (files name)) → (asked : AskedWords) (source source′ : S) (sink sink′ : K) (errors errors′ : E) (status : ℕ)
+    → IsUnread (has_options asked) source source′ sink sink′ status ⊎ IsAnswerTo read write print named asked source source′ sink sink′ errors errors′ status → ReportsCaptures files o asked (write.taken sink) (write.taken sink′) status
+reports read write print o named files is asked source source′ sink sink′ errors errors′ status (inl unread) = λ name progress report given octets records asks shows c header few. absurd (unread_high status unread.other few)
+reports read write print o named files is asked source source′ sink sink′ errors errors′ status (inr answer) = λ name progress report given octets records asks shows c header few.
     let output : IsReportOutput read write print report (named name) source′ sink sink′ errors errors′ status = subst (λ a. IsAnswerTo read write print named a source source′ sink sink′ errors errors′ status) asks answer in
-    let text = capture_text records in
-    let there : named name ≡ Some text = is name ∙ shown_text octets records (files name) shows c in
-    let said = reported (lag_of report.mode) report.json (is_followed report.mode) text (read.left source′) (read.before source′) (write.taken sink) (write.taken sink′) (write.failures sink′ ≡ write.failures sink) status (output.shown text there) few in
-    let law = file_law octets records c.bytes c.whole said.0 in
+    let found = found_text o records header in
+    let there : named name ≡ Some found.0 = is name ∙ shown_text o octets records (files name) shows c ∙ found.1 in
+    let said = reported (lag_of report.mode) report.json (is_followed report.mode) found.0 (read.left source′) (read.before source′) (write.taken sink) (write.taken sink′) (write.failures sink′ ≡ write.failures sink) status (output.shown found.0 there) few in
+    let law = file_law o octets records found.0 c.bytes c.whole found.1 said.0 in
     record {
       interface = law.0;
       seen = law.1;
-      taken = said.1 ∙ ap (λ xs. with_more (write.taken sink) xs) (report_same report.json text law.0 (numbered_rows records) law.2);
+      taken = said.1 ∙ ap (λ xs. with_more (write.taken sink) xs) (report_same report.json found.0 law.0 (numbered_rows o records) law.2);
     }
+
+-- and of its text
+pub prints : {S K E : Type 0} (read : Source S) (write : Sink K) (print : Sink E) (o : CaptureOptions) (named files : List ℕ → Option (List ℕ)) → ((name : List ℕ) → named name ≡ recorded o (files name)) → (asked : AskedWords) (source source′ : S) (sink sink′ : K) (errors errors′ : E) (status : ℕ)
+    → IsUnread (has_options asked) source source′ sink sink′ status ⊎ IsAnswerTo read write print named asked source source′ sink sink′ errors errors′ status → PrintsCaptures files o asked (write.taken sink) (write.taken sink′) status
+prints read write print o named files is asked source source′ sink sink′ errors errors′ status (inl unread) = λ name progress given octets records text asks shows c same none. absurd (unread_high status unread.other (omega (arith, none)))
+prints read write print o named files is asked source source′ sink sink′ errors errors′ status (inr answer) = λ name progress given octets records text asks shows c same none.
+    let copies : CopiesOf (named name) (write.taken sink) (write.taken sink′) status = subst (λ a. IsAnswerTo read write print named a source source′ sink sink′ errors errors′ status) asks answer in
+    (copies text (is name ∙ shown_text o octets records (files name) shows c ∙ same)).whole none
+
+-- ---- the words
+
+-- words with a fault ask for no trace
+wrong_words : (words : List Text) (o : CaptureOptions) (kind : ErrorKind) → IsAmong kind (words_fault words) → AsksOptions (asked_of words) o
+wrong_words words o kind among = at (words_fault words) (asked_by (λ name. first_of name (matches_of command words))) among
+  where
+    at : (kinds : Kinds) (asked : AskedWords) → IsAmong kind kinds → AsksOptions (unless_wrong kinds asked) o
+    at [] asked among = absurd among
+    at (k ∷ kinds) asked among = λ name progress output given asks. cc asks
+
+-- whatever is made of them
+pub refused_words : (words : List Text) (e : Error) (r : Result CaptureOptions ℕ) → HasKind (words_fault words) e → IfOk r (λ o. kind_of e ≢ OutOfMemory) → IfOk r (AsksOptions (asked_of words))
+refused_words words e (Ok o) (inl memory) other = absurd (other memory)
+refused_words words e (Ok o) (inr among) other = wrong_words words o (kind_of e) among
+refused_words words e (Err status) kinds other = tt

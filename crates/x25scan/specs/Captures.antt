@@ -1,5 +1,5 @@
 -- What the program writes of a capture.
-use Rattle.std.specs.Prelude.{◌≡◌, ℕ, ◌<◌, Bool, true, false, List, Option, Some}
+use Rattle.std.specs.Prelude.{◌≡◌, ℕ, ◌<◌, ◌||◌, Bool, true, false, List, Option, Some, is_some}
 use Rattle.hex.specs.Hex.{IsBytes}
 use Rattle.line_model.specs.basics.Device.{with_more}
 use Rattle.line_model.specs.basics.Records.{Row}
@@ -9,33 +9,50 @@ use Rattle.line_model.specs.packets.Says.{items_of}
 use Rattle.json_lines.specs.Json.{json_text}
 use Rattle.streams.specs.declared.progress.ShowProgress.{ShowProgress}
 use Rattle.capture_files.specs.CaptureFiles.{records_of}
-use Rattle.capture_report.specs.CaptureTexts.{interface_seen, numbered_rows}
+use Rattle.capture_report.specs.CaptureTexts.{capture_text, interface_seen, numbered_rows}
+use Rattle.capture_report.specs.Given.{is_unnamed}
 use Rattle.capture_report.specs.Recordings.{begins_as_capture}
 use Rattle.capture_report.specs.Records.{Record}
+use Rattle.capture_report.specs.declared.options.CaptureOptions.{CaptureOptions}
 use Rattle.command_line.specs.Asked.{AskedWords, Trace}
 use Rattle.command_line.specs.declared.asked.AskedReport.{AskedReport}
-use Rattle.command_line.specs.declared.asked.TraceOutput.TheVariants.{Report}
+use Rattle.command_line.specs.declared.asked.TraceOutput.{TraceOutput}
+use Rattle.command_line.specs.declared.asked.TraceOutput.TheVariants.{Report, Text}
 
 -- the report of one observer over rows, or the objects of its lines
 abbrev pub rows_report : (json : Bool) → Interface → List Row → List ℕ
 rows_report false i rows = report i (items_of i rows)
 rows_report true i rows = json_text (report i (items_of i rows))
 
--- octets are those of a pcap file without damage, which has these records
+-- octets are those of a pcap or pcapng file without damage, which has these records
 pub record IsCapture (octets : List ℕ) (records : List Record) : Type 0 where
   pub bytes : IsBytes octets
   pub begins : begins_as_capture octets ≡ true
   pub whole : records_of true 0 octets ≡ Some records
 
--- a sink accepted the report of one observer over the rows of a capture, under the interface that was seen
-pub record HasCaptureReport (records : List Record) (json : Bool) (before after : Option (List ℕ)) : Type 0 where
-  pub interface : Interface
-  pub seen : interface_seen records ≡ Some interface
-  pub taken : after ≡ with_more before (rows_report json interface (numbered_rows records))
+-- no number of the header is given, or those that are given and those that were seen are the numbers of an interface
+abbrev pub HasHeader : CaptureOptions → List Record → Type 0
+HasHeader o records = (is_unnamed o.header || is_some (interface_seen o records)) ≡ true
 
--- where the words ask for the report of a file, and the system shows that it is such a capture, a status below 2 says that the sink accepted
--- the report of its rows
-abbrev pub ReportsCaptures : (files : List ℕ → Option (List ℕ)) → AskedWords → (before after : Option (List ℕ)) → (status : ℕ) → Type 0
-ReportsCaptures files asked before after status =
-    (name : List ℕ) (progress : ShowProgress) (report : AskedReport) (octets : List ℕ) (records : List Record) → asked ≡ Trace (Some name) progress (Report report) → files name ≡ Some octets → IsCapture octets records
-    → status < 2 → HasCaptureReport records report.json before after
+-- a sink accepted the report of one observer over the rows of a capture, under the interface of what is given and what was seen
+pub record HasCaptureReport (o : CaptureOptions) (records : List Record) (json : Bool) (before after : Option (List ℕ)) : Type 0 where
+  pub interface : Interface
+  pub seen : interface_seen o records ≡ Some interface
+  pub taken : after ≡ with_more before (rows_report json interface (numbered_rows o records))
+
+-- the words ask for the report of a file, and the system shows that it is such a capture: a status below 2 says that the sink accepted the report
+-- of its rows, as these options read them
+abbrev pub ReportsCaptures : (files : List ℕ → Option (List ℕ)) → CaptureOptions → AskedWords → (before after : Option (List ℕ)) → (status : ℕ) → Type 0
+ReportsCaptures files o asked before after status =
+    (name : List ℕ) (progress : ShowProgress) (report : AskedReport) (given : CaptureOptions) (octets : List ℕ) (records : List Record) → asked ≡ Trace (Some name) progress (Report report) given → files name ≡ Some octets → IsCapture octets records
+    → HasHeader o records → status < 2 → HasCaptureReport o records report.json before after
+
+-- the words ask for the text of its trace: status 0 says that the sink accepted it
+abbrev pub PrintsCaptures : (files : List ℕ → Option (List ℕ)) → CaptureOptions → AskedWords → (before after : Option (List ℕ)) → (status : ℕ) → Type 0
+PrintsCaptures files o asked before after status =
+    (name : List ℕ) (progress : ShowProgress) (given : CaptureOptions) (octets : List ℕ) (records : List Record) (text : List ℕ) → asked ≡ Trace (Some name) progress Text given → files name ≡ Some octets → IsCapture octets records → capture_text o records ≡ Some text
+    → status ≡ 0 → after ≡ with_more before text
+
+-- words that ask for a trace ask for captures to be read so
+abbrev pub AsksOptions : AskedWords → CaptureOptions → Type 0
+AsksOptions asked o = (name : Option (List ℕ)) (progress : ShowProgress) (output : TraceOutput) (given : CaptureOptions) → asked ≡ Trace name progress output given → o ≡ given

@@ -1,11 +1,18 @@
 //! Reads the recorded packets of an X.25 interface, and reports what an observer of it finds.
 #![tactic(auto)]
 
-ghost use Rattle.std.specs.Prelude.{map};
-ghost use Rattle.command_line.specs.Asked.{asked_of};
-ghost use Rattle.x25scan.specs.Captures.{ReportsCaptures};
+ghost use Rattle.std.specs.Prelude.{◌≡◌, ◌≢◌, IfErr, IfOk, map};
+ghost use Rattle.clap.specs.Words.{kind_of};
+ghost use Rattle.clap.specs.declared.error.kind.ErrorKind.TheVariants.{OutOfMemory};
+ghost use Rattle.command_line.specs.Asked.{asked_of, asked_words};
+ghost use Rattle.x25scan.specs.Captures.{AsksOptions, PrintsCaptures, ReportsCaptures};
 
+use capture_report::options::CaptureOptions;
 use capture_report::recordings::Recordings;
+use clap::Error;
+use clap::error::ErrorKind as FaultKind;
+use command_line::asked::Asked;
+use command_line::options::parse;
 use command_line::program::{OTHER_FAULT, USAGE, program};
 use line_model::device::Sink;
 use std::alloc::Global;
@@ -21,9 +28,42 @@ use streams::output::Output;
 use streams::progress::Progress;
 use streams::system::System;
 
+/// Returns how captures are read for what is asked for. What is no trace has no say in this.
+fn options_of(asked: Asked<'_>) -> CaptureOptions
+    ensures { AsksOptions (asked_words asked.entry) result }
+{
+    match asked {
+        Asked::Trace(trace) => trace.capture,
+        Asked::Conflict(_) | Asked::Explanation(_) => CaptureOptions::plain(),
+    }
+}
+
+/// Returns how captures are read where the words are refused. Fails with the exit status when memory is refused.
+fn refused_options(error: &Error) -> Result<CaptureOptions, u8>
+    ensures kind { IfOk result (λ options. kind_of error.now ≢ OutOfMemory) }
+    ensures status { IfErr result (λ status. status ≡ 3) }
+{
+    match error.kind() {
+        FaultKind::OutOfMemory => Err(OTHER_FAULT),
+        _ => Ok(CaptureOptions::plain()),
+    }
+}
+
+/// Returns how captures are read, as the words ask for it. Fails with the exit status when memory is refused.
+fn capture_options(alloc: Global, words: &[&str]) -> Result<CaptureOptions, u8>
+    ensures asked { IfOk result (AsksOptions (asked_of (map (λ word. word.now) words.now))) }
+    ensures status { IfErr result (λ status. status ≡ 3) }
+{
+    match parse(alloc, words) {
+        Ok(asked) => Ok(options_of(asked)),
+        Err(error) => refused_options(&error),
+    }
+}
+
 /// Runs the program over recordings. Where the words ask for the report of a file, and the system shows that it is a pcap
-/// file without damage, a status below 2 says that the sink accepted the report of one observer over the rows of the
-/// capture.
+/// or pcapng file without damage, a status below 2 says that the sink accepted the report of one observer over the rows of
+/// the capture, as the options of the recordings read them. Where they ask for the text of its trace, status 0 says that
+/// the sink accepted that.
 fn run_over<
     O: Opener + Clock + Drop,
     P: Eprint + Drop,
@@ -40,7 +80,10 @@ fn run_over<
     sink: &mut K,
     errors: &mut E,
 ) -> u8
-    ensures { ReportsCaptures (O.named source.old.system.now.system) (asked_of (map (λ word. word.now) words.now)) (K.taken sink.old) (K.taken sink.new) result }
+    ensures reported { let recordings = source.old.system.now in
+        ReportsCaptures (O.named recordings.system) recordings.options (asked_of (map (λ word. word.now) words.now)) (K.taken sink.old) (K.taken sink.new) result }
+    ensures printed { let recordings = source.old.system.now in
+        PrintsCaptures (O.named recordings.system) recordings.options (asked_of (map (λ word. word.now) words.now)) (K.taken sink.old) (K.taken sink.new) result }
 {
     program(threads, alloc, words, source, sink, errors)
 }
@@ -50,8 +93,9 @@ fn run_streams<R: Threads + Wait + Clock + Sync>(
     rt: &HostRuntime,
     threads: &R,
     words: &[&str],
+    options: CaptureOptions,
 ) -> u8 {
-    let recordings = Recordings::new(rt.alloc(), System::new(rt), rt.stderr());
+    let recordings = Recordings::new(rt.alloc(), System::new(rt), rt.stderr(), options);
     let mut source = FileInput::new(
         rt.alloc(),
         &recordings,
@@ -89,7 +133,9 @@ fn run_process<R: Threads + Wait + Clock + Sync>(rt: &HostRuntime, threads: &R) 
         .map(|word| word.as_str())
         .collect(rt.alloc())
         .map_err(|_| OTHER_FAULT)?;
-    Ok(run_streams(rt, threads, names.as_slice()))
+    let words = names.as_slice();
+    let options = capture_options(rt.alloc(), words)?;
+    Ok(run_streams(rt, threads, words, options))
 }
 
 fn main(rt: HostRuntime) -> ExitCode {

@@ -1,3 +1,5 @@
+pub mod Waits
 pub mod Owning
+pub mod Rows
 pub mod Sound
 pub mod Found

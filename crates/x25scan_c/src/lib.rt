@@ -3,24 +3,28 @@
 //! An export starts no thread and waits for none. A `Scan` is used by one call at a time.
 #![tactic(auto)]
 
-ghost use Rattle.std.specs.Prelude.{◌≡◌, ◌≢◌, ◌++◌, ◌∷◌, ◌==◌, if◌then◌else◌, ℕ, List, [], None, Some, true, false, IfErr, IfOk, OnErr, OnOk, IfSome, drop, length, length as size, take as first};
+ghost use Rattle.std.specs.Prelude.{◌≡◌, ◌≢◌, ◌++◌, ◌∷◌, ◌==◌, if◌then◌else◌, ℕ, List, [], None, Some, true, false, IfErr, IfOk, OnErr, OnOk, IfSome, length, length as size, take as first};
 ghost use Rattle.line_model.specs.basics.Faults.{kind_number};
 ghost use Rattle.line_model.specs.declared.finding.Finding.{Finding as AnyFinding};
 ghost use Rattle.line_model.specs.declared.state.Side.{Side as AnySide};
 ghost use Rattle.line_model.specs.text.Text.{early, fault};
-ghost use Rattle.live_report.specs.Found.{found as findings_of};
 ghost use Rattle.trace_text.specs.EndedPart.{ended_part as ended};
-ghost use Rattle.trace_text.specs.RowTexts.{row_text, side_letter};
+ghost use Rattle.trace_text.specs.RowTexts.{side_letter};
 ghost use Rattle.x25scan_c.specs.Owning.{Holds};
 ghost use Rattle.x25scan_c.specs.Found.{numbers_of};
-ghost use Rattle.x25scan_c.specs.Sound.{AddsFound, HasReport, IsSoundScan, IsSoundScanning, KeepsFault, OfScans, WasScanned, has_ended, reports, scan_reports, scan_ended, waiting_findings, waiting_text};
+ghost use Rattle.x25scan_c.specs.Rows.{EndsRows};
+ghost use Rattle.x25scan_c.specs.Sound.{HasFoundBefore, HasRead, HasReport, HasRowsBefore, IsSound, IsSoundScan, KeepsEndFault, KeepsFault, OfScans, WasScanned, packet_line, scan_ended, scan_prints_rows};
+ghost use Rattle.x25scan_c.specs.Waits.{waiting};
 
 pub mod errors;
 pub mod found;
 mod handle;
 mod loose;
 mod reading;
+mod report_reading;
+mod row_reading;
 mod scanning;
+mod waiting;
 
 use crate::errors::{
     ARGUMENT, CLOSED, MEMORY, NONE_LEFT, NOT_OPEN, OK, OPEN, ROWS, SHORT, words_of,
@@ -52,7 +56,7 @@ pub struct Scan {
 fn take(alloc: Global, scan: &mut Scan) -> Result<Box<Scanning>, u32>
     requires { IsSoundScan ⟦<PackedChannel<Global> as Channel<Global>>⟧ scan.old.observer.value }
     ensures taken { OnOk result (scan.old.mark ≡ 1) }
-    ensures sound { IfOk result (λ b. IsSoundScanning ⟦<PackedChannel<Global> as Channel<Global>>⟧ b.value) }
+    ensures sound { IfOk result (λ b. IsSound ⟦<PackedChannel<Global> as Channel<Global>>⟧ b.value.reading) }
     ensures held { IfOk result (λ b. scan.old.observer.value ≡ Some b.value) }
     ensures refused { OnErr result (scan.new ≡ scan.old) }
     ensures number { IfErr result (λ error. error ≡ (if scan.old.mark == 2 then 3 else 8)) }
@@ -74,7 +78,7 @@ fn take(alloc: Global, scan: &mut Scan) -> Result<Box<Scanning>, u32>
 
 /// Puts back what an open scan holds.
 fn put(scan: &mut Scan, held: Box<Scanning>)
-    requires { IsSoundScanning ⟦<PackedChannel<Global> as Channel<Global>>⟧ held.value }
+    requires { IsSound ⟦<PackedChannel<Global> as Channel<Global>>⟧ held.value.reading }
     ensures mark { scan.new.mark ≡ 1 }
     ensures held { scan.new.observer.value ≡ Some held.value }
     ensures sound { IsSoundScan ⟦<PackedChannel<Global> as Channel<Global>>⟧ scan.new.observer.value }
@@ -107,8 +111,8 @@ pub extern "C" fn x25scan_open_form(alloc: Global, scan: &mut Scan, form: u32) -
     ensures sound { IsSoundScan ⟦<PackedChannel<Global> as Channel<Global>>⟧ scan.new.observer.value }
     // Nothing was fed, and nothing waits.
     ensures fed { result ≡ 0 → WasScanned ⟦<PackedChannel<Global> as Channel<Global>>⟧ [] scan.new.observer.value }
-    ensures empty { result ≡ 0 → IfSome scan.new.observer.value (λ s. (waiting_findings s ≡ []) × (waiting_text s ≡ [])) }
-    ensures form { result ≡ 0 → scan_reports scan.new.observer.value ≡ (if form == 2 then false else true) }
+    ensures empty { result ≡ 0 → IfSome scan.new.observer.value (λ s. (waiting s.found ≡ []) × (waiting s.text ≡ [])) }
+    ensures form { result ≡ 0 → scan_prints_rows scan.new.observer.value ≡ (form == 2) }
     ensures refused { result ≢ 0 → scan.new ≡ scan.old }
 {
     if scan.mark == IS_OPEN {
@@ -132,15 +136,19 @@ pub extern "C" fn x25scan_feed_text(alloc: Global, scan: &mut Scan, text: &[u8])
     requires { IsSoundScan ⟦<PackedChannel<Global> as Channel<Global>>⟧ scan.old.observer.value }
     ensures mark { scan.new.mark ≡ scan.old.mark }
     ensures sound { IsSoundScan ⟦<PackedChannel<Global> as Channel<Global>>⟧ scan.new.observer.value }
-    // The observer was fed the text, and what its rows found waits.
-    ensures fed { (before : List ℕ) → WasScanned ⟦<PackedChannel<Global> as Channel<Global>>⟧ before scan.old.observer.value → result ≡ 0
-        → WasScanned ⟦<PackedChannel<Global> as Channel<Global>>⟧ (before ++ text.now) scan.new.observer.value }
-    ensures found { (before : List ℕ) → WasScanned ⟦<PackedChannel<Global> as Channel<Global>>⟧ before scan.old.observer.value → result ≡ 0
-        → OfScans (λ s t. AddsFound (reports s.reading) (waiting_findings s) (waiting_findings t)
-        (findings_of before) (findings_of (before ++ text.now))) scan.old.observer.value scan.new.observer.value }
+    // The observer was fed the text, and what its rows found waits, or where rows are printed their objects.
+    ensures read { (before : List ℕ) → WasScanned ⟦<PackedChannel<Global> as Channel<Global>>⟧ before scan.old.observer.value → result ≡ 0
+        → OfScans (HasRead ⟦<PackedChannel<Global> as Channel<Global>>⟧ before (before ++ text.now)) scan.old.observer.value scan.new.observer.value }
     // The trace is refused by its first faulty line, which is kept.
     ensures refused { (before : List ℕ) → WasScanned ⟦<PackedChannel<Global> as Channel<Global>>⟧ before scan.old.observer.value → result ≡ 2
         → IfSome scan.new.observer.value (KeepsFault (early (before ++ text.now))) }
+    // What the rows before it found waits, or their objects.
+    ensures found { (before : List ℕ) → WasScanned ⟦<PackedChannel<Global> as Channel<Global>>⟧ before scan.old.observer.value
+        → scan_prints_rows scan.old.observer.value ≡ false → result ≡ 2
+        → OfScans (HasFoundBefore before (before ++ text.now)) scan.old.observer.value scan.new.observer.value }
+    ensures before { (before : List ℕ) → WasScanned ⟦<PackedChannel<Global> as Channel<Global>>⟧ before scan.old.observer.value
+        → scan_prints_rows scan.old.observer.value ≡ true → result ≡ 2
+        → OfScans (HasRowsBefore before (before ++ text.now)) scan.old.observer.value scan.new.observer.value }
     ensures ended { scan_ended scan.old.observer.value ≡ true → result ≢ 0 }
     ensures closed { scan.old.mark ≢ 1 → (result ≡ (if scan.old.mark == 2 then 3 else 8)) × (scan.new ≡ scan.old) }
 {
@@ -166,14 +174,10 @@ pub extern "C" fn x25scan_feed_packet(
     requires { IsSoundScan ⟦<PackedChannel<Global> as Channel<Global>>⟧ scan.old.observer.value }
     ensures mark { scan.new.mark ≡ scan.old.mark }
     ensures sound { IsSoundScan ⟦<PackedChannel<Global> as Channel<Global>>⟧ scan.new.observer.value }
-    // The observer was fed the line that writes the packet, and what it found waits.
-    ensures fed { (before : List ℕ) (s : AnySide) → side ≡ side_letter s
-        → WasScanned ⟦<PackedChannel<Global> as Channel<Global>>⟧ before scan.old.observer.value → result ≡ 0 → WasScanned ⟦<PackedChannel<Global> as Channel<Global>>⟧
-        (before ++ row_text (record { number = number; side = s; octets = octets.now; gap = None })) scan.new.observer.value }
-    ensures found { (before : List ℕ) (s : AnySide) → side ≡ side_letter s
+    // The observer was fed the line that writes the packet, and what it found waits, or its object.
+    ensures read { (before : List ℕ) (s : AnySide) → side ≡ side_letter s
         → WasScanned ⟦<PackedChannel<Global> as Channel<Global>>⟧ before scan.old.observer.value → result ≡ 0
-        → OfScans (λ o t. AddsFound (reports o.reading) (waiting_findings o) (waiting_findings t) (findings_of before)
-        (findings_of (before ++ row_text (record { number = number; side = s; octets = octets.now; gap = None })))) scan.old.observer.value scan.new.observer.value }
+        → OfScans (HasRead ⟦<PackedChannel<Global> as Channel<Global>>⟧ before (before ++ packet_line number s octets.now)) scan.old.observer.value scan.new.observer.value }
     ensures closed { scan.old.mark ≢ 1 → (result ≡ (if scan.old.mark == 2 then 3 else 8)) × (scan.new ≡ scan.old) }
 {
     match take(alloc, scan) {
@@ -197,22 +201,22 @@ pub extern "C" fn x25scan_take_finding(
     ensures mark { scan.new.mark ≡ scan.old.mark }
     ensures sound { IsSoundScan ⟦<PackedChannel<Global> as Channel<Global>>⟧ scan.new.observer.value }
     // The finding is the first that waits, and waits no more.
-    ensures next { result ≡ 0 → OfScans (λ s t. (f : AnyFinding) × (waiting_findings s ≡ f ∷ waiting_findings t)
+    ensures next { result ≡ 0 → OfScans (λ s t. (f : AnyFinding) × (waiting s.found ≡ f ∷ waiting t.found)
         × (finding.new ≡ numbers_of f)) scan.old.observer.value scan.new.observer.value }
     ensures none { scan.old.mark ≡ 1 → result ≢ 0
-        → IfSome scan.old.observer.value (λ s. waiting_findings s ≡ []) }
-    ensures fed { (text : List ℕ) → WasScanned ⟦<PackedChannel<Global> as Channel<Global>>⟧ text scan.old.observer.value
-        → WasScanned ⟦<PackedChannel<Global> as Channel<Global>>⟧ text scan.new.observer.value }
+        → IfSome scan.old.observer.value (λ s. waiting s.found ≡ []) }
+    // What was read is as it was, and what waits of rows or of a report.
+    ensures kept { scan.old.mark ≡ 1 → OfScans (λ s t. (t.reading ≡ s.reading) × (waiting t.text ≡ waiting s.text)) scan.old.observer.value scan.new.observer.value }
     ensures closed { scan.old.mark ≢ 1 → (result ≡ (if scan.old.mark == 2 then 3 else 8)) × (scan.new ≡ scan.old) }
 {
     match take(alloc, scan) {
         Ok(mut held) => {
-            let answer = match held.next_finding() {
+            let answer = match held.found.take_first() {
                 Some(next) => {
                     *finding = FindingNumbers::of(&next);
                     OK
                 }
-                None if held.prints_rows() => ROWS,
+                None if held.reading.prints_rows() => ROWS,
                 None => NONE_LEFT,
             };
             put(scan, held);
@@ -230,15 +234,14 @@ pub extern "C" fn x25scan_make_report(alloc: Global, scan: &mut Scan, form: u32)
     ensures sound { IsSoundScan ⟦<PackedChannel<Global> as Channel<Global>>⟧ scan.new.observer.value }
     // The report of the lines that have ended waits, in the form that is asked for; the trace goes on.
     ensures reported { (text : List ℕ) → WasScanned ⟦<PackedChannel<Global> as Channel<Global>>⟧ text scan.old.observer.value
-        → scan_reports scan.old.observer.value ≡ true → result ≡ 0
-        → IfSome scan.new.observer.value (HasReport form (ended text)) }
+        → result ≡ 0 → OfScans (HasReport form (ended text)) scan.old.observer.value scan.new.observer.value }
     // The trace is refused by its first faulty line, which is kept.
     ensures refused { (text : List ℕ) → WasScanned ⟦<PackedChannel<Global> as Channel<Global>>⟧ text scan.old.observer.value
-        → scan_reports scan.old.observer.value ≡ true → result ≡ 2
-        → IfSome scan.new.observer.value (KeepsFault (fault (ended text))) }
+        → result ≡ 2 → IfSome scan.new.observer.value (KeepsFault (fault (ended text))) }
+    ensures failed { scan.old.mark ≡ 1 → result ≢ 0 → OfScans (λ s t. waiting t.text ≡ waiting s.text) scan.old.observer.value scan.new.observer.value }
     ensures once { scan_ended scan.old.observer.value ≡ true → (result ≢ 0) × (result ≢ 2) }
-    ensures fed { (text : List ℕ) → WasScanned ⟦<PackedChannel<Global> as Channel<Global>>⟧ text scan.old.observer.value
-        → WasScanned ⟦<PackedChannel<Global> as Channel<Global>>⟧ text scan.new.observer.value }
+    // What was read is as it was, and the findings that wait.
+    ensures kept { scan.old.mark ≡ 1 → OfScans (λ s t. (t.reading ≡ s.reading) × (waiting t.found ≡ waiting s.found)) scan.old.observer.value scan.new.observer.value }
     ensures closed { scan.old.mark ≢ 1 → (result ≡ (if scan.old.mark == 2 then 3 else 8)) × (scan.new ≡ scan.old) }
 {
     match take(alloc, scan) {
@@ -259,12 +262,21 @@ pub extern "C" fn x25scan_end_trace(alloc: Global, scan: &mut Scan, form: u32) -
     ensures sound { IsSoundScan ⟦<PackedChannel<Global> as Channel<Global>>⟧ scan.new.observer.value }
     // The report of the text waits, in the form that is asked for, and the trace has ended.
     ensures reported { (text : List ℕ) → WasScanned ⟦<PackedChannel<Global> as Channel<Global>>⟧ text scan.old.observer.value
-        → scan_reports scan.old.observer.value ≡ true → result ≡ 0
-        → IfSome scan.new.observer.value (HasReport form text) }
+        → scan_prints_rows scan.old.observer.value ≡ false → result ≡ 0
+        → OfScans (HasReport form text) scan.old.observer.value scan.new.observer.value }
+    // Or what completes the objects of its rows to all that is printed of the text waits after what waited.
+    ensures rows { (text : List ℕ) → WasScanned ⟦<PackedChannel<Global> as Channel<Global>>⟧ text scan.old.observer.value
+        → scan_prints_rows scan.old.observer.value ≡ true → result ≡ 0
+        → OfScans (λ s t. EndsRows text (Some (waiting s.text)) (Some (waiting t.text))) scan.old.observer.value scan.new.observer.value }
     // The trace is refused by its first faulty line, which is kept.
     ensures refused { (text : List ℕ) → WasScanned ⟦<PackedChannel<Global> as Channel<Global>>⟧ text scan.old.observer.value
-        → scan_reports scan.old.observer.value ≡ true → result ≡ 2
+        → scan_prints_rows scan.old.observer.value ≡ false → result ≡ 2
         → IfSome scan.new.observer.value (KeepsFault (fault text)) }
+    ensures stopped { (text : List ℕ) → WasScanned ⟦<PackedChannel<Global> as Channel<Global>>⟧ text scan.old.observer.value
+        → scan_prints_rows scan.old.observer.value ≡ true → result ≡ 2
+        → IfSome scan.new.observer.value (KeepsEndFault text) }
+    ensures failed { scan.old.mark ≡ 1 → result ≢ 0 → OfScans (λ s t. waiting t.text ≡ waiting s.text) scan.old.observer.value scan.new.observer.value }
+    ensures found { scan.old.mark ≡ 1 → OfScans (λ s t. waiting t.found ≡ waiting s.found) scan.old.observer.value scan.new.observer.value }
     ensures once { scan_ended scan.old.observer.value ≡ true → (result ≢ 0) × (result ≢ 2) }
     ensures ended { result ≡ 0 → scan_ended scan.new.observer.value ≡ true }
     ensures closed { scan.old.mark ≢ 1 → (result ≡ (if scan.old.mark == 2 then 3 else 8)) × (scan.new ≡ scan.old) }
@@ -292,22 +304,22 @@ pub extern "C" fn x25scan_take_text(
     ensures mark { scan.new.mark ≡ scan.old.mark }
     ensures sound { IsSoundScan ⟦<PackedChannel<Global> as Channel<Global>>⟧ scan.new.observer.value }
     // The first bytes that wait are copied, as many as the buffer holds, and wait no more.
-    ensures taken { result ≡ 0 → OfScans (λ s t. (first length.new buffer.new ++ waiting_text t ≡ waiting_text s)
-        × (left.new ≡ size (waiting_text t))) scan.old.observer.value scan.new.observer.value }
+    ensures taken { result ≡ 0 → OfScans (λ s t. (first length.new buffer.new ++ waiting t.text ≡ waiting s.text)
+        × (left.new ≡ size (waiting t.text))) scan.old.observer.value scan.new.observer.value }
     ensures full { result ≡ 0 → left.new ≢ 0 → length.new ≡ size buffer.old }
     ensures open { scan.old.mark ≡ 1 → result ≡ 0 }
-    ensures fed { (text : List ℕ) → WasScanned ⟦<PackedChannel<Global> as Channel<Global>>⟧ text scan.old.observer.value
-        → WasScanned ⟦<PackedChannel<Global> as Channel<Global>>⟧ text scan.new.observer.value }
+    // What was read is as it was, and the findings that wait.
+    ensures kept { scan.old.mark ≡ 1 → OfScans (λ s t. (t.reading ≡ s.reading) × (waiting t.found ≡ waiting s.found)) scan.old.observer.value scan.new.observer.value }
     ensures closed { scan.old.mark ≢ 1 → (result ≡ (if scan.old.mark == 2 then 3 else 8)) × (scan.new ≡ scan.old) }
 {
     match take(alloc, scan) {
         Ok(mut held) => {
-            let waiting = held.waiting();
+            let waiting = held.text.as_slice();
             let count = waiting.len().min(buffer.len());
             buffer[..count].copy_from_slice(&waiting[..count]);
             *length = count;
-            held.take_text(alloc, count);
-            *left = held.waiting().len();
+            held.text.take(count);
+            *left = held.text.as_slice().len();
             put(scan, held);
             OK
         }
@@ -337,7 +349,7 @@ pub extern "C" fn x25scan_take_fault(
 {
     match take(alloc, scan) {
         Ok(held) => {
-            let answer = match held.refused() {
+            let answer = match held.refused {
                 Some((at, rule)) => {
                     *line = at;
                     *kind = u32::from(rule.number());

@@ -1,29 +1,27 @@
 //! A trace that grows, as a handle reads it.
 
-ghost use Rattle.std.specs.Prelude.{◌≡◌, ◌++◌, ◌≤◌, ℕ, List, [], None, not, true, false, Ok, IfErr, IfOk, OnOk, length};
+ghost use Rattle.std.specs.Prelude.{◌≡◌, ◌++◌, ℕ, List, [], None, true, false, Ok, IfErr, OnOk, if◌then◌else◌};
+ghost use Rattle.annotated_trace.specs.Printers.{IsEndRefusal, IsRefusalOf};
+ghost use Rattle.json_lines.specs.Json.{json_text};
 ghost use Rattle.line_model.specs.basics.Device.{with_more};
-ghost use Rattle.line_model.specs.text.Text.{early, fault};
+ghost use Rattle.line_model.specs.text.Text.{early, ended_lines, fault};
 ghost use Rattle.line_model.specs.traces.Traces.{trace_report};
-ghost use Rattle.live_report.specs.Found.{HasFound, found as findings_of};
-ghost use Rattle.live_report.specs.Lives.{WasFed};
+ghost use Rattle.live_report.specs.Found.{IsFoundUpTo, found as findings_of};
 ghost use Rattle.live_report.specs.Reports.{IsRefusal};
 ghost use Rattle.trace_text.specs.EndedPart.{ended_part as ended};
-ghost use Rattle.trace_text.specs.Represents.{IsFaultOf};
-ghost use Rattle.trace_text.specs.RowTexts.{row_text};
-ghost use Rattle.x25scan_c.specs.Sound.{AddsFound, IsSound, WasRead, has_ended, prints_rows, reports};
+ghost use Rattle.x25scan_c.specs.Rows.{AddsRowsBefore, EndsRows};
+ghost use Rattle.x25scan_c.specs.Sound.{Brings, IsSound, WasRead, has_ended, packet_line, prints_rows};
+ghost use Rattle.x25scan_c.specs.Waits.{refusals, waiting};
 
-use annotated_trace::printing::print_trace;
-use annotated_trace::rows::Rows;
-use channel_machine::channel::PackedChannel;
+use crate::report_reading::ReportReading;
+use crate::row_reading::RowReading;
+use crate::waiting::Waiting;
 use channel_run::run::Channel;
-use descriptions::row_objects::RowObjects;
-use line_model::device::{Sink, SliceSource};
+use line_model::device::Sink;
 use line_model::fault::Fault;
 use line_model::finding::Finding;
 use line_model::state::Side;
-use live_report::live::Live;
 use live_report::uncounted::Uncounted;
-use memchr::memrchr;
 use std::alloc::{Allocator, Global};
 use std::mem::replace;
 use streams::kept_line::KeptLine;
@@ -32,103 +30,24 @@ use streams::kept_line::KeptLine;
 #[derive(Drop)]
 pub enum Reading<A: Allocator, C: Channel<A>> {
     /// A trace whose report can be asked for at any moment.
-    Report(Live<A, C>),
-    /// The text so far, whose rows are printed at its end.
-    Rows(Vec<u8, A>),
+    Report(ReportReading<A, C>),
+    /// A trace whose rows are printed as they come.
+    Rows(RowReading<A, C>),
     /// The trace has ended.
     Ended,
 }
 
-/// Returns a trace text up to its last line feed.
-fn ended_part(text: &[u8]) -> &[u8] {
-    let end = match memrchr(b'\n', text) {
-        Some(last) => last.saturating_add(1),
-        None => 0,
-    };
-    match text.get(..end) {
-        Some(front) => front,
-        None => text,
-    }
-}
-
-/// Writes the rows of a trace text and its report, as `print_trace`.
-fn print_rows<A: Allocator + Copy, C: Channel<A>, K: Sink>(
-    alloc: A,
-    text: &[u8],
-    sink: &mut K,
-) -> Result<(), Fault> {
-    print_trace(
-        alloc,
-        Live::<A, C>::with_rows(alloc),
-        RowObjects::new(alloc, Rows::All),
-        &mut SliceSource::new(text),
-        sink,
-    )?;
-    Ok(())
-}
-
-/// Reads the next bytes of a trace text, as `Live::feed`, and appends what their rows found.
-fn feed_live<A: Allocator + Copy, C: Channel<A>>(
-    live: &mut Live<A, C>,
-    chunk: &[u8],
-    found: &mut Vec<Finding, A>,
-) -> Result<(), Fault>
-    requires { IsSound C.Channel (Reading.Report live.old) }
-    ensures sound { IsSound C.Channel (Reading.Report live.new) }
-    ensures fed { (text : List ℕ) → WasFed C.Channel text live.old
-        → OnOk result (WasFed C.Channel (text ++ chunk.now) live.new) }
-    ensures found { (text : List ℕ) → WasFed C.Channel text live.old → OnOk result
-        (HasFound found.old.items found.new.items (findings_of text) (findings_of (text ++ chunk.now))) }
-    ensures refused { (text : List ℕ) → WasFed C.Channel text live.old
-        → IfErr result (IsFaultOf (early (text ++ chunk.now))) }
-    ensures more { length found.old.items ≤ length found.new.items }
-{
-    live.feed(chunk)?;
-    found.extend_from_slice(live.found())?;
-    Ok(())
-}
-
-/// Reads a packet, as `Live::packet`, and appends what it found.
-#[inline(always)]
-fn live_packet<A: Allocator + Copy, C: Channel<A>>(
-    live: &mut Live<A, C>,
-    number: u32,
-    side: Side,
-    octets: &[u8],
-    found: &mut Vec<Finding, A>,
-) -> Result<bool, Fault>
-    requires { IsSound C.Channel (Reading.Report live.old) }
-    ensures sound { IsSound C.Channel (Reading.Report live.new) }
-    ensures taken { (text : List ℕ) → WasFed C.Channel text live.old → result ≡ Ok true → WasFed C.Channel
-        (text ++ row_text (record { number = number; side = side; octets = octets.now; gap = None })) live.new }
-    ensures passed { (text : List ℕ) → WasFed C.Channel text live.old → result ≡ Ok false
-        → WasFed C.Channel text live.new }
-    ensures found { (text : List ℕ) → WasFed C.Channel text live.old → result ≡ Ok true
-        → HasFound found.old.items found.new.items (findings_of text)
-        (findings_of (text ++ row_text (record { number = number; side = side; octets = octets.now; gap = None }))) }
-    ensures unfound { result ≡ Ok false → found.new ≡ found.old }
-    ensures more { length found.old.items ≤ length found.new.items }
-{
-    if !live.packet(number, side, octets)? {
-        return Ok(false);
-    }
-    if !live.found().is_empty() {
-        found.extend_from_slice(live.found())?;
-    }
-    Ok(true)
-}
-
 impl<A: Allocator + Copy, C: Channel<A>> Reading<A, C> {
     /// Returns a trace of which nothing was fed. Allocates nothing.
-    pub fn new(alloc: A, prints_rows: bool) -> Self
+    pub fn new(alloc: A, of_rows: bool) -> Self
         ensures sound { IsSound C.Channel result }
         ensures fed { WasRead C.Channel [] result }
-        ensures form { reports result ≡ not prints_rows }
+        ensures form { prints_rows result ≡ of_rows }
     {
-        if prints_rows {
-            Reading::Rows(Vec::new(alloc))
+        if of_rows {
+            Reading::Rows(RowReading::new(alloc))
         } else {
-            Reading::Report(Live::new(alloc))
+            Reading::Report(ReportReading::new(alloc))
         }
     }
 
@@ -139,15 +58,11 @@ impl<A: Allocator + Copy, C: Channel<A>> Reading<A, C> {
         matches!(self, Reading::Rows(_))
     }
 
-    /// Returns a copy of the last line that was read, as `Lines::last_line`; of rows, that at which printing them stops.
+    /// Returns a copy of the last line that was read, as `Lines::last_line`.
     pub fn last_line(&self, alloc: Global) -> Option<KeptLine> {
         match self {
-            Reading::Report(live) => KeptLine::of(alloc, live.last_line()),
-            Reading::Rows(text) => {
-                let mut live = Live::<Global, PackedChannel<Global>>::new(alloc);
-                let _ = live.feed(text.as_slice());
-                KeptLine::of(alloc, live.last_line())
-            }
+            Reading::Report(reports) => KeptLine::of(alloc, reports.live.last_line()),
+            Reading::Rows(printed) => KeptLine::of(alloc, printed.last_line()),
             Reading::Ended => None,
         }
     }
@@ -159,26 +74,32 @@ impl<A: Allocator + Copy, C: Channel<A>> Reading<A, C> {
         matches!(self, Reading::Ended)
     }
 
-    /// Reads the next bytes of the text, and appends what their rows found.
-    pub fn feed(&mut self, chunk: &[u8], found: &mut Vec<Finding, A>) -> Result<(), Fault>
+    /// Reads the next bytes of the text, and appends what their rows found, or the objects of their rows. Fails with the
+    /// first line that is faulty however the text goes on, after what the rows before it gave, and when memory is
+    /// refused; from then on it fails with the same.
+    pub fn feed(
+        &mut self,
+        chunk: &[u8],
+        found: &mut Waiting<Finding, A>,
+        rows: &mut Waiting<u8, A>,
+    ) -> Result<(), Fault>
         requires { IsSound C.Channel self.old }
         ensures sound { IsSound C.Channel self.new }
-        ensures fed { (text : List ℕ) → WasRead C.Channel text self.old
-            → OnOk result (WasRead C.Channel (text ++ chunk.now) self.new) }
-        ensures found { (text : List ℕ) → WasRead C.Channel text self.old
-            → OnOk result (AddsFound (reports self.old) found.old.items found.new.items
-            (findings_of text) (findings_of (text ++ chunk.now))) }
+        ensures read { (text : List ℕ) → WasRead C.Channel text self.old → OnOk result (WasRead C.Channel (text ++ chunk.now) self.new
+            × Brings (prints_rows self.old) text (text ++ chunk.now) (waiting found.old) (waiting found.new) (waiting rows.old) (waiting rows.new)) }
         ensures refused { (text : List ℕ) → WasRead C.Channel text self.old
-            → IfErr result (IsFaultOf (early (text ++ chunk.now))) }
-        ensures form { reports self.new ≡ reports self.old }
-        ensures more { length found.old.items ≤ length found.new.items }
+            → IfErr result (IsRefusalOf (early (text ++ chunk.now))) }
+        ensures found { (text : List ℕ) → WasRead C.Channel text self.old → prints_rows self.old ≡ false
+            → IfErr result (λ fault. IsFoundUpTo fault (waiting found.old) (waiting found.new) (findings_of text)
+            (findings_of (text ++ chunk.now))) }
+        ensures before { (text : List ℕ) → WasRead C.Channel text self.old → prints_rows self.old ≡ true
+            → refusals rows.new ≡ refusals rows.old → IfErr result (AddsRowsBefore (ended_lines text)
+            (ended_lines (text ++ chunk.now)) (waiting rows.old) (waiting rows.new)) }
+        ensures form { prints_rows self.new ≡ prints_rows self.old }
     {
         match self {
-            Reading::Report(live) => feed_live(live, chunk, found),
-            Reading::Rows(text) => {
-                text.extend_from_slice(chunk)?;
-                Ok(())
-            }
+            Reading::Report(reports) => reports.feed(chunk, found),
+            Reading::Rows(printed) => printed.feed(chunk, rows),
             Reading::Ended => Ok(()),
         }
     }
@@ -190,64 +111,63 @@ impl<A: Allocator + Copy, C: Channel<A>> Reading<A, C> {
         number: u32,
         side: Side,
         octets: &[u8],
-        found: &mut Vec<Finding, A>,
+        found: &mut Waiting<Finding, A>,
     ) -> Result<bool, Fault>
         requires { IsSound C.Channel self.old }
         ensures sound { IsSound C.Channel self.new }
-        ensures taken { (text : List ℕ) → WasRead C.Channel text self.old → result ≡ Ok true → WasRead C.Channel
-            (text ++ row_text (record { number = number; side = side; octets = octets.now; gap = None })) self.new }
+        ensures taken { (text waits : List ℕ) → WasRead C.Channel text self.old → result ≡ Ok true
+            → WasRead C.Channel (text ++ packet_line number side octets.now) self.new
+            × Brings (prints_rows self.old) text (text ++ packet_line number side octets.now) (waiting found.old) (waiting found.new) waits waits }
         ensures passed { (text : List ℕ) → WasRead C.Channel text self.old → result ≡ Ok false
             → WasRead C.Channel text self.new }
-        ensures found { (text : List ℕ) → WasRead C.Channel text self.old → result ≡ Ok true
-            → AddsFound (reports self.old) found.old.items found.new.items (findings_of text)
-            (findings_of (text ++ row_text (record { number = number; side = side; octets = octets.now; gap = None }))) }
         ensures unfound { result ≡ Ok false → found.new ≡ found.old }
-        ensures form { reports self.new ≡ reports self.old }
-        ensures more { length found.old.items ≤ length found.new.items }
+        ensures form { prints_rows self.new ≡ prints_rows self.old }
     {
         match self {
-            Reading::Report(live) => live_packet(live, number, side, octets, found),
+            Reading::Report(reports) => reports.packet(number, side, octets, found),
             _ => Ok(false),
         }
     }
 
-    /// Writes the report of the lines that have ended, as `Live::report`, or their rows and their report.
+    /// Writes the report of the lines that have ended, as `Live::report`, or where rows are printed its objects.
     pub fn report<K: Sink>(&self, alloc: A, sink: &mut K) -> Result<(), Fault>
         requires { IsSound C.Channel self.now }
-        ensures reported { (text : List ℕ) → WasRead C.Channel text self.now → reports self.now ≡ true
-            → OnOk result ((fault (ended text) ≡ None)
-            × (K.taken sink.new ≡ with_more (K.taken sink.old) (trace_report (ended text)))) }
-        ensures refused { (text : List ℕ) → WasRead C.Channel text self.now → reports self.now ≡ true
-            → IfErr result (IsRefusal (ended text)) }
+        ensures reported { (text : List ℕ) → WasRead C.Channel text self.now → OnOk result ((fault (ended text) ≡ None)
+            × (K.taken sink.new ≡ with_more (K.taken sink.old)
+            (if prints_rows self.now then json_text (trace_report (ended text)) else trace_report (ended text)))) }
+        ensures refused { (text : List ℕ) → WasRead C.Channel text self.now → IfErr result (IsRefusal (ended text)) }
     {
         match self {
-            Reading::Report(live) => {
-                live.report(sink)?;
+            Reading::Report(reports) => {
+                reports.live.report(sink)?;
+                Ok(())
             }
-            Reading::Rows(text) => print_rows::<A, C, K>(alloc, ended_part(text.as_slice()), sink)?,
-            Reading::Ended => {}
+            Reading::Rows(printed) => printed.report(alloc, sink),
+            Reading::Ended => Ok(()),
         }
-        Ok(())
     }
 
-    /// Writes the report of the text, which has ended, as `Live::end`, or its rows and its report, as `print_trace`.
-    pub fn end<K: Sink>(&mut self, alloc: A, sink: &mut K) -> Result<(), Fault>
+    /// Ends the text: writes its report, as `Live::end`, or what comes after the rows that were printed.
+    pub fn end<K: Sink>(&mut self, sink: &mut K) -> Result<(), Fault>
         requires { IsSound C.Channel self.old }
         ensures ended { self.new ≡ Reading.Ended }
-        ensures reported { (text : List ℕ) → WasRead C.Channel text self.old → reports self.old ≡ true
+        ensures reported { (text : List ℕ) → WasRead C.Channel text self.old → prints_rows self.old ≡ false
             → OnOk result ((fault text ≡ None)
             × (K.taken sink.new ≡ with_more (K.taken sink.old) (trace_report text))) }
-        ensures refused { (text : List ℕ) → WasRead C.Channel text self.old → reports self.old ≡ true
+        ensures rows { (text : List ℕ) → WasRead C.Channel text self.old → prints_rows self.old ≡ true
+            → OnOk result (EndsRows text (K.taken sink.old) (K.taken sink.new)) }
+        ensures refused { (text : List ℕ) → WasRead C.Channel text self.old → prints_rows self.old ≡ false
             → IfErr result (IsRefusal text) }
+        ensures stopped { (text : List ℕ) → WasRead C.Channel text self.old → prints_rows self.old ≡ true
+            → IfErr result (IsEndRefusal text) }
     {
         match replace(self, Reading::Ended) {
-            Reading::Report(live) => {
-                let mut uncounted = Uncounted::none();
-                live.end(sink, &mut uncounted)?;
+            Reading::Report(reports) => {
+                reports.live.end(sink, &mut Uncounted::none())?;
+                Ok(())
             }
-            Reading::Rows(text) => print_rows::<A, C, K>(alloc, text.as_slice(), sink)?,
-            Reading::Ended => {}
+            Reading::Rows(printed) => printed.end(sink),
+            Reading::Ended => Ok(()),
         }
-        Ok(())
     }
 }

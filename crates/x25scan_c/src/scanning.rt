@@ -1,24 +1,24 @@
 //! What a handle holds: a trace that is read, its findings, and the text that the caller has not received.
 
-ghost use Rattle.std.specs.Prelude.{◌≡◌, ◌≢◌, ◌++◌, ◌∷◌, ◌≤◌, ◌==◌, if◌then◌else◌, ℕ, List, [], None, Some, true, false, IfSome, OnOk, IfErr, drop, length};
+ghost use Rattle.std.specs.Prelude.{◌≡◌, ◌≢◌, ◌++◌, ◌==◌, if◌then◌else◌, ℕ, List, [], Some, true, false};
 ghost use Rattle.json_lines.specs.Json.{json_text};
 ghost use Rattle.line_model.specs.declared.fault.Fault.TheVariants.{Trace};
 ghost use Rattle.line_model.specs.declared.fault.Kind.{Kind as AnyKind};
 ghost use Rattle.line_model.specs.declared.state.Side.{Side as AnySide};
 ghost use Rattle.line_model.specs.text.Text.{early, fault};
-ghost use Rattle.line_model.specs.traces.Traces.{trace_report};
-ghost use Rattle.live_report.specs.Found.{found as findings_of};
 ghost use Rattle.trace_text.specs.EndedPart.{ended_part as ended};
-ghost use Rattle.trace_text.specs.RowTexts.{row_text, side_letter};
-ghost use Rattle.x25scan_c.specs.Sound.{AddsFound, HasReport, IsSoundScanning, KeepsFault, WasRead, has_ended, number_of, prints_rows, reports, waiting_findings, waiting_text};
+ghost use Rattle.trace_text.specs.RowTexts.{side_letter};
+ghost use Rattle.x25scan_c.specs.Rows.{EndsRows};
+ghost use Rattle.x25scan_c.specs.Sound.{HasFoundBefore, HasRead, HasReport, HasRowsBefore, IsSound, Keeps, KeepsEndFault, KeepsFault, WasRead, has_ended, number_of, packet_line, prints_rows};
+ghost use Rattle.x25scan_c.specs.Waits.{waiting};
 
 use crate::errors::{ARGUMENT, ENDED, LINE, MEMORY, OK, ROWS, number_of};
 use crate::reading::Reading;
+use crate::waiting::Waiting;
 use channel_machine::channel::PackedChannel;
 use channel_run::run::Channel;
 use explanations::advice::advice;
 use json_lines::text::write_json_lines;
-use line_model::device::VecSink;
 use line_model::fault::{Fault, Kind};
 use line_model::finding::Finding;
 use line_model::state::Side;
@@ -27,6 +27,8 @@ use std::alloc::Global;
 use std::mem::replace;
 use streams::kept_line::KeptLine;
 
+/// The report as lines.
+pub const LINES: u32 = 0;
 /// The report as JSON lines.
 pub const JSON: u32 = 1;
 /// Rows as JSON lines, as they come, and last the report.
@@ -39,17 +41,13 @@ const MOST_OCTETS: usize = 4200;
 #[derive(Drop)]
 pub struct Scanning {
     pub reading: Reading<Global, PackedChannel<Global>>,
-    found: Vec<Finding>,
-    /// How many findings were returned.
-    found_taken: usize,
+    pub found: Waiting<Finding, Global>,
     /// The room of the line that writes a packet.
     line: Vec<u8>,
-    text: VecSink<Global>,
-    /// How many bytes of the text were returned.
-    text_taken: usize,
+    pub text: Waiting<u8, Global>,
     /// Whether the last line has not ended.
     has_begun: bool,
-    refused: Option<(u32, Kind)>,
+    pub refused: Option<(u32, Kind)>,
     advice: Option<String>,
 }
 
@@ -64,22 +62,27 @@ fn side_of(letter: u8) -> Option<Side>
     }
 }
 
+/// Whether the last line has not ended after a chunk.
+fn has_begun(chunk: &[u8], before: bool) -> bool {
+    match chunk {
+        [.., last] => *last != b'\n',
+        [] => before,
+    }
+}
+
 impl Scanning {
     /// Returns a value of which nothing was fed. Allocates nothing.
     pub(crate) fn new(alloc: Global, form: u32) -> Scanning
-        ensures sound { IsSoundScanning ⟦<PackedChannel<Global> as Channel<Global>>⟧ result }
+        ensures sound { IsSound ⟦<PackedChannel<Global> as Channel<Global>>⟧ result.reading }
         ensures fed { WasRead ⟦<PackedChannel<Global> as Channel<Global>>⟧ [] result.reading }
-        ensures form { reports result.reading ≡ (if form == 2 then false else true) }
-        ensures findings { waiting_findings result ≡ [] }
-        ensures text { waiting_text result ≡ [] }
+        ensures form { prints_rows result.reading ≡ (form == 2) }
+        ensures empty { (waiting result.found ≡ []) × (waiting result.text ≡ []) }
     {
         Scanning {
             reading: Reading::new(alloc, form == ROW_OBJECTS),
-            found: Vec::new(alloc),
-            found_taken: 0,
+            found: Waiting::new(alloc),
             line: Vec::new(alloc),
-            text: VecSink::new(Vec::new(alloc)),
-            text_taken: 0,
+            text: Waiting::new(alloc),
             has_begun: false,
             refused: None,
             advice: None,
@@ -87,9 +90,8 @@ impl Scanning {
     }
 
     /// Keeps the fault of a refusal, and what is wrong with its line, and returns its number.
-    fn refuse(&mut self, alloc: Global, fault: Fault, last: Option<KeptLine>) -> u32
-        ensures reading { self.new.reading ≡ self.old.reading }
-        ensures findings { (self.new.found ≡ self.old.found) × (self.new.found_taken ≡ self.old.found_taken) }
+    fn refuse(&mut self, alloc: Global, fault: Fault, kept: Option<KeptLine>) -> u32
+        ensures same { Keeps self.old self.new }
         ensures number { result ≡ number_of fault }
         ensures some { result ≢ 0 }
         ensures kept { (line : ℕ) (kind : AnyKind) → fault ≡ Trace line kind
@@ -102,8 +104,8 @@ impl Scanning {
                 None => false,
             };
             if !is_known {
-                self.advice = match last {
-                    Some(last) => advice(alloc, kind, last.line()).ok(),
+                self.advice = match kept {
+                    Some(kept) => advice(alloc, kind, kept.line()).ok(),
                     None => None,
                 };
                 self.refused = Some((line, kind));
@@ -112,19 +114,25 @@ impl Scanning {
         number_of(fault)
     }
 
-    /// Reads the next bytes of a text that has not ended.
-    fn feed_on(&mut self, alloc: Global, chunk: &[u8]) -> u32
-        requires { IsSoundScanning ⟦<PackedChannel<Global> as Channel<Global>>⟧ self.old }
-        ensures sound { IsSoundScanning ⟦<PackedChannel<Global> as Channel<Global>>⟧ self.new }
-        ensures fed { (text : List ℕ) → WasRead ⟦<PackedChannel<Global> as Channel<Global>>⟧ text self.old.reading → result ≡ 0
-            → WasRead ⟦<PackedChannel<Global> as Channel<Global>>⟧ (text ++ chunk.now) self.new.reading }
-        ensures found { (text : List ℕ) → WasRead ⟦<PackedChannel<Global> as Channel<Global>>⟧ text self.old.reading → result ≡ 0
-            → AddsFound (reports self.old.reading) (waiting_findings self.old) (waiting_findings self.new)
-            (findings_of text) (findings_of (text ++ chunk.now)) }
+    /// Reads the next bytes of the text.
+    pub(crate) fn feed(&mut self, alloc: Global, chunk: &[u8]) -> u32
+        requires { IsSound ⟦<PackedChannel<Global> as Channel<Global>>⟧ self.old.reading }
+        ensures sound { IsSound ⟦<PackedChannel<Global> as Channel<Global>>⟧ self.new.reading }
+        ensures read { (text : List ℕ) → WasRead ⟦<PackedChannel<Global> as Channel<Global>>⟧ text self.old.reading → result ≡ 0
+            → HasRead ⟦<PackedChannel<Global> as Channel<Global>>⟧ text (text ++ chunk.now) self.old self.new }
         ensures refused { (text : List ℕ) → WasRead ⟦<PackedChannel<Global> as Channel<Global>>⟧ text self.old.reading → result ≡ 2
             → KeepsFault (early (text ++ chunk.now)) self.new }
+        ensures found { (text : List ℕ) → WasRead ⟦<PackedChannel<Global> as Channel<Global>>⟧ text self.old.reading → prints_rows self.old.reading ≡ false
+            → result ≡ 2 → HasFoundBefore text (text ++ chunk.now) self.old self.new }
+        ensures before { (text : List ℕ) → WasRead ⟦<PackedChannel<Global> as Channel<Global>>⟧ text self.old.reading → prints_rows self.old.reading ≡ true
+            → result ≡ 2 → HasRowsBefore text (text ++ chunk.now) self.old self.new }
+        ensures ended { has_ended self.old.reading ≡ true → (result ≡ 4) × (self.new ≡ self.old) }
     {
-        match self.reading.feed(chunk, &mut self.found) {
+        if self.reading.has_ended() {
+            return ENDED;
+        }
+        self.has_begun = has_begun(chunk, self.has_begun);
+        match self.reading.feed(chunk, &mut self.found, &mut self.text) {
             Ok(()) => OK,
             Err(fault) => {
                 let line = self.reading.last_line(alloc);
@@ -133,39 +141,12 @@ impl Scanning {
         }
     }
 
-    /// Reads the next bytes of the text.
-    pub(crate) fn feed(&mut self, alloc: Global, chunk: &[u8]) -> u32
-        requires { IsSoundScanning ⟦<PackedChannel<Global> as Channel<Global>>⟧ self.old }
-        ensures sound { IsSoundScanning ⟦<PackedChannel<Global> as Channel<Global>>⟧ self.new }
-        ensures fed { (text : List ℕ) → WasRead ⟦<PackedChannel<Global> as Channel<Global>>⟧ text self.old.reading → result ≡ 0
-            → WasRead ⟦<PackedChannel<Global> as Channel<Global>>⟧ (text ++ chunk.now) self.new.reading }
-        ensures found { (text : List ℕ) → WasRead ⟦<PackedChannel<Global> as Channel<Global>>⟧ text self.old.reading → result ≡ 0
-            → AddsFound (reports self.old.reading) (waiting_findings self.old) (waiting_findings self.new)
-            (findings_of text) (findings_of (text ++ chunk.now)) }
-        ensures refused { (text : List ℕ) → WasRead ⟦<PackedChannel<Global> as Channel<Global>>⟧ text self.old.reading → result ≡ 2
-            → KeepsFault (early (text ++ chunk.now)) self.new }
-        ensures ended { has_ended self.old.reading ≡ true → (result ≡ 4) × (self.new ≡ self.old) }
-    {
-        if self.reading.has_ended() {
-            return ENDED;
-        }
-        let answer = self.feed_on(alloc, chunk);
-        if let [.., last] = chunk {
-            self.has_begun = *last != b'\n';
-        }
-        answer
-    }
-
     /// Reads a packet, as the line that writes it.
     pub(crate) fn packet(&mut self, alloc: Global, number: u32, side: u8, octets: &[u8]) -> u32
-        requires { IsSoundScanning ⟦<PackedChannel<Global> as Channel<Global>>⟧ self.old }
-        ensures sound { IsSoundScanning ⟦<PackedChannel<Global> as Channel<Global>>⟧ self.new }
-        ensures fed { (text : List ℕ) (s : AnySide) → side ≡ side_letter s → WasRead ⟦<PackedChannel<Global> as Channel<Global>>⟧ text self.old.reading
-            → result ≡ 0 → WasRead ⟦<PackedChannel<Global> as Channel<Global>>⟧
-            (text ++ row_text (record { number = number; side = s; octets = octets.now; gap = None })) self.new.reading }
-        ensures found { (text : List ℕ) (s : AnySide) → side ≡ side_letter s → WasRead ⟦<PackedChannel<Global> as Channel<Global>>⟧ text self.old.reading
-            → result ≡ 0 → AddsFound (reports self.old.reading) (waiting_findings self.old) (waiting_findings self.new)
-            (findings_of text) (findings_of (text ++ row_text (record { number = number; side = s; octets = octets.now; gap = None }))) }
+        requires { IsSound ⟦<PackedChannel<Global> as Channel<Global>>⟧ self.old.reading }
+        ensures sound { IsSound ⟦<PackedChannel<Global> as Channel<Global>>⟧ self.new.reading }
+        ensures read { (text : List ℕ) (s : AnySide) → side ≡ side_letter s → WasRead ⟦<PackedChannel<Global> as Channel<Global>>⟧ text self.old.reading
+            → result ≡ 0 → HasRead ⟦<PackedChannel<Global> as Channel<Global>>⟧ text (text ++ packet_line number s octets.now) self.old self.new }
     {
         let Some(sender) = side_of(side) else {
             return ARGUMENT;
@@ -189,14 +170,10 @@ impl Scanning {
     /// Reads the line that writes a packet.
     #[inline(never)]
     fn feed_row(&mut self, alloc: Global, number: u32, side: Side, octets: &[u8]) -> u32
-        requires { IsSoundScanning ⟦<PackedChannel<Global> as Channel<Global>>⟧ self.old }
-        ensures sound { IsSoundScanning ⟦<PackedChannel<Global> as Channel<Global>>⟧ self.new }
-        ensures fed { (text : List ℕ) → WasRead ⟦<PackedChannel<Global> as Channel<Global>>⟧ text self.old.reading
-            → result ≡ 0 → WasRead ⟦<PackedChannel<Global> as Channel<Global>>⟧
-            (text ++ row_text (record { number = number; side = side; octets = octets.now; gap = None })) self.new.reading }
-        ensures found { (text : List ℕ) → WasRead ⟦<PackedChannel<Global> as Channel<Global>>⟧ text self.old.reading
-            → result ≡ 0 → AddsFound (reports self.old.reading) (waiting_findings self.old) (waiting_findings self.new)
-            (findings_of text) (findings_of (text ++ row_text (record { number = number; side = side; octets = octets.now; gap = None }))) }
+        requires { IsSound ⟦<PackedChannel<Global> as Channel<Global>>⟧ self.old.reading }
+        ensures sound { IsSound ⟦<PackedChannel<Global> as Channel<Global>>⟧ self.new.reading }
+        ensures read { (text : List ℕ) → WasRead ⟦<PackedChannel<Global> as Channel<Global>>⟧ text self.old.reading → result ≡ 0
+            → HasRead ⟦<PackedChannel<Global> as Channel<Global>>⟧ text (text ++ packet_line number side octets.now) self.old self.new }
     {
         let mut line = replace(&mut self.line, Vec::new(alloc));
         match put_row(&mut line, number, side, octets) {
@@ -212,65 +189,44 @@ impl Scanning {
         }
     }
 
-    /// Returns the next finding that was not returned before.
-    pub(crate) fn next_finding(&mut self) -> Option<Finding>
-        requires { self.old.found_taken ≤ length self.old.found.items }
+    /// Puts what was written in the place of what waits: a report as lines, or as objects; but the objects of a scan of
+    /// rows after it. When it fails, what waits is as it was.
+    fn put(&mut self, alloc: Global, form: u32, written: Waiting<u8, Global>) -> u32
         ensures reading { self.new.reading ≡ self.old.reading }
-        ensures few { self.new.found_taken ≤ length self.new.found.items }
-        ensures next { IfSome result (λ f. waiting_findings self.old ≡ f ∷ waiting_findings self.new) }
-        ensures none { result ≡ None → (waiting_findings self.old ≡ []) × (waiting_findings self.new ≡ []) }
-        ensures text { waiting_text self.new ≡ waiting_text self.old }
-    {
-        if let Some(finding) = self.found.as_slice().get(self.found_taken) {
-            let finding = *finding;
-            self.found_taken = self.found_taken.saturating_add(1);
-            return Some(finding);
-        }
-        if self.found_taken > 0 {
-            self.found = Vec::new(*self.found.allocator());
-            self.found_taken = 0;
-        }
-        None
-    }
-
-    /// Returns whether it prints rows.
-    pub(crate) fn prints_rows(&self) -> bool
-        ensures { result ≡ prints_rows self.now.reading }
-    {
-        self.reading.prints_rows()
-    }
-
-    /// Replaces the text that was not returned by lines of a report.
-    fn put_report(&mut self, alloc: Global, form: u32, lines: VecSink<Global>) -> u32
-        ensures reading { self.new.reading ≡ self.old.reading }
-        ensures findings { (self.new.found ≡ self.old.found) × (self.new.found_taken ≡ self.old.found_taken) }
-        ensures text { result ≡ 0 → waiting_text self.new
-            ≡ (if form == 1 then json_text lines.bytes.items else lines.bytes.items) }
+        ensures found { self.new.found ≡ self.old.found }
+        ensures text { result ≡ 0 → waiting self.new.text ≡ (if form == 0 then waiting written
+            else if form == 1 then json_text (waiting written) else waiting self.old.text ++ waiting written) }
+        ensures failed { result ≢ 0 → waiting self.new.text ≡ waiting self.old.text }
         ensures number { result ≢ 2 }
     {
-        let mut text = lines;
-        if form == JSON {
-            let mut objects = VecSink::new(Vec::new(alloc));
-            if write_json_lines(text.as_slice(), &mut objects).is_err() {
-                return MEMORY;
+        match form {
+            LINES => self.text = written,
+            JSON => {
+                let mut objects = Waiting::<u8, Global>::new(alloc);
+                if write_json_lines(written.as_slice(), &mut objects).is_err() {
+                    return MEMORY;
+                }
+                self.text = objects;
             }
-            text = objects;
+            _ => {
+                if self.text.append(written.as_slice()).is_err() {
+                    return MEMORY;
+                }
+            }
         }
-        self.text = text;
-        self.text_taken = 0;
         OK
     }
 
-    /// Replaces the text that was not returned by the report of the lines that have ended, or by their rows. When it
-    /// fails, that text is as it was.
+    /// Makes the report of the lines that have ended, or its objects. When it fails, what waits is as it was.
     pub(crate) fn report(&mut self, alloc: Global, form: u32) -> u32
-        requires { IsSoundScanning ⟦<PackedChannel<Global> as Channel<Global>>⟧ self.old }
+        requires { IsSound ⟦<PackedChannel<Global> as Channel<Global>>⟧ self.old.reading }
         ensures reading { self.new.reading ≡ self.old.reading }
-        ensures findings { (self.new.found ≡ self.old.found) × (self.new.found_taken ≡ self.old.found_taken) }
-        ensures reported { (text : List ℕ) → WasRead ⟦<PackedChannel<Global> as Channel<Global>>⟧ text self.old.reading → reports self.old.reading ≡ true
-            → result ≡ 0 → HasReport form (ended text) self.new }
-        ensures refused { (text : List ℕ) → WasRead ⟦<PackedChannel<Global> as Channel<Global>>⟧ text self.old.reading → reports self.old.reading ≡ true
-            → result ≡ 2 → KeepsFault (fault (ended text)) self.new }
+        ensures found { self.new.found ≡ self.old.found }
+        ensures reported { (text : List ℕ) → WasRead ⟦<PackedChannel<Global> as Channel<Global>>⟧ text self.old.reading → result ≡ 0
+            → HasReport form (ended text) self.old self.new }
+        ensures refused { (text : List ℕ) → WasRead ⟦<PackedChannel<Global> as Channel<Global>>⟧ text self.old.reading → result ≡ 2
+            → KeepsFault (fault (ended text)) self.new }
+        ensures failed { result ≢ 0 → waiting self.new.text ≡ waiting self.old.text }
         ensures once { has_ended self.old.reading ≡ true → (result ≢ 0) × (result ≢ 2) }
     {
         if form > ROW_OBJECTS {
@@ -284,9 +240,9 @@ impl Scanning {
             (false, true) => return ARGUMENT,
             _ => {}
         }
-        let mut lines = VecSink::new(Vec::new(alloc));
-        match self.reading.report(alloc, &mut lines) {
-            Ok(()) => self.put_report(alloc, form, lines),
+        let mut written = Waiting::<u8, Global>::new(alloc);
+        match self.reading.report(alloc, &mut written) {
+            Ok(()) => self.put(alloc, form, written),
             Err(fault) => {
                 let line = self.reading.last_line(alloc);
                 self.refuse(alloc, fault, line)
@@ -294,16 +250,21 @@ impl Scanning {
         }
     }
 
-    /// Replaces the text that was not returned by the report of the text, which has ended, or by its rows and their
-    /// report. The trace has ended then, also when it fails, except where the form is another than the scan's.
+    /// Ends the text, and makes its report, or what comes after the objects of its rows. The trace has ended then, also
+    /// when it fails, except where the form is another than the scan's.
     pub(crate) fn end(&mut self, alloc: Global, form: u32) -> u32
-        requires { IsSoundScanning ⟦<PackedChannel<Global> as Channel<Global>>⟧ self.old }
-        ensures sound { IsSoundScanning ⟦<PackedChannel<Global> as Channel<Global>>⟧ self.new }
-        ensures findings { waiting_findings self.new ≡ waiting_findings self.old }
-        ensures reported { (text : List ℕ) → WasRead ⟦<PackedChannel<Global> as Channel<Global>>⟧ text self.old.reading → reports self.old.reading ≡ true
-            → result ≡ 0 → HasReport form text self.new }
-        ensures refused { (text : List ℕ) → WasRead ⟦<PackedChannel<Global> as Channel<Global>>⟧ text self.old.reading → reports self.old.reading ≡ true
+        requires { IsSound ⟦<PackedChannel<Global> as Channel<Global>>⟧ self.old.reading }
+        ensures sound { IsSound ⟦<PackedChannel<Global> as Channel<Global>>⟧ self.new.reading }
+        ensures found { self.new.found ≡ self.old.found }
+        ensures reported { (text : List ℕ) → WasRead ⟦<PackedChannel<Global> as Channel<Global>>⟧ text self.old.reading → prints_rows self.old.reading ≡ false
+            → result ≡ 0 → HasReport form text self.old self.new }
+        ensures rows { (text : List ℕ) → WasRead ⟦<PackedChannel<Global> as Channel<Global>>⟧ text self.old.reading → prints_rows self.old.reading ≡ true
+            → result ≡ 0 → EndsRows text (Some (waiting self.old.text)) (Some (waiting self.new.text)) }
+        ensures refused { (text : List ℕ) → WasRead ⟦<PackedChannel<Global> as Channel<Global>>⟧ text self.old.reading → prints_rows self.old.reading ≡ false
             → result ≡ 2 → KeepsFault (fault text) self.new }
+        ensures stopped { (text : List ℕ) → WasRead ⟦<PackedChannel<Global> as Channel<Global>>⟧ text self.old.reading → prints_rows self.old.reading ≡ true
+            → result ≡ 2 → KeepsEndFault text self.new }
+        ensures failed { result ≢ 0 → waiting self.new.text ≡ waiting self.old.text }
         ensures once { has_ended self.old.reading ≡ true → (result ≢ 0) × (result ≢ 2) }
         ensures ended { result ≡ 0 → has_ended self.new.reading ≡ true }
     {
@@ -313,43 +274,12 @@ impl Scanning {
         if form > ROW_OBJECTS || self.reading.prints_rows() != (form == ROW_OBJECTS) {
             return ARGUMENT;
         }
-        let mut lines = VecSink::new(Vec::new(alloc));
+        let mut written = Waiting::<u8, Global>::new(alloc);
         let line = self.reading.last_line(alloc);
-        match self.reading.end(alloc, &mut lines) {
-            Ok(()) => self.put_report(alloc, form, lines),
+        match self.reading.end(&mut written) {
+            Ok(()) => self.put(alloc, form, written),
             Err(fault) => self.refuse(alloc, fault, line),
         }
-    }
-
-    /// Returns the text that was not returned before.
-    pub(crate) fn waiting(&self) -> &[u8]
-        ensures { result.now ≡ waiting_text self.now }
-    {
-        match self.text.as_slice().get(self.text_taken..) {
-            Some(rest) => rest,
-            None => b"",
-        }
-    }
-
-    /// Counts `taken` more bytes of the text as returned.
-    pub(crate) fn take_text(&mut self, alloc: Global, taken: usize)
-        requires { taken ≤ length (waiting_text self.old) }
-        ensures reading { self.new.reading ≡ self.old.reading }
-        ensures findings { (self.new.found ≡ self.old.found) × (self.new.found_taken ≡ self.old.found_taken) }
-        ensures taken { waiting_text self.new ≡ drop taken (waiting_text self.old) }
-    {
-        self.text_taken = self.text_taken.saturating_add(taken);
-        if self.waiting().is_empty() {
-            self.text = VecSink::new(Vec::new(alloc));
-            self.text_taken = 0;
-        }
-    }
-
-    /// Returns the faulty line, by its number and its kind.
-    pub(crate) fn refused(&self) -> Option<(u32, Kind)>
-        ensures { result ≡ self.now.refused }
-    {
-        self.refused
     }
 
     /// Returns what is wrong with the faulty line, in a sentence.

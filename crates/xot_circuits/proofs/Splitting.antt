@@ -8,10 +8,10 @@ use Rattle.xot_circuits.specs.declared.header.Header.TheVariants.{Length}
 abbrev joined : List (List ℕ) → List ℕ
 joined pieces = flat_map (λ (piece : List ℕ). piece) pieces
 
-header_xot : (p rest : List ℕ) → header (xot p ++ rest) ≡ Length (length p)
+pub header_xot : (p rest : List ℕ) → header (xot p ++ rest) ≡ Length (length p)
 header_xot p rest = ap Length (div-add-mod' (length p) 256)
 
-length_xot : (p rest : List ℕ) → length (xot p ++ rest) ≡ 4 + (length p + length rest)
+pub length_xot : (p rest : List ℕ) → length (xot p ++ rest) ≡ 4 + (length p + length rest)
 length_xot p rest = omega (arith, length-append p rest)
 
 not_partial : (p rest : List ℕ) → IsPartial (xot p ++ rest) → ⊥

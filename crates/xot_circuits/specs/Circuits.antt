@@ -1,10 +1,12 @@
 -- The circuit of a connection.
-use Rattle.std.specs.Prelude.{ℕ, ◌%◌, ◌==◌, ◌&&◌, ◌||◌, Bool, true, false, not, List, Option, Some, None, if◌then◌else◌}
+use Rattle.std.specs.Prelude.{ℕ, ◌%◌, ◌==◌, ◌&&◌, ◌||◌, Bool, true, false, not, List, Option, Some, None, unwrap_or, if◌then◌else◌}
 use Rattle.std.specs.Option.{option_or}
 use Rattle.line_model.specs.declared.state.Side.{Side}
 use Rattle.line_model.specs.declared.state.Side.TheVariants.{T, N}
 use Rattle.xot_circuits.specs.Calls.{after_gap, after_packet, head_of, is_confirmed, new_call}
 use Rattle.xot_circuits.specs.declared.call.Head.{Head}
+use Rattle.xot_circuits.specs.declared.channels.Purpose.{Purpose}
+use Rattle.xot_circuits.specs.declared.channels.Purpose.TheVariants.{Permanent, Calls}
 use Rattle.xot_circuits.specs.declared.circuit.Circuit.{Circuit}
 use Rattle.xot_circuits.specs.declared.circuit.What.{What}
 use Rattle.xot_circuits.specs.declared.circuit.What.TheVariants.{Packet, OtherChannel, SetUp, OfInterface}
@@ -28,6 +30,10 @@ seen_of N c = c.of_n
 
 abbrev pub expected : Side → Circuit → Expected
 expected s c = record { modulus = c.modulus; channels = seen_of s c }
+
+-- for what the circuit needs a logical channel of the trace
+abbrev pub purpose : Circuit → Purpose
+purpose c = if c.call.is_permanent then Permanent else Calls (unwrap_or c.call.caller T)
 
 abbrev pub seen_after : Option SeenChannels → (channel : ℕ) → SeenChannels
 seen_after None channel = record { first = channel; last = channel }

@@ -3,4 +3,8 @@ pub mod Joining
 pub mod Streams
 pub mod Calls
 pub mod Circuits
+pub mod Items
+pub mod Exchanges
+pub mod Roles
+pub mod Recordings
 pub mod Plans

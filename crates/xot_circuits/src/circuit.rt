@@ -5,6 +5,7 @@ ghost use Rattle.line_model.specs.basics.Octets.{channel_of};
 ghost use Rattle.xot_circuits.specs.Circuits.{is_flow, is_last, is_of_interface, seen_after, what_of};
 
 use crate::call::{Call, Head, read_head};
+use crate::channels::Purpose;
 use crate::joining::{Expected, SeenChannels};
 use line_model::state::Side;
 
@@ -98,7 +99,7 @@ fn what_of(seen: Option<SeenChannels>, channel: u16) -> What
 }
 
 impl Circuit {
-    ghost use Rattle.xot_circuits.specs.Circuits.{after_loss, after_other_version, expected, followed, is_known, new_circuit, seen_of, taken};
+    ghost use Rattle.xot_circuits.specs.Circuits.{after_loss, after_other_version, expected, followed, is_known, new_circuit, purpose, seen_of, taken};
 
     /// Returns a circuit of which no packet was read. `is_joined`: the recording began inside of the connection.
     pub fn new(is_joined: bool) -> Circuit
@@ -121,6 +122,17 @@ impl Circuit {
         match side {
             Side::T => self.of_t,
             Side::N => self.of_n,
+        }
+    }
+
+    /// Returns for what it needs a logical channel of the trace. Where nothing shows who called, it was the DTE.
+    pub fn purpose(&self) -> Purpose
+        ensures { result ≡ purpose self.now }
+    {
+        if self.call.is_permanent {
+            Purpose::Permanent
+        } else {
+            Purpose::Calls(self.call.caller.unwrap_or(Side::T))
         }
     }
 

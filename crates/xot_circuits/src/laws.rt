@@ -1,6 +1,7 @@
 //! Theorems about the definitions alone.
 
 ghost use Rattle.xot_circuits.specs.Calls.{ClearIsAnswered};
+ghost use Rattle.xot_circuits.specs.Exchanges.{SplitIsRead};
 ghost use Rattle.xot_circuits.specs.Joining.{FirstBegins};
 ghost use Rattle.xot_circuits.specs.Packets.{AnyPieces, OneSplit};
 
@@ -23,4 +24,9 @@ pub fn clear_is_answered()
 /// However a stream was cut into pieces, they complete the packets that the whole stream is.
 pub fn any_pieces()
     ensures { AnyPieces }
+{}
+
+/// Of octets that are split into packets and a rest, these packets are read.
+pub fn split_is_read()
+    ensures { SplitIsRead }
 {}

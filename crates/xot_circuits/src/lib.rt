@@ -4,7 +4,11 @@
 pub mod call;
 pub mod channels;
 pub mod circuit;
+pub mod exchange;
 pub mod header;
+pub mod item;
 pub mod joining;
 pub mod laws;
+pub mod recording;
+pub mod roles;
 pub mod stream;

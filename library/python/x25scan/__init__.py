@@ -10,6 +10,7 @@ by one thread at a time; several may run side by side.
 """
 from __future__ import annotations
 
+import io
 import os
 from collections.abc import Iterator
 from pathlib import Path
@@ -22,15 +23,12 @@ __all__ = [
     "TraceError", "Uncounted", "open_capture", "rows", "scan", "words_of",
 ]
 
-_PIECE = 1 << 20
+_PIECE = 1 << 16
 
 
 def _pieces(source: str | os.PathLike[str] | bytes) -> Iterator[bytes]:
     """The bytes of a trace, which is a path or the bytes themselves."""
-    if isinstance(source, bytes):
-        yield source
-        return
-    with Path(source).open("rb") as file:
+    with io.BytesIO(source) if isinstance(source, bytes) else Path(source).open("rb") as file:
         while piece := file.read(_PIECE):
             yield piece
 
@@ -49,13 +47,11 @@ def scan(source: str | os.PathLike[str] | bytes, *, form: str = "lines") -> str:
 def rows(source: str | os.PathLike[str] | bytes) -> Iterator[Object]:
     """The objects of a trace: a Row for each packet and a Gap for each gap row, and then the Finding, Call, Setting, Account, Peak, Gaps and Sums of its report.
 
-    Raises as `scan`, before the first object.
+    The objects come while the trace is read, in constant memory. Raises as `scan`, at a faulty line after the objects of
+    the rows before it.
     """
-    handle = Scan(rows=True)
-    for piece in _pieces(source):
-        handle.feed(piece)
-    handle.end_trace("rows")
-    return map(object_of, handle.lines())
+    with Scan(rows=True) as handle:
+        yield from map(object_of, handle.rows(_pieces(source)))
 
 
 class Observer:

@@ -4,7 +4,7 @@ from __future__ import annotations
 import ctypes
 import functools
 import os
-from collections.abc import Iterator
+from collections.abc import Iterable, Iterator
 from pathlib import Path
 
 from x25scan._rows import Finding
@@ -148,17 +148,15 @@ class Scan:
             self._check(self._library.x25scan_take_text(self._at, buffer, _ROOM, length, left))
             yield ctypes.string_at(buffer, length.value)
 
-    def lines(self) -> Iterator[str]:
-        """The lines of what was made."""
-        rest = b""
-        for piece in self._made():
-            whole, _, more = piece.rpartition(b"\n")
-            if not whole:
-                rest += piece
-                continue
-            yield from (rest + whole).decode("ascii").split("\n")
-            rest = more
-        yield from rest.decode("ascii").splitlines()
+    def rows(self, pieces: Iterable[bytes]) -> Iterator[str]:
+        """The lines that are made of a text while it is read."""
+        for piece in pieces:
+            try:
+                self.feed(piece)
+            finally:
+                yield from self._text().splitlines()
+        self.end_trace("rows")
+        yield from self._text().splitlines()
 
     def close(self) -> None:
         """Gives back the memory."""

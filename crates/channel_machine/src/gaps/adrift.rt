@@ -18,7 +18,6 @@ ghost use Rattle.channel_machine.specs.Channels.{StatusRepresents, Does, Comes, 
 
 use crate::channel::StatusChannel;
 use crate::events::EventOrigin;
-use crate::format::header_of;
 use crate::gaps::carried::WhileAdrift;
 use crate::gaps::kinds::indication_of;
 use crate::messages::data_packet;
@@ -334,7 +333,7 @@ impl<A: Allocator + Clone, S: StatusStore> StatusChannel<A, S> {
         self.bring_up(origin, events);
         let terms = self.status.terms();
         self.enter(StateName::D1, false, &terms);
-        if header_of(&item.packet).is_some() {
+        if item.packet.data_header().is_some() {
             let octets = self.data_length(item);
             events.push_reserved(origin.event(data_packet(item.side, octets)));
         }

@@ -18,7 +18,7 @@ ghost use Rattle.channel_machine.specs.Settling.{settling_by};
 ghost use Rattle.channel_machine.specs.Sizes.{largest_length};
 
 use crate::events::EventOrigin;
-use crate::format::{Contents, header_of};
+use crate::format::Contents;
 use crate::gaps::adrift::{cleared_by, resetting_state};
 use crate::gaps::carried::WhileAdrift;
 use crate::gaps::channel::{Certainty, GapChannel};
@@ -308,7 +308,7 @@ impl<A: Allocator + Clone, S: StatusStore> GapChannel<A, S> {
         let modulus = self.channel.interface().modulus;
         self.channel.carry_on(row.origin, item, events)?;
         let mut adrift = adrift;
-        let header = header_of(&item.packet);
+        let header = item.packet.data_header();
         adrift.receive(modulus, row.side, header, received(&item.packet));
         self.certainty = Certainty::Adrift(adrift);
         Ok(())

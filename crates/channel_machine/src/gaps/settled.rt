@@ -19,7 +19,6 @@ ghost use Rattle.channel_machine.specs.SettledNumbers.{AreNumbered, IsCountedInD
 ghost use Rattle.channel_machine.specs.SettledSteps.{IsControlled};
 ghost use Rattle.channel_machine.specs.SettledSequences.{IsCompleted, IsContinued, kept_after};
 
-use crate::format::header_of;
 use crate::gaps::carried::WhileAdrift;
 use crate::gaps::doubts::Doubts;
 use data_transfer::assembler::Assembler;
@@ -57,7 +56,7 @@ impl Settling {
         let last = adrift.acknowledged(side, receive)?;
         Some(Settling {
             side,
-            header: header_of(packet),
+            header: packet.data_header(),
             receive,
             last,
         })

@@ -19,7 +19,6 @@ ghost use Rattle.channel_machine.specs.Sizes.{largest_length};
 
 use crate::channel::StatusChannel;
 use crate::events::Judgement;
-use crate::format::header_of;
 use crate::gaps::settled::SettledNumbers;
 use crate::messages::{ROOM, data_packet, report_settings_of};
 use crate::status::StatusStore;
@@ -61,7 +60,7 @@ impl<A: Allocator + Clone, S: StatusStore> StatusChannel<A, S> {
             events.old.items events.new.items }
         ensures memory { IsMemory result }
     {
-        let Some(header) = header_of(&item.packet) else {
+        let Some(header) = item.packet.data_header() else {
             return Ok(None);
         };
         let flow = match self.judge_settled(settled, judgement.side, &header) {

@@ -1,51 +1,24 @@
-//! The pieces of worked traces, by both machines of a logical channel.
+//! Pieces by the other machine of a logical channel: the reports are the same.
 
-use crate::scans::runs::{Way, outcome_of, scan_through};
-use crate::scans::worked::long::{LONG_TRACES, LongTrace};
-use crate::scans::worked::{TRACES, Worked};
-use channel_machine::channel::{PackedChannel, PlainChannel};
+use crate::host::Host;
+use crate::scans::checks::agree;
+use crate::scans::runs::{Way, scan, scan_through};
+use crate::scans::worked::{TRACES, worked};
+use channel_machine::channel::PlainChannel;
 use channel_run::run::run_piece;
-use line_model::call::CallRecord;
+use hex::encode_upper;
 use line_model::fault::Fault;
 use line_model::piece::{Piece, PieceReport};
-use std::alloc::{Allocator, Global};
-use std::process::Abort;
-use std::sync::Wait;
-use std::sync::atomic::AtomicU64;
-use std::sync::atomic::Ordering::SeqCst;
-use std::thread::Threads;
-use std::time::Clock;
+use std::alloc::{AllocError, Allocator, Global};
+use std::test::Fail;
 use tests_devices::Cuts;
 use workers::Gate;
 
-/// How many pieces were run by both machines, and of how many their reports differ.
+/// Runs each piece by the machine that scans don't use.
 #[derive(Drop)]
-pub struct Agreement {
-    pieces: AtomicU64,
-    differing: AtomicU64,
-}
+struct PlainGate;
 
-impl Agreement {
-    pub fn new() -> Agreement {
-        Agreement {
-            pieces: AtomicU64::new(0),
-            differing: AtomicU64::new(0),
-        }
-    }
-
-    /// Whether some pieces were run, and no reports differ.
-    pub fn agrees(&self) -> bool {
-        self.pieces.load(SeqCst) > 0 && self.differing.load(SeqCst) == 0
-    }
-}
-
-/// Runs each piece by both machines.
-#[derive(Drop)]
-pub struct BothMachines<'a> {
-    pub tally: &'a Agreement,
-}
-
-impl Gate for BothMachines<'_> {
+impl Gate for PlainGate {
     ghost ran = { λ gate piece report. Unit {0} };
 
     fn run<A: Allocator + Copy>(
@@ -53,95 +26,73 @@ impl Gate for BothMachines<'_> {
         alloc: A,
         piece: &Piece<A>,
     ) -> Result<PieceReport<A>, Fault> {
-        let plain = run_piece::<A, PlainChannel<A>>(alloc, piece)?;
-        let packed = run_piece::<A, PackedChannel<A>>(alloc, piece)?;
-        self.tally.pieces.fetch_add(1, SeqCst);
-        if !same_report(&plain, &packed) {
-            self.tally.differing.fetch_add(1, SeqCst);
-        }
-        Ok(plain)
+        run_piece::<A, PlainChannel<A>>(alloc, piece)
     }
-}
-
-/// Whether two reports of a piece say the same.
-fn same_report<A: Allocator>(one: &PieceReport<A>, other: &PieceReport<A>) -> bool {
-    one.findings.as_slice() == other.findings.as_slice()
-        && one.octets == other.octets
-        && one.segments == other.segments
-        && same_calls(one.calls.as_slice(), other.calls.as_slice())
-}
-
-/// Whether two lists of calls are the same.
-fn same_calls<A: Allocator>(some: &[CallRecord<A>], others: &[CallRecord<A>]) -> bool {
-    for (one, other) in some.iter().zip(others) {
-        if !same_course(one, other) || !same_counts(one, other) {
-            return false;
-        }
-    }
-    some.len() == others.len()
-}
-
-/// Whether two calls are of the same parties and went the same way.
-fn same_course<A: Allocator>(one: &CallRecord<A>, other: &CallRecord<A>) -> bool {
-    (one.epoch, one.channel, one.out, one.reverse)
-        == (other.epoch, other.channel, other.out, other.reverse)
-        && one.called.as_bytes() == other.called.as_bytes()
-        && one.calling.as_bytes() == other.calling.as_bytes()
-        && (one.up, one.opened, one.ended) == (other.up, other.opened, other.ended)
-        && one.how == other.how
-}
-
-/// Whether two calls carried the same, under the same settings.
-fn same_counts<A: Allocator>(one: &CallRecord<A>, other: &CallRecord<A>) -> bool {
-    (one.data_t, one.oct_t, one.data_n, one.oct_n, one.segments)
-        == (
-            other.data_t,
-            other.oct_t,
-            other.data_n,
-            other.oct_n,
-            other.segments,
-        )
-        && one.settings.as_slice() == other.settings.as_slice()
-}
-
-/// Runs the pieces of a trace by both machines.
-fn check_machines<R: Threads + Wait + Clock + Sync + Abort>(
-    rt: &R,
-    alloc: Global,
-    tally: &Agreement,
-    worked: &Worked,
-) {
-    let gate = BothMachines { tally };
-    let cuts = Cuts::of_steps(usize::MAX, usize::MAX);
-    let _ = outcome_of(scan_through(rt, alloc, alloc, &gate, Way::Crew(2, 4), worked.text, cuts));
-    assert_eq!(rt; tally.differing.load(SeqCst), 0, "{}", worked.name);
-}
-
-/// Runs the pieces of a trace that is too long to be written out.
-fn check_long_machines<R: Threads + Wait + Clock + Sync + Abort>(
-    rt: &R,
-    alloc: Global,
-    tally: &Agreement,
-    long: &LongTrace,
-) {
-    let text = long.text(rt, alloc);
-    check_machines(rt, alloc, tally, &long.worked(text.as_slice()));
-}
-
-/// Runs the pieces of all worked traces, and says how many there are.
-fn check_all_machines<R: Threads + Wait + Clock + Sync + Abort>(rt: &R, alloc: Global) -> u64 {
-    let tally = Agreement::new();
-    for worked in &TRACES {
-        check_machines(rt, alloc, &tally, worked);
-    }
-    for long in &LONG_TRACES {
-        check_long_machines(rt, alloc, &tally, long);
-    }
-    tally.pieces.load(SeqCst)
 }
 
 #[test]
-fn pieces_have_one_report_by_both_machines(rt: HostRuntime) {
-    let pieces = check_all_machines(&rt, rt.alloc());
-    assert_eq!(rt; pieces, 28);
+fn pieces_have_one_report_by_both_machines(rt: HostRuntime) -> Result<(), Fail> {
+    for trace in 0..TRACES {
+        let (text, wanted) = worked(rt.alloc(), trace)?;
+        let scanned = scan_through(&rt, &PlainGate, Way::Crew(2, 4), &text, Cuts::none());
+        agree(&rt, &scanned, wanted, Cuts::none());
+    }
+    Ok(())
+}
+
+/// Channel 0, a permanent circuit, a virtual channel, and one that is not assigned.
+const CHANNELS: [u8; 4] = [0, 1, 2, 9];
+
+/// Appends the rows of a packet from both sides, cut to each of its lengths, and returns the number of the last one.
+fn push_cuts(
+    alloc: Global,
+    text: &mut String,
+    last: u32,
+    packet: &[u8],
+) -> Result<u32, AllocError> {
+    let mut number = last;
+    for length in 1..=packet.len() {
+        let digits = encode_upper(alloc, &packet[..length.min(packet.len())])?;
+        let (own, other) = (number.saturating_add(1), number.saturating_add(2));
+        text.push_str(format!(in alloc; "{own} T {digits}\n{other} N {digits}\n")?.as_str())?;
+        number = other;
+    }
+    Ok(number)
+}
+
+/// Packets of each type on each channel: after the type two addresses of a digit, a facility and user data, where the
+/// packet is of a call.
+fn all_types(alloc: Global, header: &str, format: u8) -> Result<String, AllocError> {
+    let mut text = String::from_str(alloc, header)?;
+    text.push_str("1 T -\n2 N -\n")?;
+    let mut last = 2;
+    for code in 0..=u8::MAX {
+        for channel in CHANNELS {
+            let packet = [format, channel, code, 0x11, 0x12, 2, 1, 0, 1, 0xC0];
+            last = push_cuts(alloc, &mut text, last, &packet)?;
+        }
+    }
+    Ok(text)
+}
+
+/// Scans a text in one thread, and by a crew with the other machine.
+fn check_machines(rt: &impl Host, text: &[u8]) {
+    let alone = scan(rt, Way::Alone, text, Cuts::none());
+    assert!(rt; alone.answer.is_ok());
+    let plain = scan_through(rt, &PlainGate, Way::Crew(2, 4), text, Cuts::none());
+    agree(rt, &plain, (None, alone.taken.as_slice()), Cuts::none());
+}
+
+const NUMBERINGS: [(&str, u8); 2] = [
+    ("X25 1 MOD 8 WIN 2 SIZE 128 PVC 1 SVC 4\n", 0x10),
+    ("X25 1 MOD 128 WIN 2 SIZE 128 PVC 1 SVC 4\n", 0x20),
+];
+
+#[test]
+fn packets_of_each_type_are_cut_to_each_length(rt: HostRuntime) -> Result<(), Fail> {
+    for (header, format) in NUMBERINGS {
+        let text = all_types(rt.alloc(), header, format)?;
+        check_machines(&rt, text.as_bytes());
+    }
+    Ok(())
 }

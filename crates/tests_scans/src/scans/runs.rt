@@ -1,17 +1,14 @@
 //! Scans over the devices of the tests.
 
+use crate::host::Host;
 use crate::scans::in_blocks::scan_in_blocks;
 use line_model::device::Sink;
 use line_model::fault::Fault;
-use line_model::totals::Summary;
+use line_model::totals::{Summary, Totals};
 use live_report::uncounted::Uncounted;
 use std::alloc::{Allocator, Global};
 use std::marker::Brand;
-use std::sync::Wait;
-use std::thread::Threads;
-use std::time::Clock;
 use streams::room_source::RoomSource;
-use tests_devices::totals::NONE;
 use tests_devices::{CutSink, CutSource, Cuts};
 use trace_scan::following::follow;
 use trace_scan::gate::OpenGate;
@@ -20,21 +17,14 @@ use trace_scan::threaded::{ScanOutcome, scan_with};
 use workers::{Crew, Gate};
 
 /// How a trace text is scanned: in one thread, as it grows, or by a number of workers over a queue of a number of
-/// pieces. In blocks the workers read each part of the text that the source gives and that ends a line; otherwise
-/// only parts of many lines.
+/// pieces. In blocks the workers read each part of the text that the source gives, that ends a line and that has this
+/// number of bytes; otherwise only parts of many lines.
 #[derive(Clone, Copy)]
 pub enum Way {
     Alone,
     Following,
     Crew(usize, usize),
-    InBlocks(usize, usize),
-}
-
-impl Way {
-    /// Whether workers run the pieces.
-    pub fn has_workers(self) -> bool {
-        matches!(self, Way::Crew(_, _) | Way::InBlocks(_, _))
-    }
+    InBlocks(usize, usize, usize),
 }
 
 /// What a scan returned, and what its sink accepted. No worker has a share of a scan in one thread.
@@ -44,11 +34,24 @@ pub struct Scanned<A: Allocator = Global> {
     pub taken: Vec<u8>,
 }
 
-/// The last line of a report or why there is none, and what the sink accepted.
-#[derive(Drop)]
-pub struct Outcome {
-    pub answer: Result<Summary, Fault>,
-    pub taken: Vec<u8>,
+impl<A: Allocator> Scanned<A> {
+    /// The last line of the report, or why there is none.
+    pub fn summary(&self) -> Result<Summary, Fault> {
+        match &self.answer {
+            Ok(scan) => Ok(scan.summary),
+            Err(fault) => Err(*fault),
+        }
+    }
+}
+
+/// What pieces with a finding each come to.
+pub fn findings(pieces: u64) -> Totals {
+    Totals {
+        posts: pieces,
+        findings: pieces,
+        octets: 0,
+        segments: 0,
+    }
 }
 
 /// What a scan returns of which no worker has a share.
@@ -58,18 +61,13 @@ fn unshared<A: Allocator>(
 ) -> Result<ScanOutcome<A>, Fault> {
     Ok(ScanOutcome {
         summary: answer?,
-        totals: NONE,
+        totals: findings(0),
         shares: Vec::new(heap),
     })
 }
 
-fn scan_by<
-    A: Allocator + Copy + Send + Sync,
-    S: RoomSource,
-    K: Sink,
-    G: Gate,
-    R: Threads + Wait + Clock + Sync,
->(
+/// Scans what a source gives.
+fn scan_by<A: Allocator + Copy + Send + Sync, S: RoomSource, K: Sink, G: Gate, R: Host>(
     rt: &R,
     heap: A,
     gate: &G,
@@ -89,25 +87,27 @@ fn scan_by<
             capacity.clamp(1, 4096),
             gate,
         ),
-        Way::InBlocks(workers, capacity) => {
+        Way::InBlocks(workers, capacity, enough) => {
             let crew = Crew {
                 workers: workers.clamp(1, 64),
                 capacity: capacity.clamp(1, 4096),
                 gate,
             };
-            scan_in_blocks::<Brand, A, S, K, G, R>(rt, heap, source, sink, crew)
+            scan_in_blocks::<Brand, A, S, K, G, R>(rt, heap, source, sink, crew, enough)
         }
     }
 }
 
-/// Scans what a source gives.
-pub fn scan_from<
-    A: Allocator + Copy + Send + Sync,
-    S: RoomSource,
-    G: Gate,
-    R: Threads + Wait + Clock + Sync,
->(rt: &R, heap: A, alloc: Global, gate: &G, way: Way, source: &mut S, cuts: Cuts) -> Scanned<A> {
-    let mut sink = CutSink::new(alloc, cuts);
+/// Scans what a source gives, with a heap of its own and through any gate.
+pub fn scan_from<A: Allocator + Copy + Send + Sync, S: RoomSource, G: Gate, R: Host>(
+    rt: &R,
+    heap: A,
+    gate: &G,
+    way: Way,
+    source: &mut S,
+    cuts: Cuts,
+) -> Scanned<A> {
+    let mut sink = CutSink::new(rt.alloc(), cuts);
     let answer = scan_by(rt, heap, gate, way, source, &mut sink);
     Scanned {
         answer,
@@ -115,54 +115,31 @@ pub fn scan_from<
     }
 }
 
-/// Scans a trace text with a heap of its own and through any gate, into a sink of another heap.
-pub fn scan_through<A: Allocator + Copy + Send + Sync, G: Gate, R: Threads + Wait + Clock + Sync>(
+/// Scans a trace text with a heap of its own.
+pub fn scan_in<A: Allocator + Copy + Send + Sync, R: Host>(
     rt: &R,
     heap: A,
-    alloc: Global,
-    gate: &G,
     way: Way,
     text: &[u8],
     cuts: Cuts,
 ) -> Scanned<A> {
     let mut source = CutSource::new(text, cuts);
-    scan_from(rt, heap, alloc, gate, way, &mut source, cuts)
+    scan_from(rt, heap, &OpenGate, way, &mut source, cuts)
 }
 
-/// The outcome of a scan, without the shares.
-pub fn outcome_of<A: Allocator>(scanned: Scanned<A>) -> Outcome {
-    let Scanned { answer, taken } = scanned;
-    match answer {
-        Ok(scan) => Outcome {
-            answer: Ok(scan.summary),
-            taken,
-        },
-        Err(fault) => Outcome {
-            answer: Err(fault),
-            taken,
-        },
-    }
-}
-
-/// Scans a trace text with a heap of its own, into a sink of another.
-pub fn scan_in<A: Allocator + Copy + Send + Sync, R: Threads + Wait + Clock + Sync>(
+/// Scans a trace text through any gate.
+pub fn scan_through<G: Gate, R: Host>(
     rt: &R,
-    heap: A,
-    alloc: Global,
+    gate: &G,
     way: Way,
     text: &[u8],
     cuts: Cuts,
-) -> Outcome {
-    outcome_of(scan_through(rt, heap, alloc, &OpenGate, way, text, cuts))
+) -> Scanned {
+    let mut source = CutSource::new(text, cuts);
+    scan_from(rt, rt.alloc(), gate, way, &mut source, cuts)
 }
 
 /// Scans a trace text.
-pub fn scan<R: Threads + Wait + Clock + Sync>(
-    rt: &R,
-    alloc: Global,
-    way: Way,
-    text: &[u8],
-    cuts: Cuts,
-) -> Outcome {
-    scan_in(rt, alloc, alloc, way, text, cuts)
+pub fn scan(rt: &impl Host, way: Way, text: &[u8], cuts: Cuts) -> Scanned {
+    scan_in(rt, rt.alloc(), way, text, cuts)
 }

@@ -43,27 +43,11 @@ fn pass(
         return Ok(false);
     };
     let mut block = Vec::new(alloc);
-    let Some(span) = read_apart(alloc, &interface, bytes, &mut block) else {
-        return Ok(false);
-    };
-    if !lines.pass_block(&span) {
-        return Ok(false);
+    match read_apart(alloc, &interface, bytes, &mut block) {
+        Some(span) if lines.pass_block(&span) => rows.append(&mut block)?,
+        _ => return Ok(false),
     }
-    rows.append(&mut block)?;
     Ok(true)
-}
-
-/// Passes the next bytes of a trace text, or feeds them.
-fn take(
-    alloc: Global,
-    lines: &mut Lines<Global>,
-    bytes: &[u8],
-    rows: &mut Vec<Row<Global>>,
-) -> Result<(), Fault> {
-    if pass(alloc, lines, bytes, rows)? {
-        return Ok(());
-    }
-    lines.feed(bytes, rows)
 }
 
 /// How many of the first bytes of a trace text are its first line and those after it that end within `size` bytes.
@@ -77,30 +61,25 @@ fn block_size(text: &[u8], size: usize) -> usize {
     if whole == 0 { text.len() } else { whole }
 }
 
-/// The result of a trace text of which blocks of `size` bytes are read apart, and how many rows it has. The first part
-/// of it has `begun` bytes, and is fed.
+/// Reads a trace text of which blocks of `size` bytes are read apart. The first part of it has `begun` bytes, and is fed.
 fn read_blocks(
     alloc: Global,
     text: &[u8],
     begun: usize,
     size: usize,
-) -> (Result<Interface, Fault>, usize) {
-    let mut rows = Vec::new(alloc);
+    rows: &mut Vec<Row<Global>>,
+) -> Result<Interface, Fault> {
     let mut lines = Lines::new(alloc);
     let (first, mut rest) = text.split_at(begun.min(text.len()));
-    let mut answer = lines.feed(first, &mut rows);
+    lines.feed(first, rows)?;
     for _ in 0..text.len() {
         let (block, more) = rest.split_at(block_size(rest, size).min(rest.len()));
-        if answer.is_ok() {
-            answer = take(alloc, &mut lines, block, &mut rows);
+        if !pass(alloc, &mut lines, block, rows)? {
+            lines.feed(block, rows)?;
         }
         rest = more;
     }
-    let answer = match answer {
-        Ok(()) => lines.end(&mut rows),
-        Err(fault) => Err(fault),
-    };
-    (answer, rows.len())
+    lines.end(rows)
 }
 
 /// A trace text that is read in blocks after any first part has the result of one that is fed.
@@ -108,22 +87,27 @@ fn check_blocks(rt: &impl Abort, alloc: Global, text: &[u8]) {
     let wanted = read_counted(alloc, text, text.len());
     for size in SIZES {
         for begun in 0..text.len() {
-            let read = read_blocks(alloc, text, begun, size);
-            holds_at(rt, read == wanted, begun as u64);
+            let mut rows = Vec::new(alloc);
+            let answer = read_blocks(alloc, text, begun, size, &mut rows);
+            holds_at(rt, (answer, rows.len()) == wanted, begun as u64);
         }
     }
 }
 
 #[test]
-fn blocks_of_a_text_answer_as_the_text(rt: HostRuntime) -> Result<(), Fail> {
+fn blocks_of_a_faulty_text_answer_as_the_text(rt: HostRuntime) -> Result<(), Fail> {
     for (faulty, _, _, _) in &FAULTY_ROWS {
-        let text = with_header(rt.alloc(), faulty)?;
-        check_blocks(&rt, rt.alloc(), text.as_slice());
+        let text = with_header(rt.alloc(), HEADER, faulty)?;
+        check_blocks(&rt, rt.alloc(), &text);
     }
+    Ok(())
+}
+
+#[test]
+fn blocks_of_a_text_answer_as_the_text(rt: HostRuntime) {
     for (text, _, _) in &ONE_BY_ONE {
         check_blocks(&rt, rt.alloc(), text);
     }
-    Ok(())
 }
 
 /// The rows of a trace text, bytes after them, and whether these are passed.
@@ -148,7 +132,7 @@ const SEAMS: [(&[u8], &[u8], bool); 14] = [
     (b"1 T -\n", b"2 T -\n3 T -\n4 T 1\n", false),
 ];
 
-/// Passes a block after a trace text, and a row after it whose number is the last one.
+/// Passes a block after a trace text.
 fn check_seam(
     rt: &impl Abort,
     alloc: Global,
@@ -156,16 +140,17 @@ fn check_seam(
     block: &[u8],
     passes: bool,
 ) -> Result<(), Fail> {
-    let text = with_header(alloc, rows)?;
+    let text = with_header(alloc, HEADER, rows)?;
     let mut lines = Lines::new(alloc);
     let mut shown = Vec::new(alloc);
     lines.feed(&text, &mut shown)?;
     let ended = lines.ended_lines();
     let passed = pass(alloc, &mut lines, block, &mut shown)?;
-    holds_for(rt, passed == passes, block);
-    if !passed {
-        holds_for(rt, lines.ended_lines() == ended, block);
-    }
+    holds_for(
+        rt,
+        passed == passes && (passed || lines.ended_lines() == ended),
+        block,
+    );
     Ok(())
 }
 
@@ -177,11 +162,11 @@ fn a_block_is_passed_where_it_may_go_on(rt: HostRuntime) -> Result<(), Fail> {
     Ok(())
 }
 
-/// A block without rows.
-fn comments(lines: u32, bytes: u32) -> BlockSpan {
+/// A block of `lines` lines and `bytes` bytes, with a row of this number, or without rows where it is 0.
+fn span(number: u32, lines: u32, bytes: u32) -> BlockSpan {
     BlockSpan {
-        first: 0,
-        last: 0,
+        first: number,
+        last: number,
         lines,
         bytes,
     }
@@ -193,17 +178,10 @@ fn a_text_may_have_2_to_the_30_bytes_in_blocks(rt: HostRuntime) -> Result<(), Fa
     let mut lines = Lines::new(rt.alloc());
     lines.feed(HEADER, &mut rows)?;
     let left = (1 << 30) - HEADER.len() as u32;
-    assert!(rt; !lines.pass_block(&comments(200_000, left + 1)));
-    assert!(rt; lines.pass_block(&comments(200_000, left - 6)));
-    assert!(rt; !lines.pass_block(&comments(1, 7)));
-    assert!(rt;
-        lines.pass_block(&BlockSpan {
-            first: 9,
-            last: 9,
-            lines: 1,
-            bytes: 6
-        })
-    );
+    assert!(rt; !lines.pass_block(&span(0, 200_000, left + 1)));
+    assert!(rt; lines.pass_block(&span(0, 200_000, left - 6)));
+    assert!(rt; !lines.pass_block(&span(0, 1, 7)));
+    assert!(rt; lines.pass_block(&span(9, 1, 6)));
     assert!(rt; lines.feed(b"x", &mut rows) == Err(Fault::Trace(200_003, Kind::TextLarge)));
     Ok(())
 }

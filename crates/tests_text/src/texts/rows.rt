@@ -1,12 +1,10 @@
 //! Rows that are read in one pass, against the same rows byte by byte, which are read by their words.
 
 use crate::checks::holds_for;
-use crate::texts::{HEADER, blank, take_ended, take_last};
-use line_model::fault::Fault;
+use crate::texts::{HEADER, take_rows};
 use std::alloc::Global;
 use std::process::Abort;
 use std::test::Fail;
-use trace_text::lines::Lines;
 
 /// Digits of both cases, more than two blocks of 32: of a packet that is no data, of data with Q 0, and of data with Q 1.
 const DIGITS: [&[u8]; 3] = [
@@ -45,77 +43,31 @@ const NUMBERS: [&[u8]; 14] = [
     b"",
 ];
 
-/// Reads the rows of lines after the header, in chunks of `size` bytes.
-fn tell_lines(
-    alloc: Global,
-    text: &[u8],
-    size: usize,
-    shown: &mut Vec<u8, Global>,
-) -> Result<(), Fault> {
-    let mut lines = Lines::new(alloc);
-    let mut row = blank(alloc);
-    take_ended(&mut lines, &mut row, HEADER, shown)?;
-    let mut rest = text;
-    for _ in 0..text.len() {
-        let (chunk, more) = rest.split_at(size.min(rest.len()));
-        take_ended(&mut lines, &mut row, chunk, shown)?;
-        rest = more;
-    }
-    take_last(lines, &mut row, shown)
-}
-
 /// Lines say the same in one chunk and byte by byte.
 fn check_lines(rt: &impl Abort, alloc: Global, text: &[u8]) {
-    let mut whole = Vec::new(alloc);
-    let mut parts = Vec::new(alloc);
-    let answer = tell_lines(alloc, text, text.len(), &mut whole);
-    let again = tell_lines(alloc, text, 1, &mut parts);
-    holds_for(
-        rt,
-        answer == again && whole.as_slice() == parts.as_slice(),
-        text,
-    );
+    let (mut whole, mut parts) = (Vec::new(alloc), Vec::new(alloc));
+    let answer = take_rows(alloc, HEADER, text, text.len(), &mut whole);
+    let again = take_rows(alloc, HEADER, text, 1, &mut parts);
+    let same = answer == again && whole.as_slice() == parts.as_slice();
+    holds_for(rt, same, text);
 }
 
-/// So does a line alone, and before others.
-fn check_line(rt: &impl Abort, alloc: Global, line: &[u8]) -> Result<(), Fail> {
-    check_lines(rt, alloc, line);
-    let mut text = Vec::new(alloc);
-    text.extend_from_slice(line)?;
-    text.extend_from_slice(AFTER)?;
-    check_lines(rt, alloc, text.as_slice());
-    Ok(())
-}
-
-/// The line of a row of these digits.
-fn line_of(alloc: Global, number: &[u8], digits: &[u8]) -> Result<Vec<u8, Global>, Fail> {
-    let mut line = Vec::new(alloc);
-    line.extend_from_slice(number)?;
+/// So does the line of a row of these digits alone, and before others.
+fn check_row(rt: &impl Abort, alloc: Global, number: &[u8], digits: &[u8]) -> Result<(), Fail> {
+    let mut line = number.to_vec(alloc)?;
     line.extend_from_slice(b" T ")?;
     line.extend_from_slice(digits)?;
     line.push(b'\n')?;
-    Ok(line)
-}
-
-/// These digits, with another byte at a place.
-fn with_other(
-    alloc: Global,
-    digits: &[u8],
-    place: usize,
-    other: u8,
-) -> Result<Vec<u8, Global>, Fail> {
-    let mut changed = Vec::new(alloc);
-    changed.extend_from_slice(&digits[..place.min(digits.len())])?;
-    changed.push(other)?;
-    changed.extend_from_slice(&digits[place.saturating_add(1).min(digits.len())..])?;
-    Ok(changed)
+    check_lines(rt, alloc, &line);
+    line.extend_from_slice(AFTER)?;
+    check_lines(rt, alloc, &line);
+    Ok(())
 }
 
 /// Rows of the first of these digits, of each length.
 fn check_lengths(rt: &impl Abort, alloc: Global, digits: &[u8]) -> Result<(), Fail> {
     for count in 0..=digits.len() {
-        let line = line_of(alloc, b"7", &digits[..count])?;
-        check_line(rt, alloc, line.as_slice())?;
+        check_row(rt, alloc, b"7", &digits[..count])?;
     }
     Ok(())
 }
@@ -126,9 +78,8 @@ fn digits_of_each_length_are_read_in_one_pass(rt: HostRuntime) -> Result<(), Fai
         check_lengths(&rt, rt.alloc(), digits)?;
     }
     check_lengths(&rt, rt.alloc(), LONG_DIGITS)?;
-    for number in &NUMBERS {
-        let line = line_of(rt.alloc(), number, DIGITS[1])?;
-        check_line(&rt, rt.alloc(), line.as_slice())?;
+    for number in NUMBERS {
+        check_row(&rt, rt.alloc(), number, DIGITS[1])?;
     }
     Ok(())
 }
@@ -136,10 +87,12 @@ fn digits_of_each_length_are_read_in_one_pass(rt: HostRuntime) -> Result<(), Fai
 /// Puts each other byte at each place of these digits from one on.
 fn check_places(rt: &impl Abort, alloc: Global, digits: &[u8], from: usize) -> Result<(), Fail> {
     for place in from..digits.len() {
-        for other in &OTHERS {
-            let changed = with_other(alloc, digits, place, *other)?;
-            let line = line_of(alloc, b"7", changed.as_slice())?;
-            check_line(rt, alloc, line.as_slice())?;
+        for other in OTHERS {
+            let mut changed = digits.to_vec(alloc)?;
+            if let Some(byte) = changed.get_mut(place) {
+                *byte = other;
+            }
+            check_row(rt, alloc, b"7", &changed)?;
         }
     }
     Ok(())
@@ -150,6 +103,5 @@ fn each_other_byte_is_seen_at_each_place(rt: HostRuntime) -> Result<(), Fail> {
     for digits in DIGITS {
         check_places(&rt, rt.alloc(), digits, 0)?;
     }
-    check_places(&rt, rt.alloc(), LONG_DIGITS, 64)?;
-    Ok(())
+    check_places(&rt, rt.alloc(), LONG_DIGITS, 64)
 }

@@ -12,54 +12,34 @@ use std::test::Fail;
 /// A row: its number, its side, its packet, its length, and the octets that are kept.
 type Line = (u32, Side, Packet, usize, &'static [u8]);
 
-/// A call request on channel 1.
-const CALL: Line = (
-    1,
-    Side::T,
-    Packet::Channel {
-        channel: 1,
-        kind: PacketKind::Call,
-    },
-    5,
-    b"\x10\x01\x0b\x00\x00",
-);
+/// Packets on channel 1: a call request, one that is connected, and data with Q 0.
+const CALL: Packet = Packet::Channel {
+    channel: 1,
+    kind: PacketKind::Call,
+};
 
-/// A call that is connected.
-const ACCEPTED: Line = (
-    4,
-    Side::N,
-    Packet::Channel {
-        channel: 1,
-        kind: PacketKind::Accepted,
-    },
-    3,
-    b"\x10\x01\x0f",
-);
+const ACCEPTED: Packet = Packet::Channel {
+    channel: 1,
+    kind: PacketKind::Accepted,
+};
 
-/// Data with Q 0, of which no octet is kept.
-const DATA: Line = (
-    9,
-    Side::T,
-    Packet::Channel {
-        channel: 1,
-        kind: PacketKind::Data(Some(DataHeader {
-            send: 1,
-            receive: 1,
-            more: false,
-            delivery: false,
-            qualified: false,
-        })),
-    },
-    131,
-    b"",
-);
+const DATA: Packet = Packet::Channel {
+    channel: 1,
+    kind: PacketKind::Data(Some(DataHeader {
+        send: 1,
+        receive: 1,
+        more: false,
+        delivery: false,
+        qualified: false,
+    })),
+};
 
-/// A call request on channel 1, a row without octets, a call that is connected, data, and a row on no channel.
+/// Those, a row without octets, and one on no channel. Of the data no octet is kept.
 const LINES: [Line; 5] = [
-    CALL,
+    (1, Side::T, CALL, 5, b"\x10\x01\x0b\x00\x00"),
     (2, Side::T, Packet::Short, 0, b""),
-    ACCEPTED,
-    DATA,
+    (4, Side::N, ACCEPTED, 3, b"\x10\x01\x0f"),
+    (9, Side::T, DATA, 131, b""),
     (
         11,
         Side::N,
@@ -83,35 +63,18 @@ fn push_all(items: &mut Items, lines: &[Line]) -> Result<(), Fail> {
     Ok(())
 }
 
-/// Whether this is the row of a line.
-fn is_line(row: &ItemRef<'_>, line: &Line) -> bool {
-    let (number, side, packet, length, octets) = line;
-    row.number == *number
-        && row.side == *side
-        && row.packet == *packet
-        && row.length == *length
-        && row.octets == *octets
-}
-
 /// Whether the rows are these, in this order.
 fn rows_are(items: &Items, lines: &[Line]) -> bool {
     let mut same = items.len() == lines.len() && items.is_empty() == lines.is_empty();
     let mut rows = items.iter();
-    for line in lines {
-        match rows.next() {
-            Some(row) => same = same && is_line(&row, line),
-            None => return false,
-        }
+    for (number, side, packet, length, octets) in lines {
+        let wanted = (*number, *side, *packet, *length);
+        same = same
+            && rows.next().is_some_and(|row| {
+                (row.number, row.side, row.packet, row.length) == wanted && row.octets == *octets
+            });
     }
     same && rows.next().is_none()
-}
-
-/// The same rows, of which a copy was made.
-fn copied(alloc: Global, items: &mut Items) -> Result<Items, Fail> {
-    push_all(items, &LINES)?;
-    let mut copy = Items::new(alloc);
-    copy.append(items.iter())?;
-    Ok(copy)
 }
 
 /// The rows of a piece: `count` lines in a part, the others up to the last in another part of the same list, and the
@@ -141,12 +104,13 @@ fn in_one_list(alloc: Global, items: &PieceItems) -> Result<Items, Fail> {
 
 #[test]
 fn rows_are_copied_and_cleared(rt: HostRuntime) -> Result<(), Fail> {
-    let mut items = Items::new(rt.alloc());
-    let copy = copied(rt.alloc(), &mut items)?;
+    let (mut items, mut copy) = (Items::new(rt.alloc()), Items::new(rt.alloc()));
+    push_all(&mut items, &LINES)?;
+    copy.append(items.iter())?;
     items.clear();
     assert!(rt; rows_are(&items, &[]) && rows_are(&copy, &LINES));
-    push_all(&mut items, &[DATA, CALL])?;
-    assert!(rt; rows_are(&items, &[DATA, CALL]) && rows_are(&copy, &LINES));
+    push_all(&mut items, &LINES[2..])?;
+    assert!(rt; rows_are(&items, &LINES[2..]) && rows_are(&copy, &LINES));
     Ok(())
 }
 

@@ -42,7 +42,7 @@ returns-clause-printed g c =
     IfOk c.end.result (HasPassed (IsPrinted (IsPrintOf (g.P.Printer.form k) []) (g.P.Printer.closing k)) (g.S.Source.left c.args.source.now) (g.S.Source.left c.read_to_end.new.source) (g.S.Source.before c.read_to_end.new.source) before (g.K.Sink.taken c.end.new.sink)))
     c.new-printing.ensures.fed.trace.2
     (end_prints (IsPrinted F (g.P.Printer.closing choice)) (g.S.Source.left c.args.source.now) (g.S.Source.left c.read_to_end.new.source) (g.S.Source.before c.read_to_end.new.source) before (g.K.Sink.taken c.end.new.sink) _ c.end.result w
-    (c.end.ensures.printed choice w.text before w.fed.fed held))
+    (c.end.ensures.printed choice [] w.text before w.fed.fed held))
 
 pub returns-clause-stopped : goal.returns-clause-stopped
 returns-clause-stopped g c =
@@ -56,4 +56,4 @@ returns-clause-stopped g c =
     IfErr c.end.result (StopsPrinting (IsPrintOf (g.P.Printer.form k) []) (HasFirstPrintOf (IsPrintOf (g.P.Printer.form k) []) (g.P.Printer.closing k)) (g.S.Source.left c.args.source.now) (g.S.Source.left c.read_to_end.new.source) (g.S.Source.before c.read_to_end.new.source) before
     (g.K.Sink.taken c.end.new.sink) (g.K.Sink.failures c.end.new.sink ≡ g.K.Sink.failures c.args.sink.now))) c.new-printing.ensures.fed.trace.2
     (end_stops F (HasFirstPrintOf F (g.P.Printer.closing choice)) (g.S.Source.left c.args.source.now) (g.S.Source.left c.read_to_end.new.source) (g.S.Source.before c.read_to_end.new.source) before _ _ g.K.Sink.taken c.read_to_end.new.out c.end.new.sink c.end.result w w.fed.printed
-    (c.end.ensures.refused choice w.text w.fed.fed) c.end.ensures.not_written (c.end.ensures.taken choice w.text before w.fed.fed held))
+    (c.end.ensures.refused choice w.text w.fed.fed) c.end.ensures.not_written (c.end.ensures.taken choice [] w.text before w.fed.fed held))

@@ -27,3 +27,11 @@ returns-in-Printing-clause-stopped g c three =
 pub returns-in-Headers-clause-stopped : goal.returns-in-Headers-clause-stopped
 returns-in-Headers-clause-stopped g c three =
     subst (λ (output : TraceOutput). HaltsRun g.S.Source g.K.Sink g.E.Sink (output_workers output) c.args.source.now c.run_try.new.source c.args.sink.now c.run_try.new.sink c.args.errors.now c.run_try.new.errors) (sym c.in-Headers.is) (c.run_try.ensures.stopped three)
+
+pub returns-in-Text-clause-output : goal.returns-in-Text-clause-output
+returns-in-Text-clause-output g c =
+    subst (λ (output : TraceOutput). IsOutput g.S.Source g.K.Sink g.E.Sink output (g.S.Source.left c.args.source.now) c.run_copy.new.source c.args.sink.now c.run_copy.new.sink c.args.errors.now c.run_copy.new.errors c.run_copy.result) (sym c.in-Text.is) c.run_copy.ensures.status
+
+pub returns-in-Text-clause-stopped : goal.returns-in-Text-clause-stopped
+returns-in-Text-clause-stopped g c three =
+    subst (λ (output : TraceOutput). HaltsRun g.S.Source g.K.Sink g.E.Sink (output_workers output) c.args.source.now c.run_copy.new.source c.args.sink.now c.run_copy.new.sink c.args.errors.now c.run_copy.new.errors) (sym c.in-Text.is) (c.run_copy.ensures.stopped three)

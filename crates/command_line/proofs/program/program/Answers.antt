@@ -1,7 +1,7 @@
 use Rattle.std.proofs.Common.{inr, refl, subst}
 use Rattle.std.specs.Prelude.{◌⊎◌}
 use Rattle.command_line.specs.Answer.{IsAnswerTo}
-use Rattle.command_line.specs.Asked.{AskedWords}
+use Rattle.command_line.specs.Asked.{AskedWords, has_options}
 use Rattle.command_line.specs.Program.{IsUnread}
 use Rattle.command_line.specs.Stopped.{IsStopped, asked_workers, opened_by}
 use Rattle.line_model.specs.declared.fault.Fault.TheVariants.{Memory}
@@ -10,7 +10,7 @@ use Rattle.command_line.proofs.program.program.Goals as goal
 
 pub returns-in-Ok-clause-answered : goal.returns-in-Ok-clause-answered
 returns-in-Ok-clause-answered g c =
-    subst (λ (asked : AskedWords). IsUnread c.args.source.now c.run.new.source c.args.sink.now c.run.new.sink c.run.result ⊎ IsAnswerTo g.S.Source g.K.Sink g.E.Sink (g.S.Input.named c.args.source.now) asked c.args.source.now c.run.new.source c.args.sink.now c.run.new.sink c.args.errors.now c.run.new.errors c.run.result)
+    subst (λ (asked : AskedWords). IsUnread (has_options asked) c.args.source.now c.run.new.source c.args.sink.now c.run.new.sink c.run.result ⊎ IsAnswerTo g.S.Source g.K.Sink g.E.Sink (g.S.Input.named c.args.source.now) asked c.args.source.now c.run.new.source c.args.sink.now c.run.new.sink c.args.errors.now c.run.new.errors c.run.result)
     c.in-Ok.ensures.asked c.run.ensures.answered
 
 pub returns-in-Err-clause-answered : goal.returns-in-Err-clause-answered

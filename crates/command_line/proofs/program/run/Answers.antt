@@ -1,7 +1,7 @@
 use Rattle.std.proofs.Common.{inr, refl, subst, sym}
 use Rattle.std.specs.Prelude.{◌⊎◌}
 use Rattle.command_line.specs.Answer.{IsAnswerTo}
-use Rattle.command_line.specs.Asked.{asked_words}
+use Rattle.command_line.specs.Asked.{asked_words, has_options}
 use Rattle.command_line.specs.Program.{IsUnread}
 use Rattle.command_line.specs.Stopped.{IsStopped, asked_workers, opened_by}
 use Rattle.command_line.specs.declared.asked.Asked.{Asked}
@@ -20,7 +20,7 @@ returns-in-Explanation-clause-answered g c =
 
 pub returns-in-Trace-clause-answered : goal.returns-in-Trace-clause-answered
 returns-in-Trace-clause-answered g c =
-    subst (λ (asked : Asked). IsUnread c.args.source.now c.print_trace.new.source c.args.sink.now c.print_trace.new.sink c.print_trace.result ⊎ IsAnswerTo g.S.Source g.K.Sink g.E.Sink (g.S.Input.named c.args.source.now) (asked_words asked) c.args.source.now c.print_trace.new.source c.args.sink.now c.print_trace.new.sink c.args.errors.now c.print_trace.new.errors c.print_trace.result) (sym c.in-Trace.is)
+    subst (λ (asked : Asked). IsUnread (has_options (asked_words asked)) c.args.source.now c.print_trace.new.source c.args.sink.now c.print_trace.new.sink c.print_trace.result ⊎ IsAnswerTo g.S.Source g.K.Sink g.E.Sink (g.S.Input.named c.args.source.now) (asked_words asked) c.args.source.now c.print_trace.new.source c.args.sink.now c.print_trace.new.sink c.args.errors.now c.print_trace.new.errors c.print_trace.result) (sym c.in-Trace.is)
     c.print_trace.ensures.output
 
 pub returns-in-Explanation-clause-stopped : goal.returns-in-Explanation-clause-stopped

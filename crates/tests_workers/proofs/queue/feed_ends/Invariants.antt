@@ -2,8 +2,4 @@ use Rattle.std.specs.Prelude.{◌≡◌}
 use Rattle.tests_workers.proofs.queue.feed_ends.Given as goal
 
 abbrev pub invariant-loop : goal.invariant-loop
-invariant-loop g l = record {
-  queue : l.feeder.queue ≡ l.work.queue;
-  fed : l.feeder.record_of.fed ≡ l.fn.feeder.record_of.fed;
-  pending : l.feeder.record_of.pending ≡ l.fn.feeder.record_of.pending;
-}
+invariant-loop g l = l.feeder.queue ≡ l.work.queue

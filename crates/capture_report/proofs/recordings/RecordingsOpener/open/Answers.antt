@@ -6,4 +6,4 @@ use Rattle.capture_report.proofs.recordings.RecordingsOpener.open.Goals as goal
 pub returns-in_ok-open_capture-clause-opened : goal.returns-in_ok-open_capture-clause-opened
 returns-in_ok-open_capture-clause-opened g c =
     let is : c.in_ok-begun.begun.is_capture ≡ true = search rules in
-    opened_capture (g.R.Opener.named c.args.self.now.system c.args.name.now) _ c.in_ok-begun.begun.is_capture is c.in_ok-begun.ensures.opened.kind c.in_ok-open_capture.ensures.left
+    opened_capture c.args.self.now.options (g.R.Opener.named c.args.self.now.system c.args.name.now) _ c.in_ok-begun.begun.is_capture is c.in_ok-begun.ensures.opened.kind c.in_ok-open_capture.ensures.left

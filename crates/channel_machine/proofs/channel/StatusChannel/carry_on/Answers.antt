@@ -38,7 +38,7 @@ returns-then-is_some-clause-does g c k s =
           (c.data_packet.ensures ∙ (λ j. DataAccepted ((ap (λ (u : Item). u.side) c.item.view_is) j)
           ((c.data_length-octets.ensures ∙ ap (λ m. r.length - header_length m) (interface ∙ d.interface)) j))))
           ∙ ap (λ ws. c.bring_up.new.events.items ++ map (event_at c.args.origin) ws)
-          (reported_data i r (header_in r.packet) (ap (λ (u : Item). is_some (header_in u.packet)) (sym c.item.view_is) ∙ ap (λ h. is_some h) (sym c.header_of.ensures) ∙ sym c.if-is_some.ensures));
+          (reported_data i r (header_in r.packet) (ap (λ (u : Item). is_some (header_in u.packet)) (sym c.item.view_is) ∙ ap (λ h. is_some h) (sym c.data_header.ensures) ∙ sym c.if-is_some.ensures));
     })
 
 pub returns-else-is_some-clause-does : goal.returns-else-is_some-clause-does
@@ -59,5 +59,5 @@ returns-else-is_some-clause-does g c k s =
       channel = c.enter.ensures.channel;
       represented = represented;
       reports = sym (append-nil c.bring_up.new.events.items) ∙ ap (λ ws. c.bring_up.new.events.items ++ map (event_at c.args.origin) ws)
-          (sym (reported_none i r (header_in r.packet) (ap (λ (u : Item). is_some (header_in u.packet)) (sym c.item.view_is) ∙ ap (λ h. is_some h) (sym c.header_of.ensures) ∙ sym c.if-is_some.ensures)));
+          (sym (reported_none i r (header_in r.packet) (ap (λ (u : Item). is_some (header_in u.packet)) (sym c.item.view_is) ∙ ap (λ h. is_some h) (sym c.data_header.ensures) ∙ sym c.if-is_some.ensures)));
     })

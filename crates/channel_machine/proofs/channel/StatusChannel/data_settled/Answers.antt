@@ -18,17 +18,17 @@ use Rattle.channel_machine.proofs.channel.StatusChannel.data_settled.Goals as go
 pub add_settled-requires-clause-said : goal.add_settled-requires-clause-said
 add_settled-requires-clause-said g c =
     data_said c.args.self.now.terms.interface c.args.item.now c.in-Some.header c.requires.said c.requires.class
-    (ap (λ (x : Item). header_in x.packet) (sym c.item.view_is) ∙ sym c.header_of.ensures ∙ c.in-Some.is)
+    (ap (λ (x : Item). header_in x.packet) (sym c.item.view_is) ∙ sym c.data_header.ensures ∙ c.in-Some.is)
 
 pub add_unqualified-requires-clause-said : goal.add_unqualified-requires-clause-said
 add_unqualified-requires-clause-said g c =
     data_said c.args.self.now.terms.interface c.args.item.now c.in-Some.header c.requires.said c.requires.class
-    (ap (λ (x : Item). header_in x.packet) (sym c.item.view_is) ∙ sym c.header_of.ensures ∙ c.in-Some.is)
+    (ap (λ (x : Item). header_in x.packet) (sym c.item.view_is) ∙ sym c.data_header.ensures ∙ c.in-Some.is)
 
 pub user_data_length-requires : goal.user_data_length-requires
 user_data_length-requires g c = record {
   whole = (data_said c.args.self.now.terms.interface c.args.item.now c.in-Some.header c.requires.said c.requires.class
-      (ap (λ (x : Item). header_in x.packet) (sym c.item.view_is) ∙ sym c.header_of.ensures ∙ c.in-Some.is)).whole;
+      (ap (λ (x : Item). header_in x.packet) (sym c.item.view_is) ∙ sym c.data_header.ensures ∙ c.in-Some.is)).whole;
 }
 
 pub returns-in_default-clause-does : goal.returns-in_default-clause-does
@@ -38,7 +38,7 @@ returns-in_default-clause-does g c k st =
     let p = c.args.self.now in
     let held = c.args.settled.now in
     let es = c.args.events.now.items in
-    let none : header_in r.packet ≡ None = sym (c.header_of.ensures ∙ ap (λ (x : Item). header_in x.packet) c.item.view_is) ∙ none_header c.header_of.result c.in_default.not-Some in
+    let none : header_in r.packet ≡ None = sym (c.data_header.ensures ∙ ap (λ (x : Item). header_in x.packet) c.item.view_is) ∙ none_header c.data_header.result c.in_default.not-Some in
     subst (λ o. SettledDoes j.origin p p held es (es ++ []) (data_in_doubt p.terms.interface j.state r o held.doubts k)) (sym none)
     (stays j.origin p p held es (es ++ []) [] k.owed k st refl refl st.rest refl)
 
@@ -54,7 +54,7 @@ returns-then-header-clause-does g c k st =
     let judged : IsDataJudged (Ok c.in-Ok.flow) i held.doubts j.side h (accepted_of i r h) k = c.in-Ok.ensures.judged k (accepted_of i r h) refl st in
     let d = completed_for_data i.modulus held.doubts j.side h k in
     let rest : StatusRepresents p (at_rest d) = subst (λ e. StatusRepresents p e) (sym (rest_for_data i.modulus held.doubts j.side h k)) st.rest in
-    let header : header_in r.packet ≡ Some h = sym (c.header_of.ensures ∙ ap (λ (x : Item). header_in x.packet) c.item.view_is) ∙ c.in-Some.is in
+    let header : header_in r.packet ≡ Some h = sym (c.data_header.ensures ∙ ap (λ (x : Item). header_in x.packet) c.item.view_is) ∙ c.in-Some.is in
     let added = c.in_ok-is_category_a.ensures.adds d (continued_by i held.doubts j.side h k) rest (continues i held j.side h (accepted_of i r h) k st.numbers st.sequences judged.1) in
     none_apart j.origin r.side p p c.accept.new.self es c.add_settled.new.events.items _
     (subst (λ o. SettledDoes j.origin p p c.accept.new.self es c.add_settled.new.events.items (data_in_doubt i j.state r o held.doubts k)) (sym header)
@@ -74,7 +74,7 @@ returns-clause-does g c k st =
     let judged : IsDataJudged (Ok c.in-Ok.flow) i held.doubts j.side h (accepted_of i r h) k = c.in-Ok.ensures.judged k (accepted_of i r h) refl st in
     let d = completed_for_data i.modulus held.doubts j.side h k in
     let rest : StatusRepresents p (at_rest d) = subst (λ e. StatusRepresents p e) (sym (rest_for_data i.modulus held.doubts j.side h k)) st.rest in
-    let header : header_in r.packet ≡ Some h = sym (c.header_of.ensures ∙ ap (λ (x : Item). header_in x.packet) c.item.view_is) ∙ c.in-Some.is in
+    let header : header_in r.packet ≡ Some h = sym (c.data_header.ensures ∙ ap (λ (x : Item). header_in x.packet) c.item.view_is) ∙ c.in-Some.is in
     let puts = c.in_ok-is_category_a-2.ensures.puts d (continued_by i held.doubts j.side h k) rest (continues i held j.side h (accepted_of i r h) k st.numbers st.sequences judged.1) in
     let added = added_apart j.origin i j.side held c.add_unqualified.new.settled es _ (continued_by i held.doubts j.side h k) (accepted_of i r h) d c.if-header.false puts in
     let length : c.user_data_length.result ≡ (accepted_of i r h).length = c.user_data_length.ensures in
@@ -93,7 +93,7 @@ returns-in-Err-clause-does g c k st =
     let i = p.terms.interface in
     let held = c.args.settled.now in
     let h : DataHeader = c.in-Some.header in
-    let header : header_in r.packet ≡ Some h = sym (c.header_of.ensures ∙ ap (λ (x : Item). header_in x.packet) c.item.view_is) ∙ c.in-Some.is in
+    let header : header_in r.packet ≡ Some h = sym (c.data_header.ensures ∙ ap (λ (x : Item). header_in x.packet) c.item.view_is) ∙ c.in-Some.is in
     settled_listed c.act_settled.result c.listed.result j.origin r.side p c.act_settled.new.self c.act_settled.new.settled c.args.events.now.items c.act_settled.new.events.items _ c.listed.ensures
     (subst (λ o. IfOk c.act_settled.result (λ _. SettledDoes j.origin p c.act_settled.new.self c.act_settled.new.settled c.args.events.now.items c.act_settled.new.events.items (data_in_doubt i j.state r o held.doubts k))) (sym header)
     (subst (λ (o : SettledOutcome). IfOk c.act_settled.result (λ _. SettledDoes j.origin p c.act_settled.new.self c.act_settled.new.settled c.args.events.now.items c.act_settled.new.events.items o))

@@ -13,7 +13,7 @@ returns-clause-does g c b o l none k s bare =
     let r : Item = c.args.item.now in
     let is : c.receive.new.self ≡ record c.args.adrift { last = last_after c.self.inside.channel.terms.interface.modulus r.side (header_in r.packet) (receive_of r) c.args.adrift.last } =
     c.receive.ensures ∙ (λ j. record c.args.adrift {
-      last = last_after (c.interface-modulus.ensures j).modulus (c.requires.side j) ((c.header_of-header.ensures ∙ ap (λ (u : Item). header_in u.packet) c.item.view_is) j)
+      last = last_after (c.interface-modulus.ensures j).modulus (c.requires.side j) ((c.data_header-header.ensures ∙ ap (λ (u : Item). header_in u.packet) c.item.view_is) j)
           ((c.received.ensures ∙ ap (λ (u : Item). receive_of u) c.item.view_is) j) c.args.adrift.last;
     }) in
     stayed c.args.row.now.origin _ c.args.self.now _ _ _ r c.args.adrift b c.receive.new.self c.args.row.now.side (header_in r.packet) o l k c.self.view_is none

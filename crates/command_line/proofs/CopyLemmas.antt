@@ -1,0 +1,82 @@
+-- A text that is copied part by part.
+use Rattle.std.proofs.Common.{◌≡◌, ◌≢◌, ◌∙◌, sym, ap, refl, ℕ, ◌+◌, ◌-◌, ◌<◌, ◌≤◌, List, [], ◌++◌, Option, Some, Result, Ok, Err, arith, append_assoc, append-nil, length, length-append}
+use Rattle.line_model.specs.basics.Device.{Gives, with_more}
+use Rattle.line_model.specs.basics.Written.{HasFront}
+use Rattle.line_model.specs.declared.fault.Fault.{Fault}
+use Rattle.line_model.specs.declared.fault.Fault.TheVariants.{Trace}
+use Rattle.line_model.proofs.DeviceLemmas.{with_more-append, with_more-nil}
+use Rattle.command_line.specs.Copies.{CopiesOf, IsCopied, IsCopyStatus}
+use Rattle.command_line.specs.Program.{fault_status}
+
+-- a source that had `left` has `now`, a sink accepted what it gave, and so much room is left
+pub record Copied (left now before taken : Option (List ℕ)) (room : ℕ) : Type 0 where
+  pub shown : (text : List ℕ) → left ≡ Some text → (front : List ℕ) × (rest : List ℕ) × (text ≡ front ++ rest) × (now ≡ Some rest) × (taken ≡ with_more before front) × (length front + room ≡ 1073741824)
+
+pub copied_none : (left before : Option (List ℕ)) → Copied left left before before 1073741824
+copied_none left before = record { shown = λ text e. ([], text, refl, e, sym (with_more-nil before), refl) }
+
+pub copied_more : (left now after before taken taken′ : Option (List ℕ)) (room : ℕ) (bytes : List ℕ) → Copied left now before taken room → Gives now after bytes → length bytes ≤ room → taken′ ≡ with_more taken bytes → Copied left after before taken′ (room - length bytes)
+copied_more left now after before taken taken′ room bytes c gives few more = record {
+  shown = λ text e.
+      let s = c.shown text e in
+      let g = gives.shown s.1 s.3 in (
+        s.0 ++ bytes,
+        g.0,
+        s.2 ∙ ap (λ xs. s.0 ++ xs) g.2 ∙ sym (append_assoc s.0 bytes g.0),
+        g.1,
+        more ∙ ap (λ o. with_more o bytes) s.4 ∙ with_more-append before s.0 bytes,
+        omega (arith, few, s.5, length-append s.0 bytes),
+      );
+}
+
+-- a source that gave nothing has given all
+pub copied_all : {T : Type 0} (left now after before taken : Option (List ℕ)) (room : ℕ) (bytes : List ℕ) (done : T) → Copied left now before taken room → Gives now after bytes → bytes ≡ [] → (text : List ℕ) → left ≡ Some text → IsCopied text before taken (Ok done)
+copied_all left now after before taken room bytes done c gives none text e =
+    let s = c.shown text e in
+    let whole : text ≡ s.0 = s.2 ∙ ap (λ xs. s.0 ++ xs) (gives.end s.1 s.3 none) ∙ append-nil s.0 in
+    record { whole = s.4 ∙ ap (λ xs. with_more before xs) (sym whole); part = (s.0, s.1, s.2, s.4); large = tt }
+
+-- at a fault that is not a line's the sink has a first part
+pub copied_part : {T : Type 0} (left now before taken : Option (List ℕ)) (room : ℕ) (f : Fault) → Copied left now before taken room → fault_status f ≢ 2 → (text : List ℕ) → left ≡ Some text → IsCopied {T = T} text before taken (Err f)
+copied_part left now before taken room f c other text e =
+    let s = c.shown text e in
+    record { whole = tt; part = (s.0, s.1, s.2, s.4); large = λ two. absurd (other two) }
+
+-- and where the sink failed a part of what was given last
+pub copied_less : {T : Type 0} (left now after before taken taken′ : Option (List ℕ)) (room : ℕ) (bytes : List ℕ) (f : Fault) → Copied left now before taken room → Gives now after bytes → HasFront taken taken′ bytes → fault_status f ≢ 2 → (text : List ℕ) → left ≡ Some text → IsCopied {T = T} text before taken′ (Err f)
+copied_less left now after before taken taken′ room bytes f c gives less other text e =
+    let s = c.shown text e in
+    let g = gives.shown s.1 s.3 in
+    let cut : s.1 ≡ less.0 ++ (less.1 ++ g.0) = g.2 ∙ ap (λ (xs : List ℕ). xs ++ g.0) less.2 ∙ append_assoc less.0 less.1 g.0 in
+    record {
+      whole = tt;
+      part = (s.0 ++ less.0, less.1 ++ g.0, s.2 ∙ ap (λ xs. s.0 ++ xs) cut ∙ sym (append_assoc s.0 less.0 (less.1 ++ g.0)), less.3 ∙ ap (λ o. with_more o less.0) s.4 ∙ with_more-append before s.0 less.0);
+      large = λ two. absurd (other two);
+    }
+
+-- a text with more bytes than there is room for
+pub copied_large : {T : Type 0} (left now after before taken : Option (List ℕ)) (room : ℕ) (bytes : List ℕ) (f : Fault) → Copied left now before taken room → Gives now after bytes → room < length bytes → (text : List ℕ) → left ≡ Some text → IsCopied {T = T} text before taken (Err f)
+copied_large left now after before taken room bytes f c gives more text e =
+    let s = c.shown text e in
+    let g = gives.shown s.1 s.3 in
+    let size : length text ≡ length s.0 + (length bytes + length g.0) = ap (λ (xs : List ℕ). length xs) (s.2 ∙ ap (λ xs. s.0 ++ xs) g.2) ∙ length-append s.0 (bytes ++ g.0) ∙ ap (λ n. length s.0 + n) (length-append bytes g.0) in
+    record { whole = tt; part = (s.0, s.1, s.2, s.4); large = λ two. omega (arith, size, more, s.5) }
+
+-- ---- the status
+
+status_of_fault : (f : Fault) → (fault_status f < 4) × (fault_status f ≢ 1) × (fault_status f ≢ 0)
+status_of_fault (Trace line kind) = (omega arith, λ e. absurd (omega (arith, e)), λ e. absurd (omega (arith, e)))
+status_of_fault _ = (omega arith, λ e. absurd (omega (arith, e)), λ e. absurd (omega (arith, e)))
+
+pub copied_status : {T : Type 0} (text : List ℕ) (before after : Option (List ℕ)) (done : T) → IsCopied text before after (Ok done) → IsCopyStatus text before after 0
+copied_status text before after done c = record { whole = λ e. c.whole; part = c.part; large = λ e. absurd (omega (arith, e)); range = (omega arith, λ e. absurd (omega (arith, e))) }
+
+pub refused_copy : {T : Type 0} (text : List ℕ) (before after : Option (List ℕ)) (f : Fault) (status : ℕ) → IsCopied {T = T} text before after (Err f) → status ≡ fault_status f → IsCopyStatus text before after status
+refused_copy text before after f status c s =
+    let known = status_of_fault f in
+    record {
+      whole = λ e. absurd (known.2 (sym s ∙ e));
+      part = c.part;
+      large = λ two. c.large (sym s ∙ two);
+      range = (omega (arith, s, known.0), λ e. known.1 (sym s ∙ e));
+    }

@@ -1,0 +1,111 @@
+-- What the words say of captures (profile).
+use Rattle.std.specs.Prelude.{◌&&◌, ◌||◌, ◌==◌, ℕ, Bool, false, true, not, Option, None, Some, is_none, is_some, codes, if◌then◌else◌}
+use Rattle.std.specs.List.{list_any}
+use Rattle.std.specs.Option.{option_and_then}
+use Rattle.std.specs.Str.{bytes_eq}
+use Rattle.capture_model.specs.declared.kind.LinkKind.{LinkKind}
+use Rattle.capture_model.specs.declared.kind.LinkKind.TheVariants.{CheckedLapb, Cooked1, Cooked2, DirectedLapb, DirectedPacket, Ethernet, Lapb, Packet}
+use Rattle.capture_report.specs.declared.options.CaptureOptions.{CaptureOptions}
+use Rattle.capture_report.specs.declared.options.GivenHeader.{GivenHeader}
+use Rattle.capture_rows.specs.declared.choices.Carrier.{Carrier}
+use Rattle.capture_rows.specs.declared.choices.Carrier.TheVariants as carrier
+use Rattle.capture_rows.specs.declared.choices.Choices.{Choices}
+use Rattle.capture_rows.specs.declared.station.StationBy.TheVariants.{Either}
+use Rattle.clap.specs.Words.{Text}
+use Rattle.line_model.specs.basics.Limits.{packet_sizes}
+use Rattle.lapb_link.specs.declared.modulus.Modulus.{Modulus}
+use Rattle.lapb_link.specs.declared.modulus.Modulus.TheVariants.{Basic, Extended}
+use Rattle.line_model.specs.declared.state.Side.TheVariants.{T}
+use Rattle.capture_report.specs.Given.{is_plain}
+use Rattle.command_line.specs.Numbers.{Values, has, number_of}
+use Rattle.command_line.specs.Options.{named_by}
+
+-- what a text names: a modulus, a link header, a carrier
+abbrev pub modulus_named : Text → Option Modulus
+modulus_named text = if bytes_eq text (codes "8") then Some Basic else if bytes_eq text (codes "128") then Some Extended else None
+
+abbrev pub kind_named : Text → Option LinkKind
+kind_named text =
+    if bytes_eq text (codes "ethernet") then Some Ethernet
+    else if bytes_eq text (codes "sll") then Some Cooked1
+    else if bytes_eq text (codes "sll2") then Some Cooked2
+    else if bytes_eq text (codes "lapb") then Some Lapb
+    else if bytes_eq text (codes "lapb-dir") then Some DirectedLapb
+    else if bytes_eq text (codes "hdlc") then Some CheckedLapb
+    else if bytes_eq text (codes "x25") then Some Packet
+    else if bytes_eq text (codes "x25-dir") then Some DirectedPacket
+    else None
+
+abbrev pub carrier_named : Text → Option Carrier
+carrier_named text = if bytes_eq text (codes "lapb") then Some carrier.Lapb else if bytes_eq text (codes "x25") then Some carrier.Packet else None
+
+-- a number that is a packet size
+abbrev pub size_if : ℕ → Option ℕ
+size_if n = if list_any (λ size. n == size) packet_sizes then Some n else None
+
+abbrev pub size_of : Values → Option ℕ
+size_of values = option_and_then size_if (number_of 16 (values (codes "size")))
+
+abbrev pub modulus_of : Option Text → Option Modulus
+modulus_of text = option_and_then modulus_named text
+
+abbrev pub kind_of : Values → Option LinkKind
+kind_of values = option_and_then kind_named (values (codes "as"))
+
+abbrev pub carrier_of : Values → Option Carrier
+carrier_of values = option_and_then carrier_named (values (codes "only"))
+
+-- whether the recording is said to begin in the middle
+abbrev pub joining_of : Values → Option Bool
+joining_of values = if has values (codes "join") then Some true else if has values (codes "no-join") then Some false else None
+
+-- the numbers of the header
+abbrev pub header_of : Values → GivenHeader
+header_of values = record {
+  modulus = modulus_of (values (codes "mod"));
+  window = number_of 8 (values (codes "win"));
+  size = size_of values;
+  pvc = number_of 16 (values (codes "pvc"));
+  incoming = number_of 16 (values (codes "in"));
+  two_way = number_of 16 (values (codes "two"));
+  svc = number_of 16 (values (codes "svc"));
+  outgoing = number_of 16 (values (codes "out"));
+  join = joining_of values;
+}
+
+-- how the frames of a line are read
+abbrev pub choices_of : Values → Choices
+choices_of values = record {
+  unknown = kind_of values;
+  carrier = carrier_of values;
+  interface = number_of 32 (values (codes "interface"));
+  station_by = Either;
+  host = T;
+}
+
+abbrev pub capture_of : Values → CaptureOptions
+capture_of values = record { header = header_of values; choices = choices_of values; modulus = modulus_of (values (codes "lapb-modulo")); is_swapped = has values (codes "swap") }
+
+-- whether an option has a value that names nothing of its kind
+abbrev pub is_unknown : (value : Option Text) → (named : Bool) → Bool
+is_unknown value named = is_some value && not named
+
+abbrev pub has_unknown_number : Values → Bool
+has_unknown_number values =
+    is_unknown (values (codes "mod")) (is_some (modulus_of (values (codes "mod"))))
+    || (is_unknown (values (codes "size")) (is_some (size_of values)) || is_unknown (values (codes "lapb-modulo")) (is_some (modulus_of (values (codes "lapb-modulo")))))
+
+abbrev pub has_unknown : Values → Bool
+has_unknown values =
+    has_unknown_number values || (is_unknown (values (codes "as")) (is_some (kind_of values)) || is_unknown (values (codes "only")) (is_some (carrier_of values)))
+
+-- whether channels are given in two ways, or the beginning is
+abbrev pub excludes_numbers : Values → Bool
+excludes_numbers values = is_some (values (codes "svc")) && (is_some (values (codes "in")) || (is_some (values (codes "two")) || is_some (values (codes "out"))))
+
+-- whether options of captures are given for standard input, which is read as a trace
+abbrev pub excludes_standard : Values → Bool
+excludes_standard values = is_none (named_by (values (codes "file"))) && not (is_plain (capture_of values))
+
+abbrev pub excludes_captures : Values → Bool
+excludes_captures values = has_unknown values || ((has values (codes "join") && has values (codes "no-join")) || (excludes_numbers values || excludes_standard values))

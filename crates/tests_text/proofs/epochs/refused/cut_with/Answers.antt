@@ -1,4 +1,0 @@
-use Rattle.tests_text.proofs.epochs.refused.cut_with.Goals as goal
-
-pub cut-requires-clause-lawful : goal.cut-requires-clause-lawful
-cut-requires-clause-lawful g c κs within = c.in_ok-rows.ensures.lawful _
