@@ -10,20 +10,50 @@ ghost use Rattle.capture_report.specs.Sights.{sight_of};
 ghost use Rattle.capture_report.specs.Texts.{rows_printed};
 ghost use Rattle.streams.specs.OpenFaults.{IsByItsReason};
 
+use crate::circuit_page::CircuitPage;
 use crate::file_frames::FileFrames;
-use crate::first_reading::{FirstReading, line, open_frames};
+use crate::first_reading::{FirstReading, Head, line, of_memory, open_frames};
 use crate::print::{Page, Printer};
 use crate::reader::{Order, Reader};
 use crate::reader_source::ReaderSource;
+use crate::row_source::RowSource;
+use crate::survey::circuit_rule;
 use crate::trace::CaptureTrace;
+use crate::xot_frames::XotFrames;
 use line_model::device::Source;
 use std::alloc::Global;
 use std::io;
 use std::io::Read;
-use streams::input::OpenRefusal;
+use streams::input::{CaptureFault, OpenRefusal};
 
 /// The largest number of a frame by which rows are numbered: each frame has two rows at most.
 const MOST_NUMBERED: u64 = 499_999_999;
+
+/// The largest number of a row.
+const LAST_NUMBER: u64 = 999_999_999;
+
+/// Returns what reads the rows of a line, behind a head.
+fn line_reader(alloc: Global, first: FirstReading, head: Head) -> Result<Reader, OpenRefusal> {
+    let by_frames = first.survey.last() <= MOST_NUMBERED;
+    let line = line(alloc, &first.options)?;
+    let page = Page::new(head.text, Printer::new(by_frames, first.options.is_swapped));
+    Ok(Reader::new(line, Order::Placed(first.plan), page))
+}
+
+/// Returns what reads the rows of circuits, behind a head. Their sides are exchanged before they are rows.
+fn circuit_reader(alloc: Global, first: &FirstReading, head: Head) -> Result<Reader, OpenRefusal> {
+    let Some(circuits) = first.survey.circuits() else {
+        return Err(OpenRefusal::of_capture(CaptureFault::NoPacket));
+    };
+    let Ok(channels) = circuits.channels(alloc, head.header) else {
+        return Err(of_memory());
+    };
+    let by_frames = circuits.number() <= LAST_NUMBER;
+    let page = Page::new(head.text, Printer::new(by_frames, false));
+    let rule = circuit_rule(&first.options);
+    let page = CircuitPage::new(alloc, rule, channels, page);
+    Ok(Reader::of_circuits(XotFrames::new(alloc, &first.options), page))
+}
 
 /// The trace of a capture that is read a second time.
 #[derive(Drop)]
@@ -45,24 +75,20 @@ impl<F: Read + Drop> CaptureText<F> {
         alloc: Global,
         file: F,
         first: FirstReading,
-        head: Vec<u8>,
+        source: RowSource,
+        head: Head,
     ) -> Result<CaptureText<F>, OpenRefusal>
         ensures left { IfOk result (λ text. capture_left F.Read text
             ≡ option_map (λ records. head.items ++ rows_printed (printer_by first.options (sight_of first.survey)) (rows_from (Order.Placed first.plan) (line_by first.options) records))
             (option_and_then (records_of true 0) (F.remaining file))) }
         ensures reason { IfErr result IsByItsReason }
     {
-        let by_frames = first.survey.last() <= MOST_NUMBERED;
-        let FirstReading {
-            plan,
-            options,
-            last,
-            ..
-        } = first;
+        let last = first.last;
         let frames = open_frames(alloc, file)?;
-        let line = line(alloc, &options)?;
-        let page = Page::new(head, Printer::new(by_frames, options.is_swapped));
-        let reader = Reader::new(line, Order::Placed(plan), page);
+        let reader = match source {
+            RowSource::Line => line_reader(alloc, first, head)?,
+            RowSource::Xot => circuit_reader(alloc, &first, head)?,
+        };
         Ok(CaptureText {
             trace: CaptureTrace::new(alloc, frames, reader),
             given: 0,

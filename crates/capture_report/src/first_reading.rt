@@ -7,9 +7,11 @@ ghost use Rattle.capture_report.specs.CaptureTexts.{head_lines, likely_in, line_
 ghost use Rattle.capture_report.specs.Sights.{sight_of};
 ghost use Rattle.streams.specs.OpenFaults.{IsByItsReason};
 
+use crate::circuits::Circuits;
 use crate::file_frames::FileFrames;
+use crate::header::Seen;
 use crate::header_text::print_head;
-use crate::options::CaptureOptions;
+use crate::options::{CaptureOptions, GivenHeader};
 use crate::plan::Plan;
 use crate::reader_source::ReaderSource;
 use crate::survey::Survey;
@@ -17,6 +19,7 @@ use capture_files::refusal::Refusal;
 use capture_model::kind::LinkKind;
 use capture_rows::line::Line;
 use lapb_link::ends::Ends;
+use line_model::interface::Interface;
 use std::alloc::Global;
 use std::io;
 use std::io::{ErrorKind, Read};
@@ -48,16 +51,19 @@ impl FirstReading {
     {
         let mut frames = open_frames(alloc, file)?;
         let line = line(alloc, &options)?;
-        let mut survey = Survey::new(alloc, options.choices.unknown);
-        match Plan::read(alloc, line, &mut frames, &mut survey) {
-            Ok(plan) => Ok(FirstReading {
-                plan,
-                survey,
-                options,
-                last: frames.number(),
-            }),
-            Err(_) => Err(OpenRefusal::by_system(frames.source().reason())),
-        }
+        let mut survey = Survey::by(alloc, &options);
+        let Ok(plan) = Plan::read(alloc, line, &mut frames, &mut survey) else {
+            return Err(OpenRefusal::by_system(frames.source().reason()));
+        };
+        let Ok(()) = survey.finish(&options.header) else {
+            return Err(of_memory());
+        };
+        Ok(FirstReading {
+            plan,
+            survey,
+            options,
+            last: frames.number(),
+        })
     }
 
     /// Returns the link header that unknown link types likely have, where none is given.
@@ -98,24 +104,51 @@ pub(crate) fn line(alloc: Global, options: &CaptureOptions) -> Result<Line, Open
     }
 }
 
-/// Returns the lines of a trace that come before its rows. Fails where numbers that are given are not those of an interface.
-pub(crate) fn head(alloc: Global, first: &FirstReading) -> Result<Vec<u8>, OpenRefusal>
-    ensures text { IfOk result (λ head. Some head.items ≡ head_lines first.now.options.header first.now.survey.seen) }
+/// What comes before the rows of a trace.
+#[derive(Drop)]
+pub(crate) struct Head {
+    /// The numbers of the header.
+    pub header: Interface,
+    /// The lines.
+    pub text: Vec<u8>,
+}
+
+/// Returns the lines of a trace that come before its rows, which are those of circuits where there are some. Fails where
+/// numbers that are given are not those of an interface.
+pub(crate) fn head(
+    alloc: Global,
+    first: &FirstReading,
+    circuits: Option<&Circuits>,
+) -> Result<Head, OpenRefusal>
+    ensures text { IfOk result (λ head. Some head.text.items ≡ head_lines first.now.options.header first.now.survey.seen) }
     ensures reason { IfErr result IsByItsReason }
 {
-    let (seen, given) = (first.survey.seen(), &first.options.header);
-    let Some(header) = seen.header(given) else {
-        return Err(OpenRefusal::by_system(seen.refusal(alloc, given)));
+    let given = &first.options.header;
+    match circuits {
+        Some(circuits) => head_of(alloc, circuits.seen(), &circuits.given(given), given),
+        None => head_of(alloc, first.survey.seen(), given, given),
+    }
+}
+
+/// Returns these lines of the numbers that are known. What is not among those that are given is said to be estimated.
+fn head_of(
+    alloc: Global,
+    seen: &Seen,
+    known: &GivenHeader,
+    given: &GivenHeader,
+) -> Result<Head, OpenRefusal> {
+    let Some(header) = seen.header(known) else {
+        return Err(OpenRefusal::by_system(seen.refusal(alloc, known)));
     };
-    let mut head = Vec::new(alloc);
-    match print_head(&header, seen, given, &mut head) {
-        Ok(()) => Ok(head),
+    let mut text = Vec::new(alloc);
+    match print_head(&header, seen, given, &mut text) {
+        Ok(()) => Ok(Head { header, text }),
         Err(_) => Err(of_memory()),
     }
 }
 
 /// Returns the refusal of a file where memory is refused.
-fn of_memory() -> OpenRefusal
+pub(crate) fn of_memory() -> OpenRefusal
     ensures { IsByItsReason result }
 {
     OpenRefusal::by_system(io::Error::from(ErrorKind::OutOfMemory))

@@ -115,6 +115,17 @@ impl SeenChannel {
         }
     }
 
+    /// Returns the channel of a circuit that begins. `is_known`: its beginning was recorded.
+    pub(crate) fn begun(is_known: bool) -> SeenChannel
+        ensures { result ≡ begun is_known }
+    {
+        if is_known {
+            SeenChannel::unseen().from_zero()
+        } else {
+            SeenChannel::unseen()
+        }
+    }
+
     /// Returns the channel where packets of it may be missing.
     pub(crate) fn missed(self) -> SeenChannel
         ensures { result ≡ missed self }

@@ -11,11 +11,13 @@ ghost use Rattle.capture_report.specs.Records.{record_view};
 ghost use Rattle.capture_report.specs.Rows.{after_record, dropped_rows, has_packet, is_behind_gap, is_gap_at, noticed_rows, own_rows, placed_rows, record_rows, rows_behind, rows_given, settled, shown_rows};
 ghost use Rattle.capture_report.specs.Texts.{with_rows};
 
+use crate::circuit_page::CircuitPage;
 use crate::frames::Record;
 use crate::line_reading::read_record;
 use crate::plan::Plan;
 use crate::print::Page;
 use crate::row::{Content, Row};
+use crate::xot_frames::XotFrames;
 use capture_files::entry::Dropped;
 use capture_model::frame::Frame;
 use capture_rows::given::{Given, of_held, packet_or_gap};
@@ -33,20 +35,20 @@ pub enum Order {
     Placed(Plan),
 }
 
-/// The frames of a capture as the text of its rows.
+/// The frames of a line as the text of its rows.
 #[derive(Drop)]
-pub struct Reader {
+pub struct LineReader {
     line: Line,
     order: Order,
     page: Page,
 }
 
-impl Reader {
+impl LineReader {
     /// Returns a reader of a line of which nothing was read.
-    pub fn new(line: Line, order: Order, page: Page) -> Reader
+    pub fn new(line: Line, order: Order, page: Page) -> LineReader
         ensures { result ≡ record { line = line; order = order; page = page } }
     {
-        Reader { line, order, page }
+        LineReader { line, order, page }
     }
 
     /// Returns the text of the rows that were read.
@@ -76,6 +78,102 @@ impl Reader {
         print_dropped(&self.line, record.dropped, &mut self.page)?;
         let read = read_record(alloc, &mut self.line, record, &mut shown)?;
         print_given(&mut self.order, record.frame, &shown, read, &mut self.page)
+    }
+}
+
+/// The frames of circuits as the text of their rows.
+#[derive(Drop)]
+pub struct CircuitReader {
+    frames: XotFrames,
+    page: CircuitPage,
+}
+
+impl CircuitReader {
+    /// Reads what comes next in a capture, and appends the text of the rows that it completes. Fails only when memory is
+    /// refused; drop the reader then.
+    fn read(&mut self, record: &Record<'_>) -> Result<(), AllocError> {
+        self.print_dropped(record.dropped)?;
+        match record.frame {
+            Some(frame) => self.frames.read(&frame, &mut self.page),
+            None => Ok(()),
+        }
+    }
+
+    /// Appends the gap of frames that were dropped.
+    fn print_dropped(&mut self, dropped: Option<Dropped>) -> Result<(), AllocError> {
+        match dropped {
+            Some(dropped) if dropped.count > 0 && self.frames.is_on(dropped.interface) => {
+                self.page.print_dropped(Place {
+                    frame: dropped.number,
+                    time: dropped.time,
+                })
+            }
+            _ => Ok(()),
+        }
+    }
+}
+
+/// The frames of a capture as the text of its rows.
+#[derive(Drop)]
+pub enum Reader {
+    /// Those of a line.
+    Line(LineReader),
+    /// Those of circuits of XOT.
+    Circuits(CircuitReader),
+}
+
+impl Reader {
+    /// Returns a reader of a line of which nothing was read.
+    pub fn new(line: Line, order: Order, page: Page) -> Reader
+        ensures { result ≡ Reader.Line (record { line = line; order = order; page = page }) }
+    {
+        Reader::Line(LineReader::new(line, order, page))
+    }
+
+    /// Returns a reader of circuits of which nothing was read.
+    pub(crate) fn of_circuits(frames: XotFrames, page: CircuitPage) -> Reader {
+        Reader::Circuits(CircuitReader { frames, page })
+    }
+
+    /// Returns the text of the rows that were read.
+    pub fn page(&self) -> &Page
+        ensures { result.now ≡ page_of self.now }
+    {
+        match self {
+            Reader::Line(reader) => reader.page(),
+            Reader::Circuits(reader) => reader.page.page(),
+        }
+    }
+
+    /// Removes that text.
+    pub fn clear(&mut self)
+        ensures { self.new ≡ cleared self.old }
+    {
+        match self {
+            Reader::Line(reader) => reader.clear(),
+            Reader::Circuits(reader) => reader.page.clear(),
+        }
+    }
+
+    /// Reads what comes next in a capture, and appends the text of its rows. Fails only when memory is refused; drop
+    /// the reader then.
+    pub fn read(&mut self, alloc: Global, record: &Record<'_>) -> Result<(), AllocError>
+        ensures { OnOk result (self.new ≡ after_read (record_view record.now) self.old) }
+    {
+        match self {
+            Reader::Line(reader) => reader.read(alloc, record),
+            Reader::Circuits(reader) => reader.read(record),
+        }
+    }
+
+    /// Appends the text of the rows that come at the end of a capture. A second call appends nothing.
+    pub fn finish(&mut self) -> Result<(), AllocError>
+        ensures { OnOk result (self.new ≡ after_finish self.old) }
+    {
+        match self {
+            Reader::Line(_) => Ok(()),
+            Reader::Circuits(reader) => reader.frames.finish(&mut reader.page),
+        }
     }
 }
 

@@ -1,4 +1,4 @@
-//! Files as the program reads them: a trace as it is, and a capture of a line as its trace.
+//! Files as the program reads them: a trace as it is, and a capture as its trace.
 
 ghost use Rattle.std.specs.Prelude.{◌≡◌, IfErr, IfOk, true};
 ghost use Rattle.std.specs.Option.{option_and_then};
@@ -9,6 +9,8 @@ use crate::begun_file::BegunFile;
 use crate::capture_text::CaptureText;
 use crate::first_reading::{FirstReading, head};
 use crate::options::CaptureOptions;
+use crate::row_source::RowSource;
+use crate::survey::{Carriers, Survey};
 use memchr::memchr;
 use std::alloc::Global;
 use std::io;
@@ -17,7 +19,7 @@ use std::time::{Clock, Duration};
 use streams::input::{CaptureFault, OpenRefusal};
 use streams::opener::Opener;
 
-/// Opens recordings: a capture of a line as the trace of its rows, and any other file as it is.
+/// Opens recordings: a capture as the trace of its rows, and any other file as it is.
 #[derive(Drop)]
 pub struct Recordings<R: Opener + Drop, E: Eprint + Drop> {
     alloc: Global,
@@ -89,12 +91,31 @@ impl<R: Opener + Drop, E: Eprint + Drop> Recordings<R, E> {
             return Err(OpenRefusal::of_capture(CaptureFault::Piped));
         }
         let first = self.read_first(name, begun)?;
-        if let Some(fault) = first.survey.fault() {
-            return Err(self.refusal(fault));
+        let source = self.source(&first.survey)?;
+        let head = match source {
+            RowSource::Line => head(self.alloc, &first, None)?,
+            RowSource::Xot => head(self.alloc, &first, first.survey.circuits())?,
+        };
+        self.print_estimate(name, head.text.as_slice());
+        CaptureText::new(self.alloc, self.system.open(name)?, first, source, head)
+    }
+
+    /// Returns what carries the rows of a capture. Fails where there is nothing, and where there are several.
+    fn source(&self, survey: &Survey) -> Result<RowSource, OpenRefusal>
+        ensures reason { IfErr result IsByItsReason }
+    {
+        let Carriers::One(source) = survey.carriers(self.options.source) else {
+            return Err(OpenRefusal::by_system(io::Error::other(MIXED)));
+        };
+        let fault = match source {
+            RowSource::Line => survey.fault(),
+            RowSource::Xot if survey.circuits().is_some() => None,
+            RowSource::Xot => Some(CaptureFault::NoPacket),
+        };
+        match fault {
+            Some(fault) => Err(self.refusal(fault)),
+            None => Ok(source),
         }
-        let head = head(self.alloc, &first)?;
-        self.print_estimate(name, head.as_slice());
-        CaptureText::new(self.alloc, self.system.open(name)?, first, head)
     }
 
     /// Returns why a capture has no trace. Where options choose packets, the capture may have others.
@@ -103,7 +124,8 @@ impl<R: Opener + Drop, E: Eprint + Drop> Recordings<R, E> {
     {
         let choices = &self.options.choices;
         match fault {
-            CaptureFault::NoPacket if choices.carrier.is_some() || choices.interface.is_some() => {
+            CaptureFault::NoPacket
+                if self.options.source.is_some() || choices.interface.is_some() => {
                 OpenRefusal::by_system(io::Error::other(NO_CHOICE))
             }
             _ => OpenRefusal::of_capture(fault),
@@ -129,6 +151,10 @@ impl<R: Opener + Drop, E: Eprint + Drop> Recordings<R, E> {
         }
     }
 }
+
+/// Why a capture is refused that has packets in XOT and on a line.
+const MIXED: &str =
+    "the capture has packets in XOT and on a line: --only xot, --only lapb or --only x25 names one";
 
 /// Why a capture is refused of which options leave no packet.
 const NO_CHOICE: &str = "no packet of X.25 is left by --only or --interface: leave them out";

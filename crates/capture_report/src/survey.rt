@@ -12,10 +12,15 @@ ghost use Rattle.capture_report.specs.Records.{record_view};
 ghost use Rattle.capture_report.specs.Rows.{dropped_rows, noticed_rows, rows_behind, rows_given, shown_rows};
 ghost use Rattle.capture_report.specs.Sights.{is_private, kind_in_form, look_of};
 
+use crate::circuit_row::CircuitRule;
+use crate::circuits::Circuits;
 use crate::frames::Record;
 use crate::header::Seen;
+use crate::options::{CaptureOptions, GivenHeader};
 use crate::reader::{Order, own_row, shown_row};
 use crate::row::Row;
+use crate::row_source::RowSource;
+use crate::xot_frames::XotFrames;
 use capture_files::entry::Dropped;
 use capture_model::carried::Carried;
 use capture_model::frame::Frame;
@@ -26,6 +31,7 @@ use capture_rows::line::{FrameRead, Line};
 use lapb_link::frames::Place;
 use lapb_link::looks::{Form, form_of};
 use lapb_link::receiver::Shown;
+use line_model::state::Side;
 use std::alloc::{AllocError, Global};
 use streams::input::CaptureFault;
 
@@ -47,6 +53,52 @@ pub struct Survey {
     has_lapb: bool,
     has_packets: bool,
     has_internet: bool,
+    /// The circuits of XOT, unless the packets of a line are chosen.
+    xot: Option<XotSurvey>,
+}
+
+/// What was seen of the connections of XOT.
+#[derive(Drop)]
+struct XotSurvey {
+    frames: XotFrames,
+    circuits: Circuits,
+}
+
+/// What carries the packets of a capture.
+#[derive(Clone, Copy, PartialEq, Eq, Debug)]
+pub(crate) enum Carriers {
+    /// One of the sources of rows, or nothing.
+    One(RowSource),
+    /// Both of them.
+    Both,
+}
+
+impl XotSurvey {
+    /// Sees a frame.
+    fn see(&mut self, frame: &Frame<'_>) -> Result<(), AllocError> {
+        self.frames.read(frame, &mut self.circuits)
+    }
+
+    /// Sees the gap of frames that were dropped.
+    fn see_dropped(&mut self, dropped: Option<Dropped>) -> Result<(), AllocError> {
+        match dropped {
+            Some(dropped) if dropped.count > 0 && self.frames.is_on(dropped.interface) => {
+                self.circuits.see_dropped(Place {
+                    frame: dropped.number,
+                    time: dropped.time,
+                })
+            }
+            _ => Ok(()),
+        }
+    }
+}
+
+/// Returns how the items of a recording are rows.
+pub(crate) fn circuit_rule(options: &CaptureOptions) -> CircuitRule {
+    CircuitRule {
+        opener: if options.is_swapped { Side::N } else { Side::T },
+        has_beginnings: options.header.join.is_none(),
+    }
 }
 
 impl Survey {
@@ -66,7 +118,22 @@ impl Survey {
             has_lapb: false,
             has_packets: false,
             has_internet: false,
+            xot: None,
         }
+    }
+
+    /// Returns the survey of a capture that is read as options say.
+    pub(crate) fn by(alloc: Global, options: &CaptureOptions) -> Survey {
+        let xot = match options.source {
+            Some(RowSource::Line) => None,
+            Some(RowSource::Xot) | None => Some(XotSurvey {
+                frames: XotFrames::new(alloc, options),
+                circuits: Circuits::new(alloc, circuit_rule(options)),
+            }),
+        };
+        let mut survey = Survey::new(alloc, options.choices.unknown);
+        survey.xot = xot;
+        survey
     }
 
     /// Sees the gap of frames that were dropped. Fails only when memory is refused.
@@ -77,6 +144,9 @@ impl Survey {
     ) -> Result<(), AllocError>
         ensures { OnOk result (sight_of self.new ≡ rows_sight (dropped_rows dropped line.now) (sight_of self.old)) }
     {
+        if let Some(xot) = &mut self.xot {
+            xot.see_dropped(dropped)?;
+        }
         match dropped {
             Some(dropped) if dropped.count > 0 && line.is_on(dropped.interface) => {
                 self.seen.see(&Row::gap_of_all(Place {
@@ -103,6 +173,9 @@ impl Survey {
             return Ok(());
         };
         self.see_frame(&frame);
+        if let Some(xot) = &mut self.xot {
+            xot.see(&frame)?;
+        }
         let Some(read) = read else {
             return Ok(());
         };
@@ -227,7 +300,38 @@ impl Survey {
         &self.seen
     }
 
-    /// Returns why the capture has no trace; `None` where it has one.
+    /// Sees the end of the capture. Fails only when memory is refused.
+    pub(crate) fn finish(&mut self, given: &GivenHeader) -> Result<(), AllocError> {
+        if let Some(xot) = &mut self.xot {
+            xot.frames.finish(&mut xot.circuits)?;
+            xot.circuits.finish(given);
+        }
+        Ok(())
+    }
+
+    /// Returns the circuits of XOT, where they have packets.
+    pub(crate) fn circuits(&self) -> Option<&Circuits> {
+        match &self.xot {
+            Some(xot) if xot.circuits.has_packets() => Some(&xot.circuits),
+            _ => None,
+        }
+    }
+
+    /// Returns what carries the packets, of that which is chosen.
+    pub(crate) fn carriers(&self, chosen: Option<RowSource>) -> Carriers {
+        if let Some(chosen) = chosen {
+            return Carriers::One(chosen);
+        }
+        if self.circuits().is_none() {
+            return Carriers::One(RowSource::Line);
+        }
+        if self.seen.has_packets() {
+            return Carriers::Both;
+        }
+        Carriers::One(RowSource::Xot)
+    }
+
+    /// Returns why the capture has no trace of a line; `None` where it has one.
     pub(crate) fn fault(&self) -> Option<CaptureFault> {
         if self.has_several {
             return Some(CaptureFault::SeveralInterfaces);

@@ -21,10 +21,18 @@ fn make<F: Frames>(alloc: Global, frames: &mut F, reader: &mut Reader) -> Result
         return Err(());
     };
     let Some(record) = frames.record() else {
-        return Ok(false);
+        return finish(reader);
     };
     match reader.read(alloc, &record) {
         Ok(()) => Ok(true),
+        Err(_) => Err(()),
+    }
+}
+
+/// Makes the text of what comes at the end of a capture; there is nothing after it.
+fn finish(reader: &mut Reader) -> Result<bool, ()> {
+    match reader.finish() {
+        Ok(()) => Ok(false),
         Err(_) => Err(()),
     }
 }

@@ -7,7 +7,8 @@ ghost use Rattle.command_line.specs.Asked.{values_in};
 use crate::matches::{is_given, long_number_in, number_in, short_number_in};
 use capture_model::kind::LinkKind;
 use capture_report::header::is_packet_size;
-use capture_report::options::{CaptureOptions, GivenHeader};
+use capture_report::options::{CaptureOptions, GivenHeader, XOT_PORT};
+use capture_report::row_source::RowSource;
 use capture_rows::choices::{Carrier, Choices};
 use capture_rows::station::StationBy;
 use clap::ArgMatches;
@@ -139,11 +140,34 @@ pub(crate) fn kind_in(matches: &ArgMatches<'_>) -> Option<LinkKind>
 }
 
 /// The carrier of the packets that are read.
-pub(crate) fn carrier_in(matches: &ArgMatches<'_>) -> Option<Carrier>
+fn carrier_in(matches: &ArgMatches<'_>) -> Option<Carrier>
     ensures { result ≡ carrier_of (values_in matches.now) }
 {
     match matches.get_str("only") {
         Some(text) => carrier_named(text),
+        None => None,
+    }
+}
+
+/// What carries the packets that a text names.
+fn source_named(text: &str) -> Option<RowSource>
+    ensures { result ≡ source_named text.now }
+{
+    if text == "xot" {
+        Some(RowSource::Xot)
+    } else if carrier_named(text).is_some() {
+        Some(RowSource::Line)
+    } else {
+        None
+    }
+}
+
+/// What carries the packets that are read.
+pub(crate) fn source_in(matches: &ArgMatches<'_>) -> Option<RowSource>
+    ensures { result ≡ source_of (values_in matches.now) }
+{
+    match matches.get_str("only") {
+        Some(text) => source_named(text),
         None => None,
     }
 }
@@ -157,5 +181,7 @@ pub(crate) fn capture_in(matches: &ArgMatches<'_>) -> CaptureOptions
         choices: choices_in(matches),
         modulus: modulus_in(matches, "lapb-modulo"),
         is_swapped: is_given(matches, "swap"),
+        source: source_in(matches),
+        port: number_in(matches, "port").unwrap_or(XOT_PORT),
     }
 }

@@ -42,10 +42,12 @@ Options of captures:
       --join              The recording began in the middle, so no logical channel is known
       --no-join           All logical channels were fresh when it began
       --as <KIND>         What frames of unknown link types hold: ethernet, sll, sll2, lapb, lapb-dir, hdlc, x25 or x25-dir
-      --only <CARRIER>    Read only what LAPB carries, lapb, or packets without it, x25
+      --only <CARRIER>    Read only what LAPB carries, lapb, packets without it, x25, or XOT, xot
       --interface <N>     Read only this interface of a pcapng file, or this device of cooked frames of version 2
       --lapb-modulo <N>   How LAPB counts its frames, 8 or 128, where SABM and SABME don't say it
-      --swap              Exchange the sides: the recording host, or the end with the commands of the DTE, is the DCE
+      --swap              Exchange the sides: the recording host, the end with the commands of the DTE, or the host that
+                          opened a connection of XOT, is the DCE
+      --port <N>          The TCP port of XOT, 1998 where it is not given
 
 Examples:
   x25scan day.trace                     print the report of a trace

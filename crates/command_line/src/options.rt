@@ -117,7 +117,8 @@ fn with_capture<'a>(alloc: Global, command: Command<'a>) -> Result<Command<'a>, 
         .arg(text(alloc, "only", "CARRIER"))?
         .arg(number(alloc, "interface", 0, u32::MAX))?
         .arg(text(alloc, "lapb-modulo", "N"))?
-        .arg(flag(alloc, "swap"))
+        .arg(flag(alloc, "swap"))?
+        .arg(number(alloc, "port", 1, 65_535))
 }
 
 /// Adds the options that ask for more, and the name of the trace.
