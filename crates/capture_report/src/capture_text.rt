@@ -34,25 +34,34 @@ const LAST_NUMBER: u64 = 999_999_999;
 
 /// Returns what reads the rows of a line, behind a head.
 fn line_reader(alloc: Global, first: FirstReading, head: Head) -> Result<Reader, OpenRefusal> {
-    let by_frames = first.survey.last() <= MOST_NUMBERED;
-    let line = line(alloc, &first.options)?;
-    let page = Page::new(head.text, Printer::new(by_frames, first.options.is_swapped));
-    Ok(Reader::new(line, Order::Placed(first.plan), page))
+    let FirstReading {
+        plan,
+        survey,
+        options,
+        ..
+    } = first;
+    let Head { text, .. } = head;
+    let by_frames = survey.last() <= MOST_NUMBERED;
+    let line = line(alloc, &options)?;
+    let page = Page::new(text, Printer::new(by_frames, options.is_swapped));
+    Ok(Reader::new(line, Order::Placed(plan), page))
 }
 
 /// Returns what reads the rows of circuits, behind a head. Their sides are exchanged before they are rows.
 fn circuit_reader(alloc: Global, first: &FirstReading, head: Head) -> Result<Reader, OpenRefusal> {
+    let Head { header, text } = head;
     let Some(circuits) = first.survey.circuits() else {
         return Err(OpenRefusal::of_capture(CaptureFault::NoPacket));
     };
-    let Ok(channels) = circuits.channels(alloc, head.header) else {
+    let Ok(channels) = circuits.channels(alloc, header) else {
         return Err(of_memory());
     };
     let by_frames = circuits.number() <= LAST_NUMBER;
-    let page = Page::new(head.text, Printer::new(by_frames, false));
+    let page = Page::new(text, Printer::new(by_frames, false));
     let rule = circuit_rule(&first.options);
     let page = CircuitPage::new(alloc, rule, channels, page);
-    Ok(Reader::of_circuits(XotFrames::new(alloc, &first.options), page))
+    let frames = XotFrames::new(alloc, &first.options);
+    Ok(Reader::of_circuits(frames, page))
 }
 
 /// The trace of a capture that is read a second time.

@@ -126,8 +126,8 @@ impl CircuitRow<'_> {
             CircuitContent::Packet(side, packet) => {
                 octets.clear();
                 octets.extend_from_slice(packet)?;
-                write_channel(octets, channel);
-                Content::Packet(side, octets)
+                write_channel(octets.as_mut_slice(), channel);
+                Content::Packet(side, octets.as_slice())
             }
             CircuitContent::Gap(_) => Content::Gap(Some(channel)),
         };

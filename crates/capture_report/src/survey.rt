@@ -65,7 +65,7 @@ struct XotSurvey {
 }
 
 /// What carries the packets of a capture.
-#[derive(Clone, Copy, PartialEq, Eq, Debug)]
+#[derive(Clone, Copy)]
 pub(crate) enum Carriers {
     /// One of the sources of rows, or nothing.
     One(RowSource),

@@ -192,9 +192,11 @@ impl XotFrames {
         match self.fragments.add(recorded.frame, fragment, &datagram)? {
             Added::Whole(octets) => {
                 let whole = Datagram {
+                    protocol: datagram.protocol,
+                    source: datagram.source,
+                    target: datagram.target,
                     fragment: None,
                     payload: whole_payload(octets.as_slice()),
-                    ..datagram
                 };
                 self.read_whole(recorded, inner.left, &whole, out)
             }
