@@ -31,8 +31,8 @@ struct CircuitRows {
 /// A circuit whose connection has not ended.
 #[derive(Clone, Copy)]
 struct OpenCircuit {
-    /// The channel on which its packets are seen; `None` where none is left.
-    slot: Option<u16>,
+    /// The channel on which its packets are seen; 0 where none is left. Its gaps are seen then, and no packet.
+    slot: u16,
     /// Its index among the circuits with a packet.
     index: Option<usize>,
 }
@@ -121,10 +121,8 @@ impl Circuits {
             slot: self.slots.take(),
             index: None,
         };
-        if let Some(slot) = open.slot {
-            let is_known = !matches!(row.content, CircuitContent::Gap(true));
-            self.seen.begin(slot, is_known)?;
-        }
+        let is_known = !matches!(row.content, CircuitContent::Gap(true));
+        self.seen.begin(open.slot, is_known)?;
         self.open.insert(row.connection, open)?;
         Ok(open)
     }
@@ -136,14 +134,14 @@ impl Circuits {
             CircuitContent::Packet(..) => {
                 self.count(row.place.frame);
                 self.add_packet(row.connection, circuit)?;
+                if circuit.slot == 0 {
+                    return Ok(());
+                }
             }
             CircuitContent::Gap(_) => self.count(row.place.frame.saturating_sub(1)),
         }
-        if let Some(slot) = circuit.slot {
-            let row = row.on_channel(slot, &mut self.octets)?;
-            self.seen.see(&row)?;
-        }
-        Ok(())
+        let row = row.on_channel(circuit.slot, &mut self.octets)?;
+        self.seen.see(&row)
     }
 
     /// Adds the last row, a packet of a circuit.

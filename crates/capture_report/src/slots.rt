@@ -23,26 +23,23 @@ impl Slots {
         }
     }
 
-    /// Takes one; `None` where none is left.
-    pub(crate) fn take(&mut self) -> Option<u16> {
+    /// Takes one; 0 where none is left.
+    pub(crate) fn take(&mut self) -> u16 {
         if let Some(slot) = self.free.pop() {
-            return Some(slot);
+            return slot;
         }
         if self.last >= LAST {
-            return None;
+            return 0;
         }
         self.last += 1;
-        Some(self.last)
+        self.last
     }
 
-    /// Gives one back.
-    pub(crate) fn give_back(&mut self, slot: Option<u16>) -> Result<(), AllocError> {
-        match slot {
-            Some(slot) => {
-                self.free.push(slot)?;
-                Ok(())
-            }
-            None => Ok(()),
+    /// Gives one back; 0 is none.
+    pub(crate) fn give_back(&mut self, slot: u16) -> Result<(), AllocError> {
+        if slot > 0 {
+            self.free.push(slot)?;
         }
+        Ok(())
     }
 }
