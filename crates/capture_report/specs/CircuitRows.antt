@@ -12,10 +12,10 @@ use Rattle.capture_report.specs.declared.circuit_row.CircuitRule.{CircuitRule}
 use Rattle.capture_report.specs.declared.circuit_row.CircuitContent as declared_content
 use Rattle.capture_report.specs.declared.circuit_row.CircuitRow as declared
 
--- a packet of a side, or a gap: whether it is what the circuit had before the recording began
+-- a packet of a side, or a gap
 pub data CircuitContent : Type 0 where
   Sent : Side → List ℕ → CircuitContent
-  Missing : (is_beginning : Bool) → CircuitContent
+  Missing : CircuitContent
 
 -- a row of a circuit, without its logical channel
 pub record CircuitRow : Type 0 where
@@ -25,7 +25,7 @@ pub record CircuitRow : Type 0 where
 
 abbrev pub circuit_content_view : declared_content.CircuitContent → CircuitContent
 circuit_content_view (declared_content.TheVariants.Packet s p) = Sent s p.now
-circuit_content_view (declared_content.TheVariants.Gap b) = Missing b
+circuit_content_view declared_content.TheVariants.Gap = Missing
 
 abbrev pub circuit_row_view : declared.CircuitRow → CircuitRow
 circuit_row_view r = record { connection = r.connection; place = r.place; content = circuit_content_view r.content }
@@ -34,13 +34,13 @@ abbrev pub place_of : Recorded → Place
 place_of at = record { frame = at.frame; time = at.time }
 
 abbrev pub row_of_gap : CircuitGap → CircuitRow
-row_of_gap g = record { connection = g.connection; place = place_of g.recorded; content = Missing g.is_beginning }
+row_of_gap g = record { connection = g.connection; place = place_of g.recorded; content = Missing }
 
 -- the row of an item. A packet for which no row has room is a gap, and what circuits had before the recording began is none where
 -- options say how it begins
 abbrev pub circuit_row_of : CircuitRule → Item → Option CircuitRow
 circuit_row_of rule (item.Packet s) = Some (record { connection = s.origin.connection; place = place_of s.origin.recorded; content = Sent (side_by rule.opener s.origin.from) s.octets })
-circuit_row_of rule (item.Long s) = Some (record { connection = s.origin.connection; place = place_of s.origin.recorded; content = Missing false })
+circuit_row_of rule (item.Long s) = Some (record { connection = s.origin.connection; place = place_of s.origin.recorded; content = Missing })
 circuit_row_of rule (item.Gap g) = if rule.has_beginnings || not g.is_beginning then Some (row_of_gap g) else None
 circuit_row_of rule (item.LeftOut s) = None
 circuit_row_of rule (item.Ended e) = None
@@ -52,7 +52,7 @@ with_channel c xs = xs
 
 abbrev pub content_on : ℕ → CircuitContent → Content
 content_on c (Sent s xs) = Packet s (with_channel c xs)
-content_on c (Missing b) = Gap (Some c)
+content_on c Missing = Gap (Some c)
 
 -- the row on a logical channel of the trace
 abbrev pub on_channel : ℕ → CircuitRow → Row

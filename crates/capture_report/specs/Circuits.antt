@@ -90,7 +90,7 @@ row_counted None c = c
 row_counted (Some r) c = counted_content r.content r.connection c
   where
     counted_content : CircuitContent → ℕ → Counted → Counted
-    counted_content (Missing b) n c = record c { rows = suc c.rows }
+    counted_content Missing n c = record c { rows = suc c.rows }
     counted_content (Sent s xs) n c = record { rows = suc c.rows; all = with_packet n (suc c.rows) c.all }
 
 abbrev pub end_counted : Item → Counted → Counted

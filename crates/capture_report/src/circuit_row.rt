@@ -52,8 +52,8 @@ pub(crate) struct CircuitRule {
 pub(crate) enum CircuitContent<'a> {
     /// A packet of a side.
     Packet(Side, &'a [u8]),
-    /// Packets may be missing. Whether they are those before the recording began.
-    Gap(bool),
+    /// Packets may be missing.
+    Gap,
 }
 
 /// A row of a circuit, without its logical channel.
@@ -95,12 +95,11 @@ impl CircuitRule {
                 (sent.origin.connection, sent.origin.recorded, content)
             }
             Item::Long(sent) => {
-                let content = CircuitContent::Gap(false);
+                let content = CircuitContent::Gap;
                 (sent.origin.connection, sent.origin.recorded, content)
             }
             Item::Gap(gap) if self.has_beginnings || !gap.is_beginning => {
-                let content = CircuitContent::Gap(gap.is_beginning);
-                (gap.connection, gap.recorded, content)
+                (gap.connection, gap.recorded, CircuitContent::Gap)
             }
             Item::Gap(_) | Item::LeftOut(_) | Item::Ended(_) => return None,
         };
@@ -129,7 +128,7 @@ impl CircuitRow<'_> {
                 write_channel(octets.as_mut_slice(), channel);
                 Content::Packet(side, octets.as_slice())
             }
-            CircuitContent::Gap(_) => Content::Gap(Some(channel)),
+            CircuitContent::Gap => Content::Gap(Some(channel)),
         };
         Ok(Row {
             place: self.place,

@@ -112,24 +112,23 @@ impl Circuits {
         self.number = least.max(self.number.saturating_add(1));
     }
 
-    /// Returns the circuit of a row, which it may begin.
-    fn circuit_of(&mut self, row: &CircuitRow<'_>) -> Result<OpenCircuit, AllocError> {
-        if let Some(open) = self.open.get(&row.connection) {
+    /// Returns the circuit of a connection, which may begin. `is_known`: its beginning was recorded.
+    fn circuit_of(&mut self, connection: u64, is_known: bool) -> Result<OpenCircuit, AllocError> {
+        if let Some(open) = self.open.get(&connection) {
             return Ok(*open);
         }
         let open = OpenCircuit {
             slot: self.slots.take(),
             index: None,
         };
-        let is_known = !matches!(row.content, CircuitContent::Gap(true));
         self.seen.begin(open.slot, is_known)?;
-        self.open.insert(row.connection, open)?;
+        self.open.insert(connection, open)?;
         Ok(open)
     }
 
     /// Sees a row of a circuit.
     fn see(&mut self, row: &CircuitRow<'_>) -> Result<(), AllocError> {
-        let circuit = self.circuit_of(row)?;
+        let circuit = self.circuit_of(row.connection, true)?;
         match row.content {
             CircuitContent::Packet(..) => {
                 self.count(row.place.frame);
@@ -138,7 +137,7 @@ impl Circuits {
                     return Ok(());
                 }
             }
-            CircuitContent::Gap(_) => self.count(row.place.frame.saturating_sub(1)),
+            CircuitContent::Gap => self.count(row.place.frame.saturating_sub(1)),
         }
         let row = row.on_channel(circuit.slot, &mut self.octets)?;
         self.seen.see(&row)
@@ -237,8 +236,12 @@ impl Items for Circuits {
 
     fn take(&mut self, item: &Item<'_>) -> Result<(), AllocError> {
         self.taken = Taken::with(&self.taken, item);
-        if let Item::Ended(ended) = item {
-            return self.end(ended);
+        match item {
+            Item::Ended(ended) => return self.end(ended),
+            Item::Gap(gap) if gap.is_beginning => {
+                self.circuit_of(gap.connection, false)?;
+            }
+            _ => {}
         }
         match self.rule.row(item) {
             Some(row) => self.see(&row),
