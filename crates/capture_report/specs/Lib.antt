@@ -17,3 +17,7 @@ pub mod TraceRows
 pub mod Laws
 pub mod Sights
 pub mod CaptureTexts
+pub mod Segments
+pub mod CircuitRows
+pub mod Circuits
+pub mod CircuitSights
