@@ -10,6 +10,7 @@ ghost use Rattle.capture_report.specs.Sights.{sight_of};
 ghost use Rattle.capture_report.specs.Texts.{rows_printed};
 ghost use Rattle.streams.specs.OpenFaults.{IsByItsReason};
 
+use crate::circuit_batch::Batch;
 use crate::circuit_page::CircuitPage;
 use crate::file_frames::FileFrames;
 use crate::first_reading::{FirstReading, Head, line, of_memory, open_frames};
@@ -58,10 +59,10 @@ fn circuit_reader(alloc: Global, first: &FirstReading, head: Head) -> Result<Rea
     };
     let by_frames = circuits.number() <= LAST_NUMBER;
     let page = Page::new(text, Printer::new(by_frames, false));
-    let rule = circuit_rule(&first.options);
-    let page = CircuitPage::new(alloc, rule, channels, page);
+    let page = CircuitPage::new(alloc, channels, page);
+    let batch = Batch::new(alloc, circuit_rule(&first.options));
     let frames = XotFrames::new(alloc, &first.options);
-    Ok(Reader::of_circuits(frames, page))
+    Ok(Reader::of_circuits(frames, batch, page))
 }
 
 /// The trace of a capture that is read a second time.

@@ -1,37 +1,28 @@
 //! The rows of circuits as text.
 
-use crate::circuit_row::{CircuitRow, CircuitRule, Taken};
+use crate::circuit_batch::{Batch, Entry};
+use crate::circuit_row::CircuitRow;
 use crate::circuits::CircuitChannels;
 use crate::print::Page;
 use crate::row::Row;
 use lapb_link::frames::Place;
 use std::alloc::{AllocError, Global};
-use xot_circuits::item::{Item, Items};
 
 /// A page of the rows of circuits. Those of a circuit without a logical channel are left out.
 #[derive(Drop)]
 pub(crate) struct CircuitPage {
-    rule: CircuitRule,
     channels: CircuitChannels,
     page: Page,
     octets: Vec<u8>,
-    taken: Taken,
 }
 
 impl CircuitPage {
     /// Returns a page before the first row.
-    pub(crate) fn new(
-        alloc: Global,
-        rule: CircuitRule,
-        channels: CircuitChannels,
-        page: Page,
-    ) -> CircuitPage {
+    pub(crate) fn new(alloc: Global, channels: CircuitChannels, page: Page) -> CircuitPage {
         CircuitPage {
-            rule,
             channels,
             page,
             octets: Vec::new(alloc),
-            taken: Taken::new(),
         }
     }
 
@@ -43,6 +34,16 @@ impl CircuitPage {
     /// Removes that text.
     pub(crate) fn clear(&mut self) {
         self.page.clear();
+    }
+
+    /// Appends the rows of what a frame completes.
+    pub(crate) fn print_all(&mut self, batch: &Batch) -> Result<(), AllocError> {
+        for index in 0..batch.len() {
+            if let Entry::Row(row) = batch.entry(index) {
+                self.print(&row)?;
+            }
+        }
+        Ok(())
     }
 
     /// Appends the gap of frames that were dropped.
@@ -57,18 +58,6 @@ impl CircuitPage {
                 let row = row.on_channel(channel, &mut self.octets)?;
                 self.page.print(&row)
             }
-            None => Ok(()),
-        }
-    }
-}
-
-impl Items for CircuitPage {
-    ghost taken = { λ s. s.taken.items };
-
-    fn take(&mut self, item: &Item<'_>) -> Result<(), AllocError> {
-        self.taken = Taken::with(&self.taken, item);
-        match self.rule.row(item) {
-            Some(row) => self.print(&row),
             None => Ok(()),
         }
     }

@@ -1,9 +1,12 @@
 //! What the first reading of a capture of XOT shows: its circuits, and what their packets show of the header.
 
 ghost use Rattle.std.specs.Prelude.{◌≡◌, IfOk, OnOk};
-ghost use Rattle.capture_report.specs.Circuits.{channels_of, circuits_sight, used_channels};
+ghost use Rattle.capture_report.specs.CircuitRows.{circuit_row_of, circuit_row_view};
+ghost use Rattle.capture_report.specs.Circuits.{Of, All, channel_in, counted_of, given_with, is_permanent, last_used, permanent_count, step_counted};
+ghost use Rattle.capture_report.specs.CircuitSights.{sighted_of, step_sighted};
 
-use crate::circuit_row::{CircuitContent, CircuitRow, CircuitRule, Taken};
+use crate::circuit_batch::{Batch, Entry};
+use crate::circuit_row::{CircuitContent, CircuitRow};
 use crate::header::Seen;
 use crate::options::GivenHeader;
 use crate::row::Row;
@@ -14,7 +17,7 @@ use line_model::state::Side;
 use std::alloc::{AllocError, Global};
 use std::collections::BTreeMap;
 use xot_circuits::channels::{Purpose, Wanted, assign};
-use xot_circuits::item::{EndedCircuit, Item, Items};
+use xot_circuits::item::EndedCircuit;
 
 /// The last logical channel.
 const LAST_CHANNEL: u64 = 4095;
@@ -56,7 +59,6 @@ impl CircuitChannels {
 /// The circuits of a recording.
 #[derive(Drop)]
 pub(crate) struct Circuits {
-    rule: CircuitRule,
     /// Those with a packet, in the order of their first ones.
     all: Vec<CircuitRows>,
     open: BTreeMap<u64, OpenCircuit>,
@@ -66,14 +68,12 @@ pub(crate) struct Circuits {
     number: u64,
     seen: Seen,
     octets: Vec<u8>,
-    taken: Taken,
 }
 
 impl Circuits {
     /// Returns the circuits of a recording of which nothing was read.
-    pub(crate) fn new(alloc: Global, rule: CircuitRule) -> Circuits {
+    pub(crate) fn new(alloc: Global) -> Circuits {
         Circuits {
-            rule,
             all: Vec::new(alloc),
             open: BTreeMap::new(alloc),
             slots: Slots::new(alloc),
@@ -81,7 +81,6 @@ impl Circuits {
             number: 0,
             seen: Seen::new(alloc),
             octets: Vec::new(alloc),
-            taken: Taken::new(),
         }
     }
 
@@ -98,6 +97,20 @@ impl Circuits {
     /// Returns what the packets show of the header.
     pub(crate) fn seen(&self) -> &Seen {
         &self.seen
+    }
+
+    /// Sees what a frame completes.
+    pub(crate) fn see_all(&mut self, batch: &Batch) -> Result<(), AllocError> {
+        for index in 0..batch.len() {
+            match batch.entry(index) {
+                Entry::Joined(connection) => {
+                    self.circuit_of(connection, false)?;
+                }
+                Entry::Row(row) => self.see(&row)?,
+                Entry::Ended(ended) => self.end(&ended)?,
+            }
+        }
+        Ok(())
     }
 
     /// Sees the gap of frames that were dropped.
@@ -228,24 +241,5 @@ impl Circuits {
             }
         }
         Ok(CircuitChannels { channels })
-    }
-}
-
-impl Items for Circuits {
-    ghost taken = { λ s. s.taken.items };
-
-    fn take(&mut self, item: &Item<'_>) -> Result<(), AllocError> {
-        self.taken = Taken::with(&self.taken, item);
-        match item {
-            Item::Ended(ended) => return self.end(ended),
-            Item::Gap(gap) if gap.is_beginning => {
-                self.circuit_of(gap.connection, false)?;
-            }
-            _ => {}
-        }
-        match self.rule.row(item) {
-            Some(row) => self.see(&row),
-            None => Ok(()),
-        }
     }
 }

@@ -3,6 +3,7 @@
 
 pub mod begun_file;
 pub mod capture_text;
+mod circuit_batch;
 mod circuit_page;
 mod circuit_row;
 mod circuits;

@@ -11,6 +11,7 @@ ghost use Rattle.capture_report.specs.Records.{record_view};
 ghost use Rattle.capture_report.specs.Rows.{after_record, dropped_rows, has_packet, is_behind_gap, is_gap_at, noticed_rows, own_rows, placed_rows, record_rows, rows_behind, rows_given, settled, shown_rows};
 ghost use Rattle.capture_report.specs.Texts.{with_rows};
 
+use crate::circuit_batch::Batch;
 use crate::circuit_page::CircuitPage;
 use crate::frames::Record;
 use crate::line_reading::read_record;
@@ -85,6 +86,7 @@ impl LineReader {
 #[derive(Drop)]
 pub struct CircuitReader {
     frames: XotFrames,
+    batch: Batch,
     page: CircuitPage,
 }
 
@@ -94,9 +96,23 @@ impl CircuitReader {
     fn read(&mut self, record: &Record<'_>) -> Result<(), AllocError> {
         self.print_dropped(record.dropped)?;
         match record.frame {
-            Some(frame) => self.frames.read(&frame, &mut self.page),
+            Some(frame) => self.read_frame(&frame),
             None => Ok(()),
         }
+    }
+
+    /// Reads a frame.
+    fn read_frame(&mut self, frame: &Frame<'_>) -> Result<(), AllocError> {
+        self.batch.clear();
+        self.frames.read(frame, &mut self.batch)?;
+        self.page.print_all(&self.batch)
+    }
+
+    /// Appends the text of the rows that come at the end of the capture.
+    fn finish(&mut self) -> Result<(), AllocError> {
+        self.batch.clear();
+        self.frames.finish(&mut self.batch)?;
+        self.page.print_all(&self.batch)
     }
 
     /// Appends the gap of frames that were dropped.
@@ -131,8 +147,12 @@ impl Reader {
     }
 
     /// Returns a reader of circuits of which nothing was read.
-    pub(crate) fn of_circuits(frames: XotFrames, page: CircuitPage) -> Reader {
-        Reader::Circuits(CircuitReader { frames, page })
+    pub(crate) fn of_circuits(frames: XotFrames, batch: Batch, page: CircuitPage) -> Reader {
+        Reader::Circuits(CircuitReader {
+            frames,
+            batch,
+            page,
+        })
     }
 
     /// Returns the text of the rows that were read.
@@ -172,7 +192,7 @@ impl Reader {
     {
         match self {
             Reader::Line(_) => Ok(()),
-            Reader::Circuits(reader) => reader.frames.finish(&mut reader.page),
+            Reader::Circuits(reader) => reader.finish(),
         }
     }
 }

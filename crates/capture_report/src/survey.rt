@@ -12,6 +12,7 @@ ghost use Rattle.capture_report.specs.Records.{record_view};
 ghost use Rattle.capture_report.specs.Rows.{dropped_rows, noticed_rows, rows_behind, rows_given, shown_rows};
 ghost use Rattle.capture_report.specs.Sights.{is_private, kind_in_form, look_of};
 
+use crate::circuit_batch::Batch;
 use crate::circuit_row::CircuitRule;
 use crate::circuits::Circuits;
 use crate::frames::Record;
@@ -61,6 +62,7 @@ pub struct Survey {
 #[derive(Drop)]
 struct XotSurvey {
     frames: XotFrames,
+    batch: Batch,
     circuits: Circuits,
 }
 
@@ -76,7 +78,18 @@ pub(crate) enum Carriers {
 impl XotSurvey {
     /// Sees a frame.
     fn see(&mut self, frame: &Frame<'_>) -> Result<(), AllocError> {
-        self.frames.read(frame, &mut self.circuits)
+        self.batch.clear();
+        self.frames.read(frame, &mut self.batch)?;
+        self.circuits.see_all(&self.batch)
+    }
+
+    /// Sees the end of the capture.
+    fn finish(&mut self, given: &GivenHeader) -> Result<(), AllocError> {
+        self.batch.clear();
+        self.frames.finish(&mut self.batch)?;
+        self.circuits.see_all(&self.batch)?;
+        self.circuits.finish(given);
+        Ok(())
     }
 
     /// Sees the gap of frames that were dropped.
@@ -128,7 +141,8 @@ impl Survey {
             Some(RowSource::Line) => None,
             Some(RowSource::Xot) | None => Some(XotSurvey {
                 frames: XotFrames::new(alloc, options),
-                circuits: Circuits::new(alloc, circuit_rule(options)),
+                batch: Batch::new(alloc, circuit_rule(options)),
+                circuits: Circuits::new(alloc),
             }),
         };
         let mut survey = Survey::new(alloc, options.choices.unknown);
@@ -302,11 +316,10 @@ impl Survey {
 
     /// Sees the end of the capture. Fails only when memory is refused.
     pub(crate) fn finish(&mut self, given: &GivenHeader) -> Result<(), AllocError> {
-        if let Some(xot) = &mut self.xot {
-            xot.frames.finish(&mut xot.circuits)?;
-            xot.circuits.finish(given);
+        match &mut self.xot {
+            Some(xot) => xot.finish(given),
+            None => Ok(()),
         }
-        Ok(())
     }
 
     /// Returns the circuits of XOT, where they have packets.
